@@ -1,0 +1,5 @@
+pub mod Limits
+pub mod Spellings
+pub mod Prefix
+pub mod Grammar
+pub mod SinkLemmas

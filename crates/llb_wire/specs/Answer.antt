@@ -1,0 +1,18 @@
+-- How an answer is stated, in every crate. A rule is a function into values or faults, and it never gives want of
+-- memory; a call gives what its rule gives, or it lacked memory.
+use Rattle.std.specs.Prelude.{◌≡◌, Bool, false, Result, Ok, Err}
+
+-- a refusal that is not want of memory is the one that the rule gives
+abbrev pub Fails : {Y F : Type 0} → (F → Bool) → F → Result Y F → Type 0
+Fails is_memory e rule = is_memory e ≡ false → rule ≡ Err e
+
+-- what a call answers, seen by view, is what the rule gives
+abbrev pub Gives : {X Y F : Type 0} → (F → Bool) → (X → Y) → Result X F → Result Y F → Type 0
+Gives is_memory view (Ok x) rule = rule ≡ Ok (view x)
+Gives is_memory view (Err e) rule = Fails is_memory e rule
+
+-- a rule goes on with the value of another, and its fault stands
+infixl 10 ◌>>=◌
+abbrev pub ◌>>=◌ : {A B F : Type 0} → Result A F → (A → Result B F) → Result B F
+(Ok x) >>= f = f x
+(Err e) >>= f = Err e

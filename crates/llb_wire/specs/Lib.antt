@@ -1,0 +1,6 @@
+pub mod Answer
+pub mod Spelling
+pub mod Reading
+pub mod Records
+pub mod Sink
+pub use Rattle.std.specs.Io.KnownBytes.{Appends, Keeps}

@@ -1,0 +1,65 @@
+-- Reading a record from left to right, with the first fault that is met: the tag's varint, the field's number, the wire
+-- type, the payload.
+use Rattle.std.specs.Prelude.{ℕ, zero, suc, ◌+◌, ◌-◌, ◌*◌, ◌<◌, ◌≤◌, ◌/◌, ◌%◌, List, [], ◌∷◌, length, take, drop, Option, Some, None, Result, Ok, Err, nat_lt, ◌==◌, if◌then◌else◌}
+use Rattle.std.specs.Int.{Width, w32, w64, byte_len, from_le_bytes}
+use Rattle.llb_wire.specs.Answer.{◌>>=◌}
+use Rattle.llb_wire.specs.declared.field.Wire.{Wire}
+use Rattle.llb_wire.specs.declared.field.Wire.TheVariants.{Varint, I64, Len, I32}
+use Rattle.llb_wire.specs.declared.field.Field.{Field}
+use Rattle.llb_wire.specs.declared.fault.WireFault.{WireFault}
+use Rattle.llb_wire.specs.declared.fault.WireFault.TheVariants.{Truncated, LongVarint, BadField, BadWireType}
+
+-- The number at the front, and of how many bytes it is: at most one more than the count.
+-- The tenth byte, behind which nothing more may come, is 0 or 1.
+unfoldable pub varint_from : ℕ → List ℕ → Result (ℕ × ℕ) WireFault
+varint_from more [] = Err Truncated
+varint_from zero (b ∷ bs) = if nat_lt 1 b then Err LongVarint else Ok (b, 1)
+varint_from (suc more) (b ∷ bs) = if nat_lt b 128 then Ok (b, 1) else (varint_from more bs >>= λ m. Ok (b - 128 + 128 * m.0, suc m.1))
+
+-- what a varint of that many bytes and one stays below
+abbrev pub varint_limit : ℕ → ℕ
+varint_limit zero = 2
+varint_limit (suc more) = 128 * varint_limit more
+
+-- the number at a place, and where it ends
+abbrev pub varint_at : List ℕ → ℕ → Result (ℕ × ℕ) WireFault
+varint_at bytes at = varint_from 9 (drop at bytes) >>= λ m. Ok (m.0, at + m.1)
+
+-- ---- records
+
+abbrev pub number_of : ℕ → Result ℕ WireFault
+number_of n = if n == 0 then Err BadField else if nat_lt 536_870_911 n then Err BadField else Ok n
+
+abbrev pub wire_of : ℕ → Result Wire WireFault
+wire_of code = if code == 0 then Ok Varint else if code == 1 then Ok I64 else if code == 2 then Ok Len else if code == 5 then Ok I32 else Err BadWireType
+
+-- so many bytes from a place on, as a number
+abbrev pub fixed_at : Width → List ℕ → ℕ → Result (ℕ × ℕ) WireFault
+fixed_at w bytes at = if nat_lt (length (drop at bytes)) (byte_len w) then Err Truncated else Ok (from_le_bytes w (take (byte_len w) (drop at bytes)), at + byte_len w)
+
+-- a number and its end, as a payload that begins at a place
+abbrev pub as_field : ℕ → Wire → ℕ → ℕ × ℕ → Field
+as_field number wire start v = record { number = number; wire = wire; value = v.0; start = start; «end» = v.1 }
+
+unfoldable pub payload_at : ℕ → Wire → List ℕ → ℕ → Result Field WireFault
+payload_at number Varint bytes at = varint_at bytes at >>= λ v. Ok (as_field number Varint at v)
+payload_at number I64 bytes at = fixed_at w64 bytes at >>= λ v. Ok (as_field number I64 at v)
+payload_at number Len bytes at = varint_at bytes at >>= λ len. if nat_lt (length bytes - len.1) len.0 then Err Truncated else Ok (as_field number Len len.1 (len.0, len.1 + len.0))
+payload_at number I32 bytes at = fixed_at w32 bytes at >>= λ v. Ok (as_field number I32 at v)
+
+unfoldable pub field_at : List ℕ → ℕ → Result Field WireFault
+field_at bytes at = do
+  tag ← varint_at bytes at
+  number ← number_of (tag.0 / 8)
+  wire ← wire_of (tag.0 % 8)
+  payload_at number wire bytes tag.1
+
+-- the record that begins at a place: none exactly at the end
+unfoldable pub next_field : List ℕ → ℕ → Result (Option Field) WireFault
+next_field bytes at = if at == length bytes then Ok None else (field_at bytes at >>= λ f. Ok (Some f))
+
+-- where a record lies that was read from a place on
+pub record IsWithin (bytes : List ℕ) (at : ℕ) (f : Field) : Type 0 where
+  pub begins : at < f.start
+  pub ordered : f.start ≤ f.«end»
+  pub inside : f.«end» ≤ length bytes

@@ -1,0 +1,20 @@
+-- What a sink takes.
+use Rattle.std.specs.Prelude.{◌≡◌, ◌≤◌, ◌<◌, ℕ, Bool, true, false, List, ◌++◌, length, take, Option, Result, Ok, Err}
+use Rattle.std.specs.Io.KnownBytes.{Appends, Keeps}
+use Rattle.llb_wire.specs.declared.sink.Failed.{Failed}
+
+-- a sink seen as the bytes that it took, where they are known, and whether it has failed
+-- one write: some bytes from the front, one at least where there are any; or it has failed
+abbrev pub Takes : Option (List ℕ) → Bool → Option (List ℕ) → Bool → List ℕ → Result ℕ Failed → Type 0
+Takes taken failed taken' failed' bytes (Ok n) = (failed ≡ false) × (failed' ≡ false)
+    × (n ≤ length bytes) × (0 < length bytes → 0 < n) × Appends taken taken' (take n bytes)
+Takes taken failed taken' failed' bytes (Err e) = (failed' ≡ true) × Keeps taken taken'
+
+-- a front of the text is out, and no more
+abbrev pub PartOut : Option (List ℕ) → Option (List ℕ) → List ℕ → Type 0
+PartOut taken taken' text = (front : List ℕ) × (rest : List ℕ) × (text ≡ front ++ rest) × Appends taken taken' front
+
+-- a whole text went out, or the sink failed on the way
+abbrev pub TakesAll : Option (List ℕ) → Option (List ℕ) → Bool → List ℕ → Result (Unit {0}) Failed → Type 0
+TakesAll taken taken' failed' text (Ok u) = Appends taken taken' text
+TakesAll taken taken' failed' text (Err e) = (failed' ≡ true) × PartOut taken taken' text

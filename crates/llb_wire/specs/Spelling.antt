@@ -1,0 +1,189 @@
+-- The grammar of the wire, apart from any reading: which bytes spell a number or a record, by the encoding guide of
+-- Protocol Buffers ("Base 128 Varints", "Message Structure"), and which spelling is the shortest.
+use Rattle.std.specs.Prelude.{◌≡◌, ◌≢◌, ℕ, zero, suc, ◌+◌, ◌-◌, ◌*◌, ◌/◌, ◌%◌, ◌<◌, ◌≤◌, ◌^◌, ◌⊎◌, List, [], ◌∷◌, ◌++◌, length, take, drop, nat_lt, if◌then◌else◌}
+use Rattle.std.specs.Int.{Width, w32, w64, byte_len, to_le_bytes, from_le_bytes}
+use Rattle.llb_wire.specs.declared.fault.WireFault.{WireFault}
+use Rattle.llb_wire.specs.declared.fault.WireFault.TheVariants.{Truncated, LongVarint, BadField, BadWireType}
+use Rattle.llb_wire.specs.declared.field.Wire.{Wire}
+use Rattle.llb_wire.specs.declared.field.Wire.TheVariants.{Varint, I64, Len, I32}
+use Rattle.llb_wire.specs.declared.field.Field.{Field}
+
+-- ---- numbers
+
+-- A byte below 128 spells itself. A byte of 128 and g before a spelling of m spells g + 128 m.
+abbrev pub Spells : List ℕ → ℕ → Type 0
+Spells [] n = ⊥
+Spells (b ∷ []) n = (b < 128) × (n ≡ b)
+Spells (b ∷ c ∷ bs) n = (128 ≤ b) × (m : ℕ) × (n + 128 ≡ b + 128 * m) × Spells (c ∷ bs) m
+
+-- a spelling of at most ten bytes, of a number of at most 64 bits
+pub record IsVarint (bytes : List ℕ) (n : ℕ) : Type 0 where
+  pub spells : Spells bytes n
+  pub short : length bytes ≤ 10
+  pub small : n < 2 ^ 64
+
+-- the bytes from a place up to another
+abbrev pub between : ℕ → ℕ → List ℕ → List ℕ
+between from to bytes = take (to - from) (drop from bytes)
+
+-- a number is spelled from a place up to its end
+pub record VarintAt (bytes : List ℕ) (at n last : ℕ) : Type 0 where
+  pub begins : at < last
+  pub inside : last ≤ length bytes
+  pub spelled : IsVarint (between at last bytes) n
+
+-- each byte says that more come
+abbrev pub IsOpen : List ℕ → Type 0
+IsOpen [] = Unit {0}
+IsOpen (b ∷ bs) = (128 ≤ b) × IsOpen bs
+
+-- the bytes end before the number does
+pub record CutVarint (bytes : List ℕ) (at : ℕ) : Type 0 where
+  pub more : IsOpen (drop at bytes)
+  pub few : length (drop at bytes) ≤ 9
+
+-- so many bytes say that more come, and the one after them is above 1
+abbrev pub IsLong : ℕ → List ℕ → Type 0
+IsLong more [] = ⊥
+IsLong zero (b ∷ bs) = 1 < b
+IsLong (suc more) (b ∷ bs) = (128 ≤ b) × IsLong more bs
+
+-- the tenth byte of the number is above 1
+abbrev pub TenthAboveOne : List ℕ → ℕ → Type 0
+TenthAboveOne bytes at = IsLong 9 (drop at bytes)
+
+-- why no number is read at a place
+abbrev pub VarintCause : List ℕ → ℕ → WireFault → Type 0
+VarintCause bytes at Truncated = CutVarint bytes at
+VarintCause bytes at LongVarint = TenthAboveOne bytes at
+VarintCause bytes at BadField = ⊥
+VarintCause bytes at BadWireType = ⊥
+
+-- ---- records
+
+abbrev pub code_of : Wire → ℕ
+code_of Varint = 0
+code_of I64 = 1
+code_of Len = 2
+code_of I32 = 5
+
+abbrev pub IsFieldNumber : ℕ → Type 0
+IsFieldNumber n = (1 ≤ n) × (n ≤ 536_870_911)
+
+-- the tag: eight times the field's number, and the wire type
+pub record TagAt (bytes : List ℕ) (at number : ℕ) (wire : Wire) (last : ℕ) : Type 0 where
+  pub spelled : VarintAt bytes at (8 * number + code_of wire) last
+  pub named : IsFieldNumber number
+
+-- a number of a fixed width, least significant byte first
+pub record FixedAt (w : Width) (bytes : List ℕ) (at n last : ℕ) : Type 0 where
+  pub size : last ≡ at + byte_len w
+  pub inside : last ≤ length bytes
+  pub value : n ≡ from_le_bytes w (between at last bytes)
+
+-- the payload behind a tag that ends at a place
+abbrev pub PayloadAt : Wire → List ℕ → ℕ → Field → Type 0
+PayloadAt Varint bytes at f = (f.start ≡ at) × VarintAt bytes at f.value f.«end»
+PayloadAt I64 bytes at f = (f.start ≡ at) × FixedAt w64 bytes at f.value f.«end»
+PayloadAt Len bytes at f = VarintAt bytes at f.value f.start × (f.«end» ≡ f.start + f.value) × (f.«end» ≤ length bytes)
+PayloadAt I32 bytes at f = (f.start ≡ at) × FixedAt w32 bytes at f.value f.«end»
+
+-- the record that is spelled from a place on
+pub record RecordAt (bytes : List ℕ) (at : ℕ) (f : Field) : Type 0 where
+  pub tag_end : ℕ
+  pub tag : TagAt bytes at f.number f.wire tag_end
+  pub payload : PayloadAt f.wire bytes tag_end f
+
+-- the bytes end inside the payload
+abbrev pub CutPayload : Wire → List ℕ → ℕ → Type 0
+CutPayload Varint bytes at = CutVarint bytes at
+CutPayload I64 bytes at = length bytes < at + 8
+CutPayload Len bytes at = CutVarint bytes at ⊎ ((n : ℕ) × (last : ℕ) × VarintAt bytes at n last × (length bytes < last + n))
+CutPayload I32 bytes at = length bytes < at + 4
+
+-- the payload's number is too long
+abbrev pub LongPayload : Wire → List ℕ → ℕ → Type 0
+LongPayload Varint bytes at = TenthAboveOne bytes at
+LongPayload I64 bytes at = ⊥
+LongPayload Len bytes at = TenthAboveOne bytes at
+LongPayload I32 bytes at = ⊥
+
+-- something is wrong behind a good tag
+pub record BehindTag (wrong : Wire → List ℕ → ℕ → Type 0) (bytes : List ℕ) (at : ℕ) : Type 0 where
+  pub number : ℕ
+  pub wire : Wire
+  pub tag_end : ℕ
+  pub tag : TagAt bytes at number wire tag_end
+  pub payload : wrong wire bytes tag_end
+
+-- the tag names no field
+pub record NamesNoField (bytes : List ℕ) (at : ℕ) : Type 0 where
+  pub tag : ℕ
+  pub tag_end : ℕ
+  pub spelled : VarintAt bytes at tag tag_end
+  pub number : ¬ IsFieldNumber (tag / 8)
+
+-- the tag names a field, and none of the four wire types
+pub record HasNoWire (bytes : List ℕ) (at : ℕ) : Type 0 where
+  pub tag : ℕ
+  pub tag_end : ℕ
+  pub spelled : VarintAt bytes at tag tag_end
+  pub number : IsFieldNumber (tag / 8)
+  pub none : (w : Wire) → tag % 8 ≢ code_of w
+
+-- why no record is read at a place: each cause holds only where what stands before it in the record is good
+abbrev pub RecordCause : List ℕ → ℕ → WireFault → Type 0
+RecordCause bytes at Truncated = CutVarint bytes at ⊎ BehindTag CutPayload bytes at
+RecordCause bytes at LongVarint = TenthAboveOne bytes at ⊎ BehindTag LongPayload bytes at
+RecordCause bytes at BadField = NamesNoField bytes at
+RecordCause bytes at BadWireType = HasNoWire bytes at
+
+-- ---- the shortest spellings
+
+-- of at most one byte more than the count
+unfoldable pub shortest : ℕ → ℕ → List ℕ
+shortest zero n = n ∷ []
+shortest (suc more) n = if nat_lt n 128 then n ∷ [] else (128 + n % 128) ∷ shortest more (n / 128)
+
+abbrev pub varint_text : ℕ → List ℕ
+varint_text n = shortest 9 n
+
+-- the shortest spelling is one, and none is shorter
+pub record IsShortest (spelling : List ℕ) (n : ℕ) : Type 0 where
+  pub is_one : IsVarint spelling n
+  pub least : (other : List ℕ) → IsVarint other n → length spelling ≤ length other
+
+abbrev pub payload_text : Wire → ℕ → List ℕ → List ℕ
+payload_text Varint value payload = varint_text value
+payload_text I64 value payload = to_le_bytes w64 value
+payload_text Len value payload = varint_text (length payload) ++ payload
+payload_text I32 value payload = to_le_bytes w32 value
+
+abbrev pub tag_text : ℕ → Wire → List ℕ
+tag_text number wire = varint_text (8 * number + code_of wire)
+
+abbrev pub record_text : ℕ → Wire → ℕ → List ℕ → List ℕ
+record_text number wire value payload = tag_text number wire ++ payload_text wire value payload
+
+-- the number that is read of what was written: of a LEN its length
+abbrev pub value_text : Wire → ℕ → List ℕ → ℕ
+value_text Varint value payload = value
+value_text I64 value payload = value
+value_text Len value payload = length payload
+value_text I32 value payload = value
+
+-- where the payload of what was written begins behind the tag
+abbrev pub payload_start : Wire → List ℕ → ℕ
+payload_start Varint payload = 0
+payload_start I64 payload = 0
+payload_start Len payload = length (varint_text (length payload))
+payload_start I32 payload = 0
+
+-- the record that is read of what was written
+abbrev pub written_field : ℕ → Wire → ℕ → List ℕ → Field
+written_field number wire value payload = record {
+  number = number;
+  wire = wire;
+  value = value_text wire value payload;
+  start = length (tag_text number wire) + payload_start wire payload;
+  «end» = length (record_text number wire value payload) }

@@ -1,0 +1,25 @@
+//! Bytes are records: the wire format of Protocol Buffers, read and written one record at a time.
+//! Here too are what every crate above needs: byte strings and texts that own their memory, the
+//! want of memory, and sinks that take bytes. Nothing here knows a message.
+#![tactic(auto)]
+
+mod bytes;
+mod fault;
+mod field;
+mod many;
+mod reading;
+mod sink;
+mod text;
+mod writing;
+
+pub use bytes::Bytes;
+pub use fault::{Memory, WireFault};
+pub use field::{Field, Wire};
+pub use many::Many;
+pub use reading::{next_record, varint};
+pub use sink::{Failed, Over, Sink, write_all};
+pub use text::Text;
+pub use writing::{write_record, write_varint};
+
+#[cfg(test)]
+mod tests;

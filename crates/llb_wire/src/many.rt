@@ -1,0 +1,53 @@
+//! Lists of a public type, which contracts see as lists.
+
+ghost use Rattle.std.specs.Prelude.{◌≡◌, ◌==◌, length};
+
+use std::marker::Model;
+
+/// A list that owns its items. Contracts see the list of their values.
+#[derive(Debug, Drop)]
+pub struct Many<T> {
+    items: Vec<T>,
+}
+
+impl<T> Model for Many<T> {
+    ghost use Rattle.std.specs.Prelude.{List};
+
+    ghost Value = { List T };
+
+    ghost view = { λ m. m.items.items };
+}
+
+impl<T> Many<T> {
+    /// Takes the items over.
+    pub fn new(items: Vec<T>) -> Many<T>
+        ensures { result ≡ items.items }
+    {
+        Many { items }
+    }
+
+    pub fn as_slice(&self) -> &[T]
+        ensures { result.now ≡ self.now }
+    {
+        self.items.as_slice()
+    }
+
+    pub fn len(&self) -> usize
+        ensures { result ≡ length self.now }
+    {
+        self.items.len()
+    }
+
+    pub fn is_empty(&self) -> bool
+        ensures { result ≡ (length self.now == 0) }
+    {
+        self.items.is_empty()
+    }
+
+    /// Gives the items back.
+    pub fn into_vec(self) -> Vec<T>
+        ensures { result.items ≡ self }
+    {
+        self.items
+    }
+}

@@ -1,0 +1,85 @@
+//! A sink takes bytes from the front, or has failed.
+
+ghost use Rattle.std.specs.Prelude.{◌≡◌, ℕ, Bool, List, Option, Some, None, false};
+ghost use Rattle.std.specs.Borrow.{GName};
+ghost use Rattle.llb_wire.specs.Sink.{Takes, TakesAll};
+
+use std::io::Write;
+
+#[derive(Clone, Copy, Debug, PartialEq, Eq)]
+pub struct Failed;
+
+pub trait Sink {
+    // The bytes taken so far, where they are known.
+    ghost taken: { Self → Option (List ℕ) };
+
+    ghost failed: { Self → Bool };
+
+    // The reference behind which the bytes go, where there is one: it stays the same.
+    ghost lender: { Self → Option GName } = { λ _. None };
+
+    fn write(&mut self, bytes: &[u8]) -> Result<usize, Failed>
+        ensures takes { Takes (taken self.old) (failed self.old) (taken self.new) (failed self.new)
+            bytes.now result }
+        ensures same { lender self.new ≡ lender self.old };
+}
+
+/// A sink over a writer: after its first fault it writes no more.
+#[derive(Drop)]
+pub struct Over<'a, W> {
+    pub out: &'a mut W,
+    pub failed: bool,
+}
+
+impl<'a, W: Write> Over<'a, W> {
+    pub fn new(out: &'a mut W) -> Over<'a, W>
+        ensures same { result.out.ghost_name ≡ out.entry.ghost_name }
+        ensures held { result.out.now ≡ out.old }
+        ensures sound { result.failed ≡ false }
+    {
+        Over { out, failed: false }
+    }
+}
+
+impl<'a, W: Write> Sink for Over<'a, W> {
+    ghost taken = { λ o. W.contents o.out.now };
+
+    ghost failed = { λ o. o.failed };
+
+    ghost lender = { λ o. Some o.out.ghost_name };
+
+    fn write(&mut self, bytes: &[u8]) -> Result<usize, Failed> {
+        if self.failed {
+            return Err(Failed);
+        }
+        match self.out.write(bytes) {
+            Ok(n) => {
+                if n > 0 || bytes.is_empty() {
+                    return Ok(n);
+                }
+            }
+            Err(_) => {}
+        }
+        self.failed = true;
+        Err(Failed)
+    }
+}
+
+/// Writes all the bytes, in as many turns as it takes.
+pub fn write_all<S: Sink>(sink: &mut S, bytes: &[u8]) -> Result<(), Failed>
+    ensures takes { TakesAll (S.taken sink.old) (S.taken sink.new) (S.failed sink.new)
+        bytes.now result }
+    ensures same { S.lender sink.new ≡ S.lender sink.old }
+{
+    let mut rest = bytes;
+    while !rest.is_empty() {
+        match sink.write(rest) {
+            Ok(n) => {
+                let (_, later) = rest.split_at(n);
+                rest = later;
+            }
+            Err(failed) => return Err(failed),
+        }
+    }
+    Ok(())
+}
