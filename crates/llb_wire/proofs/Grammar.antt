@@ -1,13 +1,13 @@
 -- A varint is read exactly where one is spelled, and each fault stands only where its cause does.
 use Rattle.std.proofs.Common.{◌≡◌, ℕ, zero, suc, ◌+◌, ◌-◌, ◌*◌, ◌<◌, ◌≤◌, ◌^◌, Bool, true, false, cond, ltb, List, [], ◌∷◌, ◌++◌, length, take, drop, Result, Ok, Err, ◌⊎◌, inl, inr, refl, sym, ap, subst, ◌∙◌, arith}
 use Rattle.std.proofs.lemmas.Bool.{ltb-false, ltb-true, le-ltb, lt-ltb}
-use Rattle.std.specs.Prelude.{IfOk}
-use Rattle.std.proofs.lemmas.List.{length-take, take-append-drop}
+use Rattle.std.specs.Prelude.{IfOk, IfErr}
+use Rattle.std.proofs.lemmas.List.{length-take, length-drop, take-append-drop}
 use Rattle.llb_wire.specs.declared.fault.WireFault.{WireFault}
-use Rattle.llb_wire.specs.declared.fault.WireFault.TheVariants.{Truncated, LongVarint}
+use Rattle.llb_wire.specs.declared.fault.WireFault.TheVariants.{Truncated, LongVarint, BadField, BadWireType}
 use Rattle.llb_wire.specs.Answer.{◌>>=◌}
 use Rattle.llb_wire.specs.Reading.{varint_from, varint_at, varint_limit}
-use Rattle.llb_wire.specs.Spelling.{Spells, IsVarint, IsOpen, IsLong}
+use Rattle.llb_wire.specs.Spelling.{Spells, IsVarint, IsOpen, IsLong, VarintAt, VarintCause, CutVarint}
 use Rattle.llb_wire.proofs.Prefix.{bind_ok, short_or, varint_len}
 
 abbrev pair : ℕ → ℕ → ℕ × ℕ
@@ -41,13 +41,14 @@ spells_found more [] v n e = absurd cc
 spells_found zero (b ∷ bytes) v n e = last_is b v n bytes (ltb 1 b) refl e
 spells_found (suc more) (b ∷ bytes) v n e =
     elim (short_or b v n (varint_from more bytes) (ltb b 128) e) [
-        inl s ↦
+      | inl s ↦
           let h : pair b 1 ≡ pair v n = let f = rw s.0 at e in cc in
           subst (λ (x : ℕ × ℕ). Spells (take x.1 (b ∷ bytes)) x.0 × (x.1 ≤ suc (suc more))) h ((ltb-true b 128 s.0, refl), omega arith)
       | inr l ↦
           let deep = spells_found more bytes l.1.0.0 l.1.0.1 l.1.1 in
           let high = ltb-false b 128 l.0 in
-          subst (λ (k : ℕ). Spells (take k (b ∷ bytes)) v × (k ≤ suc (suc more))) l.1.3 (spells_more b v l.1.0.0 (take l.1.0.1 bytes) high (omega (arith, l.1.2, high)) deep.0, omega (arith, deep.1)) ]
+          subst (λ (k : ℕ). Spells (take k (b ∷ bytes)) v × (k ≤ suc (suc more))) l.1.3 (spells_more b v l.1.0.0 (take l.1.0.1 bytes) high (omega (arith, l.1.2, high)) deep.0, omega (arith, deep.1))
+    ]
 
 pub spells_read : (more : ℕ) (xs rest : List ℕ) (v : ℕ) → Spells xs v → length xs ≤ suc more → v < varint_limit more → varint_from more (xs ++ rest) ≡ Ok (v, length xs)
 unfolding varint_from
@@ -112,8 +113,40 @@ bind_err : (r : Result (ℕ × ℕ) WireFault) (at : ℕ) (d : WireFault) → �
 bind_err (Ok m) at d e = absurd cc
 bind_err (Err c) at d e = let h : c ≡ d = cc in ap (λ x. Err x) h
 
-pub at_truncated : (bytes : List ℕ) (at : ℕ) → varint_at bytes at ≡ Err Truncated → IsOpen (drop at bytes) × (length (drop at bytes) ≤ 9)
-at_truncated bytes at e = open_is 9 (drop at bytes) (bind_err (varint_from 9 (drop at bytes)) at Truncated e)
+-- a varint is refused for one of two causes
+no_other : (more : ℕ) (bytes : List ℕ) (d : WireFault) → varint_from more bytes ≡ Err d → (d ≡ Truncated) ⊎ (d ≡ LongVarint)
+unfolding varint_from
+no_other more [] d e = inl (sym cc)
+no_other zero (b ∷ bytes) d e = go b d (ltb 1 b) e where
+  go : (b : ℕ) (d : WireFault) (t : Bool) → cond {A = Result (ℕ × ℕ) WireFault} t (Err LongVarint) (Ok (b, 1)) ≡ Err d → (d ≡ Truncated) ⊎ (d ≡ LongVarint)
+  go b d true e = inr (sym cc)
+  go b d false e = absurd cc
+no_other (suc more) (b ∷ bytes) d e =
+    let s = err_step b (ltb b 128) (varint_from more bytes) d e in no_other more bytes d s.1
 
-pub at_long : (bytes : List ℕ) (at : ℕ) → varint_at bytes at ≡ Err LongVarint → IsLong 9 (drop at bytes)
-at_long bytes at e = long_is 9 (drop at bytes) (bind_err (varint_from 9 (drop at bytes)) at LongVarint e)
+cut_at : (bytes : List ℕ) (at : ℕ) → varint_at bytes at ≡ Err Truncated → CutVarint bytes at
+cut_at bytes at e =
+    let h = open_is 9 (drop at bytes) (bind_err (varint_from 9 (drop at bytes)) at Truncated e) in
+    record { more = h.0; few = h.1 }
+
+abbrev err_of : WireFault → Result (ℕ × ℕ) WireFault
+err_of d = Err d
+
+pub at_faults : (bytes : List ℕ) (at : ℕ) (r : Result (ℕ × ℕ) WireFault) → r ≡ varint_at bytes at → IfErr r (VarintCause bytes at)
+at_faults bytes at (Ok x) e = tt
+at_faults bytes at (Err Truncated) e = cut_at bytes at (sym e)
+at_faults bytes at (Err LongVarint) e = long_is 9 (drop at bytes) (bind_err (varint_from 9 (drop at bytes)) at LongVarint (sym e))
+at_faults bytes at (Err BadField) e =
+    elim (no_other 9 (drop at bytes) BadField (bind_err (varint_from 9 (drop at bytes)) at BadField (sym e))) [ inl h ↦ cc | inr h ↦ cc ]
+at_faults bytes at (Err BadWireType) e =
+    elim (no_other 9 (drop at bytes) BadWireType (bind_err (varint_from 9 (drop at bytes)) at BadWireType (sym e))) [ inl h ↦ cc | inr h ↦ cc ]
+
+pub at_varint : (bytes : List ℕ) (at : ℕ) (r : Result (ℕ × ℕ) WireFault) → r ≡ varint_at bytes at → IfOk r (λ x. x.0 < 2 ^ 64)
+    → IfOk r (λ x. at < x.1) → IfOk r (λ x. x.1 ≤ length bytes) → IfOk r (λ x. VarintAt bytes at x.0 x.1)
+at_varint bytes at (Err d) e small begins inside = tt
+at_varint bytes at (Ok x) e small begins inside = record { begins = begins; inside = inside; spelled = at_found bytes at (Ok x) e small }
+
+pub varint_only : (bytes : List ℕ) (at n last : ℕ) → VarintAt bytes at n last → varint_at bytes at ≡ Ok (n, last)
+varint_only bytes at n last h =
+    let sum : at + (last - at) ≡ last = omega (arith, h.begins) in
+    at_only bytes at (last - at) n (omega (arith, length-drop at bytes, h.inside, h.begins)) h.spelled ∙ ap (λ (k : ℕ). Ok (n, k)) sum

@@ -1,5 +1,7 @@
 pub mod Limits
-pub mod Spellings
 pub mod Prefix
 pub mod Grammar
+pub mod Spellings
+pub mod RecordGrammar
+pub mod Written
 pub mod SinkLemmas

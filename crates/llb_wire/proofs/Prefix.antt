@@ -47,8 +47,9 @@ varint_len more [] v n e = absurd cc
 varint_len zero (b ∷ bytes) v n e = let one = long_is b v n (ltb 1 b) e in (omega (arith, one), omega (arith, one))
 varint_len (suc more) (b ∷ bytes) v n e =
     elim (short_or b v n (varint_from more bytes) (ltb b 128) e) [
-        inl s ↦ (omega (arith, s.1), omega (arith, s.1))
-      | inr l ↦ (omega (arith, l.1.3), omega (arith, l.1.3, varint_len more bytes l.1.0.0 l.1.0.1 l.1.1)) ]
+      | inl s ↦ (omega (arith, s.1), omega (arith, s.1))
+      | inr l ↦ (omega (arith, l.1.3), omega (arith, l.1.3, varint_len more bytes l.1.0.0 l.1.0.1 l.1.1))
+    ]
 
 pub varint_prefix : (more : ℕ) (bytes : List ℕ) (v n k : ℕ) (rest : List ℕ) → varint_from more bytes ≡ Ok (v, n) → n ≤ k → varint_from more (take k bytes ++ rest) ≡ Ok (v, n)
 unfolding varint_from
@@ -58,8 +59,9 @@ varint_prefix zero (b ∷ bytes) v n (suc k) rest e le = e
 varint_prefix (suc more) (b ∷ bytes) v n zero rest e le = absurd (omega (arith, le, varint_len (suc more) (b ∷ bytes) v n e))
 varint_prefix (suc more) (b ∷ bytes) v n (suc k) rest e le =
     elim (short_or b v n (varint_from more bytes) (ltb b 128) e) [
-        inl s ↦ rw s.0 (rw s.0 at e)
-      | inr l ↦ rw (l.0, varint_prefix more bytes l.1.0.0 l.1.0.1 k rest l.1.1 (omega (arith, le, l.1.3)), l.1.2, l.1.3) refl ]
+      | inl s ↦ rw s.0 (rw s.0 at e)
+      | inr l ↦ rw (l.0, varint_prefix more bytes l.1.0.0 l.1.0.1 k rest l.1.1 (omega (arith, le, l.1.3)), l.1.2, l.1.3) refl
+    ]
 
 -- ---- places
 
@@ -84,7 +86,8 @@ varint_local bytes at x le e =
       begins = omega (arith, «end»);
       inside = omega (arith, «end», len, length-drop at bytes, le);
       again = λ k rest far inside.
-        rw (dropped bytes rest at k (omega (arith, far, «end»)) inside, varint_prefix 9 (drop at bytes) m.0.0 m.0.1 (k - at) rest m.1 (omega (arith, far, «end»))) m.2 }
+          rw (dropped bytes rest at k (omega (arith, far, «end»)) inside, varint_prefix 9 (drop at bytes) m.0.0 m.0.1 (k - at) rest m.1 (omega (arith, far, «end»))) m.2;
+    }
 
 take_front : (n j : ℕ) (ys rest : List ℕ) → n ≤ j → j ≤ length ys → take n (take j ys ++ rest) ≡ take n ys
 take_front zero j ys rest le inside = refl
@@ -101,10 +104,11 @@ fixed_local w bytes at x le e =
       begins = omega (arith, stop);
       inside = omega (arith, stop, long, length-drop at bytes, le);
       again = λ k rest far inside.
-        let split = dropped bytes rest at k (omega (arith, far, stop)) inside in
-        let part : take (byte_len w) (take (k - at) (drop at bytes) ++ rest) ≡ take (byte_len w) (drop at bytes) = take_front (byte_len w) (k - at) (drop at bytes) rest (omega (arith, far, stop)) (omega (arith, inside, length-drop at bytes)) in
-        let enough : ltb (length (take (k - at) (drop at bytes) ++ rest)) (byte_len w) ≡ false = le-ltb _ _ (omega (arith, far, stop, long, length-append (take (k - at) (drop at bytes)) rest, length-take (k - at) (drop at bytes))) in
-        rw (split, enough, part) (ap (λ (y : ℕ × ℕ). is_ok_of y) g.1) }
+          let split = dropped bytes rest at k (omega (arith, far, stop)) inside in
+          let part : take (byte_len w) (take (k - at) (drop at bytes) ++ rest) ≡ take (byte_len w) (drop at bytes) = take_front (byte_len w) (k - at) (drop at bytes) rest (omega (arith, far, stop)) (omega (arith, inside, length-drop at bytes)) in
+          let enough : ltb (length (take (k - at) (drop at bytes) ++ rest)) (byte_len w) ≡ false = le-ltb _ _ (omega (arith, far, stop, long, length-append (take (k - at) (drop at bytes)) rest, length-take (k - at) (drop at bytes))) in
+          rw (split, enough, part) (ap (λ (y : ℕ × ℕ). is_ok_of y) g.1);
+    }
 
 -- ---- records
 
@@ -118,7 +122,7 @@ plain_local : (n : ℕ) (w : Wire) (read : List ℕ → ℕ → Result (ℕ × �
     → LocalField (λ xs. read xs at >>= λ v. Ok (as_field n w at v)) bytes at f
 plain_local n w read bytes at x f e is h =
     subst (λ (g : Field). LocalField (λ xs. read xs at >>= λ v. Ok (as_field n w at v)) bytes at g) is
-      (record { begins = omega arith; ordered = h.begins; inside = h.inside; again = λ rest. rw (h.again x.1 rest (omega arith) h.inside) refl })
+    (record { begins = omega arith; ordered = h.begins; inside = h.inside; again = λ rest. rw (h.again x.1 rest (omega arith) h.inside) refl })
 
 pub payload_local : (n : ℕ) (w : Wire) (bytes : List ℕ) (at : ℕ) (f : Field) → at ≤ length bytes → payload_at n w bytes at ≡ Ok f → LocalField (λ xs. payload_at n w xs at) bytes at f
 unfolding payload_at
@@ -138,13 +142,14 @@ payload_local n wire.Len bytes at f le e =
     let h = varint_local bytes at v.0 le v.1 in
     let stop = v.0.1 + v.0.0 in
     subst (λ (x : Field). LocalField (λ xs. payload_at n wire.Len xs at) bytes at x) g.1
-      (record {
-        begins = h.begins;
-        ordered = omega arith;
-        inside = omega (arith, room, h.inside);
-        again = λ rest.
+    (record {
+      begins = h.begins;
+      ordered = omega arith;
+      inside = omega (arith, room, h.inside);
+      again = λ rest.
           let enough : ltb (length (take stop bytes ++ rest) - v.0.1) v.0.0 ≡ false = le-ltb _ _ (omega (arith, length-append (take stop bytes) rest, length-take stop bytes, room, h.inside)) in
-          rw (h.again stop rest (omega arith) (omega (arith, room, h.inside)), enough) refl })
+          rw (h.again stop rest (omega arith) (omega (arith, room, h.inside)), enough) refl;
+    })
 
 varint_begins : (bytes : List ℕ) (at : ℕ) (x : ℕ × ℕ) → varint_at bytes at ≡ Ok x → at < x.1
 varint_begins bytes at x e =
@@ -168,4 +173,5 @@ field_local bytes f e =
       begins = omega (arith, p.begins, varint_begins bytes 0 t.0 t.1);
       ordered = p.ordered;
       inside = p.inside;
-      again = λ rest. field_step (take f.«end» bytes ++ rest) t.0 n.0 w.0 f (h.again f.«end» rest (omega (arith, p.begins, p.ordered)) p.inside) n.1 w.1 (p.again rest) }
+      again = λ rest. field_step (take f.«end» bytes ++ rest) t.0 n.0 w.0 f (h.again f.«end» rest (omega (arith, p.begins, p.ordered)) p.inside) n.1 w.1 (p.again rest);
+    }

@@ -1,11 +1,13 @@
--- What is read is spelled so, and the shortest spelling is read again.
-use Rattle.std.proofs.Common.{◌≡◌, ℕ, zero, suc, ◌+◌, ◌-◌, ◌*◌, ◌/◌, ◌%◌, ◌^◌, ◌<◌, ◌≤◌, Bool, true, false, cond, ltb, List, [], ◌∷◌, ◌++◌, length, take, Result, Ok, Err, inl, inr, refl, sym, ap, subst, ◌∙◌, arith}
+-- The shortest spelling is read again, whatever follows it, and no spelling is shorter.
+use Rattle.std.proofs.Common.{zero-add, ◌≡◌, ℕ, zero, suc, ◌+◌, ◌-◌, ◌*◌, ◌/◌, ◌%◌, ◌^◌, ◌<◌, ◌≤◌, Bool, true, false, cond, ltb, List, [], ◌∷◌, ◌++◌, length, take, Result, Ok, Err, inl, inr, refl, sym, ap, subst, ◌∙◌, arith}
 use Rattle.std.proofs.lemmas.Bool.{ltb-false, le-ltb, ltb-true, lt-ltb, cases_lt}
+use Rattle.std.proofs.lemmas.List.{drop_at}
 use Rattle.llb_wire.specs.declared.fault.WireFault.{WireFault}
 use Rattle.llb_wire.specs.declared.fault.WireFault.TheVariants.{LongVarint}
 use Rattle.llb_wire.specs.Answer.{◌>>=◌}
-use Rattle.llb_wire.specs.Reading.{varint_from, varint_limit}
-use Rattle.llb_wire.specs.Spelling.{shortest}
+use Rattle.llb_wire.specs.Reading.{varint_from, varint_at, varint_limit}
+use Rattle.llb_wire.specs.Spelling.{shortest, varint_text, Spells, IsVarint, AreBytes, IsShortest}
+use Rattle.llb_wire.proofs.Grammar.{spells_found}
 
 pub shortest_step : (more n : ℕ) → 0 < more → 128 ≤ n → shortest more n ≡ (128 + n % 128) ∷ shortest (more - 1) (n / 128)
 unfolding shortest
@@ -44,3 +46,48 @@ shortest_some (suc more) n = go (ltb n 128) refl where
   go : (b : Bool) → ltb n 128 ≡ b → 0 < length (shortest (suc more) n)
   go true e = rw e (omega arith)
   go false e = rw e (omega arith)
+
+-- what is smaller than the limit is spelled in bytes
+pub shortest_bytes : (more n : ℕ) → n < varint_limit more → AreBytes (shortest more n)
+unfolding shortest
+shortest_bytes zero n small = (omega arith, tt)
+shortest_bytes (suc more) n small = go (ltb n 128) refl (shortest_bytes more (n / 128) (omega arith)) where
+  go : (b : Bool) → ltb n 128 ≡ b → AreBytes (shortest more (n / 128)) → AreBytes (shortest (suc more) n)
+  go true e rest = rw e ((omega (arith, ltb-true n 128 e), tt))
+  go false e rest = rw e ((omega arith, rest))
+
+-- a spelling in bytes is no shorter
+pub least_spelling : (more n : ℕ) (other : List ℕ) → AreBytes other → Spells other n → length (shortest more n) ≤ length other
+unfolding shortest
+least_spelling zero n [] are h = absurd h
+least_spelling zero n (b ∷ other) are h = omega arith
+least_spelling (suc more) n [] are h = absurd h
+least_spelling (suc more) n (b ∷ []) are h =
+    let yes : ltb n 128 ≡ true = lt-ltb _ _ (omega (arith, h.0, h.1)) in rw yes (omega arith)
+least_spelling (suc more) n (b ∷ c ∷ other) are h = go (ltb n 128) refl (least_spelling more h.1 (c ∷ other) are.1 h.3) where
+  go : (t : Bool) → ltb n 128 ≡ t → length (shortest more h.1) ≤ length (c ∷ other) → length (shortest (suc more) n) ≤ length (b ∷ c ∷ other)
+  go true e rest = rw e (omega arith)
+  go false e rest =
+      let high : n / 128 ≡ h.1 = omega (arith, h.0, h.2, are.0) in
+      rw (e, high) (omega (arith, rest))
+
+pub is_shortest : (n : ℕ) → n < 2 ^ 64 → IsShortest (varint_text n) n
+is_shortest n small =
+    let again = varint_again 9 n [] small in
+    let found = spells_found 9 (shortest 9 n ++ []) n (length (shortest 9 n)) again in
+    let whole : take (length (shortest 9 n)) (shortest 9 n ++ []) ≡ shortest 9 n = take_whole (shortest 9 n) in
+    record {
+      is_one = record { spells = subst (λ xs. Spells xs n) whole found.0; short = found.1; small = small };
+      bytes = shortest_bytes 9 n small;
+      least = λ other are h. least_spelling 9 n other are h.spells;
+    }
+  where
+    take_whole : (xs : List ℕ) → take (length xs) (xs ++ []) ≡ xs
+    take_whole [] = refl
+    take_whole (x ∷ xs) = ap (λ ys. x ∷ ys) (take_whole xs)
+
+pub varint_at_again : (before : List ℕ) (n : ℕ) (rest : List ℕ) (at : ℕ) → at ≡ length before → n < 2 ^ 64 → varint_at (before ++ (varint_text n ++ rest)) at ≡ Ok (n, at + length (varint_text n))
+varint_at_again before n rest at e small = rw (drop_at before (varint_text n ++ rest) at (sym e), varint_again 9 n rest small) refl
+
+pub reads_back : (n : ℕ) (rest : List ℕ) → n < 2 ^ 64 → varint_at (varint_text n ++ rest) 0 ≡ Ok (n, length (varint_text n))
+reads_back n rest small = varint_at_again [] n rest 0 refl small ∙ ap (λ (k : ℕ). Ok (n, k)) (zero-add (length (varint_text n)))

@@ -1,6 +1,7 @@
 -- The grammar of the wire, apart from any reading: which bytes spell a number or a record, by the encoding guide of
 -- Protocol Buffers ("Base 128 Varints", "Message Structure"), and which spelling is the shortest.
 use Rattle.std.specs.Prelude.{◌≡◌, ◌≢◌, ℕ, zero, suc, ◌+◌, ◌-◌, ◌*◌, ◌/◌, ◌%◌, ◌<◌, ◌≤◌, ◌^◌, ◌⊎◌, List, [], ◌∷◌, ◌++◌, length, take, drop, nat_lt, if◌then◌else◌}
+use Rattle.std.specs.List.{AllByRecursion}
 use Rattle.std.specs.Int.{Width, w32, w64, byte_len, to_le_bytes, from_le_bytes}
 use Rattle.llb_wire.specs.declared.fault.WireFault.{WireFault}
 use Rattle.llb_wire.specs.declared.fault.WireFault.TheVariants.{Truncated, LongVarint, BadField, BadWireType}
@@ -108,6 +109,13 @@ LongPayload I64 bytes at = ⊥
 LongPayload Len bytes at = TenthAboveOne bytes at
 LongPayload I32 bytes at = ⊥
 
+-- why no payload is read at a place
+abbrev pub PayloadCause : Wire → List ℕ → ℕ → WireFault → Type 0
+PayloadCause wire bytes at Truncated = CutPayload wire bytes at
+PayloadCause wire bytes at LongVarint = LongPayload wire bytes at
+PayloadCause wire bytes at BadField = ⊥
+PayloadCause wire bytes at BadWireType = ⊥
+
 -- something is wrong behind a good tag
 pub record BehindTag (wrong : Wire → List ℕ → ℕ → Type 0) (bytes : List ℕ) (at : ℕ) : Type 0 where
   pub number : ℕ
@@ -148,10 +156,14 @@ shortest (suc more) n = if nat_lt n 128 then n ∷ [] else (128 + n % 128) ∷ s
 abbrev pub varint_text : ℕ → List ℕ
 varint_text n = shortest 9 n
 
--- the shortest spelling is one, and none is shorter
+abbrev pub AreBytes : List ℕ → Type 0
+AreBytes bytes = AllByRecursion (λ b. b < 256) bytes
+
+-- a spelling than which none is shorter
 pub record IsShortest (spelling : List ℕ) (n : ℕ) : Type 0 where
   pub is_one : IsVarint spelling n
-  pub least : (other : List ℕ) → IsVarint other n → length spelling ≤ length other
+  pub bytes : AreBytes spelling
+  pub least : (other : List ℕ) → AreBytes other → IsVarint other n → length spelling ≤ length other
 
 abbrev pub payload_text : Wire → ℕ → List ℕ → List ℕ
 payload_text Varint value payload = varint_text value
@@ -179,6 +191,11 @@ payload_start I64 payload = 0
 payload_start Len payload = length (varint_text (length payload))
 payload_start I32 payload = 0
 
+-- the old bytes, and what was written behind them
+pub record Extends (old new : List ℕ) : Type 0 where
+  pub more : List ℕ
+  pub bytes : new ≡ old ++ more
+
 -- the record that is read of what was written
 abbrev pub written_field : ℕ → Wire → ℕ → List ℕ → Field
 written_field number wire value payload = record {
@@ -186,4 +203,5 @@ written_field number wire value payload = record {
   wire = wire;
   value = value_text wire value payload;
   start = length (tag_text number wire) + payload_start wire payload;
-  «end» = length (record_text number wire value payload) }
+  «end» = length (record_text number wire value payload);
+}

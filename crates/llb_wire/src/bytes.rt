@@ -62,7 +62,7 @@ impl Bytes {
     pub fn same(&self, other: &Bytes) -> bool
         ensures { IsTrue result ↔ (self.now ≡ other.now) }
     {
-        self.as_slice() == other.as_slice()
+        self == other
     }
 }
 

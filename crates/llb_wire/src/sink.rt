@@ -1,4 +1,4 @@
-//! A sink takes bytes from the front, or has failed.
+//! Sinks: what takes bytes from the front, or has failed.
 
 ghost use Rattle.std.specs.Prelude.{◌≡◌, ℕ, Bool, List, Option, Some, None, false};
 ghost use Rattle.std.specs.Borrow.{GName};
@@ -6,9 +6,11 @@ ghost use Rattle.llb_wire.specs.Sink.{Takes, TakesAll};
 
 use std::io::Write;
 
+/// The sink has failed, and takes nothing from then on.
 #[derive(Clone, Copy, Debug, PartialEq, Eq)]
 pub struct Failed;
 
+/// Where bytes go. Contracts see the bytes taken so far and whether the sink has failed.
 pub trait Sink {
     // The bytes taken so far, where they are known.
     ghost taken: { Self → Option (List ℕ) };
@@ -18,13 +20,16 @@ pub trait Sink {
     // The reference behind which the bytes go, where there is one: it stays the same.
     ghost lender: { Self → Option GName } = { λ _. None };
 
+    /// Takes some bytes from the front, at least one where there are any, and tells how many; or has
+    /// failed, and answers `Failed` from then on.
     fn write(&mut self, bytes: &[u8]) -> Result<usize, Failed>
         ensures takes { Takes (taken self.old) (failed self.old) (taken self.new) (failed self.new)
             bytes.now result }
         ensures same { lender self.new ≡ lender self.old };
 }
 
-/// A sink over a writer: after its first fault it writes no more.
+/// A sink over a writer. It has failed from the first write that failed, or took nothing, and then
+/// writes no more.
 #[derive(Drop)]
 pub struct Over<'a, W> {
     pub out: &'a mut W,
@@ -52,20 +57,17 @@ impl<'a, W: Write> Sink for Over<'a, W> {
         if self.failed {
             return Err(Failed);
         }
-        match self.out.write(bytes) {
-            Ok(n) => {
-                if n > 0 || bytes.is_empty() {
-                    return Ok(n);
-                }
+        if let Ok(n) = self.out.write(bytes) {
+            if n > 0 || bytes.is_empty() {
+                return Ok(n);
             }
-            Err(_) => {}
         }
         self.failed = true;
         Err(Failed)
     }
 }
 
-/// Writes all the bytes, in as many turns as it takes.
+/// Writes all of the bytes, in as many turns as it takes. Where the sink fails, a front of them is out.
 pub fn write_all<S: Sink>(sink: &mut S, bytes: &[u8]) -> Result<(), Failed>
     ensures takes { TakesAll (S.taken sink.old) (S.taken sink.new) (S.failed sink.new)
         bytes.now result }

@@ -66,7 +66,7 @@ impl Text {
     pub fn same(&self, other: &Text) -> bool
         ensures { IsTrue result ↔ (self.now ≡ other.now) }
     {
-        self.as_str().as_bytes() == other.as_str().as_bytes()
+        self == other
     }
 }
 
