@@ -153,6 +153,7 @@ fn texts_byte_strings_and_lists_have_second_owners(rt: HostRuntime) -> Result<()
     let text = Text::from_str(alloc, "é")?;
     let other = Text::new(String::from_str(alloc, "e")?);
     assert!(rt; text.same(&text.copy()?) && !text.same(&other) && other < text);
+    assert_eq!(rt; format!(in alloc; "{text}")?.as_str(), "é");
     assert_eq!(rt; text.into_string().as_str(), "é");
     let many = Many::new(Vec::from_slice(alloc, &[3, 4])?);
     assert!(rt; many.len() == 2 && !many.is_empty());

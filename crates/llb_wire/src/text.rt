@@ -7,6 +7,7 @@ ghost use Rattle.std.specs.Str.{IsUtf8};
 use crate::fault::Memory;
 use std::alloc::Global;
 use std::cmp::Ordering;
+use std::fmt;
 use std::marker::Model;
 
 /// A text in UTF-8 that owns its memory. Contracts see the list of its bytes.
@@ -67,6 +68,17 @@ impl Text {
         ensures { IsTrue result ↔ (self.now ≡ other.now) }
     {
         self == other
+    }
+}
+
+impl fmt::Display for Text {
+    ghost use Rattle.std.specs.Prelude.{Some};
+
+    ghost output = { λ t. Some t };
+
+    fn fmt<W: fmt::Write>(&self, f: &mut fmt::Formatter<W>) -> fmt::Result {
+        let text = self.as_str();
+        write!(f, "{text}")
     }
 }
 

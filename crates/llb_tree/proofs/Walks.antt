@@ -1,0 +1,53 @@
+-- A walk, a name at a time.
+use Rattle.std.proofs.Common.{◌≡◌, ◌≢◌, ℕ, zero, suc, ◌+◌, ◌<◌, List, [], ◌∷◌, ◌++◌, length, take, drop, map, Option, Some, None, Result, Ok, Err, refl, sym, ap, ◌∙◌, arith, add-one}
+use Rattle.llb_tree.specs.declared.fault.TreeFault.{TreeFault}
+use Rattle.llb_tree.specs.declared.fault.TreeFault.TheVariants.{NotFound, NotDir}
+use Rattle.llb_tree.specs.Meta.{MetaValue}
+use Rattle.llb_tree.specs.Tree.{Entry, Dir, File, Look, TreeMap, parents, all_dirs, walk, file_fits, dir_fits, put_file, put_dir}
+use Rattle.llb_wire.specs.Answer.{◌>>=◌}
+use Rattle.std.specs.FinMap as finite
+
+pub map-map : {A B C : Type 0} (g : B → C) (f : A → B) (xs : List A) → map g (map f xs) ≡ map (λ x. g (f x)) xs
+map-map g f [] = refl
+map-map g f (x ∷ xs) = ap (λ ys. g (f x) ∷ ys) (map-map g f xs)
+
+-- the root first, and then the rest below the first name
+pub walk-cons : (look : Look) (n : List ℕ) (p : List (List ℕ)) → walk look (n ∷ p) ≡ all_dirs (look [] ∷ map (λ q. look (n ∷ q)) (parents p))
+walk-cons look n p = ap (λ ys. all_dirs (look [] ∷ ys)) (map-map look (λ q. n ∷ q) (parents p))
+
+-- from the i-th name on
+abbrev pub walk_from : Look → List (List ℕ) → ℕ → Result (Unit {0}) TreeFault
+walk_from look p i = walk (λ q. look (take i p ++ q)) (drop i p)
+
+pub walk_split : (look : Look) (p : List (List ℕ)) (i : ℕ) → i < length p → walk_from look p i ≡ all_dirs (look (take i p) ∷ map (λ q. look (take (suc i) p ++ q)) (parents (drop (suc i) p)))
+walk_split look [] i lt = absurd (omega arith)
+walk_split look (n ∷ p) zero lt = walk-cons look n p
+walk_split look (n ∷ p) (suc i) lt = walk_split (λ q. look (n ∷ q)) p i (omega arith)
+
+module _ (look : Look) (p : List (List ℕ)) (i : ℕ) (lt : i < length p) (so_far : walk_from look p i ≡ walk look p) where
+  after : (e : Option Entry) → look (take i p) ≡ e → walk look p ≡ all_dirs (e ∷ map (λ q. look (take (suc i) p ++ q)) (parents (drop (suc i) p)))
+  after e is = sym so_far ∙ walk_split look p i lt ∙ ap (λ x. all_dirs (x ∷ map (λ q. look (take (suc i) p ++ q)) (parents (drop (suc i) p)))) is
+
+  pub walk_missing : look (take i p) ≡ None → walk look p ≡ Err NotFound
+  walk_missing is = after None is
+
+  pub walk_file : (m : MetaValue) (b : List ℕ) → look (take i p) ≡ Some (File m b) → walk look p ≡ Err NotDir
+  walk_file m b is = after (Some (File m b)) is
+
+  pub walk_dir : (m : MetaValue) → look (take i p) ≡ Some (Dir m) → walk_from look p (i + 1) ≡ walk look p
+  walk_dir m is = ap (walk_from look p) (add-one i) ∙ sym (after (Some (Dir m)) is)
+
+drop_all : (p : List (List ℕ)) → drop (length p) p ≡ []
+drop_all [] = refl
+drop_all (n ∷ p) = drop_all p
+
+pub walk_whole : (look : Look) (p : List (List ℕ)) (i : ℕ) → i ≡ length p → walk_from look p i ≡ walk look p → walk look p ≡ Ok tt
+walk_whole look p i e so_far = sym so_far ∙ ap (walk (λ q. look (take i p ++ q))) (ap (λ j. drop j p) e ∙ drop_all p)
+
+-- an edit that is not refused
+pub put_dir-Ok : (t : TreeMap) (p : List (List ℕ)) (m : MetaValue) → walk (finite.get t) p ≡ Ok tt → dir_fits (finite.get t p) ≡ Ok tt → put_dir t p m ≡ Ok (finite.insert t p (Dir m))
+put_dir-Ok t p m walks fits = ap (λ r. r >>= λ _. dir_fits (finite.get t p) >>= λ _. Ok (finite.insert t p (Dir m))) walks ∙ ap (λ r. r >>= λ _. Ok (finite.insert t p (Dir m))) fits
+
+pub put_file-Ok : (t : TreeMap) (p : List (List ℕ)) (m : MetaValue) (b : List ℕ) → (p ≢ []) → walk (finite.get t) p ≡ Ok tt → file_fits (finite.get t p) ≡ Ok tt → put_file t p m b ≡ Ok (finite.insert t p (File m b))
+put_file-Ok t [] m b named walks fits = absurd (named refl)
+put_file-Ok t (n ∷ p) m b named walks fits = ap (λ r. r >>= λ _. file_fits (finite.get t (n ∷ p)) >>= λ _. Ok (finite.insert t (n ∷ p) (File m b))) walks ∙ ap (λ r. r >>= λ _. Ok (finite.insert t (n ∷ p) (File m b))) fits

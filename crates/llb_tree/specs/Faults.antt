@@ -1,0 +1,20 @@
+-- How the calls of this crate answer: what their rule gives, or the want of memory. A rule is a function into values
+-- or faults that never gives the want of memory.
+use Rattle.std.specs.Prelude.{Bool, true, false, Result}
+use Rattle.llb_wire.specs.Answer as answer
+use Rattle.llb_tree.specs.declared.fault.TreeFault.{TreeFault}
+use Rattle.llb_tree.specs.declared.fault.TreeFault.TheVariants.{NotFound, NotDir, IsDir, Conflict, Root, BadName, Memory}
+
+-- want of memory, which no rule gives
+abbrev pub is_memory : TreeFault → Bool
+is_memory Memory = true
+is_memory NotFound = false
+is_memory NotDir = false
+is_memory IsDir = false
+is_memory Conflict = false
+is_memory Root = false
+is_memory BadName = false
+
+-- what a call answers, seen by view, is what the rule gives
+abbrev pub Gives : {X Y : Type 0} → (X → Y) → Result X TreeFault → Result Y TreeFault → Type 0
+Gives = answer.Gives is_memory

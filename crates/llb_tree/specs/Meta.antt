@@ -1,0 +1,16 @@
+-- The mode and the owner of an entry, as numbers. A mode is at most 4095 (twelve bits), and owners are below 2 ^ 32;
+-- the type of the code keeps both.
+use Rattle.std.specs.Prelude.{ℕ, Option, Some, None, nat_lt, if◌then◌else◌}
+
+pub record MetaValue : Type 0 where
+  pub mode : ℕ
+  pub uid : ℕ
+  pub gid : ℕ
+
+-- the mode and the owner of numbers, where the mode is one
+abbrev pub meta_of : ℕ → ℕ → ℕ → Option MetaValue
+meta_of mode uid gid = if nat_lt 4095 mode then None else Some (record { mode = mode; uid = uid; gid = gid })
+
+-- 0755 0:0
+abbrev pub root_meta : MetaValue
+root_meta = record { mode = 493; uid = 0; gid = 0 }

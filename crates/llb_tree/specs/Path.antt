@@ -1,0 +1,75 @@
+-- Names and paths: which byte strings are names, the order of paths, and the path that a text reads as. A path is the
+-- list of its names from the root down, so the root is the empty list.
+use Rattle.std.specs.Prelude.{◌≡◌, ℕ, ◌-◌, ◌≤◌, ◌==◌, nat_eq, nat_le, nat_lt, Bool, ◌&&◌, ◌||◌, not, IsTrue, if◌then◌else◌, List, [], ◌∷◌, ◌++◌, length, take, Result, Ok, Err}
+use Rattle.std.specs.List.{All, list_all, slice_split, join_with_byte}
+use Rattle.std.specs.declared.cmp.Ordering.{Ordering}
+use Rattle.std.specs.Ordering.{nat_cmp}
+use Rattle.std.specs.Cmp.Lexicographic.{slice_cmp, pointwise}
+use Rattle.llb_wire.specs.Answer.{◌>>=◌}
+use Rattle.llb_tree.specs.declared.fault.TreeFault.{TreeFault}
+use Rattle.llb_tree.specs.declared.fault.TreeFault.TheVariants.{BadName}
+
+-- names by bytes
+abbrev pub name_cmp : List ℕ → List ℕ → Ordering
+name_cmp = slice_cmp nat_cmp
+
+-- paths as lists of names
+abbrev pub path_cmp : List (List ℕ) → List (List ℕ) → Ordering
+path_cmp = slice_cmp name_cmp
+
+-- the part `.`
+abbrev pub is_dot : List ℕ → Bool
+is_dot part = pointwise nat_eq part (46 ∷ [])
+
+-- the part `..`
+abbrev pub is_dots : List ℕ → Bool
+is_dots part = pointwise nat_eq part (46 ∷ 46 ∷ [])
+
+-- no control byte, no 0x7F and no `/`
+abbrev pub is_name_byte : ℕ → Bool
+is_name_byte b = nat_le 32 b && not (b == 127) && not (b == 47)
+
+-- 1 to 255 such bytes, and neither `.` nor `..`
+abbrev pub is_name : List ℕ → Bool
+is_name part = not (length part == 0) && nat_le (length part) 255 && not (is_dot part) && not (is_dots part) && list_all is_name_byte part
+
+-- at most 128 names
+pub record IsPath (path : List (List ℕ)) : Type 0 where
+  pub short : length path ≤ 128
+  pub named : All (λ name. IsTrue (is_name name)) path
+
+-- a part as a name
+abbrev pub name_of : List ℕ → Result (List ℕ) TreeFault
+name_of part = if is_name part then Ok part else Err BadName
+
+-- the path with one more name; there is no 129th
+abbrev pub below : List (List ℕ) → List ℕ → Result (List (List ℕ)) TreeFault
+below path name = if nat_lt (length path) 128 then Ok (path ++ name ∷ []) else Err BadName
+
+-- where a part of a text leads: nowhere, up by one name (the root is its own parent), or to a name
+abbrev pub enter : List (List ℕ) → List ℕ → Result (List (List ℕ)) TreeFault
+enter path part =
+    if length part == 0 || is_dot part then Ok path
+    else (if is_dots part then Ok (take (length path - 1) path) else (name_of part >>= below path))
+
+-- where parts lead, one after another
+abbrev pub follow : List (List ℕ) → List (List ℕ) → Result (List (List ℕ)) TreeFault
+follow path [] = Ok path
+follow path (part ∷ parts) = enter path part >>= λ next. follow next parts
+
+-- what stands between the `/` of a text
+abbrev pub parts_of : List ℕ → List (List ℕ)
+parts_of = slice_split (λ b. b == 47)
+
+-- the path that a text reads as, from the root
+abbrev pub path_of : List ℕ → Result (List (List ℕ)) TreeFault
+path_of text = follow [] (parts_of text)
+
+-- a path as a text: its names with `/` between them
+abbrev pub joined : List (List ℕ) → List ℕ
+joined = join_with_byte 47
+
+-- a path's text reads as the path, and so it does behind a `/`
+pub record ReadsBack (path : List (List ℕ)) : Type 0 where
+  pub relative : path_of (joined path) ≡ Ok path
+  pub absolute : path_of (47 ∷ joined path) ≡ Ok path

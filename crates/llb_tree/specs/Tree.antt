@@ -1,0 +1,95 @@
+-- A tree as a map from paths to entries: what makes it a tree, the walk over the parents of a path, and the edits, each
+-- the map after it or the first fault. Nothing here knows how a tree is kept.
+use Rattle.std.specs.Prelude.{◌≡◌, ℕ, List, [], ◌∷◌, map, Option, Some, None, IsSome, Result, Ok, Err, refl}
+use Rattle.std.specs.FinMap as finite
+use Rattle.std.specs.FinMap.{FinMap}
+use Rattle.std.specs.Coded.{Coded, code_by, coded×, coded_ℕ, coded_list, coded_option}
+use Rattle.llb_wire.specs.Answer.{◌>>=◌}
+use Rattle.llb_tree.specs.Path.{path_cmp}
+pub use Rattle.llb_tree.specs.Meta.{MetaValue, root_meta}
+pub use Rattle.llb_tree.specs.Faults.{is_memory, Gives}
+use Rattle.llb_tree.specs.declared.fault.TreeFault.{TreeFault}
+use Rattle.llb_tree.specs.declared.fault.TreeFault.TheVariants.{NotFound, NotDir, IsDir, Conflict, Root}
+
+-- what stands at a path
+pub data Entry : Type 0 where
+  Dir : MetaValue → Entry
+  File : MetaValue → List ℕ → Entry
+
+-- an entry is stored as its meta, and the content of a file
+abbrev pub packed : Entry → (ℕ × (ℕ × ℕ)) × Option (List ℕ)
+packed (Dir m) = ((m.mode, (m.uid, m.gid)), None)
+packed (File m bytes) = ((m.mode, (m.uid, m.gid)), Some bytes)
+
+abbrev pub unpacked : (ℕ × (ℕ × ℕ)) × Option (List ℕ) → Entry
+unpacked (m, None) = Dir (record { mode = m.0; uid = m.1.0; gid = m.1.1 })
+unpacked (m, Some bytes) = File (record { mode = m.0; uid = m.1.0; gid = m.1.1 }) bytes
+
+pub unpacked-packed : (e : Entry) → unpacked (packed e) ≡ e
+unpacked-packed (Dir m) = refl
+unpacked-packed (File m bytes) = refl
+
+abbrev pub coded_entry : Coded Entry
+coded_entry = code_by ((ℕ × (ℕ × ℕ)) × Option (List ℕ)) (coded× (coded× coded_ℕ (coded× coded_ℕ coded_ℕ)) (coded_option (coded_list coded_ℕ))) packed unpacked unpacked-packed
+
+-- a tree, from whole paths to entries
+abbrev pub TreeMap : Type 0
+TreeMap = FinMap path_cmp Entry
+
+abbrev pub coded_tree : Coded TreeMap
+coded_tree = finite.code (coded_list (coded_list coded_ℕ)) coded_entry
+
+-- what a tree has at each path
+abbrev pub Look : Type 0
+Look = List (List ℕ) → Option Entry
+
+-- the proper prefixes of a path, from the root down
+abbrev pub parents : List (List ℕ) → List (List (List ℕ))
+parents [] = []
+parents (n ∷ p) = [] ∷ map (λ q. n ∷ q) (parents p)
+
+-- the first that is missing or a file decides
+abbrev pub all_dirs : List (Option Entry) → Result (Unit {0}) TreeFault
+all_dirs [] = Ok tt
+all_dirs (None ∷ es) = Err NotFound
+all_dirs (Some (File m b) ∷ es) = Err NotDir
+all_dirs (Some (Dir m) ∷ es) = all_dirs es
+
+abbrev pub walk : Look → List (List ℕ) → Result (Unit {0}) TreeFault
+walk look p = all_dirs (map look (parents p))
+
+-- a file may be put where nothing or a file stands
+abbrev pub file_fits : Option Entry → Result (Unit {0}) TreeFault
+file_fits (Some (Dir m)) = Err IsDir
+file_fits (Some (File m b)) = Ok tt
+file_fits None = Ok tt
+
+-- a directory where nothing or a directory stands
+abbrev pub dir_fits : Option Entry → Result (Unit {0}) TreeFault
+dir_fits (Some (File m b)) = Err Conflict
+dir_fits (Some (Dir m)) = Ok tt
+dir_fits None = Ok tt
+
+abbrev pub not_root : List (List ℕ) → Result (Unit {0}) TreeFault
+not_root [] = Err Root
+not_root (n ∷ p) = Ok tt
+
+-- the tree after a file is put, or why it is not
+abbrev pub put_file : TreeMap → List (List ℕ) → MetaValue → List ℕ → Result TreeMap TreeFault
+put_file t p m bytes = not_root p >>= λ _. walk (finite.get t) p >>= λ _. file_fits (finite.get t p) >>= λ _. Ok (finite.insert t p (File m bytes))
+
+abbrev pub put_dir : TreeMap → List (List ℕ) → MetaValue → Result TreeMap TreeFault
+put_dir t p m = walk (finite.get t) p >>= λ _. dir_fits (finite.get t p) >>= λ _. Ok (finite.insert t p (Dir m))
+
+-- the tree of a root directory 0755 0:0 alone
+abbrev pub empty_tree : TreeMap
+empty_tree = finite.insert finite.empty [] (Dir root_meta)
+
+-- a directory stands at the path
+abbrev pub IsDirAt : Look → List (List ℕ) → Type 0
+IsDirAt look p = (m : MetaValue) × (look p ≡ Some (Dir m))
+
+-- the root is a directory, and so is each proper prefix of a path that is there
+pub record IsTree (t : TreeMap) : Type 0 where
+  pub root : IsDirAt (finite.get t) []
+  pub closed : (p : List (List ℕ)) → IsSome (finite.get t p) → walk (finite.get t) p ≡ Ok tt

@@ -1,0 +1,64 @@
+//! Why a call on a tree or a path is refused. A fault prints what stands behind the word `fault` in a
+//! refusal: its number. Refusals of memory of any kind become `Memory` by `?`.
+
+use std::alloc::{AllocError, AllocFailed};
+use thiserror::Error;
+
+/// Why a call on a tree or a path is refused.
+#[derive(Clone, Copy, Debug, PartialEq, Eq, Error)]
+pub enum TreeFault {
+    /// 21: nothing is there, or a parent is missing.
+    #[error("21")]
+    NotFound,
+    /// 22: a parent is a file, or a file is where a directory is needed.
+    #[error("22")]
+    NotDir,
+    /// 23: a directory is where a file is to stand.
+    #[error("23")]
+    IsDir,
+    /// 24: a file is where a directory is to stand.
+    #[error("24")]
+    Conflict,
+    /// 25: the root is where this can't be done.
+    #[error("25")]
+    Root,
+    /// 26: a part of a text is no name, or a path would have more than 128 names.
+    #[error("26")]
+    BadName,
+    /// 27: memory was refused.
+    #[error("27")]
+    Memory,
+}
+
+impl From<AllocError> for TreeFault {
+    ghost use Rattle.std.specs.Prelude.{◌≡◌};
+    ghost use Rattle.llb_tree.specs.declared.fault.TreeFault.TheVariants.{Memory};
+
+    ghost from_gives = { λ _ e. e ≡ Memory };
+
+    fn from(_: AllocError) -> TreeFault {
+        TreeFault::Memory
+    }
+}
+
+impl<T: Drop> From<AllocFailed<T>> for TreeFault {
+    ghost use Rattle.std.specs.Prelude.{◌≡◌};
+    ghost use Rattle.llb_tree.specs.declared.fault.TreeFault.TheVariants.{Memory};
+
+    ghost from_gives = { λ _ e. e ≡ Memory };
+
+    fn from(_: AllocFailed<T>) -> TreeFault {
+        TreeFault::Memory
+    }
+}
+
+impl From<llb_wire::Memory> for TreeFault {
+    ghost use Rattle.std.specs.Prelude.{◌≡◌};
+    ghost use Rattle.llb_tree.specs.declared.fault.TreeFault.TheVariants.{Memory};
+
+    ghost from_gives = { λ _ e. e ≡ Memory };
+
+    fn from(_: llb_wire::Memory) -> TreeFault {
+        TreeFault::Memory
+    }
+}

@@ -1,0 +1,17 @@
+//! A tree is a map from paths to entries, and each call on it is one look or one change of the map. Here are names and
+//! paths with the reading of a path from a text, the mode and the owner of an entry, and the tree. Nothing here knows an
+//! operation or a file system.
+#![tactic(auto)]
+
+mod fault;
+mod meta;
+mod path;
+mod tree;
+
+pub use fault::TreeFault;
+pub use meta::Meta;
+pub use path::{Name, Path};
+pub use tree::{Entry, Tree};
+
+#[cfg(test)]
+mod tests;

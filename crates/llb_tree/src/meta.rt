@@ -1,0 +1,74 @@
+//! The mode and the owner of an entry. A value has a mode of at most 4095 by its type, and contracts see
+//! its three numbers. Nothing here takes memory.
+
+ghost use Rattle.std.specs.Prelude.{◌≡◌, ◌≤◌};
+ghost use Rattle.llb_tree.specs.Meta.{meta_of, root_meta};
+
+use std::marker::Model;
+
+/// The mode and the owner of an entry. The mode is at most 4095, its permission bits and the three above them.
+#[derive(Clone, Copy, Debug, PartialEq, Eq)]
+pub struct Meta {
+    mode: u16,
+    uid: u32,
+    gid: u32,
+}
+
+impl Model for Meta {
+    ghost use Rattle.std.specs.Prelude.{◌≤◌};
+    ghost use Rattle.llb_tree.specs.Meta.{MetaValue};
+
+    ghost Value = { MetaValue };
+
+    ghost view = { λ m. record { mode = m.mode; uid = m.uid; gid = m.gid } };
+
+    ghost invariant = { λ m. m.mode ≤ 4095 };
+
+    ghost inverse = { λ m. record { mode = m.mode; uid = m.uid; gid = m.gid } };
+}
+
+impl Meta {
+    /// The mode and the owner of an entry; `None` exactly where `mode` is above 4095.
+    pub fn new(mode: u16, uid: u32, gid: u32) -> Option<Meta>
+        ensures { result ≡ meta_of mode uid gid }
+    {
+        if mode > 4095 {
+            None
+        } else {
+            Some(Meta { mode, uid, gid })
+        }
+    }
+
+    // A directory that is made with no mode of its own: 0755 0:0.
+    pub(crate) fn root() -> Meta
+        ensures { result ≡ root_meta }
+    {
+        Meta {
+            mode: 0o755,
+            uid: 0,
+            gid: 0,
+        }
+    }
+
+    /// The mode, at most 4095.
+    pub fn mode(&self) -> u16
+        ensures value { result ≡ self.now.mode }
+        ensures small { result ≤ 4095 }
+    {
+        self.mode
+    }
+
+    /// The number of the user that owns the entry.
+    pub fn uid(&self) -> u32
+        ensures { result ≡ self.now.uid }
+    {
+        self.uid
+    }
+
+    /// The number of the group that owns the entry.
+    pub fn gid(&self) -> u32
+        ensures { result ≡ self.now.gid }
+    {
+        self.gid
+    }
+}

@@ -1,0 +1,300 @@
+//! Names and paths. Contracts see a name as the list of its bytes and a path as the list of its names, from the
+//! root down. A text is read by the rule `path_of`: parts between `/`, where `.` stays and `..` goes up.
+
+ghost use Rattle.std.specs.Prelude.{◌≡◌, ◌↔◌, [], length, ◌≤◌, IsTrue, OnErr, Ok};
+ghost use Rattle.std.specs.List.{list_all};
+ghost use Rattle.llb_tree.specs.Faults.{Gives};
+ghost use Rattle.llb_tree.specs.Path.{is_name, is_name_byte, name_of, below, enter, path_of, ReadsBack};
+
+use crate::fault::TreeFault;
+use std::alloc::Global;
+use std::cmp::Ordering;
+use std::marker::Model;
+
+/// A name: 1 to 255 bytes of UTF-8 without `/`, none below 0x20 and none 0x7F, and neither `.` nor `..`.
+#[derive(Clone, Debug, Drop)]
+pub struct Name {
+    text: String,
+}
+
+impl Model for Name {
+    ghost use Rattle.std.specs.Prelude.{ℕ, List, IsTrue};
+    ghost use Rattle.std.specs.String.{string_bytes};
+    ghost use Rattle.llb_tree.specs.Path.{is_name};
+
+    ghost Value = { List ℕ };
+
+    ghost view = { λ n. string_bytes n.text };
+
+    ghost invariant = { λ n. IsTrue (is_name (string_bytes n.text)) };
+}
+
+impl Name {
+    /// Whether a text is a name.
+    pub fn is_name(text: &str) -> bool
+        ensures { result ≡ is_name text.now }
+    {
+        let bytes = text.as_bytes();
+        if bytes.is_empty() {
+            return false;
+        }
+        if bytes.len() > 255 {
+            return false;
+        }
+        if bytes == b".".as_slice() {
+            return false;
+        }
+        if bytes == b"..".as_slice() {
+            return false;
+        }
+        is_plain(bytes)
+    }
+
+    /// The name that a text is; 26 `BadName` where it is none, 27 `Memory`.
+    pub fn new(alloc: Global, text: &str) -> Result<Name, TreeFault>
+        ensures { Gives (λ n. n) result (name_of text.now) }
+    {
+        if !Name::is_name(text) {
+            return Err(TreeFault::BadName);
+        }
+        let text = String::from_str(alloc, text)?;
+        Ok(Name { text })
+    }
+
+    /// The name as a text.
+    pub fn as_str(&self) -> &str
+        ensures value { result.now ≡ self.now }
+        ensures name { IsTrue (is_name self.now) }
+    {
+        self.text.as_str()
+    }
+
+    /// An equal second owner; 27 `Memory`.
+    pub fn copy(&self) -> Result<Name, TreeFault>
+        ensures { Gives (λ n. n) result (Ok self.now) }
+    {
+        let name = self.clone()?;
+        Ok(name)
+    }
+}
+
+// Whether there is no control byte, no 0x7F and no `/`.
+fn is_plain(bytes: &[u8]) -> bool
+    ensures { result ≡ list_all is_name_byte bytes.now }
+{
+    bytes.iter().all(|b| *b >= 0x20 && *b != 0x7F && *b != b'/')
+}
+
+impl PartialEq for Name {
+    ghost use Rattle.std.specs.Prelude.{nat_eq};
+    ghost use Rattle.std.specs.Cmp as order;
+    ghost use Rattle.std.specs.Cmp.Lexicographic.{pointwise, nat_list_eq_equiv};
+
+    ghost eq = { pointwise nat_eq };
+
+    ghost laws = { order.partial_equiv_from_equiv nat_list_eq_equiv };
+
+    fn eq(&self, other: &Self) -> bool {
+        self.text.as_bytes() == other.text.as_bytes()
+    }
+}
+
+impl Eq for Name {
+    ghost use Rattle.std.specs.Cmp.Lexicographic.{nat_list_eq_equiv};
+
+    ghost laws = { nat_list_eq_equiv };
+}
+
+impl PartialOrd for Name {
+    ghost use Rattle.std.specs.Prelude.{Some};
+    ghost use Rattle.std.specs.Cmp.Lexicographic.{texts_po};
+    ghost use Rattle.llb_tree.specs.Path.{name_cmp};
+
+    ghost partial_cmp = { λ x y. Some (name_cmp x y) };
+
+    ghost laws = { texts_po };
+
+    fn partial_cmp(&self, other: &Self) -> Option<Ordering> {
+        Some(self.cmp(other))
+    }
+}
+
+impl Ord for Name {
+    ghost use Rattle.std.proofs.Common.{refl};
+    ghost use Rattle.std.specs.Cmp.Lexicographic.{nat_list_cmp_total, texts_ties};
+    ghost use Rattle.llb_tree.specs.Path.{name_cmp};
+
+    ghost cmp = { name_cmp };
+
+    ghost total = { nat_list_cmp_total };
+
+    ghost matches_partial_cmp = { λ x y. refl };
+
+    ghost matches_eq = { texts_ties };
+
+    fn cmp(&self, other: &Self) -> Ordering {
+        self.text.as_bytes().cmp(other.text.as_bytes())
+    }
+}
+
+/// A path: at most 128 names, from the root down. The root has none.
+#[derive(Clone, Debug, Drop)]
+pub struct Path {
+    names: Vec<Name>,
+}
+
+impl Model for Path {
+    ghost use Rattle.std.specs.Prelude.{ℕ, List};
+    ghost use Rattle.llb_tree.specs.Path.{IsPath};
+
+    ghost Value = { List (List ℕ) };
+
+    ghost view = { λ p. p.names.items };
+
+    ghost invariant = { λ p. IsPath p.names.items };
+}
+
+impl Path {
+    /// The root.
+    pub fn root(alloc: Global) -> Path
+        ensures { result ≡ [] }
+    {
+        Path {
+            names: Vec::new(alloc),
+        }
+    }
+
+    /// The path that a text reads as, from the root: the text is split at `/`, empty parts and `.` are dropped, and
+    /// `..` removes the last name and stops at the root. 26 `BadName` at the first part that is no name or is the
+    /// 129th name, also where a later `..` would remove it; 27 `Memory`.
+    pub fn read(alloc: Global, text: &str) -> Result<Path, TreeFault>
+        ensures { Gives (λ p. p) result (path_of text.now) }
+    {
+        let mut path = Path::root(alloc);
+        for part in text.split('/') {
+            path.enter(alloc, part)?;
+        }
+        Ok(path)
+    }
+
+    // Goes where a part of a text leads.
+    fn enter(&mut self, alloc: Global, part: &str) -> Result<(), TreeFault>
+        ensures gives { Gives (λ _. self.new) result (enter self.old part.now) }
+        ensures err { OnErr result (self.new ≡ self.old) }
+    {
+        if part.is_empty() {
+            return Ok(());
+        }
+        if part.as_bytes() == b".".as_slice() {
+            return Ok(());
+        }
+        if part.as_bytes() == b"..".as_slice() {
+            self.names.pop();
+            return Ok(());
+        }
+        let name = Name::new(alloc, part)?;
+        self.push(name)
+    }
+
+    /// The names from the root down, at most 128.
+    pub fn names(&self) -> &[Name]
+        ensures all { result.now ≡ self.now }
+        ensures short { length self.now ≤ 128 }
+    {
+        self.names.as_slice()
+    }
+
+    /// Whether this is the root.
+    pub fn is_root(&self) -> bool
+        ensures { IsTrue result ↔ (self.now ≡ []) }
+    {
+        self.names.is_empty()
+    }
+
+    /// Goes down to a name; 26 `BadName` where it would be the 129th, 27 `Memory`.
+    pub fn push(&mut self, name: Name) -> Result<(), TreeFault>
+        ensures gives { Gives (λ _. self.new) result (below self.old name) }
+        ensures err { OnErr result (self.new ≡ self.old) }
+    {
+        let _is_name = name.as_str();
+        if self.names.len() >= 128 {
+            return Err(TreeFault::BadName);
+        }
+        self.names.push(name)?;
+        Ok(())
+    }
+
+    /// An equal second owner; 27 `Memory`.
+    pub fn copy(&self) -> Result<Path, TreeFault>
+        ensures { Gives (λ p. p) result (Ok self.now) }
+    {
+        let copied = self.clone()?;
+        Ok(copied)
+    }
+
+    /// Whether both are the same path.
+    pub fn same(&self, other: &Path) -> bool
+        ensures { IsTrue result ↔ (self.now ≡ other.now) }
+    {
+        self == other
+    }
+
+    /// A law: a path that is written with `/` between its names, and `/` before them or not, reads as itself.
+    pub fn reads_back(&self)
+        ensures { ReadsBack self.now }
+    {
+        let _ = &self.names;
+    }
+}
+
+impl PartialEq for Path {
+    ghost use Rattle.std.specs.Prelude.{nat_eq};
+    ghost use Rattle.std.specs.Cmp as order;
+    ghost use Rattle.std.specs.Cmp.Lexicographic.{pointwise, lists_equiv, nat_list_eq_equiv};
+
+    ghost eq = { pointwise (pointwise nat_eq) };
+
+    ghost laws = { order.partial_equiv_from_equiv (lists_equiv nat_list_eq_equiv) };
+
+    fn eq(&self, other: &Self) -> bool {
+        self.names.as_slice() == other.names.as_slice()
+    }
+}
+
+impl Eq for Path {
+    ghost use Rattle.std.specs.Cmp.Lexicographic.{lists_equiv, nat_list_eq_equiv};
+
+    ghost laws = { lists_equiv nat_list_eq_equiv };
+}
+
+impl PartialOrd for Path {
+    ghost use Rattle.std.specs.Prelude.{Some};
+    ghost use Rattle.llb_tree.specs.Path.{path_cmp};
+    ghost use Rattle.llb_tree.specs.PathOrder.{path_partial_order};
+
+    ghost partial_cmp = { λ x y. Some (path_cmp x y) };
+
+    ghost laws = { path_partial_order };
+
+    fn partial_cmp(&self, other: &Self) -> Option<Ordering> {
+        Some(self.cmp(other))
+    }
+}
+
+impl Ord for Path {
+    ghost use Rattle.std.proofs.Common.{refl};
+    ghost use Rattle.llb_tree.specs.Path.{path_cmp};
+    ghost use Rattle.llb_tree.specs.PathOrder.{path_cmp-IsTotalOrder, path_ties};
+
+    ghost cmp = { path_cmp };
+
+    ghost total = { path_cmp-IsTotalOrder };
+
+    ghost matches_partial_cmp = { λ x y. refl };
+
+    ghost matches_eq = { path_ties };
+
+    fn cmp(&self, other: &Self) -> Ordering {
+        self.names.as_slice().cmp(other.names.as_slice())
+    }
+}

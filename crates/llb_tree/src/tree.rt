@@ -1,0 +1,222 @@
+//! The tree: a map from paths to entries, kept as the list of its entries in path order. The list is sorted and makes
+//! a tree by its type; a place in it is found by binary search. What a call answers is said of the map alone.
+
+ghost use Rattle.std.specs.Prelude.{◌≡◌, ◌<◌, ◌≤◌, length, IfOk, IfErr, Ok, OnOk, OnErr, map, option_map, slice_get};
+ghost use Rattle.std.specs.FinMap as finite;
+ghost use Rattle.llb_tree.specs.Path.{path_cmp};
+ghost use Rattle.llb_tree.specs.Tree.{Gives, IsTree, empty_tree, put_file, put_dir, walk, file_fits, dir_fits};
+ghost use Rattle.llb_tree.specs.Rows.{seen, pair_seen, kept, pair_of, map_of, AreSorted, place};
+
+use crate::fault::TreeFault;
+use crate::meta::Meta;
+use crate::path::{Name, Path};
+use llb_wire::Bytes;
+use std::alloc::Global;
+use std::cmp::Ordering;
+use std::marker::Model;
+
+/// What stands at a path: a directory, or a file with its content.
+#[derive(Clone, Copy, Debug, PartialEq, Eq)]
+pub enum Entry<'a> {
+    Dir(Meta),
+    File(Meta, &'a Bytes),
+}
+
+#[derive(Clone, Drop)]
+enum Stored {
+    Dir(Meta),
+    File(Meta, Bytes),
+}
+
+impl Stored {
+    fn seen(&self) -> Entry<'_>
+        ensures { seen result ≡ kept self.now }
+    {
+        match self {
+            Stored::Dir(meta) => Entry::Dir(*meta),
+            Stored::File(meta, content) => Entry::File(*meta, content),
+        }
+    }
+}
+
+#[derive(Clone, Drop)]
+struct Row {
+    path: Path,
+    entry: Stored,
+}
+
+/// A map from paths to entries. The root is a directory, and so is each proper prefix of a path that is there.
+#[derive(Drop)]
+pub struct Tree {
+    rows: Vec<Row>,
+}
+
+impl Model for Tree {
+    ghost use Rattle.llb_tree.specs.Tree.{TreeMap, coded_tree, IsTree};
+    ghost use Rattle.llb_tree.specs.Rows.{map_of, AreTree};
+
+    ghost Value = { TreeMap };
+
+    ghost coded = { coded_tree };
+
+    ghost view = { λ t. map_of t.rows.items };
+
+    ghost invariant = { λ t. AreTree t.rows.items };
+}
+
+// Where the names are, or where they would go.
+fn place_of(rows: &[Row], names: &[Name]) -> Result<usize, usize>
+    requires { AreSorted rows.now }
+    ensures place { result ≡ place names.now rows.now }
+    ensures row { IfOk result (λ i. i < length rows.now) }
+    ensures gap { IfErr result (λ i. i ≤ length rows.now) }
+{
+    rows.binary_search_by(|row| row.path.names().cmp(names))
+}
+
+// What stands at the names.
+fn entry_at<'a>(rows: &'a [Row], names: &[Name]) -> Option<&'a Stored>
+    requires { AreSorted rows.now }
+    ensures { option_map (λ e. kept e.now) result ≡ finite.get (map_of rows.now) names.now }
+{
+    match place_of(rows, names) {
+        Ok(i) => Some(&rows[i].entry),
+        Err(_) => None,
+    }
+}
+
+// Whether each proper prefix of the names is a directory.
+fn walked(rows: &[Row], names: &[Name]) -> Result<(), TreeFault>
+    requires { AreSorted rows.now }
+    ensures { result ≡ walk (finite.get (map_of rows.now)) names.now }
+{
+    for i in 0..names.len() {
+        match entry_at(rows, &names[..i]) {
+            None => return Err(TreeFault::NotFound),
+            Some(Stored::File(..)) => return Err(TreeFault::NotDir),
+            Some(Stored::Dir(_)) => {}
+        }
+    }
+    Ok(())
+}
+
+// Whether a file may be put at the names.
+fn file_may_stand(rows: &[Row], names: &[Name]) -> Result<(), TreeFault>
+    requires { AreSorted rows.now }
+    ensures { result ≡ file_fits (finite.get (map_of rows.now) names.now) }
+{
+    match entry_at(rows, names) {
+        Some(Stored::Dir(_)) => Err(TreeFault::IsDir),
+        Some(Stored::File(..)) => Ok(()),
+        None => Ok(()),
+    }
+}
+
+// Whether a directory may be made at the names.
+fn dir_may_stand(rows: &[Row], names: &[Name]) -> Result<(), TreeFault>
+    requires { AreSorted rows.now }
+    ensures { result ≡ dir_fits (finite.get (map_of rows.now) names.now) }
+{
+    match entry_at(rows, names) {
+        Some(Stored::File(..)) => Err(TreeFault::Conflict),
+        Some(Stored::Dir(_)) => Ok(()),
+        None => Ok(()),
+    }
+}
+
+// Writes an entry at a path: over the row that is there, or in a row of its own.
+fn put(rows: &mut Vec<Row>, path: &Path, entry: Stored) -> Result<(), TreeFault>
+    requires { AreSorted rows.old.items }
+    ensures gives { Gives (λ _. map pair_of rows.new.items) result (Ok (finite.put path_cmp path.now (kept entry) (map pair_of rows.old.items))) }
+    ensures err { OnErr result (rows.new.items ≡ rows.old.items) }
+{
+    match place_of(rows, path.names()) {
+        Ok(i) => {
+            rows[i].entry = entry;
+            Ok(())
+        }
+        Err(i) => {
+            let path = path.copy()?;
+            rows.insert(i, Row { path, entry })?;
+            Ok(())
+        }
+    }
+}
+
+impl Tree {
+    /// The tree of a root directory 0755 0:0 alone; 27 `Memory`.
+    pub fn empty(alloc: Global) -> Result<Tree, TreeFault>
+        ensures { Gives (λ t. t) result (Ok empty_tree) }
+    {
+        let mut rows = Vec::new(alloc);
+        put(&mut rows, &Path::root(alloc), Stored::Dir(Meta::root()))?;
+        Ok(Tree { rows })
+    }
+
+    /// What stands at a path. Takes no memory.
+    pub fn get(&self, path: &Path) -> Option<Entry<'_>>
+        ensures found { option_map seen result ≡ finite.get self.now path.now }
+        ensures tree { IsTree self.now }
+    {
+        match entry_at(&self.rows, path.names()) {
+            Some(entry) => Some(entry.seen()),
+            None => None,
+        }
+    }
+
+    /// How many entries there are, the root among them. Takes no memory.
+    pub fn len(&self) -> usize
+        ensures { result ≡ finite.len self.now }
+    {
+        self.rows.len()
+    }
+
+    /// The entry with `at` entries before it in path order, and its path. Takes no memory.
+    pub fn entry(&self, at: usize) -> Option<(&Path, Entry<'_>)>
+        ensures { option_map pair_seen result ≡ slice_get (finite.entries self.now) at }
+    {
+        let rows = self.rows.as_slice();
+        if at >= rows.len() {
+            return None;
+        }
+        let row = &rows[at];
+        Some((&row.path, row.entry.seen()))
+    }
+
+    /// Puts a file at a path, or replaces the file there. In this order: 25 `Root` at the root, 21 `NotFound` or 22
+    /// `NotDir` at the first parent that is missing or a file, 23 `IsDir` where a directory is there; 27 `Memory`.
+    /// After a refusal the tree is unchanged.
+    pub fn put_file(&mut self, path: &Path, meta: Meta, content: Bytes) -> Result<(), TreeFault>
+        ensures gives { Gives (λ _. self.new) result (put_file self.old path.now meta content) }
+        ensures err { OnErr result (self.new ≡ self.old) }
+    {
+        if path.is_root() {
+            return Err(TreeFault::Root);
+        }
+        walked(&self.rows, path.names())?;
+        file_may_stand(&self.rows, path.names())?;
+        put(&mut self.rows, path, Stored::File(meta, content))?;
+        Ok(())
+    }
+
+    /// Makes a directory at a path; one that is there, the root too, takes the new mode and owner. In this order: 21
+    /// `NotFound` or 22 `NotDir` at the first parent that is missing or a file, 24 `Conflict` where a file is there;
+    /// 27 `Memory`. After a refusal the tree is unchanged.
+    pub fn put_dir(&mut self, path: &Path, meta: Meta) -> Result<(), TreeFault>
+        ensures gives { Gives (λ _. self.new) result (put_dir self.old path.now meta) }
+        ensures err { OnErr result (self.new ≡ self.old) }
+    {
+        walked(&self.rows, path.names())?;
+        dir_may_stand(&self.rows, path.names())?;
+        put(&mut self.rows, path, Stored::Dir(meta))?;
+        Ok(())
+    }
+
+    /// An equal second owner; 27 `Memory`.
+    pub fn copy(&self) -> Result<Tree, TreeFault>
+        ensures { Gives (λ t. t) result (Ok self.now) }
+    {
+        let copied = self.rows.clone()?;
+        Ok(Tree { rows: copied })
+    }
+}
