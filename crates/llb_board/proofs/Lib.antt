@@ -1,0 +1,14 @@
+pub mod Inputs
+pub mod Lists
+pub mod Parents
+pub mod Stopped
+pub mod Runs
+pub mod Grants
+pub mod Rooms
+pub mod Steps
+pub mod Kept
+pub mod Sound
+pub mod Opened
+pub mod Outputs
+pub mod Choices
+pub mod Plain

@@ -1,0 +1,5 @@
+use Rattle.llb_board.proofs.Rooms.{CountedSoFar}
+use Rattle.llb_board.proofs.fresh.room.Given as goal
+
+abbrev pub invariant-loop-v : goal.invariant-loop-v
+invariant-loop-v l = CountedSoFar l.graph.vertices l.v l.all

@@ -1,0 +1,10 @@
+use Rattle.std.proofs.Common.{◌≡◌, ◌≤◌, map, drop, length, ◌++◌}
+use Rattle.std.specs.Prelude.{option_map, vec_capacity}
+use Rattle.llb_model.specs.Outcome.{inputs_from}
+use Rattle.llb_model.specs.State.{ending_at}
+use Rattle.llb_board.specs.Views.{status_of}
+use Rattle.llb_board.proofs.Inputs.{GatheredSoFar}
+use Rattle.llb_board.proofs.ready.gathered.Given as goal
+
+abbrev pub invariant-loop-edge : goal.invariant-loop-edge
+invariant-loop-edge l = GatheredSoFar (ending_at (map status_of l.stands)) l.inputs l.edge-index l.trees.items (vec_capacity l.trees)

@@ -1,0 +1,6 @@
+pub mod Actions
+pub mod Jobs
+pub mod Views
+pub mod Board
+pub mod Rules
+pub mod Room

@@ -1,0 +1,75 @@
+-- What the board's data stands for, in the words of the machine's definitions.
+use Rattle.std.specs.Prelude.{ℕ, Bool, true, false, List, [], ◌∷◌, map, Option, Some, None, option_map, unwrap_or, slice_get, if◌then◌else◌}
+use Rattle.llb_loader.specs.Graph.{Numbered}
+use Rattle.llb_model.specs.Outcome.{Ending, Done, Failed}
+use Rattle.llb_model.specs.State as model
+use Rattle.llb_model.specs.Table as table
+use Rattle.llb_board.specs.declared.event.Event.{Event}
+use Rattle.llb_board.specs.declared.event.Event.TheVariants as event
+use Rattle.llb_board.specs.declared.event.Stepped.{Stepped}
+use Rattle.llb_board.specs.declared.event.Stepped.TheVariants.{Acted, Fault}
+use Rattle.llb_board.specs.declared.event.Settled.{Settled}
+use Rattle.llb_board.specs.declared.event.Settled.TheVariants as settled
+use Rattle.llb_board.specs.declared.event.Status.{Status}
+use Rattle.llb_board.specs.declared.event.Status.TheVariants as seen
+use Rattle.llb_board.specs.declared.event.At.{At}
+use Rattle.llb_board.specs.declared.event.At.TheVariants as at
+use Rattle.llb_board.specs.declared.job.Job.{Job}
+use Rattle.llb_board.specs.declared.stand.Stand.{Stand}
+use Rattle.llb_board.specs.declared.stand.Stand.TheVariants as stand
+use Rattle.llb_board.specs.declared.stand.Desk.{Desk}
+use Rattle.llb_board.specs.declared.stand.Desk.TheVariants as desk
+use Rattle.llb_board.specs.declared.stand.Work.{Work}
+
+-- what stands at a vertex
+abbrev pub status_of : Stand → model.Status
+status_of stand.Waiting = model.Waiting
+status_of (stand.Running w) = model.Running w
+status_of (stand.Done trees) = model.Settled (Done trees)
+status_of (stand.Failed f) = model.Settled (Failed f)
+
+abbrev pub execution_of : Work → model.Execution
+execution_of x = record { vertex = x.vertex; done = x.done; fault = x.fault; view = x.view }
+
+-- what a worker does
+abbrev pub at_of : Desk → model.At
+at_of desk.Idle = model.Idle
+at_of (desk.Runs x) = model.Runs (execution_of x)
+
+abbrev pub state_of : List Stand → List Desk → model.State
+state_of stands desks = record { statuses = map status_of stands; workers = map at_of desks }
+
+abbrev pub event_of : Event → table.Event
+event_of (event.Claim w v) = table.Claim w v
+event_of (event.Step w) = table.Step w
+event_of (event.Settle w) = table.Settle w
+
+-- the replies
+abbrev pub claim_reply : Job → table.Reply
+claim_reply j = table.Claimed (record { worker = j.worker; vertex = j.vertex; program = j.program; done = j.done; view = j.view })
+
+abbrev pub step_reply : Stepped → table.Reply
+step_reply (Acted a) = table.Acted a
+step_reply (Fault f) = table.Faulted f
+
+abbrev pub settle_reply : Settled → table.Reply
+settle_reply (settled.Done v) = table.SettledDone v
+settle_reply (settled.Failed v) = table.SettledFailed v
+
+-- how a vertex looks
+abbrev pub look : Bool → Bool → model.Status → Status
+look ready blocked model.Waiting = if ready then seen.Ready else if blocked then seen.Blocked else seen.Waiting
+look ready blocked (model.Running w) = seen.Running w
+look ready blocked (model.Settled (Done trees)) = seen.Done
+look ready blocked (model.Settled (Failed f)) = seen.Failed f
+
+abbrev pub look_at : Numbered → model.State → ℕ → Option Status
+look_at g s v = option_map (look (model.is_ready g s.statuses v) (unwrap_or (slice_get (model.stopped g s.statuses) v) false)) (slice_get s.statuses v)
+
+-- how a worker looks
+abbrev pub look_of : Numbered → model.At → At
+look_of g model.Idle = at.Idle
+look_of g (model.Runs x) = at.Runs x.vertex x.done (model.is_finished (model.program_in g x).steps x)
+
+abbrev pub worker_look : Numbered → model.State → ℕ → Option At
+worker_look g s w = option_map (look_of g) (slice_get s.workers w)

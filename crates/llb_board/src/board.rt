@@ -1,0 +1,224 @@
+//! The board: what stands at each vertex, what each worker runs, and the record of events since it was opened. Its type
+//! keeps that the record is a run of the table to where the board is, and that it has room for every event to come.
+
+ghost use Rattle.std.specs.Prelude.{◌≡◌, ◌≤◌, ◌↔◌, IsTrue, length, map, option_map, slice_get, OnErr, IfErr, IfOk, IsNone};
+ghost use Rattle.llb_model.specs.Outcome.{output_in};
+ghost use Rattle.llb_model.specs.State.{ending_at};
+ghost use Rattle.llb_model.specs.Run.{most_events, chosen, is_complete};
+ghost use Rattle.llb_loader.specs.Graph.{IsGraph};
+ghost use Rattle.llb_board.specs.Board.{Seen, Replays};
+ghost use Rattle.llb_board.specs.Rules.{GivesOpen, open_of, graph_in, GivesClaim, claim_of, GivesStep, step_of, GivesSettle, settle_of};
+ghost use Rattle.llb_board.specs.Views.{event_of, claim_reply, step_reply, settle_reply, status_of, look, look_at, worker_look};
+
+use crate::choice::{all_settled, next_claim, next_event};
+use crate::event::{At, Event, Settled, Status, Stepped};
+use crate::fault::{ClaimFault, OpenFault, SettleFault, StepFault};
+use crate::fresh::opening;
+use crate::job::Job;
+use crate::ready::{actions_at, is_marked, is_ready, mark_stopped, output_at};
+use crate::stand::{Desk, Stand};
+use crate::step::{Begun, begin_claim, is_finished, leave, step_desk};
+use llb_loader::Graph;
+use llb_tree::Tree;
+use std::alloc::Global;
+use std::marker::Model;
+
+/// A graph that is worked on, and the record of what was done.
+#[derive(Drop)]
+pub struct Board {
+    alloc: Global,
+    graph: Graph,
+    stands: Vec<Stand>,
+    desks: Vec<Desk>,
+    halted: Vec<bool>,
+    events: Vec<Event>,
+}
+
+impl Model for Board {
+    ghost use Rattle.std.specs.Prelude.{vec_capacity};
+    ghost use Rattle.std.specs.Coded.{codes};
+    ghost use Rattle.llb_tree.specs.Tree.{coded_tree};
+    ghost use Rattle.llb_board.specs.Board.{Seen};
+    ghost use Rattle.llb_board.specs.Room.{seen, IsKept};
+
+    ghost Value = { Seen };
+
+    ghost coded = { Prim.hlevel (codes, coded_tree) };
+
+    ghost view = { λ b. seen b.graph b.stands.items b.desks.items b.events.items };
+
+    ghost invariant = { λ b. IsKept (seen b.graph b.stands.items b.desks.items b.events.items) b.desks.items b.halted.items (vec_capacity b.events) };
+}
+
+impl Board {
+    /// A board on which nothing has happened. The number of workers is 1 (122); 123 is want of memory. The graph comes
+    /// back in the fault.
+    pub fn open(alloc: Global, graph: Graph, workers: u32) -> Result<Board, OpenFault>
+        ensures gives { GivesOpen (λ b. b) result (open_of graph workers) }
+        ensures back { IfErr result (λ e. graph_in e ≡ graph) }
+    {
+        if workers != 1 {
+            return Err(OpenFault::Workers(graph));
+        }
+        match opening(alloc, &graph, workers) {
+            Ok(fresh) => Ok(Board {
+                alloc,
+                graph,
+                stands: fresh.stands,
+                desks: fresh.desks,
+                halted: fresh.halted,
+                events: fresh.events,
+            }),
+            Err(_) => Err(OpenFault::Memory(graph)),
+        }
+    }
+
+    /// An idle worker takes a vertex that waits and has all its inputs. 131, 132, 133, 134, 141.
+    pub fn claim(&mut self, w: u32, v: u32) -> Result<Job, ClaimFault>
+        ensures gives { GivesClaim (λ job. (self.new, claim_reply job)) result (claim_of self.old w v) }
+        ensures err { OnErr result (self.new ≡ self.old) }
+    {
+        let begun = begin_claim(self.alloc, &self.graph, &self.stands, &self.desks, w, v)?;
+        let Begun { job, work } = begun;
+        self.events.push_reserved(Event::Claim(w, v));
+        self.stands[v as usize] = Stand::Running(w);
+        self.desks[w as usize] = Desk::Runs(work);
+        Ok(job)
+    }
+
+    /// The next micro-step of what a worker runs. 131, 136, 137, 141.
+    pub fn step(&mut self, w: u32) -> Result<Stepped, StepFault>
+        ensures gives { GivesStep (λ r. (self.new, step_reply r)) result (step_of self.old w) }
+        ensures err { OnErr result (self.new ≡ self.old) }
+    {
+        let v = match self.desks.get(w as usize) {
+            None => return Err(StepFault::NoWorker),
+            Some(Desk::Idle) => return Err(StepFault::NotRunning),
+            Some(Desk::Runs(work)) => work.vertex,
+        };
+        let actions = actions_at(&self.graph, v);
+        let stepped = step_desk(self.alloc, &mut self.desks[w as usize], actions)?;
+        self.events.push_reserved(Event::Step(w));
+        Ok(stepped)
+    }
+
+    /// A worker leaves what it runs, which is finished. 131, 136, 138; no memory.
+    pub fn settle(&mut self, w: u32) -> Result<Settled, SettleFault>
+        ensures gives { GivesSettle (λ r. (self.new, settle_reply r)) result (settle_of self.old w) }
+        ensures err { OnErr result (self.new ≡ self.old) }
+    {
+        let v = match self.desks.get(w as usize) {
+            None => return Err(SettleFault::NoWorker),
+            Some(Desk::Idle) => return Err(SettleFault::NotRunning),
+            Some(Desk::Runs(work)) => work.vertex,
+        };
+        let actions = actions_at(&self.graph, v);
+        let stand = leave(&mut self.desks[w as usize], actions)?;
+        let failed = stand.has_failed();
+        self.stands[v as usize] = stand;
+        self.events.push_reserved(Event::Settle(w));
+        if failed {
+            mark_stopped(&mut self.halted, &self.stands, self.graph.vertices());
+            return Ok(Settled::Failed(v));
+        }
+        Ok(Settled::Done(v))
+    }
+
+    /// How a vertex looks. No memory.
+    pub fn status(&self, v: u32) -> Option<Status>
+        ensures { result ≡ look_at self.now.graph self.now.state v }
+    {
+        let stand = self.stands.get(v as usize)?;
+        let ready = match self.graph.vertices().get(v as usize) {
+            Some(vertex) => is_ready(&self.stands, v, vertex),
+            None => false,
+        };
+        Some(look(stand, ready, is_marked(&self.halted, v)))
+    }
+
+    /// How a worker looks. No memory.
+    pub fn worker(&self, w: u32) -> Option<At>
+        ensures { result ≡ worker_look self.now.graph self.now.state w }
+    {
+        match self.desks.get(w as usize)? {
+            Desk::Idle => Some(At::Idle),
+            Desk::Runs(work) => {
+                let finished = is_finished(work, actions_at(&self.graph, work.vertex));
+                Some(At::Runs(work.vertex, work.done, finished))
+            }
+        }
+    }
+
+    /// Output i of a vertex that is done. No memory.
+    pub fn output(&self, v: u32, i: u32) -> Option<&Tree>
+        ensures { option_map (λ t. t.now) result ≡ output_in (ending_at self.now.state.statuses v) i }
+    {
+        output_at(&self.stands, v, i)
+    }
+
+    /// The record of events since the board was opened: at most one claim, one settle and its micro-steps for each vertex.
+    pub fn events(&self) -> &[Event]
+        ensures all { map event_of result.now ≡ self.now.events }
+        ensures bound { length result.now ≤ most_events self.now.graph }
+    {
+        self.events.as_slice()
+    }
+
+    /// The event that a driver chooses. No memory.
+    pub fn chosen(&self) -> Option<Event>
+        ensures { option_map event_of result ≡ chosen self.now.graph self.now.state }
+    {
+        match next_event(&self.graph, &self.desks) {
+            Some(event) => Some(event),
+            None => next_claim(&self.graph, &self.stands),
+        }
+    }
+
+    /// Whether nothing runs any more, and every vertex is done, failed or blocked. No memory.
+    pub fn is_complete(&self) -> bool
+        ensures { result ≡ is_complete self.now.graph self.now.state }
+    {
+        all_settled(&self.graph, &self.stands, &self.halted)
+    }
+
+    /// The graph comes back.
+    pub fn into_parts(self) -> Graph
+        ensures { result ≡ self.graph }
+    {
+        self.graph
+    }
+
+    /// What is true of every graph is true of the board's.
+    pub fn is_graph(&self)
+        ensures { IsGraph self.now.graph }
+    {
+        self.graph.is_graph();
+    }
+
+    /// The record is a run of the table from the opening state to where the board is.
+    pub fn replays(&self)
+        ensures { Replays self.now }
+    {
+        let _ = &self.events;
+    }
+}
+
+// How a vertex looks, by what stands there.
+fn look(stand: &Stand, ready: bool, behind: bool) -> Status
+    ensures { result ≡ look ready behind (status_of stand.now) }
+{
+    match stand {
+        Stand::Waiting => {
+            if ready {
+                Status::Ready
+            } else if behind {
+                Status::Blocked
+            } else {
+                Status::Waiting
+            }
+        }
+        Stand::Running(w) => Status::Running(*w),
+        Stand::Done(_) => Status::Done,
+        Stand::Failed(fault) => Status::Failed(*fault),
+    }
+}

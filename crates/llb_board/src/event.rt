@@ -1,0 +1,53 @@
+//! The events that change a board and what they answer, and how a vertex and a worker look from outside.
+
+use llb_model::VertexFault;
+
+/// What a worker does on the board.
+#[derive(Clone, Copy, Debug, PartialEq, Eq)]
+pub enum Event {
+    /// Worker and vertex: an idle worker takes a Ready vertex.
+    Claim(u32, u32),
+    /// The next micro-step of what the worker runs is done.
+    Step(u32),
+    /// What the worker runs is finished, and the worker is idle again.
+    Settle(u32),
+}
+
+/// What a micro-step answers.
+#[derive(Clone, Copy, Debug, PartialEq, Eq)]
+pub enum Stepped {
+    /// The action of that number is done.
+    Acted(u32),
+    /// The micro-step faulted.
+    Fault(VertexFault),
+}
+
+/// How the vertex of that number was settled.
+#[derive(Clone, Copy, Debug, PartialEq, Eq)]
+pub enum Settled {
+    Done(u32),
+    Failed(u32),
+}
+
+/// How a vertex looks.
+#[derive(Clone, Copy, Debug, PartialEq, Eq)]
+pub enum Status {
+    /// An input is not done yet.
+    Waiting,
+    /// All inputs are done.
+    Ready,
+    /// It waits behind a vertex that has failed.
+    Blocked,
+    /// By the worker of that number.
+    Running(u32),
+    Done,
+    Failed(VertexFault),
+}
+
+/// How a worker looks.
+#[derive(Clone, Copy, Debug, PartialEq, Eq)]
+pub enum At {
+    Idle,
+    /// The vertex, the micro-steps done, and whether it is finished.
+    Runs(u32, u32, bool),
+}

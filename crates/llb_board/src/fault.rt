@@ -1,0 +1,126 @@
+//! Why a call on a board is refused. A fault prints its number. What comes back from a refused call is in its fault.
+
+use llb_loader::Graph;
+use llb_ops::OpFault;
+use llb_tree::TreeFault;
+use std::alloc::{AllocError, AllocFailed};
+use thiserror::Error;
+
+/// Why a graph is not opened. The graph comes back.
+#[derive(Debug, Drop, Error)]
+pub enum OpenFault {
+    /// 122: the number of workers is not 1.
+    #[error("122")]
+    Workers(Graph),
+    /// 123: memory was refused.
+    #[error("123")]
+    Memory(Graph),
+}
+
+/// Why a vertex is not claimed: the first cause that stands.
+#[derive(Clone, Copy, Debug, PartialEq, Eq, Error)]
+pub enum ClaimFault {
+    /// 131: there is no worker of that number.
+    #[error("131")]
+    NoWorker,
+    /// 132: the worker runs a vertex.
+    #[error("132")]
+    Busy,
+    /// 133: there is no vertex of that number.
+    #[error("133")]
+    NoVertex,
+    /// 134: the vertex does not wait, or an input of it is not done.
+    #[error("134")]
+    NotReady,
+    /// 141: memory was refused.
+    #[error("141")]
+    Memory,
+}
+
+/// Why a micro-step is not done: the first cause that stands.
+#[derive(Clone, Copy, Debug, PartialEq, Eq, Error)]
+pub enum StepFault {
+    /// 131: there is no worker of that number.
+    #[error("131")]
+    NoWorker,
+    /// 136: the worker is idle.
+    #[error("136")]
+    NotRunning,
+    /// 137: what the worker runs is finished.
+    #[error("137")]
+    NothingLeft,
+    /// 141: memory was refused.
+    #[error("141")]
+    Memory,
+}
+
+/// Why a vertex is not settled: the first cause that stands.
+#[derive(Clone, Copy, Debug, PartialEq, Eq, Error)]
+pub enum SettleFault {
+    /// 131: there is no worker of that number.
+    #[error("131")]
+    NoWorker,
+    /// 136: the worker is idle.
+    #[error("136")]
+    NotRunning,
+    /// 138: what the worker runs is not finished.
+    #[error("138")]
+    NotFinished,
+}
+
+impl From<AllocError> for ClaimFault {
+    ghost use Rattle.std.specs.Prelude.{◌≡◌};
+    ghost use Rattle.llb_board.specs.declared.fault.ClaimFault.TheVariants.{Memory};
+
+    ghost from_gives = { λ _ e. e ≡ Memory };
+
+    fn from(_: AllocError) -> ClaimFault {
+        ClaimFault::Memory
+    }
+}
+
+impl<T: Drop> From<AllocFailed<T>> for ClaimFault {
+    ghost use Rattle.std.specs.Prelude.{◌≡◌};
+    ghost use Rattle.llb_board.specs.declared.fault.ClaimFault.TheVariants.{Memory};
+
+    ghost from_gives = { λ _ e. e ≡ Memory };
+
+    fn from(_: AllocFailed<T>) -> ClaimFault {
+        ClaimFault::Memory
+    }
+}
+
+/// Of a call on a tree that can only lack memory.
+impl From<TreeFault> for ClaimFault {
+    ghost use Rattle.std.specs.Prelude.{◌≡◌};
+    ghost use Rattle.llb_board.specs.declared.fault.ClaimFault.TheVariants.{Memory};
+
+    ghost from_gives = { λ _ e. e ≡ Memory };
+
+    fn from(_: TreeFault) -> ClaimFault {
+        ClaimFault::Memory
+    }
+}
+
+/// Of a copy of an op, which can only lack memory.
+impl From<OpFault> for ClaimFault {
+    ghost use Rattle.std.specs.Prelude.{◌≡◌};
+    ghost use Rattle.llb_board.specs.declared.fault.ClaimFault.TheVariants.{Memory};
+
+    ghost from_gives = { λ _ e. e ≡ Memory };
+
+    fn from(_: OpFault) -> ClaimFault {
+        ClaimFault::Memory
+    }
+}
+
+impl From<AllocError> for StepFault {
+    ghost use Rattle.std.specs.Prelude.{◌≡◌};
+    ghost use Rattle.llb_board.specs.declared.fault.StepFault.TheVariants.{Memory};
+
+    ghost from_gives = { λ _ e. e ≡ Memory };
+
+    fn from(_: AllocError) -> StepFault {
+        StepFault::Memory
+    }
+}

@@ -1,0 +1,74 @@
+//! What a board begins with: all vertices wait, all workers are idle, and the record has room for every event.
+
+ghost use Rattle.std.specs.Prelude.{◌≡◌, ◌≤◌, ◌+◌, [], map, length, replicate, false, vec_capacity, vec_len, IfOk};
+ghost use Rattle.llb_model.specs.State.{Waiting, Idle};
+ghost use Rattle.llb_model.specs.Program.{program_at};
+ghost use Rattle.llb_model.specs.Run.{most_events, events_of};
+ghost use Rattle.llb_board.specs.Views.{status_of, at_of};
+ghost use Rattle.llb_loader.specs.Graph.{IsGraph};
+ghost use Rattle.llb_board.specs.declared.stand.Desk.TheVariants as desk;
+ghost use Rattle.llb_board.specs.declared.stand.Stand.TheVariants as stand;
+
+use crate::event::Event;
+use crate::ready::actions_at;
+use crate::stand::{Desk, Stand};
+use llb_loader::Graph;
+use std::alloc::{AllocError, Global};
+
+/// The parts of a board on which nothing has happened.
+#[derive(Drop)]
+pub struct Fresh {
+    pub stands: Vec<Stand>,
+    pub desks: Vec<Desk>,
+    pub halted: Vec<bool>,
+    pub events: Vec<Event>,
+}
+
+/// For a graph and so many workers.
+pub fn opening(alloc: Global, graph: &Graph, workers: u32) -> Result<Fresh, AllocError>
+    ensures stands { IfOk result (λ f. f.stands.items ≡ replicate (length graph.now.vertices) stand.Waiting) }
+    ensures desks { IfOk result (λ f. f.desks.items ≡ replicate workers desk.Idle) }
+    ensures halted { IfOk result (λ f. f.halted.items ≡ replicate (length graph.now.vertices) false) }
+    ensures events { IfOk result (λ f. f.events.items ≡ []) }
+    ensures room { IfOk result (λ f. most_events graph.now ≤ vec_capacity f.events) }
+{
+    let count = graph.vertices().len();
+    Ok(Fresh {
+        stands: waiting(alloc, count)?,
+        desks: idle(alloc, workers)?,
+        halted: Vec::from_elem(alloc, false, count)?,
+        events: Vec::with_capacity(alloc, room(graph))?,
+    })
+}
+
+fn waiting(alloc: Global, count: usize) -> Result<Vec<Stand>, AllocError>
+    ensures { IfOk result (λ v. v.items ≡ replicate count stand.Waiting) }
+{
+    let mut stands = Vec::with_capacity(alloc, count)?;
+    for _i in 0..count {
+        stands.push_reserved(Stand::Waiting);
+    }
+    Ok(stands)
+}
+
+fn idle(alloc: Global, count: u32) -> Result<Vec<Desk>, AllocError>
+    ensures { IfOk result (λ v. v.items ≡ replicate count desk.Idle) }
+{
+    let mut desks = Vec::with_capacity(alloc, count as usize)?;
+    for _i in 0..count {
+        desks.push_reserved(Desk::Idle);
+    }
+    Ok(desks)
+}
+
+// How many events may come in all.
+fn room(graph: &Graph) -> usize
+    ensures { result ≡ most_events graph.now }
+{
+    let mut all: usize = 0;
+    let count = graph.vertices().len() as u32;
+    for v in 0..count {
+        all += actions_at(graph, v).len() + 2;
+    }
+    all
+}

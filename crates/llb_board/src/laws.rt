@@ -1,0 +1,33 @@
+//! What holds of a board after every list of granted events, since its record replays to its state.
+
+ghost use Rattle.std.specs.Prelude.{◌≡◌, ◌↔◌, ◌<◌, ℕ, None, true, length, slice_get};
+ghost use Rattle.llb_model.specs.Outcome.{outcome};
+ghost use Rattle.llb_model.specs.Run.{chosen, is_complete, StandsPlainly};
+ghost use Rattle.llb_board.specs.Board.{SettledArePlain};
+
+use crate::board::Board;
+
+/// A settled vertex has its plain outcome, failures included.
+pub fn settled_are_plain(board: &Board)
+    ensures { SettledArePlain board.now }
+{
+    board.is_graph();
+    board.replays();
+}
+
+/// On a complete board every vertex stands as its plain outcome: ended so, or Blocked.
+pub fn complete_is_plain(board: &Board)
+    ensures { is_complete board.now.graph board.now.state ≡ true → (v : ℕ) → v < length board.now.graph.vertices
+        → StandsPlainly (slice_get board.now.state.statuses v) (outcome board.now.graph v) }
+{
+    board.is_graph();
+    board.replays();
+}
+
+/// An event is chosen exactly until the board is complete.
+pub fn chosen_until_complete(board: &Board)
+    ensures { (chosen board.now.graph board.now.state ≡ None) ↔ (is_complete board.now.graph board.now.state ≡ true) }
+{
+    board.is_graph();
+    board.replays();
+}

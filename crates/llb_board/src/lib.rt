@@ -1,0 +1,20 @@
+//! One state, changed by the transition table alone: claims, steps and settles of workers on the vertices of a graph,
+//! and the record of them. Stands on the graph and on trees; it starts no thread and takes no lock.
+#![tactic(auto)]
+
+mod action;
+mod board;
+mod choice;
+mod event;
+mod fault;
+mod fresh;
+mod job;
+pub mod laws;
+mod ready;
+mod stand;
+mod step;
+
+pub use board::Board;
+pub use event::{At, Event, Settled, Status, Stepped};
+pub use fault::{ClaimFault, OpenFault, SettleFault, StepFault};
+pub use job::{Job, Program, View};

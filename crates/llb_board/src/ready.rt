@@ -1,0 +1,136 @@
+//! Looks on what stands at the vertices: which inputs are there, which vertices are ready, and which are behind one that
+//! has failed.
+
+ghost use Rattle.std.specs.Prelude.{◌≡◌, ◌<◌, ◌^◌, [], map, length, option_map, is_some, slice_get, Some, None, Bool, false, unwrap_or};
+ghost use Rattle.std.specs.List.{list_any};
+ghost use Rattle.llb_loader.specs.Rules.{actions_of};
+ghost use Rattle.llb_model.specs.Program.{Act, program_at};
+ghost use Rattle.llb_model.specs.Outcome.{inputs_from, output_in};
+ghost use Rattle.llb_model.specs.State.{ending_at, is_failed, stopped_from, next_stopped, view_from};
+ghost use Rattle.llb_board.specs.Views.{status_of};
+ghost use Rattle.llb_board.specs.Rules.{GivesClaim, or_not_ready};
+ghost use Rattle.llb_loader.specs.declared.graph.Edge as edge;
+
+use crate::fault::ClaimFault;
+use crate::stand::Stand;
+use llb_loader::{Edge, Graph, Vertex};
+use llb_ops::{Action, Kind};
+use llb_tree::Tree;
+use llb_wire::Many;
+use std::alloc::Global;
+
+/// An output of a vertex that is done.
+pub fn output_at(stands: &[Stand], v: u32, i: u32) -> Option<&Tree>
+    ensures { option_map (λ t. t.now) result ≡ output_in (ending_at (map status_of stands.now) v) i }
+{
+    match stands.get(v as usize) {
+        Some(Stand::Done(outputs)) => outputs.as_slice().get(i as usize),
+        _ => None,
+    }
+}
+
+/// Whether each edge leads to an output that is there.
+pub fn are_there(stands: &[Stand], inputs: &[Edge]) -> bool
+    ensures { result ≡ is_some (inputs_from (ending_at (map status_of stands.now)) inputs.now) }
+{
+    for edge in inputs {
+        match output_at(stands, edge.vertex, edge.index) {
+            Some(_) => {}
+            None => return false,
+        }
+    }
+    true
+}
+
+/// Whether a vertex waits and all its inputs are there.
+pub fn is_ready(stands: &[Stand], v: u32, vertex: &Vertex) -> bool
+    ensures { result ≡ is_some (view_from (map status_of stands.now) (slice_get (map status_of stands.now) v) (Some vertex.now)) }
+{
+    match stands.get(v as usize) {
+        Some(Stand::Waiting) => are_there(stands, vertex.inputs.as_slice()),
+        _ => false,
+    }
+}
+
+/// Copies of the trees that the edges lead to.
+pub fn gathered(alloc: Global, stands: &[Stand], inputs: &[Edge]) -> Result<Vec<Tree>, ClaimFault>
+    ensures { GivesClaim (λ trees. trees.items) result (or_not_ready (inputs_from (ending_at (map status_of stands.now)) inputs.now)) }
+{
+    let mut trees = Vec::with_capacity(alloc, inputs.len())?;
+    for edge in inputs {
+        match output_at(stands, edge.vertex, edge.index) {
+            Some(tree) => trees.push_reserved(tree.copy()?),
+            None => return Err(ClaimFault::NotReady),
+        }
+    }
+    Ok(trees)
+}
+
+/// The actions of a vertex, as many as its steps.
+pub fn actions_at(graph: &Graph, v: u32) -> &[Action]
+    ensures steps { map Act result.now ≡ (program_at (slice_get graph.now.vertices v)).steps }
+    ensures few { length result.now < 2 ^ 32 }
+{
+    match graph.vertices().get(v as usize) {
+        Some(vertex) => actions_of(vertex),
+        None => &[],
+    }
+}
+
+fn actions_of(vertex: &Vertex) -> &[Action]
+    ensures all { result.now ≡ actions_of vertex.now.op }
+    ensures few { vertex.now.steps < 2 ^ 32 }
+{
+    let _steps = vertex.steps;
+    match &vertex.op.kind {
+        Some(Kind::File(file)) => file.actions.as_slice(),
+        _ => &[],
+    }
+}
+
+/// Marks each vertex that has failed, or is behind one that has.
+pub fn mark_stopped(halted: &mut [bool], stands: &[Stand], vertices: &[Vertex])
+    requires { length halted.old ≡ length vertices.now }
+    ensures { halted.new ≡ stopped_from (map status_of stands.now) [] vertices.now }
+{
+    for v in 0..vertices.len() {
+        halted[v] = is_stopped(&halted[..v], stands, v, &vertices[v]);
+    }
+}
+
+// Whether vertex v has failed, or an input of it is marked.
+fn is_stopped(before: &[bool], stands: &[Stand], v: usize, vertex: &Vertex) -> bool
+    requires { length before.now ≡ v }
+    ensures { result ≡ next_stopped (map status_of stands.now) before.now vertex.now }
+{
+    has_failed(stands, v) || is_behind(before, vertex.inputs.as_slice())
+}
+
+fn is_behind(before: &[bool], inputs: &[Edge]) -> bool
+    ensures { result ≡ list_any (λ (e : edge.Edge). unwrap_or (slice_get before.now e.vertex) false) inputs.now }
+{
+    for edge in inputs {
+        if is_marked(before, edge.vertex) {
+            return true;
+        }
+    }
+    false
+}
+
+pub fn is_marked(before: &[bool], v: u32) -> bool
+    ensures { result ≡ unwrap_or (slice_get before.now v) false }
+{
+    match before.get(v as usize) {
+        Some(mark) => *mark,
+        None => false,
+    }
+}
+
+fn has_failed(stands: &[Stand], v: usize) -> bool
+    ensures { result ≡ is_failed (ending_at (map status_of stands.now) v) }
+{
+    match stands.get(v) {
+        Some(Stand::Failed(_)) => true,
+        _ => false,
+    }
+}

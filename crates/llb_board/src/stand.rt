@@ -1,0 +1,49 @@
+//! What the board keeps: of each vertex what stands there, of each worker what it runs, with the trees that it needs at
+//! its end. Nothing here is seen from outside.
+
+ghost use Rattle.std.specs.Prelude.{◌≡◌, Some};
+ghost use Rattle.llb_model.specs.State.{ending_of, is_failed};
+ghost use Rattle.llb_board.specs.Views.{status_of};
+
+use crate::job::View;
+use llb_model::VertexFault;
+use llb_tree::Tree;
+use llb_wire::Many;
+
+/// What stands at a vertex.
+#[derive(Drop)]
+pub enum Stand {
+    Waiting,
+    Running(u32),
+    Done(Many<Tree>),
+    Failed(VertexFault),
+}
+
+impl Stand {
+    pub fn has_failed(&self) -> bool
+        ensures { result ≡ is_failed (ending_of (Some (status_of self.now))) }
+    {
+        match self {
+            Stand::Failed(_) => true,
+            _ => false,
+        }
+    }
+}
+
+/// What a worker does.
+#[derive(Drop)]
+pub enum Desk {
+    Idle,
+    Runs(Work),
+}
+
+/// What a running worker has. In `outputs` there is an empty tree for each output of its vertex.
+#[derive(Drop)]
+pub struct Work {
+    pub vertex: u32,
+    /// The micro-steps done; one that faults is counted.
+    pub done: u32,
+    pub fault: Option<VertexFault>,
+    pub view: View,
+    pub outputs: Vec<Tree>,
+}

@@ -1,0 +1,15 @@
+pub mod Rows
+pub mod Searching
+pub mod Turns
+pub mod Places
+pub mod Sets
+pub mod Unique
+pub mod Outputs
+pub mod Firsts
+pub mod Named
+pub mod Parts
+pub mod Plans
+pub mod Refusals
+pub mod Builds
+pub mod Limited
+pub mod Whole

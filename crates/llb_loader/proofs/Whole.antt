@@ -1,0 +1,287 @@
+-- The vertices that are built of a whole plan are a graph, and the one that the plan says.
+use Rattle.std.proofs.Common.{◌≡◌, ◌≢◌, ℕ, zero, suc, ◌+◌, ◌<◌, ◌≤◌, Bool, true, false, cond, not, ◌&&◌, ◌||◌, List, [], ◌∷◌, ◌⊎◌, inl, inr, Option, Some, None, length, get_or, map, take, refl, sym, ◌∙◌, ap, subst, arith, pos, nat_abs}
+use Rattle.std.proofs.lemmas.Bool.{cases_lt, cases_Bool}
+use Rattle.std.proofs.lemmas.List.{get_or-map, get_or_past, get_or_default, get_or-take, length-map, length-take-le, same_lists}
+use Rattle.std.proofs.lemmas.List.Elements.{All-get_or, All-nil, All-cons, Contains-get_or}
+use Rattle.std.proofs.lemmas.List.Sums.{count_by-le-length}
+use Rattle.std.specs.List.{All, Contains, filter_map, cons_option, list_all, list_any}
+use Rattle.std.specs.Option.{unwrap_or}
+use Rattle.llb_ops.specs.declared.op.Op.{Op}
+use Rattle.llb_ops.specs.declared.op.Input.{Input}
+use Rattle.llb_ops.specs.declared.op.Kind.{Kind}
+use Rattle.llb_ops.specs.declared.op.Kind.TheVariants.{Exec, Source, File, Build, Merge, Diff}
+use Rattle.llb_ops.specs.declared.file.Action.{Action}
+use Rattle.llb_loader.specs.declared.fault.Feature.{Feature}
+use Rattle.llb_loader.specs.declared.fault.Feature.TheVariants.{NotYet, OwnerByName}
+use Rattle.llb_loader.specs.declared.graph.Edge.{Edge}
+use Rattle.llb_loader.specs.declared.graph.Vertex.{Vertex}
+use Rattle.llb_loader.specs.Rows.{inputs, HasEdge, Walk, Reached}
+use Rattle.llb_loader.specs.Laws.{rank_in}
+use Rattle.llb_loader.specs.Naming.{row_at, row_named, rows_named}
+use Rattle.llb_loader.specs.Features.{is_read, feature_of}
+use Rattle.llb_loader.specs.Rules.{kind_actions, actions_of, is_made, is_output, owner_of, owner_by_name, outputs_of, output_count, IsBelow, HasAction, MeetsEach, rules}
+use Rattle.llb_loader.specs.Graph.{Numbered, links, LeadsBelow, IsFileVertex, IsGraph}
+use Rattle.llb_loader.specs.Linking.{Plan, op_at, input_at, links_in, input_row, ReachedRow, HasInput, outputs_there, IsNamed, IsWhole, edge_of, vertex_of, numbered_of}
+use Rattle.llb_loader.specs.Checks.{IsWithin}
+use Rattle.llb_loader.specs.Building.{IsBuildable, IsBuilt, AreBuilt, edge_at, vertex_at, edge_to}
+use Rattle.llb_loader.proofs.Searching.{reached_step}
+use Rattle.llb_loader.proofs.Unique.{rank_at}
+use Rattle.llb_loader.proofs.Plans.{graph_at, NamedAt, named_at, below_cases, below_wider, below_abs}
+use Rattle.llb_loader.proofs.Refusals.{reached_in, input_named}
+
+-- ---- one op
+
+and_parts : (a b : Bool) → (a && b) ≡ true → (a ≡ true) × (b ≡ true)
+and_parts true b e = (refl, e)
+and_parts false b e = absurd (let x : false ≡ true = e in cc)
+
+or_parts : (a b : Bool) → (a || b) ≡ false → (a ≡ false) × (b ≡ false)
+or_parts false b e = (refl, e)
+or_parts true b e = absurd (let x : true ≡ false = e in cc)
+
+all_true : {X : Type 0} (p : X → Bool) (xs : List X) → list_all p xs ≡ true → All (λ x. p x ≡ true) xs
+all_true p [] e = All-nil (λ x. p x ≡ true)
+all_true p (x ∷ xs) e = let b = and_parts (p x) (list_all p xs) e in All-cons (λ x. p x ≡ true) x xs b.0 (all_true p xs b.1)
+
+all_false : {X : Type 0} (p : X → Bool) (xs : List X) → list_any p xs ≡ false → All (λ x. p x ≡ false) xs
+all_false p [] e = All-nil (λ x. p x ≡ false)
+all_false p (x ∷ xs) e = let b = or_parts (p x) (list_any p xs) e in All-cons (λ x. p x ≡ false) x xs b.0 (all_false p xs b.1)
+
+read_parts : (k : Option Kind) → is_read k ≡ true → (list_all (λ a. is_made a.kind) (kind_actions k) ≡ true) × (HasAction k → 0 < length (kind_actions k))
+read_parts (Some (File f)) e = (e, λ h. h)
+read_parts (Some (Exec b)) e = absurd (let x : false ≡ true = e in cc)
+read_parts (Some (Source b)) e = absurd (let x : false ≡ true = e in cc)
+read_parts (Some (Build b)) e = absurd (let x : false ≡ true = e in cc)
+read_parts (Some (Merge b)) e = absurd (let x : false ≡ true = e in cc)
+read_parts (Some (Diff b)) e = absurd (let x : false ≡ true = e in cc)
+read_parts None e = absurd (let x : false ≡ true = e in cc)
+
+feature_parts : (r n : Bool) → ◌≡◌ {A = Option Feature} (cond (not r) (Some NotYet) (cond n (Some OwnerByName) None)) None → (r ≡ true) × (n ≡ false)
+feature_parts true true e = absurd (let x : Some OwnerByName ≡ None = e in cc)
+feature_parts true false e = (refl, refl)
+feature_parts false n e = absurd (let x : Some NotYet ≡ None = e in cc)
+
+file_vertex : (text : List ℕ) (op : Op) (named ranks : List ℕ) (v : Vertex) → IsBuilt text op named ranks v → IsWithin op → feature_of op ≡ None → MeetsEach op rules → IsFileVertex v
+file_vertex text op named ranks v b within free met =
+    let f = feature_parts (is_read op.kind) (list_any (λ (a : Action). owner_by_name (owner_of a.kind)) (actions_of op)) free in
+    let r = read_parts op.kind f.0 in
+    let w = subst (λ (o : Op). (0 < length (actions_of o)) × (length (actions_of o) ≤ 1_024)) (sym b.op) (r.1 met.1.0, within.actions) in
+    record {
+      some = w.0;
+      few = w.1;
+      made = subst (λ (o : Op). All (λ a. is_made a.kind ≡ true) (actions_of o)) (sym b.op) (all_true (λ (a : Action). is_made a.kind) (actions_of op) r.0);
+      numbered = subst (λ (o : Op). All (λ a. owner_by_name (owner_of a.kind) ≡ false) (actions_of o)) (sym b.op) (all_false (λ (a : Action). owner_by_name (owner_of a.kind)) (actions_of op) f.1);
+      action_inputs = rw b.op met.1.1.0;
+      action_outputs = rw b.op met.1.1.1.0;
+      inputs = rw b.op b.len;
+      steps = rw b.op b.steps;
+      outputs = rw b.op b.outputs;
+    }
+
+count_within : (op : Op) → IsWithin op → output_count op ≤ 1_024
+count_within op w =
+    let a = count_by-le-length is_output (outputs_of (actions_of op)) in
+    let b = length-map (actions_of op) (λ (x : Action). x.output) in
+    let c = w.actions in
+    omega (arith, a, b, c)
+
+cons_le : (o : Option ℕ) (ys : List ℕ) (n : ℕ) → length ys ≤ n → length (cons_option o ys) ≤ suc n
+cons_le None ys n l = omega (arith, l)
+cons_le (Some y) ys n l = omega (arith, l)
+
+filter_map_le : {X : Type 0} (h : X → Option ℕ) (xs : List X) → length (filter_map h xs) ≤ length xs
+filter_map_le h [] = omega arith
+filter_map_le h (x ∷ xs) = cons_le (h x) (filter_map h xs) (length xs) (filter_map_le h xs)
+
+same_vertex : (v w : Vertex) → v.digest ≡ w.digest → v.op ≡ w.op → v.inputs ≡ w.inputs → v.steps ≡ w.steps → v.outputs ≡ w.outputs → v ≡ w
+same_vertex v w a b c d e =
+    ap (λ (x : List ℕ). let r : Vertex = record { digest = x; op = v.op; inputs = v.inputs; steps = v.steps; outputs = v.outputs } in r) a
+    ∙ ap (λ (x : Op). let r : Vertex = record { digest = w.digest; op = x; inputs = v.inputs; steps = v.steps; outputs = v.outputs } in r) b
+    ∙ ap (λ (x : List Edge). let r : Vertex = record { digest = w.digest; op = w.op; inputs = x; steps = v.steps; outputs = v.outputs } in r) c
+    ∙ ap (λ (x : ℕ). let r : Vertex = record { digest = w.digest; op = w.op; inputs = w.inputs; steps = x; outputs = v.outputs } in r) d
+    ∙ ap (λ (x : ℕ). let r : Vertex = record { digest = w.digest; op = w.op; inputs = w.inputs; steps = w.steps; outputs = x } in r) e
+
+-- ---- a plan in which nothing is refused
+
+module _ (p : Plan) (order : List ℕ) (whole : IsWhole p order) (len : length p.ops ≡ length p.rows) (within : All IsWithin p.ops) where
+  named_in : IsNamed p
+  named_in = whole.valid.taken.ordered.named
+
+  pub row_reached : (k : ℕ) → k < length order → ReachedRow p (get_or order k 0)
+  row_reached k h = (whole.valid.taken.ordered.numbering.each k h).ready.reached
+
+  pub in_ops : (k : ℕ) → ReachedRow p k → k < length p.ops
+  in_ops k r = let h = reached_in p named_in.started k r in omega (arith, h, len)
+
+  pub within_at : (k : ℕ) → ReachedRow p k → IsWithin (op_at p.ops k)
+  within_at k r = All-get_or IsWithin p.ops k (record { inputs = []; kind = None; extra = [] }) (in_ops k r) within
+
+  count_small : (k : ℕ) → output_count (op_at p.ops k) ≤ 1_024
+  count_small k = elim (cases_lt k (length p.ops)) [
+    | inl l ↦ count_within (op_at p.ops k) (All-get_or IsWithin p.ops k (record { inputs = []; kind = None; extra = [] }) l within)
+    | inr g ↦ (let e = ap output_count (get_or_past p.ops k (record { inputs = []; kind = None; extra = [] }) g) in omega (arith, e))
+  ]
+
+  pub index_below : (k i : ℕ) → HasInput p k i ⊎ ((k ≡ p.terminal) × (i ≡ 0)) → IsBelow (outputs_there p k i) (input_at (op_at p.ops k) i).index
+  index_below k i asked = elim (below_cases (outputs_there p k i) (input_at (op_at p.ops k) i).index) [
+    | inl b ↦ b
+    | inr n ↦ absurd (whole.indexes k i (record { asked = asked; bad = n }))
+  ]
+
+  pub index_small : (k i : ℕ) → HasInput p k i ⊎ ((k ≡ p.terminal) × (i ≡ 0)) → IsBelow 1_025 (input_at (op_at p.ops k) i).index
+  index_small k i asked = below_wider (outputs_there p k i) 1_025 (input_at (op_at p.ops k) i).index (let c = count_small (unwrap_or (input_row p k i) 0) in omega (arith, c)) (index_below k i asked)
+
+  places : (k : ℕ) → ReachedRow p k → NamedAt (λ (i : Input). row_named p.rows p.terminal i.digest) (op_at p.ops k).inputs (record { digest = []; index = pos 0; extra = [] }) (length (op_at p.ops k).inputs)
+  places k r = named_at (λ (i : Input). row_named p.rows p.terminal i.digest) (op_at p.ops k).inputs (record { digest = []; index = pos 0; extra = [] }) (length (op_at p.ops k).inputs) (omega arith)
+      (λ i l. input_named p named_in k i (record { reached = r; here = l }))
+
+  pub full : (k : ℕ) → ReachedRow p k → length (inputs (links_in p) k) ≡ length (op_at p.ops k).inputs
+  full k r =
+      let e = ap (λ (xs : List ℕ). length xs) (graph_at p.rows p.terminal p.ops k) in
+      let a = (places k r).0 in
+      let b = filter_map_le (λ (i : Input). row_named p.rows p.terminal i.digest) (op_at p.ops k).inputs in
+      omega (arith, e, a, b)
+
+  pub linked : (k i : ℕ) → ReachedRow p k → i < length (op_at p.ops k).inputs → get_or (inputs (links_in p) k) i 0 ≡ unwrap_or (input_row p k i) 0
+  linked k i r l = ap (λ (xs : List ℕ). get_or xs i 0) (graph_at p.rows p.terminal p.ops k) ∙ (places k r).1 i l
+
+  pub buildable : (i : ℕ) → i < length order → IsBuildable (op_at p.ops (get_or order i 0)) (inputs (links_in p) (get_or order i 0))
+  buildable i h = record {
+    within = within_at (get_or order i 0) (row_reached i h);
+    len = full (get_or order i 0) (row_reached i h);
+    indexes = λ j l. index_small (get_or order i 0) j (inl (record { reached = row_reached i h; here = l }));
+  }
+
+  -- ---- with the numbers of rows
+
+  module _ (ranks : List ℕ) (inverse : (i : ℕ) → i < length order → get_or ranks (get_or order i 0) 0 ≡ i) where
+    place : (b : ℕ) → ReachedRow p b → (i : ℕ) × (i < length order) × (get_or order i 0 ≡ b) × (get_or ranks b 0 ≡ i)
+    place b r =
+        let c = whole.valid.taken.ordered.numbering.whole b r in
+        let e = get_or_default order c.0 0 b c.1 ∙ c.2 in
+        (c.0, c.1, e, sym (ap (λ (x : ℕ). get_or ranks x 0) e) ∙ inverse c.0 c.1)
+
+    rank_is : (b : ℕ) → ReachedRow p b → get_or ranks b 0 ≡ rank_in order b
+    rank_is b r =
+        let c = place b r in
+        let a = rank_at order b c.0 c.1 c.2 in
+        sym (ap (λ (x : ℕ). get_or ranks x 0) a.1) ∙ inverse (rank_in order b) a.0
+
+    module _ (vs : List Vertex) (built_len : length vs ≡ length order) (built : AreBuilt p.rows p.ops (links_in p) ranks order vs (length order)) where
+      vertex_is : (k : ℕ) (d : Vertex) → k < length order → get_or vs k d ≡ vertex_at vs k
+      vertex_is k d h = get_or_default vs k d _ (let e = built_len in omega (arith, h, e))
+
+      leads : (m b j : ℕ) (x : Edge) (inp : Input) → x ≡ edge_to (get_or ranks b 0) inp → j < length order → get_or order j 0 ≡ b → get_or ranks b 0 ≡ j → j < m
+          → IsBelow (output_count (op_at p.ops b)) inp.index → LeadsBelow vs m x
+      leads m b j x inp e h at rank low below =
+          subst (λ (y : Edge). LeadsBelow vs m y) (sym (e ∙ ap (λ (n : ℕ). edge_to n inp) rank)) (record {
+            lower = low;
+            index = λ d.
+                let a = below_abs (output_count (op_at p.ops b)) inp.index below in
+                let o = (built j h).outputs in
+                let q = ap (λ (v : Vertex). v.outputs) (vertex_is j d h) in
+                let s = ap (λ (n : ℕ). output_count (op_at p.ops n)) at in
+                omega (arith, a, o, q, s);
+          })
+
+      input_below : (k i : ℕ) → ReachedRow p k → i < length (op_at p.ops k).inputs → IsBelow (output_count (op_at p.ops (get_or (inputs (links_in p) k) i 0))) (input_at (op_at p.ops k) i).index
+      input_below k i r l = subst (λ (n : ℕ). IsBelow (output_count (op_at p.ops n)) (input_at (op_at p.ops k) i).index) (sym (linked k i r l)) (index_below k i (inl (record { reached = r; here = l })))
+
+      edge_leads : (k i : ℕ) (h : k < length order) → i < length (op_at p.ops (get_or order k 0)).inputs → LeadsBelow vs k (edge_at (vertex_at vs k).inputs i)
+      edge_leads k i h l =
+          let r = get_or order k 0 in
+          let b = get_or (inputs (links_in p) (get_or order k 0)) i 0 in
+          let f = full (get_or order k 0) (row_reached k h) in
+          let li : i < length (inputs (links_in p) (get_or order k 0)) = omega (arith, l, f) in
+          let c = (whole.valid.taken.ordered.numbering.each k h).ready.inputs_done i 0 li in
+          let n = length-take-le k order (omega (arith, h)) in
+          let low : c.0 < k = (let m = c.1 in omega (arith, m, n)) in
+          let at : get_or order c.0 0 ≡ get_or (inputs (links_in p) (get_or order k 0)) i 0 =
+          get_or_default order c.0 0 (get_or (inputs (links_in p) (get_or order k 0)) i 0) (omega (arith, low, h)) ∙ sym (get_or-take k order c.0 (get_or (inputs (links_in p) (get_or order k 0)) i 0) low) ∙ c.2 in
+          leads k (get_or (inputs (links_in p) (get_or order k 0)) i 0) c.0 (edge_at (vertex_at vs k).inputs i) (input_at (op_at p.ops (get_or order k 0)) i)
+          ((built k h).edges i l) (omega (arith, low, h)) at (sym (ap (λ (x : ℕ). get_or ranks x 0) at) ∙ inverse c.0 (omega (arith, low, h))) low
+          (input_below (get_or order k 0) i (row_reached k h) l)
+
+      down : (k : ℕ) (d : Vertex) → k < length vs → All (LeadsBelow vs k) (get_or vs k d).inputs
+      down k d hv =
+          let h : k < length order = (let e = built_len in omega (arith, hv, e)) in
+          subst (λ (v : Vertex). All (LeadsBelow vs k) v.inputs) (sym (vertex_is k d h)) (λ i e l.
+          let m : i < length (op_at p.ops (get_or order k 0)).inputs = (let b = (built k h).len in omega (arith, l, b)) in
+          subst (λ (x : Edge). LeadsBelow vs k x) (get_or_default (vertex_at vs k).inputs i _ e l) (edge_leads k i h m))
+
+      start_reached : ReachedRow p p.start
+      start_reached = (0, refl)
+
+      result_leads : (x : Edge) → x ≡ edge_to (get_or ranks p.start 0) (input_at (op_at p.ops p.terminal) 0) → LeadsBelow vs (length vs) x
+      result_leads x e =
+          let c = place p.start start_reached in
+          leads (length vs) p.start c.0 x (input_at (op_at p.ops p.terminal) 0) e c.1 c.2 c.3 (let l = c.1 in let b = built_len in omega (arith, l, b))
+          (subst (λ (n : ℕ). IsBelow (output_count (op_at p.ops n)) (input_at (op_at p.ops p.terminal) 0).index) (ap (λ (o : Option ℕ). unwrap_or o 0) named_in.started.start) (index_below p.terminal 0 (inr (refl, refl))))
+
+      -- an edge between rows is one between their vertices
+      link_at : (k i : ℕ) → k < length order → i < length (inputs (links_in p) (get_or order k 0)) → HasEdge (links vs) k (get_or ranks (get_or (inputs (links_in p) (get_or order k 0)) i 0) 0)
+      link_at k i h l =
+          let f = full (get_or order k 0) (row_reached k h) in
+          let m : i < length (op_at p.ops (get_or order k 0)).inputs = omega (arith, l, f) in
+          let n : i < length (vertex_at vs k).inputs = (let b = (built k h).len in omega (arith, m, b)) in
+          let row : inputs (links vs) k ≡ map (λ (e : Edge). e.vertex) (vertex_at vs k).inputs = get_or-map (λ (v : Vertex). map (λ (e : Edge). e.vertex) v.inputs) vs k _ [] (let b = built_len in omega (arith, h, b)) in
+          let at : get_or (map (λ (e : Edge). e.vertex) (vertex_at vs k).inputs) i 0 ≡ get_or ranks (get_or (inputs (links_in p) (get_or order k 0)) i 0) 0 =
+          get_or-map (λ (e : Edge). e.vertex) (vertex_at vs k).inputs i _ 0 n ∙ ap (λ (e : Edge). e.vertex) ((built k h).edges i m) in
+          let long : i < length (map (λ (e : Edge). e.vertex) (vertex_at vs k).inputs) = (let z = length-map (vertex_at vs k).inputs (λ (e : Edge). e.vertex) in omega (arith, n, z)) in
+          subst (λ (xs : List ℕ). Contains xs (get_or ranks (get_or (inputs (links_in p) (get_or order k 0)) i 0) 0)) (sym row)
+          (subst (λ (y : ℕ). Contains (map (λ (e : Edge). e.vertex) (vertex_at vs k).inputs) y) at (Contains-get_or (map (λ (e : Edge). e.vertex) (vertex_at vs k).inputs) i 0 long))
+
+      link_edge : (a b : ℕ) → ReachedRow p a → HasEdge (links_in p) a b → HasEdge (links vs) (get_or ranks a 0) (get_or ranks b 0)
+      link_edge a b r e =
+          let c = place a r in
+          let i : e.0 < length (inputs (links_in p) (get_or order c.0 0)) = subst (λ (n : ℕ). e.0 < length (inputs (links_in p) n)) (sym c.2) e.1 in
+          let x = link_at c.0 e.0 c.1 i in
+          let to : get_or (inputs (links_in p) (get_or order c.0 0)) e.0 0 ≡ b = ap (λ (n : ℕ). get_or (inputs (links_in p) n) e.0 0) c.2 ∙ get_or_default (inputs (links_in p) a) e.0 0 b e.1 ∙ e.2 in
+          subst (λ (n : ℕ). HasEdge (links vs) n (get_or ranks b 0)) (sym c.3) (subst (λ (n : ℕ). HasEdge (links vs) c.0 (get_or ranks n 0)) to x)
+
+      walk_up : (b n : ℕ) → Walk (links_in p) p.start b n → Walk (links vs) (get_or ranks p.start 0) (get_or ranks b 0) n
+      walk_up b zero w = ap (λ (x : ℕ). get_or ranks x 0) w
+      walk_up b (suc n) (c, w, e) = (get_or ranks c 0, walk_up c n w, link_edge c b (n, w) e)
+
+      pub is_graph : (x : Edge) → x ≡ edge_to (get_or ranks p.start 0) (input_at (op_at p.ops p.terminal) 0) → length p.rows ≤ 65_536 → length order ≤ length p.rows
+          → IsGraph (record { vertices = vs; result = x })
+      is_graph x e few short = record {
+        down = down;
+        result = result_leads x e;
+        whole = λ k h.
+            let l : k < length order = (let b = built_len in omega (arith, h, b)) in
+            let r = row_reached k l in
+            (r.0, subst (λ (n : ℕ). Walk (links vs) x.vertex n r.0) (inverse k l) (subst (λ (n : ℕ). Walk (links vs) n (get_or ranks (get_or order k 0) 0) r.0) (sym (ap (λ (y : Edge). y.vertex) e)) (walk_up (get_or order k 0) r.0 r.1)));
+        file = λ k d h.
+            let l : k < length order = (let b = built_len in omega (arith, h, b)) in
+            let r = row_reached k l in
+            subst (λ (v : Vertex). IsFileVertex v) (sym (vertex_is k d l))
+            (file_vertex _ (op_at p.ops (get_or order k 0)) _ ranks (vertex_at vs k) (built k l) (within_at (get_or order k 0) r) (whole.valid.taken.featureless (get_or order k 0) r) (whole.valid.valid (get_or order k 0) r));
+        few = (let b = built_len in omega (arith, b, few, short));
+      }
+
+      -- ---- and the one that the plan says
+
+      edge_same : (k i : ℕ) → k < length order → i < length (op_at p.ops (get_or order k 0)).inputs → edge_at (vertex_at vs k).inputs i ≡ edge_of p order (input_at (op_at p.ops (get_or order k 0)) i)
+      edge_same k i h l =
+          let f = full (get_or order k 0) (row_reached k h) in
+          let li : i < length (inputs (links_in p) (get_or order k 0)) = omega (arith, l, f) in
+          let b = reached_step (links_in p) p.start (get_or order k 0) (get_or (inputs (links_in p) (get_or order k 0)) i 0) (row_reached k h) (Contains-get_or (inputs (links_in p) (get_or order k 0)) i 0 li) in
+          (built k h).edges i l
+          ∙ ap (λ (n : ℕ). edge_to n (input_at (op_at p.ops (get_or order k 0)) i)) (rank_is (get_or (inputs (links_in p) (get_or order k 0)) i 0) b ∙ ap (λ (n : ℕ). rank_in order n) (linked (get_or order k 0) i (row_reached k h) l))
+
+      inputs_same : (k : ℕ) → k < length order → (vertex_at vs k).inputs ≡ map (edge_of p order) (op_at p.ops (get_or order k 0)).inputs
+      inputs_same k h = same_lists (vertex_at vs k).inputs (map (edge_of p order) (op_at p.ops (get_or order k 0)).inputs)
+          ((built k h).len ∙ sym (length-map (op_at p.ops (get_or order k 0)).inputs (edge_of p order)))
+          (λ i d l. let m : i < length (op_at p.ops (get_or order k 0)).inputs = (let b = (built k h).len in omega (arith, l, b)) in
+          get_or_default (vertex_at vs k).inputs i d _ l ∙ edge_same k i h m ∙ sym (get_or-map (edge_of p order) (op_at p.ops (get_or order k 0)).inputs i _ d m))
+
+      pub vertices_same : vs ≡ map (vertex_of p order) order
+      vertices_same = same_lists vs (map (vertex_of p order) order) (built_len ∙ sym (length-map order (vertex_of p order))) (λ k d h.
+          let l : k < length order = (let b = built_len in omega (arith, h, b)) in
+          vertex_is k d l
+          ∙ same_vertex (vertex_at vs k) (vertex_of p order (get_or order k 0)) (built k l).digest (built k l).op (inputs_same k l) (built k l).steps (built k l).outputs
+          ∙ sym (get_or-map (vertex_of p order) order k 0 d l))
+
+      pub result_same : (x : Edge) → x ≡ edge_to (get_or ranks p.start 0) (input_at (op_at p.ops p.terminal) 0) → x ≡ edge_of p order (input_at (op_at p.ops p.terminal) 0)
+      result_same x e = e ∙ ap (λ (n : ℕ). edge_to n (input_at (op_at p.ops p.terminal) 0)) (rank_is p.start start_reached ∙ sym (ap (λ (o : Option ℕ). rank_in order (unwrap_or o 0)) named_in.started.start))

@@ -1,0 +1,5 @@
+use Rattle.llb_loader.proofs.Unique as unique
+use Rattle.llb_loader.proofs.laws.one_numbering.Goals as goal
+
+pub returns : goal.returns
+returns c = unique.one_numbering _ _ _ _ c.requires.first c.requires.second

@@ -1,0 +1,56 @@
+use Rattle.std.proofs.Common.{rules, ◌≡◌, ℕ, ◌<◌, length, get_or, false, List, [], arith, ap, sym, ◌∙◌, subst, refl}
+use Rattle.std.proofs.lemmas.List.{get_or_read, nil_from_length}
+use Rattle.std.proofs.lemmas.List.Elements.{All-from_get_or}
+use Rattle.std.specs.Global.{Vec}
+use Rattle.llb_loader.specs.Placing.{IsMarked}
+use Rattle.llb_loader.specs.Rows.{lists}
+use Rattle.llb_loader.proofs.Rows.{inputs_at}
+use Rattle.llb_loader.proofs.Searching.{IsSearching, NoRow, at_row_mark, at_row_skip, at_row_below, searching_pop, searching_leave, searching_whole, popped_marked, popped_below}
+use Rattle.llb_loader.proofs.reach.reached.Goals as goal
+use Rattle.llb_loader.proofs.reach.reached.Goals.{then-not-index+in_ok-push-2, else-not-index}
+
+pub bounds-rows-row : goal.bounds-rows-row
+bounds-rows-row c = popped_below _ _ _ _ _ _ _ c.in-Some.ensures.items c.loop-row.invariant.holds c.loop-row.invariant.len
+
+pub offset_bounds-rows-row : goal.offset_bounds-rows-row
+offset_bounds-rows-row c =
+    let k : c.in-Some.row < length c.args.rows.now = popped_below _ _ _ _ _ _ _ c.in-Some.ensures.items c.loop-row.invariant.holds c.loop-row.invariant.len in
+    search rules
+
+pub loop-input-init : goal.loop-input-init
+loop-input-init c =
+    let k : c.in-Some.row < length c.args.rows.now = popped_below _ _ _ _ _ _ _ c.in-Some.ensures.items c.loop-row.invariant.holds c.loop-row.invariant.len in
+    record {
+      len = c.loop-row.invariant.len;
+      holds = searching_pop _ _ _ _ _ _ c.in-Some.ensures.items c.loop-row.invariant.holds;
+      at_row = c.loop-row.invariant.holds.sound c.in-Some.row (popped_marked _ _ _ _ _ _ c.in-Some.ensures.items c.loop-row.invariant.holds);
+      names = c.as_slice-named.ensures.value ∙ sym (inputs_at c.args.rows.now c.in-Some.row c.index-rows-row.result k c.index-rows-row.is);
+      passed = λ i l. absurd (omega arith);
+      left = refl;
+    }
+
+pub loop-row-preserved : goal.loop-row-preserved
+loop-row-preserved c =
+    record {
+      len = c.loop-input.invariant.len;
+      holds = searching_leave _ _ _ _ _
+          (rw (← c.loop-input.invariant.names) (All-from_get_or (IsMarked c.loop-input.seen.items) _ 0 (λ i h. c.loop-input.invariant.passed i (omega arith))))
+          c.loop-input.invariant.holds;
+    }
+
+pub loop-input-preserved : goal.loop-input-preserved
+loop-input-preserved c = elim c.if-not-index.branch [
+  | then-not-index+in_ok-push-2 w ↦ (
+      let pushed = ap (λ (v : Vec ℕ). v.items) w.open-is ∙ w.in_ok-push-2.ensures.items in
+      let fresh = sym (get_or_read c.loop-input.seen.items (get_or c.as_slice-named.result.now c.loop-input.input-index 0) c.index.result.now (at_row_below _ _ _ _ _ _ _ _ _ c.requires.rows c.loop-input-test.true c.loop-input.invariant) c.index.ensures false) ∙ w.if-not-index.true in
+      rw (w.seen-is, pushed) (at_row_mark _ _ _ _ _ _ _ _ _ c.requires.rows c.loop-input-test.true fresh c.loop-input.invariant))
+  | else-not-index w ↦ (
+      let m = sym (get_or_read c.loop-input.seen.items (get_or c.as_slice-named.result.now c.loop-input.input-index 0) c.index.result.now (at_row_below _ _ _ _ _ _ _ _ _ c.requires.rows c.loop-input-test.true c.loop-input.invariant) c.index.ensures false) ∙ w.if-not-index.false in
+      rw (w.seen-is, w.open-is) (at_row_skip _ _ _ _ _ _ _ _ _ m c.loop-input.invariant))
+]
+
+pub returns-clause-exact : goal.returns-clause-exact
+returns-clause-exact c k =
+    let e : c.loop-row.open.items ≡ [] = nil_from_length _ (omega (arith, c.in_default.ensures.cases.0)) in
+    let s = subst (λ (xs : List ℕ). IsSearching (lists c.args.rows.now) c.args.start c.loop-row.seen.items xs NoRow) e c.loop-row.invariant.holds in
+    (c.loop-row.invariant.holds.sound k, searching_whole _ _ _ k s)

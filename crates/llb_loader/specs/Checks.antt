@@ -1,0 +1,61 @@
+-- What the checks over the marked rows find: each looks at the rows in their order and stops at the first that fails.
+use Rattle.std.specs.Prelude.{◌≡◌, ◌≢◌, ℕ, ◌<◌, ◌≤◌, ◌==◌, Bool, false, cond, List, length, slice_index_or, Option, Some, None}
+use Rattle.llb_ops.specs.declared.op.Op.{Op}
+use Rattle.llb_loader.specs.declared.row.Row.{Row}
+use Rattle.llb_loader.specs.declared.fault.LoadFault.{LoadFault}
+use Rattle.llb_loader.specs.declared.fault.LoadFault.TheVariants.{UnknownDigest, Unsupported, Invalid, BadIndex}
+use Rattle.llb_loader.specs.declared.fault.Feature.{Feature}
+use Rattle.llb_loader.specs.declared.fault.Rule.{Rule}
+use Rattle.llb_loader.specs.Placing.{IsMarked}
+use Rattle.llb_loader.specs.Rows.{inputs}
+use Rattle.llb_loader.specs.Naming.{row_named}
+use Rattle.llb_loader.specs.Linking.{op_at, input_at}
+use Rattle.llb_loader.specs.Features.{feature_of}
+use Rattle.llb_loader.specs.Rules.{actions_of, rules, MeetsEach, BreaksFirst, IsBelow}
+
+-- as many inputs and actions as a message can have
+pub record IsWithin (op : Op) : Type 0 where
+  pub inputs : length op.inputs ≤ 1_024
+  pub actions : length (actions_of op) ≤ 1_024
+
+abbrev pub NamesAll : List Row → ℕ → Op → ℕ → Type 0
+NamesAll rows t op n = (i : ℕ) → i < n → row_named rows t (input_at op i).digest ≢ None
+
+-- the first input that names no row
+pub record FirstUnknown (rows : List Row) (t : ℕ) (op : Op) (i : ℕ) : Type 0 where
+  pub here : i < length op.inputs
+  pub unknown : row_named rows t (input_at op i).digest ≡ None
+  pub before : NamesAll rows t op i
+
+abbrev pub RefusesUnknown : List Row → ℕ → List Op → (ℕ → Type 0) → LoadFault → Type 0
+RefusesUnknown rows t ops Marked e = (k : ℕ) × (i : ℕ) × (e ≡ UnknownDigest k i) × Marked k × FirstUnknown rows t (op_at ops k) i
+    × ((j : ℕ) → j < k → Marked j → NamesAll rows t (op_at ops j) (length (op_at ops j).inputs))
+
+abbrev pub RefusesFeature : List Op → (ℕ → Type 0) → LoadFault → Type 0
+RefusesFeature ops Marked e = (k : ℕ) × (f : Feature) × (e ≡ Unsupported k f) × Marked k × (feature_of (op_at ops k) ≡ Some f)
+    × ((j : ℕ) → j < k → Marked j → feature_of (op_at ops j) ≡ None)
+
+abbrev pub RefusesRule : List Op → (ℕ → Type 0) → LoadFault → Type 0
+RefusesRule ops Marked e = (k : ℕ) × (r : Rule) × (e ≡ Invalid k r) × Marked k × BreaksFirst (op_at ops k) rules r
+    × ((j : ℕ) → j < k → Marked j → MeetsEach (op_at ops j) rules)
+
+-- the number of outputs that input i of an op may name, by the rows that its inputs name
+abbrev pub count_there : List ℕ → List ℕ → ℕ → ℕ
+count_there counts named i = slice_index_or counts (slice_index_or named i 0) 0
+
+abbrev pub FitsAll : List ℕ → List ℕ → Op → ℕ → Type 0
+FitsAll counts named op n = (i : ℕ) → i < n → IsBelow (count_there counts named i) (input_at op i).index
+
+-- the first of n inputs whose index is that of no output
+pub record FirstBad (counts named : List ℕ) (op : Op) (n i : ℕ) : Type 0 where
+  pub here : i < n
+  pub bad : ¬ IsBelow (count_there counts named i) (input_at op i).index
+  pub before : FitsAll counts named op i
+
+-- how many inputs of row k are looked at: all of a reached row, the first of the terminal
+abbrev pub asked_of : List Op → List Bool → ℕ → ℕ → ℕ
+asked_of ops seen terminal k = cond (slice_index_or seen k false) (length (op_at ops k).inputs) (cond (k == terminal) 1 0)
+
+abbrev pub RefusesIndex : List Op → List (List ℕ) → List ℕ → List Bool → ℕ → LoadFault → Type 0
+RefusesIndex ops links counts seen t e = (k : ℕ) × (i : ℕ) × (e ≡ BadIndex k i) × (k < length ops) × FirstBad counts (inputs links k) (op_at ops k) (asked_of ops seen t k) i
+    × ((j : ℕ) → j < k → FitsAll counts (inputs links j) (op_at ops j) (asked_of ops seen t j))

@@ -1,0 +1,41 @@
+-- A numbered graph, as contracts see it, and what is true of each one.
+use Rattle.std.specs.Prelude.{◌≡◌, ℕ, ◌<◌, ◌≤◌, true, false, List, length, map, slice_index_or}
+use Rattle.std.specs.List.{All, HoldsAt}
+use Rattle.llb_loader.specs.declared.graph.Edge.{Edge}
+use Rattle.llb_loader.specs.declared.graph.Vertex.{Vertex}
+use Rattle.llb_loader.specs.Rows.{Reached}
+use Rattle.llb_loader.specs.Rules.{actions_of, is_made, owner_of, owner_by_name, ActionInputs, outputs_of, count_outputs, AreOutputs}
+
+pub record Numbered : Type 0 where
+  pub vertices : List Vertex
+  pub result : Edge
+
+-- the vertices that each vertex's inputs lead to
+abbrev pub links : List Vertex → List (List ℕ)
+links vertices = map (λ v. map (λ e. e.vertex) v.inputs) vertices
+
+-- an edge to an output of a vertex below a number
+pub record LeadsBelow (vertices : List Vertex) (k : ℕ) (e : Edge) : Type 0 where
+  pub lower : e.vertex < k
+  pub index : HoldsAt (λ v. e.index < v.outputs) vertices e.vertex
+
+-- a vertex of a file op: it makes files and directories, at least one, and no owner is given by name
+pub record IsFileVertex (v : Vertex) : Type 0 where
+  pub some : 0 < length (actions_of v.op)
+  pub few : length (actions_of v.op) ≤ 1_024
+  pub made : All (λ a. is_made a.kind ≡ true) (actions_of v.op)
+  pub numbered : All (λ a. owner_by_name (owner_of a.kind) ≡ false) (actions_of v.op)
+  pub action_inputs : ActionInputs (length v.op.inputs) (actions_of v.op)
+  pub action_outputs : AreOutputs (outputs_of (actions_of v.op))
+  pub inputs : length v.inputs ≡ length v.op.inputs
+  pub steps : v.steps ≡ length (actions_of v.op)
+  pub outputs : v.outputs ≡ count_outputs (outputs_of (actions_of v.op))
+
+pub record IsGraph (g : Numbered) : Type 0 where
+  -- every edge leads to an output of a lower vertex, and so does the result
+  pub down : (k : ℕ) (d : Vertex) → k < length g.vertices → All (LeadsBelow g.vertices k) (slice_index_or g.vertices k d).inputs
+  pub result : LeadsBelow g.vertices (length g.vertices) g.result
+  -- every vertex is at or before the result
+  pub whole : (k : ℕ) → k < length g.vertices → Reached (links g.vertices) g.result.vertex k
+  pub file : All IsFileVertex g.vertices
+  pub few : length g.vertices ≤ 65_536

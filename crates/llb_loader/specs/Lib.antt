@@ -1,0 +1,16 @@
+pub mod Rows
+pub mod Rules
+pub mod Graph
+pub mod Numbering
+pub mod Placing
+pub mod Laws
+pub mod Faults
+pub mod Digest
+pub mod Naming
+pub mod Features
+pub mod Linking
+pub mod Reading
+pub mod Checks
+pub mod Building
+pub mod Link
+pub mod Load

@@ -1,0 +1,17 @@
+-- What linking answers.
+use Rattle.std.specs.Prelude.{◌≡◌, ℕ, List}
+use Rattle.llb_ops.specs.declared.op.Op.{Op}
+use Rattle.llb_loader.specs.declared.row.Row.{Row}
+use Rattle.llb_loader.specs.declared.fault.LoadFault.{LoadFault}
+use Rattle.llb_loader.specs.Graph.{Numbered}
+use Rattle.llb_loader.specs.Linking.{Refused, GraphOf}
+use Rattle.llb_loader.specs.Reading.{AreOps, RefusesRow}
+use Rattle.std.specs.Prelude.{◌⊎◌}
+
+-- rows that are all readable are this graph
+abbrev pub IsGraphOf : List Row → Numbered → Type 0
+IsGraphOf rows g = (ops : List Op) × AreOps rows ops × GraphOf rows ops g
+
+-- the first refusal of the rows
+abbrev pub IsRefusalOf : List Row → LoadFault → Type 0
+IsRefusalOf rows e = RefusesRow rows e ⊎ ((ops : List Op) × AreOps rows ops × Refused rows ops e)

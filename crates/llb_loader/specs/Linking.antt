@@ -1,0 +1,165 @@
+-- The graph of the rows, or the first fault: what each refusal says, and what has to hold for the next one to stand.
+use Rattle.std.specs.Prelude.{◌≡◌, ◌≢◌, ℕ, ◌+◌, ◌-◌, ◌<◌, ◌≤◌, ℤ, pos, nat_abs, List, [], ◌∷◌, length, map, slice_index_or, Option, Some, None, IsSome, ◌⊎◌, ⊤}
+use Rattle.std.specs.List.{All}
+use Rattle.std.specs.Option.{unwrap_or}
+use Rattle.llb_ops.specs.declared.op.Op.{Op}
+use Rattle.llb_ops.specs.declared.op.Input.{Input}
+use Rattle.llb_loader.specs.declared.row.Row.{Row}
+use Rattle.llb_loader.specs.declared.graph.Edge.{Edge}
+use Rattle.llb_loader.specs.declared.graph.Vertex.{Vertex}
+use Rattle.llb_loader.specs.declared.fault.LoadFault.{LoadFault}
+use Rattle.llb_loader.specs.declared.fault.LoadFault.TheVariants.{TooFew, Collision, NoResult, UnknownDigest, Cycle, Unsupported, Invalid, BadIndex}
+use Rattle.llb_loader.specs.declared.fault.Feature.{Feature}
+use Rattle.llb_loader.specs.declared.fault.Rule.{Rule}
+use Rattle.llb_loader.specs.Rows.{Reached}
+use Rattle.llb_loader.specs.Numbering.{IsNumbering, HasCycle}
+use Rattle.llb_loader.specs.Laws.{rank_in}
+use Rattle.llb_loader.specs.Naming.{row_at, AllSame, Collides, Least, IsTerminal, row_named, graph_of}
+use Rattle.llb_loader.specs.Features.{feature_of}
+use Rattle.llb_loader.specs.Rules.{actions_of, output_count, IsBelow, rules, MeetsEach, BreaksFirst}
+use Rattle.llb_loader.specs.Graph.{Numbered}
+
+-- op k, an empty one past the end
+abbrev pub op_at : List Op → ℕ → Op
+op_at ops k = slice_index_or ops k (record { inputs = []; kind = None; extra = [] })
+
+-- input i, an empty one past the end
+abbrev pub input_at : Op → ℕ → Input
+input_at op i = slice_index_or op.inputs i (record { digest = []; index = pos 0; extra = [] })
+
+-- the least pair with a property: the least first number, then the least second
+pub record Foremost (P : ℕ → ℕ → Type 0) (k i : ℕ) : Type 0 where
+  pub holds : P k i
+  pub least : (j h : ℕ) → P j h → (k < j) ⊎ ((k ≡ j) × (i ≤ h))
+
+-- the rows, their ops, the terminal and the result's row
+pub record Plan : Type 0 where
+  pub rows : List Row
+  pub ops : List Op
+  pub terminal : ℕ
+  pub start : ℕ
+
+abbrev pub plan : List Row → List Op → ℕ → ℕ → Plan
+plan rows ops terminal start = record { rows = rows; ops = ops; terminal = terminal; start = start }
+
+-- what each row names
+abbrev pub links_in : Plan → List (List ℕ)
+links_in p = graph_of p.rows p.terminal p.ops
+
+-- the row that input i of row k names
+abbrev pub input_row : Plan → ℕ → ℕ → Option ℕ
+input_row p k i = row_named p.rows p.terminal (input_at (op_at p.ops k) i).digest
+
+abbrev pub ReachedRow : Plan → ℕ → Type 0
+ReachedRow p k = Reached (links_in p) p.start k
+
+-- row k is reached and has an input i
+pub record HasInput (p : Plan) (k i : ℕ) : Type 0 where
+  pub reached : ReachedRow p k
+  pub here : i < length (op_at p.ops k).inputs
+
+-- an input of a reached row names no row
+pub record IsUnknown (p : Plan) (k i : ℕ) : Type 0 where
+  pub input : HasInput p k i
+  pub unknown : input_row p k i ≡ None
+
+-- the outputs of the row that input i of row k names
+abbrev pub outputs_there : Plan → ℕ → ℕ → ℕ
+outputs_there p k i = output_count (op_at p.ops (unwrap_or (input_row p k i) 0))
+
+-- an input of a reached row, or the terminal's first, has the index of no output
+pub record IsBadIndex (p : Plan) (k i : ℕ) : Type 0 where
+  pub asked : HasInput p k i ⊎ ((k ≡ p.terminal) × (i ≡ 0))
+  pub bad : ¬ IsBelow (outputs_there p k i) (input_at (op_at p.ops k) i).index
+
+-- ---- what holds once a refusal does not stand, in their order
+
+pub record IsApart (rows : List Row) : Type 0 where
+  pub several : ¬ AllSame rows
+  pub apart : (k : ℕ) → ¬ Collides rows k
+
+pub record HasResult (p : Plan) : Type 0 where
+  pub apart : IsApart p.rows
+  pub terminal : IsTerminal p.rows p.terminal
+  pub input : 0 < length (op_at p.ops p.terminal).inputs
+
+pub record IsStarted (p : Plan) : Type 0 where
+  pub result : HasResult p
+  pub start : input_row p p.terminal 0 ≡ Some p.start
+
+pub record IsNamed (p : Plan) : Type 0 where
+  pub started : IsStarted p
+  pub named : (k i : ℕ) → ¬ IsUnknown p k i
+
+pub record IsOrdered (p : Plan) (order : List ℕ) : Type 0 where
+  pub named : IsNamed p
+  pub numbering : IsNumbering (links_in p) p.start order
+
+pub record IsTaken (p : Plan) (order : List ℕ) : Type 0 where
+  pub ordered : IsOrdered p order
+  pub featureless : (k : ℕ) → ReachedRow p k → feature_of (op_at p.ops k) ≡ None
+
+pub record IsValid (p : Plan) (order : List ℕ) : Type 0 where
+  pub taken : IsTaken p order
+  pub valid : (k : ℕ) → ReachedRow p k → MeetsEach (op_at p.ops k) rules
+
+pub record IsWhole (p : Plan) (order : List ℕ) : Type 0 where
+  pub valid : IsValid p order
+  pub indexes : (k i : ℕ) → ¬ IsBadIndex p k i
+
+-- ---- the refusals
+
+pub record IsUnsupported (p : Plan) (k : ℕ) (f : Feature) : Type 0 where
+  pub reached : ReachedRow p k
+  pub feature : feature_of (op_at p.ops k) ≡ Some f
+  pub least : (j : ℕ) → j < k → ReachedRow p j → feature_of (op_at p.ops j) ≡ None
+
+pub record IsInvalid (p : Plan) (k : ℕ) (r : Rule) : Type 0 where
+  pub reached : ReachedRow p k
+  pub broken : BreaksFirst (op_at p.ops k) rules r
+  pub least : (j : ℕ) → j < k → ReachedRow p j → MeetsEach (op_at p.ops j) rules
+
+-- the rows, readable as these ops, are refused
+abbrev pub Refused : List Row → List Op → LoadFault → Type 0
+Refused rows ops TooFew = AllSame rows
+Refused rows ops (Collision k) = (¬ AllSame rows) × Least (Collides rows) k
+Refused rows ops NoResult = IsApart rows × (t : ℕ) × IsTerminal rows t × ((op_at ops t).inputs ≡ [])
+Refused rows ops (UnknownDigest k i) =
+    ((p : Plan) × (p.rows ≡ rows) × (p.ops ≡ ops) × HasResult p × (input_row p p.terminal 0 ≡ None) × (k ≡ p.terminal) × (i ≡ 0))
+    ⊎ ((p : Plan) × (p.rows ≡ rows) × (p.ops ≡ ops) × IsStarted p × Foremost (IsUnknown p) k i)
+Refused rows ops Cycle = (p : Plan) × (p.rows ≡ rows) × (p.ops ≡ ops) × IsNamed p × HasCycle (links_in p) p.start
+Refused rows ops (Unsupported k f) = (p : Plan) × (order : List ℕ) × (p.rows ≡ rows) × (p.ops ≡ ops) × IsOrdered p order × IsUnsupported p k f
+Refused rows ops (Invalid k r) = (p : Plan) × (order : List ℕ) × (p.rows ≡ rows) × (p.ops ≡ ops) × IsTaken p order × IsInvalid p k r
+Refused rows ops (BadIndex k i) = (p : Plan) × (order : List ℕ) × (p.rows ≡ rows) × (p.ops ≡ ops) × IsValid p order × Foremost (IsBadIndex p) k i
+Refused rows ops _ = ⊥
+
+-- ---- the graph
+
+-- the edge that stands for input i of row k
+abbrev pub edge_of : Plan → List ℕ → Input → Edge
+edge_of p order i = record { vertex = rank_in order (unwrap_or (row_named p.rows p.terminal i.digest) 0); index = nat_abs i.index }
+
+-- the vertex of row k
+abbrev pub vertex_of : Plan → List ℕ → ℕ → Vertex
+vertex_of p order k = record {
+  digest = (row_at p.rows k).digest;
+  op = op_at p.ops k;
+  inputs = map (edge_of p order) (op_at p.ops k).inputs;
+  steps = length (actions_of (op_at p.ops k));
+  outputs = output_count (op_at p.ops k);
+}
+
+abbrev pub numbered_of : Plan → List ℕ → Numbered
+numbered_of p order = record {
+  vertices = map (vertex_of p order) order;
+  result = edge_of p order (input_at (op_at p.ops p.terminal) 0);
+}
+
+-- the rows, readable as these ops, are this graph
+pub record GraphOf (rows : List Row) (ops : List Op) (g : Numbered) : Type 0 where
+  pub plan : Plan
+  pub order : List ℕ
+  pub same_rows : plan.rows ≡ rows
+  pub same_ops : plan.ops ≡ ops
+  pub whole : IsWhole plan order
+  pub graph : g ≡ numbered_of plan order

@@ -1,0 +1,23 @@
+-- What loading answers.
+use Rattle.std.specs.Prelude.{◌≡◌, ℕ, List, map, Result, Ok, Err, ◌⊎◌}
+use Rattle.llb_ops.specs.declared.fault.OpFault.{OpFault}
+use Rattle.llb_ops.specs.Definition.{definition_of}
+use Rattle.llb_loader.specs.declared.row.Row.{Row}
+use Rattle.llb_loader.specs.declared.fault.LoadFault.{LoadFault}
+use Rattle.llb_loader.specs.declared.fault.LoadFault.TheVariants.{Definition}
+use Rattle.llb_loader.specs.Digest.{digest_text}
+use Rattle.llb_loader.specs.Graph.{Numbered}
+use Rattle.llb_loader.specs.Link.{IsGraphOf, IsRefusalOf}
+
+-- the entries under their digest texts
+abbrev pub rows_from : List (List ℕ) → List Row
+rows_from entries = map (λ bytes. record { digest = digest_text bytes; bytes = bytes }) entries
+
+-- the graph of a definition's entries
+abbrev pub IsGraphIn : List ℕ → Numbered → Type 0
+IsGraphIn bytes g = (entries : List (List ℕ)) × (definition_of bytes ≡ Ok entries) × IsGraphOf (rows_from entries) g
+
+-- the first refusal of a definition
+abbrev pub IsRefusalIn : List ℕ → LoadFault → Type 0
+IsRefusalIn bytes e = ((f : OpFault) × (definition_of bytes ≡ Err f) × (e ≡ Definition f))
+    ⊎ ((entries : List (List ℕ)) × (definition_of bytes ≡ Ok entries) × IsRefusalOf (rows_from entries) e)

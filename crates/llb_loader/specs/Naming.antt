@@ -1,0 +1,60 @@
+-- Rows as given: which are distinct, which one is the terminal, and which one a digest text names.
+use Rattle.std.specs.Prelude.{◌≡◌, ◌≢◌, ℕ, ◌-◌, ◌<◌, ◌==◌, cond, List, [], length, map, slice_index_or, position, Option, Some, None}
+use Rattle.std.specs.List.{filter_map}
+use Rattle.std.specs.Str.{bytes_eq}
+use Rattle.llb_ops.specs.declared.op.Op.{Op}
+use Rattle.llb_loader.specs.declared.row.Row.{Row}
+use Rattle.llb_loader.specs.declared.fault.LoadFault.{LoadFault}
+use Rattle.llb_loader.specs.declared.fault.LoadFault.TheVariants.{Collision}
+use Rattle.std.specs.Borrow.{Bor}
+use Rattle.indexmap.specs.IndexMap.{IndexMap, get_by}
+
+-- row k, an empty one past the end
+abbrev pub row_at : List Row → ℕ → Row
+row_at rows k = slice_index_or rows k (record { digest = []; bytes = [] })
+
+-- fewer than two distinct rows
+abbrev pub AllSame : List Row → Type 0
+AllSame rows = (k : ℕ) → k < length rows → row_at rows k ≡ row_at rows 0
+
+-- row k has an earlier row's digest and other bytes
+pub record Collides (rows : List Row) (k : ℕ) : Type 0 where
+  pub here : k < length rows
+  pub earlier : (j : ℕ) × (j < k) × ((row_at rows j).digest ≡ (row_at rows k).digest) × ((row_at rows j).bytes ≢ (row_at rows k).bytes)
+
+-- the least number with a property
+pub record Least (P : ℕ → Type 0) (k : ℕ) : Type 0 where
+  pub holds : P k
+  pub least : (j : ℕ) → j < k → ¬ P j
+
+-- the last row given, its earlier equal where it was dropped
+abbrev pub IsTerminal : List Row → ℕ → Type 0
+IsTerminal rows t = Least (λ k. (k < length rows) × (row_at rows k ≡ row_at rows (length rows - 1))) t
+
+-- the first row with a digest text
+abbrev pub first_with : List Row → List ℕ → Option ℕ
+first_with rows d = position (λ r. bytes_eq d r.digest) rows
+
+abbrev pub other_than : ℕ → Option ℕ → Option ℕ
+other_than t (Some k) = cond (k == t) None (Some k)
+other_than t None = None
+
+-- the row that a digest text names: that of the terminal names nothing
+abbrev pub row_named : List Row → ℕ → List ℕ → Option ℕ
+row_named rows t d = other_than t (first_with rows d)
+
+-- the rows that an op's inputs name
+abbrev pub rows_named : List Row → ℕ → Op → List ℕ
+rows_named rows t op = filter_map (λ i. row_named rows t i.digest) op.inputs
+
+-- what each row names
+abbrev pub graph_of : List Row → ℕ → List Op → List (List ℕ)
+graph_of rows t ops = map (rows_named rows t) ops
+
+-- an index finds the first row of each digest text
+abbrev pub IsIndex : {S : Type 0} → List Row → IndexMap (Bor (List ℕ)) ℕ S → Type 0
+IsIndex rows index = (d : List ℕ) → get_by (λ q. bytes_eq d q.now) index ≡ first_with rows d
+
+-- the least row that collides
+abbrev pub RefusesCollision : List Row → LoadFault → Type 0
+RefusesCollision rows e = (k : ℕ) × (e ≡ Collision k) × Least (Collides rows) k

@@ -1,0 +1,28 @@
+-- The numbering of the reached rows.
+use Rattle.std.specs.Prelude.{ℕ, ◌<◌, ◌≤◌, List, length, take, slice_index}
+use Rattle.std.specs.List.{All, Contains}
+use Rattle.llb_loader.specs.Rows.{inputs, HasEdge, Reached}
+
+-- a reached row that is not numbered, and whose inputs are all numbered
+pub record IsReady (g : List (List ℕ)) (start : ℕ) (done : List ℕ) (k : ℕ) : Type 0 where
+  pub reached : Reached g start k
+  pub fresh : ¬ Contains done k
+  pub inputs_done : All (Contains done) (inputs g k)
+
+-- the least of them
+pub record IsNext (g : List (List ℕ)) (start : ℕ) (done : List ℕ) (k : ℕ) : Type 0 where
+  pub ready : IsReady g start done k
+  pub least : (j : ℕ) → IsReady g start done j → k ≤ j
+
+-- each reached row is numbered, and each vertex is the next one after those before it
+pub record IsNumbering (g : List (List ℕ)) (start : ℕ) (order : List ℕ) : Type 0 where
+  pub each : (i : ℕ) → i < length order → IsNext g start (take i order) (slice_index order i)
+  pub whole : (k : ℕ) → Reached g start k → Contains order k
+
+-- every edge from a reached row goes down
+abbrev pub GoesDown : List (List ℕ) → ℕ → (ℕ → ℕ) → Type 0
+GoesDown g start rank = (a b : ℕ) → Reached g start a → HasEdge g a b → rank b < rank a
+
+-- no ranks make every edge go down
+abbrev pub HasCycle : List (List ℕ) → ℕ → Type 0
+HasCycle g start = (rank : ℕ → ℕ) → ¬ GoesDown g start rank

@@ -1,0 +1,118 @@
+//! The vertices of the numbered rows: ops are moved out of the rows' list, digests are copied.
+
+ghost use Rattle.std.specs.Prelude.{◌≡◌, ◌≢◌, ◌<◌, ℕ, length, slice_index, IfOk};
+ghost use Rattle.std.specs.List.{All};
+ghost use Rattle.llb_loader.specs.Rows.{lists, inputs, InRange};
+ghost use Rattle.llb_loader.specs.Rules.{IsBelow, actions_of};
+ghost use Rattle.llb_loader.specs.Linking.{op_at, input_at};
+ghost use Rattle.llb_loader.specs.Building.{IsBuildable, IsBuilt, AreBuilt, edge_at, edge_to};
+
+use crate::graph::{Edge, Vertex};
+use crate::row::Row;
+use crate::rules::{count_of, steps_of};
+use llb_ops::{Input, Op};
+use llb_wire::{Bytes, Many, Memory, Text};
+use std::alloc::{AllocError, Global};
+use std::mem;
+
+/// The vertices of the numbered rows, in the order of their numbers.
+pub(crate) fn vertices_of(
+    alloc: Global,
+    rows: &[Row],
+    mut ops: Vec<Op>,
+    links: &[Vec<usize>],
+    order: &[usize],
+    ranks: &[usize],
+) -> Result<Vec<Vertex>, Memory>
+    requires ops { length ops.items ≡ length rows.now }
+    requires links { length links.now ≡ length rows.now }
+    requires range { InRange (lists links.now) (length ranks.now) }
+    requires below { All (λ k. k < length rows.now) order.now }
+    requires once { (i j : ℕ) → i < length order.now → j < i → slice_index order.now j ≢ slice_index order.now i }
+    requires small { All (λ r. r < 65_536) ranks.now }
+    requires buildable { (i : ℕ) → i < length order.now → IsBuildable (op_at ops.items (slice_index order.now i)) (inputs (lists links.now) (slice_index order.now i)) }
+    ensures len { IfOk result (λ vertices. length vertices.items ≡ length order.now) }
+    ensures built { IfOk result (λ vertices. AreBuilt rows.now ops.items (lists links.now) ranks.now order.now vertices.items (length order.now)) }
+{
+    let mut vertices = Vec::new(alloc);
+    for row in order {
+        let op = mem::replace(&mut ops[*row], no_op(alloc));
+        let vertex = vertex_of(alloc, &rows[*row].digest, op, links[*row].as_slice(), ranks)?;
+        vertices.push(vertex)?;
+    }
+    Ok(vertices)
+}
+
+fn no_op(alloc: Global) -> Op {
+    Op {
+        inputs: Many::new(Vec::new(alloc)),
+        kind: None,
+        extra: Bytes::new(Vec::new(alloc)),
+    }
+}
+
+fn vertex_of(
+    alloc: Global,
+    digest: &Text,
+    op: Op,
+    named: &[usize],
+    ranks: &[usize],
+) -> Result<Vertex, Memory>
+    requires buildable { IsBuildable op named.now }
+    requires range { All (λ b. b < length ranks.now) named.now }
+    requires small { All (λ r. r < 65_536) ranks.now }
+    ensures { IfOk result (λ v. IsBuilt digest.now op named.now ranks.now v) }
+{
+    let inputs = edges_of(alloc, &op, named, ranks)?;
+    let steps = steps_of(&op) as u32;
+    let outputs = count_of(&op) as u32;
+    let digest = digest.copy()?;
+    Ok(Vertex {
+        digest,
+        op,
+        inputs: Many::new(inputs),
+        steps,
+        outputs,
+    })
+}
+
+fn edges_of(
+    alloc: Global,
+    op: &Op,
+    named: &[usize],
+    ranks: &[usize],
+) -> Result<Vec<Edge>, AllocError>
+    requires buildable { IsBuildable op.now named.now }
+    requires range { All (λ b. b < length ranks.now) named.now }
+    requires small { All (λ r. r < 65_536) ranks.now }
+    ensures len { IfOk result (λ edges. length edges.items ≡ length op.now.inputs) }
+    ensures edges { IfOk result (λ edges. (i : ℕ) → i < length op.now.inputs → edge_at edges.items i ≡ edge_to (slice_index ranks.now (slice_index named.now i)) (input_at op.now i)) }
+{
+    let mut edges = Vec::new(alloc);
+    for (i, input) in op.inputs.as_slice().iter().enumerate() {
+        edges.push(edge(ranks[named[i]], input))?;
+    }
+    Ok(edges)
+}
+
+// The edge of an input that leads to the vertex of that number.
+fn edge(vertex: usize, input: &Input) -> Edge
+    requires vertex { vertex < 65_536 }
+    requires index { IsBelow 1_025 input.now.index }
+    ensures { result ≡ edge_to vertex input.now }
+{
+    Edge {
+        vertex: vertex as u32,
+        index: input.index as u32,
+    }
+}
+
+/// The edge of the op's first input.
+pub(crate) fn first_edge(vertex: usize, op: &Op) -> Edge
+    requires some { 0 < length op.now.inputs }
+    requires vertex { vertex < 65_536 }
+    requires index { IsBelow 1_025 (input_at op.now 0).index }
+    ensures { result ≡ edge_to vertex (input_at op.now 0) }
+{
+    edge(vertex, &op.inputs.as_slice()[0])
+}

@@ -1,0 +1,175 @@
+//! The checks over the reached rows, each in the order of the rows, up to the first that fails.
+
+ghost use Rattle.std.specs.Prelude.{◌≡◌, ◌<◌, ◌≤◌, ◌↔◌, ℕ, false, cond, length, map, IfOk, IfErr, OnOk, IsTrue, MatchOption};
+ghost use Rattle.std.specs.List.{All};
+ghost use Rattle.llb_loader.specs.Faults.{is_memory};
+ghost use Rattle.llb_loader.specs.Placing.{IsMarked};
+ghost use Rattle.llb_loader.specs.Naming.{IsIndex};
+ghost use Rattle.llb_loader.specs.Rows.{lists, InRange, inputs};
+ghost use Rattle.llb_loader.specs.Linking.{op_at};
+ghost use Rattle.llb_loader.specs.Features.{feature_of};
+ghost use Rattle.llb_loader.specs.Rules.{IsBelow, MeetsEach, rules, output_count};
+ghost use Rattle.llb_loader.specs.Checks.{IsWithin, NamesAll, FirstUnknown, FitsAll, FirstBad, asked_of, RefusesIndex, RefusesUnknown, RefusesFeature, RefusesRule};
+
+use crate::fault::LoadFault;
+use crate::naming::row_of;
+use crate::row::Row;
+use crate::rules::{broken_rule, count_of, first_feature};
+use indexmap::IndexMap;
+use llb_ops::{Input, Op};
+use std::alloc::{AllocError, Global};
+
+/// Each input of a marked row names a row.
+pub(crate) fn check_names(
+    rows: &[Row],
+    index: &IndexMap<&str, usize>,
+    terminal: usize,
+    ops: &[Op],
+    seen: &[bool],
+) -> Result<(), LoadFault>
+    requires index { IsIndex rows.now index.now }
+    requires len { length seen.now ≡ length ops.now }
+    requires few { length ops.now ≤ 65_536 }
+    requires within { All IsWithin ops.now }
+    ensures named { OnOk result ((k : ℕ) → IsMarked seen.now k → NamesAll rows.now terminal (op_at ops.now k) (length (op_at ops.now k).inputs)) }
+    ensures refused { IfErr result (RefusesUnknown rows.now terminal ops.now (IsMarked seen.now)) }
+{
+    for k in 0..ops.len() {
+        if !seen[k] {
+            continue;
+        }
+        let Some(i) = first_unknown(rows, index, terminal, &ops[k]) else {
+            continue;
+        };
+        return Err(LoadFault::UnknownDigest(k as u32, i as u32));
+    }
+    Ok(())
+}
+
+// The first input that names no row.
+fn first_unknown(
+    rows: &[Row],
+    index: &IndexMap<&str, usize>,
+    terminal: usize,
+    op: &Op,
+) -> Option<usize>
+    requires { IsIndex rows.now index.now }
+    ensures { MatchOption result (NamesAll rows.now terminal op.now (length op.now.inputs)) (FirstUnknown rows.now terminal op.now) }
+{
+    for (i, input) in op.inputs.as_slice().iter().enumerate() {
+        if row_of(rows, index, terminal, &input.digest).is_none() {
+            return Some(i);
+        }
+    }
+    None
+}
+
+/// No marked row has a feature that is not taken.
+pub(crate) fn check_features(ops: &[Op], seen: &[bool]) -> Result<(), LoadFault>
+    requires len { length seen.now ≡ length ops.now }
+    requires few { length ops.now ≤ 65_536 }
+    ensures free { OnOk result ((k : ℕ) → IsMarked seen.now k → feature_of (op_at ops.now k) ≡ None) }
+    ensures refused { IfErr result (RefusesFeature ops.now (IsMarked seen.now)) }
+{
+    for k in 0..ops.len() {
+        if !seen[k] {
+            continue;
+        }
+        let Some(feature) = first_feature(&ops[k]) else {
+            continue;
+        };
+        return Err(LoadFault::Unsupported(k as u32, feature));
+    }
+    Ok(())
+}
+
+/// No marked row breaks a rule.
+pub(crate) fn check_rules(alloc: Global, ops: &[Op], seen: &[bool]) -> Result<(), LoadFault>
+    requires len { length seen.now ≡ length ops.now }
+    requires few { length ops.now ≤ 65_536 }
+    ensures met { OnOk result ((k : ℕ) → IsMarked seen.now k → MeetsEach (op_at ops.now k) rules) }
+    ensures refused { IfErr result (λ e. is_memory e ≡ false → RefusesRule ops.now (IsMarked seen.now) e) }
+{
+    for k in 0..ops.len() {
+        if !seen[k] {
+            continue;
+        }
+        let Some(rule) = broken_rule(alloc, &ops[k])? else {
+            continue;
+        };
+        return Err(LoadFault::Invalid(k as u32, rule));
+    }
+    Ok(())
+}
+
+/// The number of outputs of each row.
+pub(crate) fn counts_of(alloc: Global, ops: &[Op]) -> Result<Vec<usize>, AllocError>
+    ensures { IfOk result (λ counts. counts.items ≡ map output_count ops.now) }
+{
+    let mut counts = Vec::new(alloc);
+    for op in ops {
+        counts.push(count_of(op))?;
+    }
+    Ok(counts)
+}
+
+/// The inputs of the marked rows, and the terminal's first, have the indexes of outputs.
+pub(crate) fn check_indexes(
+    ops: &[Op],
+    links: &[Vec<usize>],
+    counts: &[usize],
+    seen: &[bool],
+    terminal: usize,
+) -> Result<(), LoadFault>
+    requires len { length seen.now ≡ length ops.now }
+    requires links { length links.now ≡ length ops.now }
+    requires counts { length counts.now ≡ length ops.now }
+    requires few { length ops.now ≤ 65_536 }
+    requires within { All IsWithin ops.now }
+    requires asked { (k : ℕ) → k < length ops.now → asked_of ops.now seen.now terminal k ≤ length (inputs (lists links.now) k) }
+    requires there { (k : ℕ) → k < length ops.now → asked_of ops.now seen.now terminal k ≤ length (op_at ops.now k).inputs }
+    requires range { InRange (lists links.now) (length ops.now) }
+    ensures fit { OnOk result ((k : ℕ) → k < length ops.now → FitsAll counts.now (inputs (lists links.now) k) (op_at ops.now k) (asked_of ops.now seen.now terminal k)) }
+    ensures refused { IfErr result (RefusesIndex ops.now (lists links.now) counts.now seen.now terminal) }
+{
+    for k in 0..ops.len() {
+        let asked = asked_inputs(&ops[k], seen[k], k == terminal);
+        let Some(i) = first_bad(&ops[k], links[k].as_slice(), counts, asked) else {
+            continue;
+        };
+        return Err(LoadFault::BadIndex(k as u32, i as u32));
+    }
+    Ok(())
+}
+
+// How many of the row's inputs are looked at.
+fn asked_inputs(op: &Op, reached: bool, terminal: bool) -> usize
+    ensures { result ≡ cond reached (length op.now.inputs) (cond terminal 1 0) }
+{
+    if reached {
+        return op.inputs.len();
+    }
+    if terminal { 1 } else { 0 }
+}
+
+// The first of so many inputs whose index is that of no output.
+fn first_bad(op: &Op, named: &[usize], counts: &[usize], asked: usize) -> Option<usize>
+    requires named { asked ≤ length named.now }
+    requires inputs { asked ≤ length op.now.inputs }
+    requires range { All (λ row. row < length counts.now) named.now }
+    ensures { MatchOption result (FitsAll counts.now named.now op.now asked) (FirstBad counts.now named.now op.now asked) }
+{
+    let inputs = op.inputs.as_slice();
+    for i in 0..asked {
+        if !is_output_of(counts[named[i]], &inputs[i]) {
+            return Some(i);
+        }
+    }
+    None
+}
+
+fn is_output_of(count: usize, input: &Input) -> bool
+    ensures { IsTrue result ↔ IsBelow count input.now.index }
+{
+    input.index >= 0 && (input.index as usize) < count
+}

@@ -1,0 +1,80 @@
+//! The numbered graph: vertices whose inputs lead to lower ones, and the result.
+
+ghost use Rattle.std.specs.Prelude.{◌≡◌};
+ghost use Rattle.llb_loader.specs.Graph.{IsGraph};
+
+use llb_ops::Op;
+use llb_wire::{Many, Text};
+use std::marker::Model;
+
+/// Output `index` of the vertex with that number.
+#[derive(Clone, Copy, Debug, PartialEq, Eq)]
+pub struct Edge {
+    pub vertex: u32,
+    pub index: u32,
+}
+
+/// A row of the graph under its number.
+#[derive(Debug, Drop)]
+pub struct Vertex {
+    /// `sha256:` and 64 hexadecimal digits, where the row came with the entry's own digest.
+    pub digest: Text,
+    pub op: Op,
+    /// The edges of the op's inputs, in their order.
+    pub inputs: Many<Edge>,
+    /// The number of micro-steps.
+    pub steps: u32,
+    /// The number of outputs.
+    pub outputs: u32,
+}
+
+/// The vertices at or before the result, each above its inputs. Contracts see the list of the vertices and the result.
+#[derive(Debug, Drop)]
+pub struct Graph {
+    vertices: Vec<Vertex>,
+    result: Edge,
+}
+
+impl Model for Graph {
+    ghost use Rattle.llb_loader.specs.Graph.{Numbered, IsGraph};
+
+    ghost Value = { Numbered };
+
+    ghost view = { λ g. record { vertices = g.vertices.items; result = g.result } };
+
+    ghost invariant = { λ g. IsGraph (record { vertices = g.vertices.items; result = g.result }) };
+}
+
+impl Graph {
+    pub(crate) fn of_parts(vertices: Vec<Vertex>, edge: Edge) -> Graph
+        requires { IsGraph (record { vertices = vertices.items; result = edge }) }
+        ensures { result ≡ record { vertices = vertices.items; result = edge } }
+    {
+        Graph {
+            vertices,
+            result: edge,
+        }
+    }
+
+    /// The vertices by number.
+    pub fn vertices(&self) -> &[Vertex]
+        ensures all { result.now ≡ self.now.vertices }
+        ensures graph { IsGraph self.now }
+    {
+        self.vertices.as_slice()
+    }
+
+    /// What is true of every graph, for callers to cite.
+    pub fn is_graph(&self)
+        ensures { IsGraph self.now }
+    {
+        let _ = &self.vertices;
+    }
+
+    /// The output that the definition names as its result.
+    pub fn result(&self) -> Edge
+        ensures { result ≡ self.now.result }
+    {
+        self.result
+    }
+}

@@ -1,0 +1,19 @@
+// Laws of the numbering.
+
+ghost use Rattle.std.specs.Prelude.{◌≡◌};
+ghost use Rattle.llb_loader.specs.Rows.{lists};
+ghost use Rattle.llb_loader.specs.Numbering.{IsNumbering, GoesDown};
+ghost use Rattle.llb_loader.specs.Laws.{rank_in};
+
+/// There is one numbering at most.
+pub fn one_numbering(rows: &[Vec<usize>], start: usize, first: &[usize], second: &[usize])
+    requires first { IsNumbering (lists rows.now) start first.now }
+    requires second { IsNumbering (lists rows.now) start second.now }
+    ensures { first.now ≡ second.now }
+{}
+
+/// A numbering makes every edge go down.
+pub fn numbering_goes_down(rows: &[Vec<usize>], start: usize, order: &[usize])
+    requires { IsNumbering (lists rows.now) start order.now }
+    ensures { GoesDown (lists rows.now) start (rank_in order.now) }
+{}

@@ -1,0 +1,129 @@
+//! Rows are linked: each refusal in its order, then the graph. Nothing here recurses on the graph's depth.
+
+ghost use Rattle.std.specs.Prelude.{◌≡◌, ◌<◌, ◌≤◌, ◌↔◌, ℕ, true, false, length, slice_index_or, IfOk, IfErr};
+ghost use Rattle.std.specs.List.{All};
+ghost use Rattle.llb_loader.specs.Faults.{is_memory};
+ghost use Rattle.llb_loader.specs.Rows.{lists};
+ghost use Rattle.llb_loader.specs.Naming.{IsIndex, IsTerminal};
+ghost use Rattle.llb_loader.specs.Checks.{IsWithin};
+ghost use Rattle.llb_loader.specs.Linking.{IsApart, IsNamed, IsWhole, ReachedRow, links_in, plan, Refused, GraphOf};
+ghost use Rattle.llb_loader.specs.Link.{IsGraphOf, IsRefusalOf};
+
+use crate::build::{first_edge, vertices_of};
+use crate::checks::{check_features, check_indexes, check_names, check_rules, counts_of};
+use crate::fault::LoadFault;
+use crate::graph::Graph;
+use crate::naming::{all_same, index_of, links_of, row_of, terminal_of};
+use crate::numbering::number;
+use crate::ranks::ranks_of;
+use crate::reach::reached;
+use crate::reading::ops_of;
+use crate::row::Row;
+use indexmap::IndexMap;
+use llb_ops::Op;
+use std::alloc::Global;
+
+/// The graph of the rows. The last row given is the terminal; its first input is the result.
+///
+/// The first fault is answered, of the least row and its least input: `Entry` (82), `TooFew` (83), `Collision` (84),
+/// `NoResult` (85), `UnknownDigest` (86), `Cycle` (87), `Unsupported` (88), `Invalid` (89), `BadIndex` (90). `Memory` (91)
+/// where memory is refused.
+pub fn link(alloc: Global, rows: &[Row]) -> Result<Graph, LoadFault>
+    requires { length rows.now ≤ 65_536 }
+    ensures graph { IfOk result (λ g. IsGraphOf rows.now g) }
+    ensures refused { IfErr result (λ e. is_memory e ≡ false → IsRefusalOf rows.now e) }
+{
+    let ops = ops_of(alloc, rows)?;
+    if all_same(rows) {
+        return Err(LoadFault::TooFew);
+    }
+    let index = index_of(alloc, rows)?;
+    let terminal = terminal_of(rows, &index);
+    link_read(alloc, rows, &index, terminal, ops)
+}
+
+// The rows are distinct enough and have their ops.
+fn link_read(
+    alloc: Global,
+    rows: &[Row],
+    index: &IndexMap<&str, usize>,
+    terminal: usize,
+    ops: Vec<Op>,
+) -> Result<Graph, LoadFault>
+    requires few { length rows.now ≤ 65_536 }
+    requires ops { length ops.items ≡ length rows.now }
+    requires within { All IsWithin ops.items }
+    requires index { IsIndex rows.now index.now }
+    requires apart { IsApart rows.now }
+    requires terminal { IsTerminal rows.now terminal }
+    ensures graph { IfOk result (λ g. GraphOf rows.now ops.items g) }
+    ensures refused { IfErr result (λ e. is_memory e ≡ false → Refused rows.now ops.items e) }
+{
+    let last = &ops[terminal];
+    if last.inputs.is_empty() {
+        return Err(LoadFault::NoResult);
+    }
+    let result = &last.inputs.as_slice()[0];
+    let Some(start) = row_of(rows, index, terminal, &result.digest) else {
+        return Err(LoadFault::UnknownDigest(terminal as u32, 0));
+    };
+    let links = links_of(alloc, rows, index, terminal, &ops)?;
+    let seen = reached(alloc, &links, start)?;
+    check_names(rows, index, terminal, &ops, &seen)?;
+    link_named(alloc, rows, terminal, start, ops, &links, &seen)
+}
+
+// The inputs of the reached rows name rows.
+fn link_named(
+    alloc: Global,
+    rows: &[Row],
+    terminal: usize,
+    start: usize,
+    ops: Vec<Op>,
+    links: &[Vec<usize>],
+    seen: &[bool],
+) -> Result<Graph, LoadFault>
+    requires few { length rows.now ≤ 65_536 }
+    requires ops { length ops.items ≡ length rows.now }
+    requires within { All IsWithin ops.items }
+    requires links { lists links.now ≡ links_in (plan rows.now ops.items terminal start) }
+    requires named { IsNamed (plan rows.now ops.items terminal start) }
+    requires seen { length seen.now ≡ length rows.now }
+    requires exact { (k : ℕ) → (slice_index_or seen.now k false ≡ true) ↔ ReachedRow (plan rows.now ops.items terminal start) k }
+    ensures graph { IfOk result (λ g. GraphOf rows.now ops.items g) }
+    ensures refused { IfErr result (λ e. is_memory e ≡ false → Refused rows.now ops.items e) }
+{
+    let Some(order) = number(alloc, links, start)? else {
+        return Err(LoadFault::Cycle);
+    };
+    check_features(&ops, seen)?;
+    check_rules(alloc, &ops, seen)?;
+    let counts = counts_of(alloc, &ops)?;
+    check_indexes(&ops, links, &counts, seen, terminal)?;
+    link_whole(alloc, rows, terminal, start, ops, links, &order)
+}
+
+// Nothing is refused any more.
+fn link_whole(
+    alloc: Global,
+    rows: &[Row],
+    terminal: usize,
+    start: usize,
+    ops: Vec<Op>,
+    links: &[Vec<usize>],
+    order: &[usize],
+) -> Result<Graph, LoadFault>
+    requires few { length rows.now ≤ 65_536 }
+    requires ops { length ops.items ≡ length rows.now }
+    requires within { All IsWithin ops.items }
+    requires links { lists links.now ≡ links_in (plan rows.now ops.items terminal start) }
+    requires whole { IsWhole (plan rows.now ops.items terminal start) order.now }
+    requires short { length order.now ≤ length rows.now }
+    ensures graph { IfOk result (λ g. GraphOf rows.now ops.items g) }
+    ensures refused { IfErr result (λ e. is_memory e ≡ true) }
+{
+    let ranks = ranks_of(alloc, links, start, order)?;
+    let result = first_edge(ranks[start], &ops[terminal]);
+    let vertices = vertices_of(alloc, rows, ops, links, order, &ranks)?;
+    Ok(Graph::of_parts(vertices, result))
+}

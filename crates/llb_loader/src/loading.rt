@@ -1,0 +1,39 @@
+//! A definition is loaded: its entries are rows under their own digest texts.
+
+ghost use Rattle.std.specs.Prelude.{◌≡◌, false, IfOk, IfErr};
+ghost use Rattle.llb_loader.specs.Faults.{is_memory};
+ghost use Rattle.llb_loader.specs.Load.{IsGraphIn, IsRefusalIn, rows_from};
+
+use crate::digest::digest_of;
+use crate::fault::LoadFault;
+use crate::graph::Graph;
+use crate::linking::link;
+use crate::row::Row;
+use llb_ops::{Entries, read_definition};
+use llb_wire::Memory;
+use std::alloc::Global;
+
+/// The graph of a definition's entries under their own digest texts.
+///
+/// `Definition` (81) where the definition is not readable; else what `link` answers. `Memory` (91) where memory is refused.
+pub fn load(alloc: Global, bytes: &[u8]) -> Result<Graph, LoadFault>
+    ensures graph { IfOk result (λ g. IsGraphIn bytes.now g) }
+    ensures refused { IfErr result (λ e. is_memory e ≡ false → IsRefusalIn bytes.now e) }
+{
+    let entries = read_definition(alloc, bytes)?;
+    let rows = rows_of(alloc, &entries)?;
+    link(alloc, &rows)
+}
+
+// The entries under their digest texts.
+fn rows_of(alloc: Global, entries: &Entries) -> Result<Vec<Row>, Memory>
+    ensures { IfOk result (λ rows. rows.items ≡ rows_from entries.now) }
+{
+    let mut rows = Vec::new(alloc);
+    for bytes in entries.as_slice() {
+        let digest = digest_of(alloc, bytes.as_slice())?;
+        let bytes = bytes.copy()?;
+        rows.push(Row { digest, bytes })?;
+    }
+    Ok(rows)
+}

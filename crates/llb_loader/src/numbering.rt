@@ -1,0 +1,126 @@
+// The numbering of the reached rows.
+
+ghost use Rattle.std.specs.Prelude.{◌≡◌, ℕ, ◌<◌, ◌≤◌, length, slice_index, slice_index_or, true, false, IfOk, OnOk, List, [], vec_len};
+ghost use Rattle.std.specs.Option.{IfSome, IfNone};
+ghost use Rattle.std.specs.List.{All};
+ghost use Rattle.std.specs.Ordering.{nat_cmp};
+ghost use Rattle.std.specs.BTreeSet.{contains};
+ghost use Rattle.llb_loader.specs.Rows.{lists, InRange, inputs};
+ghost use Rattle.llb_loader.specs.Numbering.{IsNumbering, HasCycle};
+ghost use Rattle.llb_loader.specs.Placing.{IsMarked, IsChecked, IsPlacing};
+
+use crate::reach::reached;
+use std::alloc::{AllocError, Global};
+use std::collections::BTreeSet;
+use std::mem;
+
+/// A row that waits for the input at `checked`; the inputs before it are numbered.
+#[derive(Clone, Copy)]
+struct Waiter {
+    row: usize,
+    checked: usize,
+}
+
+/// The numbering of the rows that are reached from `start`, or `None` where they have a cycle.
+pub(crate) fn number(
+    alloc: Global,
+    rows: &[Vec<usize>],
+    start: usize,
+) -> Result<Option<Vec<usize>>, AllocError>
+    requires rows { InRange (lists rows.now) (length rows.now) }
+    requires start { start < length rows.now }
+    ensures numbering { IfOk result (λ answer. IfSome answer (λ order. IsNumbering (lists rows.now) start order.items)) }
+    ensures few { IfOk result (λ answer. IfSome answer (λ order. length order.items ≤ length rows.now)) }
+    ensures cycle { IfOk result (λ answer. IfNone answer (HasCycle (lists rows.now) start)) }
+{
+    let seen = reached(alloc, rows, start)?;
+    let mut done = vec![in alloc; false; rows.len()]?;
+    let mut ready = BTreeSet::new(alloc);
+    let mut waiting = empty_lists(alloc, rows.len())?;
+    'placing: for row in 0..rows.len() {
+        if seen[row] {
+            place(
+                rows,
+                &done,
+                &mut ready,
+                &mut waiting,
+                Waiter { row, checked: 0 },
+            )?;
+        }
+    }
+    let mut order = Vec::new(alloc);
+    'turns: while let Some(next) = ready.pop_first() {
+        done[next] = true;
+        order.push(next)?;
+        let woken = mem::replace(&mut waiting[next], Vec::new(alloc));
+        'woken: for waiter in &woken {
+            place(rows, &done, &mut ready, &mut waiting, *waiter)?;
+        }
+    }
+    'whole: for row in 0..rows.len() {
+        if seen[row] {
+            if !done[row] {
+                return Ok(None);
+            }
+        }
+    }
+    Ok(Some(order))
+}
+
+// So many lists of no waiters.
+fn empty_lists(alloc: Global, count: usize) -> Result<Vec<Vec<Waiter>>, AllocError>
+    ensures len { IfOk result (λ all. length all.items ≡ count) }
+    ensures empty { IfOk result (λ all. (b : ℕ) → slice_index_or (lists all.items) b [] ≡ []) }
+{
+    let mut all = Vec::new(alloc);
+    for _i in 0..count {
+        all.push(Vec::new(alloc))?;
+    }
+    Ok(all)
+}
+
+// The first input at or after `from` that is not numbered, or the number of inputs.
+fn first_open(named: &[usize], from: usize, done: &[bool]) -> usize
+    requires from { from ≤ length named.now }
+    requires range { All (λ b. b < length done.now) named.now }
+    ensures after { from ≤ result }
+    ensures within { result ≤ length named.now }
+    ensures passed { (i : ℕ) → from ≤ i → i < result → IsMarked done.now (slice_index named.now i) }
+    ensures stops { result < length named.now → slice_index_or done.now (slice_index named.now result) false ≡ false }
+{
+    for i in from..named.len() {
+        if !done[named[i]] {
+            return i;
+        }
+    }
+    named.len()
+}
+
+// Puts the row among the ready ones, or to those that wait for its first input that is not numbered.
+fn place(
+    rows: &[Vec<usize>],
+    done: &[bool],
+    ready: &mut BTreeSet<usize>,
+    waiting: &mut Vec<Vec<Waiter>>,
+    waiter: Waiter,
+) -> Result<(), AllocError>
+    requires rows { InRange (lists rows.now) (length rows.now) }
+    requires done { length done.now ≡ length rows.now }
+    requires waiting { vec_len waiting.old ≡ length rows.now }
+    requires row { waiter.row < length rows.now }
+    requires checked { IsChecked (lists rows.now) done.now waiter }
+    ensures placed { OnOk result (IsPlacing (lists rows.now) done.now waiter (contains nat_cmp ready.old) (contains nat_cmp ready.new) (lists waiting.old.items) (lists waiting.new.items)) }
+    ensures len { vec_len waiting.new ≡ vec_len waiting.old }
+{
+    let named = rows[waiter.row].as_slice();
+    let checked = first_open(named, waiter.checked, done);
+    if checked == named.len() {
+        ready.insert(waiter.row)?;
+        return Ok(());
+    }
+    waiting[named[checked]].push(Waiter {
+        row: waiter.row,
+        checked,
+    })?;
+    Ok(())
+}

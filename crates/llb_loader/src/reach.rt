@@ -1,0 +1,33 @@
+// The rows that are reached from a row.
+
+ghost use Rattle.std.specs.Prelude.{◌≡◌, ℕ, ◌<◌, ◌↔◌, length, slice_index_or, true, false, IfOk};
+ghost use Rattle.llb_loader.specs.Rows.{lists, InRange, Reached};
+
+use std::alloc::{AllocError, Global};
+
+/// Which of the rows are reached from `start`.
+pub(crate) fn reached(
+    alloc: Global,
+    rows: &[Vec<usize>],
+    start: usize,
+) -> Result<Vec<bool>, AllocError>
+    requires rows { InRange (lists rows.now) (length rows.now) }
+    requires start { start < length rows.now }
+    ensures len { IfOk result (λ seen. length seen.items ≡ length rows.now) }
+    ensures exact { IfOk result (λ seen. (k : ℕ) → (slice_index_or seen.items k false ≡ true) ↔ Reached (lists rows.now) start k) }
+{
+    let mut seen = vec![in alloc; false; rows.len()]?;
+    let mut open = Vec::new(alloc);
+    seen[start] = true;
+    open.push(start)?;
+    while let Some(row) = open.pop() {
+        let named = rows[row].as_slice();
+        for input in named {
+            if !seen[*input] {
+                seen[*input] = true;
+                open.push(*input)?;
+            }
+        }
+    }
+    Ok(seen)
+}

@@ -1,0 +1,36 @@
+//! The ops that rows spell, each by its own bytes.
+
+ghost use Rattle.std.specs.Prelude.{◌≡◌, ◌≤◌, false, length, IfOk, IfErr};
+ghost use Rattle.llb_loader.specs.Faults.{is_memory, row_fault};
+ghost use Rattle.llb_loader.specs.Reading.{AreOps, RefusesRow};
+
+use crate::fault::LoadFault;
+use crate::row::Row;
+use llb_ops::{Op, OpFault, read_op};
+use std::alloc::Global;
+
+/// The op of each row, or the first row that spells none.
+pub(crate) fn ops_of(alloc: Global, rows: &[Row]) -> Result<Vec<Op>, LoadFault>
+    requires { length rows.now ≤ 65_536 }
+    ensures read { IfOk result (λ ops. AreOps rows.now ops.items) }
+    ensures refused { IfErr result (λ e. is_memory e ≡ false → RefusesRow rows.now e) }
+{
+    let mut ops = Vec::new(alloc);
+    for (k, row) in rows.iter().enumerate() {
+        let op = read_op(alloc, row.bytes.as_slice());
+        match op {
+            Ok(op) => ops.push(op)?,
+            Err(fault) => return Err(at_row(k as u32, fault)),
+        }
+    }
+    Ok(ops)
+}
+
+fn at_row(k: u32, fault: OpFault) -> LoadFault
+    ensures { result ≡ row_fault k fault }
+{
+    match fault {
+        OpFault::Memory => LoadFault::Memory,
+        fault => LoadFault::Entry(k, fault),
+    }
+}

@@ -1,0 +1,14 @@
+pub mod Split
+pub mod Texts
+pub mod Each
+pub mod Members
+pub mod Counts
+pub mod Written
+pub mod Again
+pub mod Kept
+pub mod Picks
+pub mod FieldOf
+pub mod Numbers
+pub mod Sorts
+pub mod Choices
+pub mod Trips

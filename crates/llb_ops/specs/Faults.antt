@@ -1,0 +1,17 @@
+-- How the calls on messages answer.
+use Rattle.std.specs.Prelude.{Bool, true, false, Result}
+use Rattle.llb_wire.specs.Answer as answer
+use Rattle.llb_ops.specs.declared.fault.OpFault.{OpFault}
+use Rattle.llb_ops.specs.declared.fault.OpFault.TheVariants.{Wire, WrongWireType, NotUtf8, OverLimit, Memory}
+
+-- want of memory, which no rule gives
+abbrev pub is_memory : OpFault → Bool
+is_memory Memory = true
+is_memory (Wire f) = false
+is_memory WrongWireType = false
+is_memory NotUtf8 = false
+is_memory OverLimit = false
+
+-- what a call answers, seen by view, is what the rule gives
+abbrev pub Gives : {X Y : Type 0} → (X → Y) → Result X OpFault → Result Y OpFault → Type 0
+Gives = answer.Gives is_memory

@@ -1,0 +1,170 @@
+-- The records of a message, and what each kind of field is of them (the encoding guide of Protocol Buffers: "Message
+-- Structure", "Last One Wins", "Optional and Repeated Elements", "Oneofs"). A record stands without a place in the bytes.
+use Rattle.std.specs.Prelude.{ℕ, zero, suc, ◌-◌, List, [], ◌∷◌, ◌++◌, length, map, Option, Some, None, Result, Ok, Err, Bool, true, false, nat_le, ◌==◌, not, if◌then◌else◌, find, option_map, fold, ◌&&◌, filter, slice_get, is_none, ℤ, ◌%◌, ◌^◌}
+use Rattle.std.specs.List.{list_all, list_any, flat_map}
+use Rattle.std.specs.Str.{is_utf8}
+use Rattle.std.specs.Option.{option_map_or}
+use Rattle.std.specs.Int.{w32, w64, cast_signed}
+use Rattle.llb_wire.specs.Answer.{◌>>=◌}
+use Rattle.llb_wire.specs.declared.fault.WireFault.{WireFault}
+use Rattle.llb_wire.specs.declared.field.Wire.{Wire as WireType}
+use Rattle.llb_wire.specs.declared.field.Wire.TheVariants as wire
+use Rattle.llb_wire.specs.declared.field.Field.{Field}
+use Rattle.llb_wire.specs.Reading.{field_at}
+use Rattle.llb_wire.specs.Records.{Record, record_of}
+use Rattle.llb_ops.specs.declared.fault.OpFault.{OpFault}
+use Rattle.llb_ops.specs.declared.fault.OpFault.TheVariants.{Wire, WrongWireType, NotUtf8}
+use Rattle.llb_ops.specs.declared.shape.Form.{Form}
+use Rattle.llb_ops.specs.declared.shape.Form.TheVariants.{Number, Bytes, Text}
+use Rattle.llb_ops.specs.declared.records.Record.{Record as Held}
+use Rattle.llb_ops.specs.Limits.{field_limit}
+
+-- the fields that a message names: their numbers, and their forms
+abbrev pub Shape : Type 0
+Shape = List (ℕ × Form)
+
+-- a record without where its bytes lie
+abbrev pub view : Held → Record
+view r = record { number = r.number; wire = r.wire; value = r.value; payload = r.payload.now; text = r.text.now }
+
+abbrev pub views : List Held → List Record
+views rs = map view rs
+
+-- ---- the records from left to right: a fault of the wire, then a named field with another wire type
+
+-- how the message names the field of that number
+abbrev pub form_of : Shape → ℕ → Option Form
+form_of shape number = option_map (λ n. n.1) (find (λ n. n.0 == number) shape)
+
+abbrev pub wire_fits : Option Form → WireType → Bool
+wire_fits None w = true
+wire_fits (Some Number) wire.Varint = true
+wire_fits (Some Number) wire.I64 = false
+wire_fits (Some Number) wire.Len = false
+wire_fits (Some Number) wire.I32 = false
+wire_fits (Some Bytes) wire.Len = true
+wire_fits (Some Bytes) w = false
+wire_fits (Some Text) wire.Len = true
+wire_fits (Some Text) w = false
+
+abbrev pub from_wire : {A : Type 0} → Result A WireFault → Result A OpFault
+from_wire (Ok x) = Ok x
+from_wire (Err f) = Err (Wire f)
+
+-- the record at the front
+abbrev pub first_record : Shape → List ℕ → Result Field OpFault
+first_record shape bytes = from_wire (field_at bytes 0) >>= λ f. if wire_fits (form_of shape f.number) f.wire then Ok f else Err WrongWireType
+
+-- the records behind so many bytes of a record that was read before
+unfoldable pub records_from : Shape → ℕ → List ℕ → Result (List Record) OpFault
+records_from shape skip [] = Ok []
+records_from shape (suc skip) (b ∷ bytes) = records_from shape skip bytes
+records_from shape zero (b ∷ bytes) = do
+  f ← first_record shape (b ∷ bytes)
+  rs ← records_from shape (f.«end» - 1) bytes
+  Ok (record_of (b ∷ bytes) f ∷ rs)
+
+-- ---- behind the last record: its texts are UTF-8
+
+abbrev pub text_ok : Option Form → List ℕ → Bool
+text_ok (Some Text) payload = is_utf8 payload
+text_ok o payload = true
+
+abbrev pub text_fits : Shape → Record → Bool
+text_fits shape r = text_ok (form_of shape r.number) r.payload
+
+abbrev pub texts_fit : Shape → List Record → Bool
+texts_fit shape rs = list_all (text_fits shape) rs
+
+-- the records of a message whose fields have that shape
+unfoldable pub parts : Shape → List ℕ → Result (List Record) OpFault
+parts shape bytes = records_from shape 0 bytes >>= λ rs. if texts_fit shape rs then Ok rs else Err NotUtf8
+
+-- ---- what a field is of its records
+
+-- the records of one field, in order
+abbrev pub all : ℕ → List Record → List Record
+all n rs = filter (λ r. r.number == n) rs
+
+abbrev pub last_of : List Record → Option Record
+last_of rs = slice_get rs (length rs - 1)
+
+-- of a field that stands once the last record holds
+abbrev pub number : List Record → ℕ
+number rs = option_map_or (λ r. r.value) (last_of rs) 0
+
+abbrev pub payload : List Record → List ℕ
+payload rs = option_map_or (λ r. r.payload) (last_of rs) []
+
+abbrev pub uint32 : ℕ → ℕ
+uint32 n = n % 2 ^ 32
+
+-- int32 and enums: the low 32 bits, in two's complement
+abbrev pub int32 : ℕ → ℤ
+int32 n = cast_signed w32 (n % 2 ^ 32)
+
+-- int64: 64 bits, in two's complement
+abbrev pub int64 : ℕ → ℤ
+int64 n = cast_signed w64 (n % 2 ^ 64)
+
+-- any number but 0 is true
+abbrev pub flag : ℕ → Bool
+flag n = not (n == 0)
+
+-- texts and byte strings that are repeated, in order
+abbrev pub payloads : List Record → List (List ℕ)
+payloads rs = map (λ r. r.payload) rs
+
+-- a message that stands once is the reading of its payloads, one behind the other
+abbrev pub joined : List Record → List ℕ
+joined rs = flat_map (λ r. r.payload) rs
+
+unfoldable pub one : {A : Type 0} → (List ℕ → Result A OpFault) → List Record → Result (Option A) OpFault
+one read rs = if length rs == 0 then Ok None else (read (joined rs) >>= λ m. Ok (Some m))
+
+-- messages that are repeated, in order
+unfoldable pub each : {A : Type 0} → (List ℕ → Result A OpFault) → List Record → Result (List A) OpFault
+each read [] = Ok []
+each read (r ∷ rs) = read r.payload >>= λ m. (each read rs >>= λ ms. Ok (m ∷ ms))
+
+-- fields that the message doesn't name, as they stand
+abbrev pub unnamed : Shape → List Record → List ℕ
+unnamed shape rs = flat_map (λ r. r.text) (filter (λ r. is_none (form_of shape r.number)) rs)
+
+-- ---- a oneof
+
+-- a record of one of the members
+abbrev pub is_member : List ℕ → Record → Bool
+is_member members r = list_any (λ m. m == r.number) members
+
+-- the member that is set: that of the last record of any
+abbrev pub chosen : List ℕ → List Record → Option ℕ
+chosen members rs = option_map (λ r. r.number) (last_of (filter (is_member members) rs))
+
+-- the records that are kept where one that passes the test clears those before it, and itself
+abbrev pub kept : (Record → Bool) → List Record → Record → List Record
+kept p rs r = if p r then [] else rs ++ r ∷ []
+
+abbrev pub since : (Record → Bool) → List Record → List Record
+since p rs = fold (kept p) [] rs
+
+-- a record of another member
+abbrev pub is_other : List ℕ → ℕ → Record → Bool
+is_other members n r = is_member members r && not (r.number == n)
+
+-- the records of a member that count: those behind the last record of another one
+abbrev pub member : List ℕ → ℕ → List Record → List Record
+member members n rs = all n (since (is_other members n) rs)
+
+-- the member that is set is read from its records
+abbrev pub member_of : {A : Type 0} → List ℕ → (ℕ → List Record → Result A OpFault) → Option ℕ → List Record → Result (Option A) OpFault
+member_of members read None rs = Ok None
+member_of members read (Some n) rs = read n (member members n rs) >>= λ a. Ok (Some a)
+
+abbrev pub one_of : {A : Type 0} → List ℕ → (ℕ → List Record → Result A OpFault) → List Record → Result (Option A) OpFault
+one_of members read rs = member_of members read (chosen members rs) rs
+
+-- ---- behind all fields: no repeated field has too many records
+
+abbrev pub within_limits : List ℕ → List Record → Bool
+within_limits repeated rs = list_all (λ n. nat_le (length (all n rs)) field_limit) repeated

@@ -1,0 +1,90 @@
+//! Messages by what they are of their bytes, and how one stands in another: once, repeated, or as a member of a oneof.
+
+ghost use Rattle.std.specs.Prelude.{◌≡◌, List, ℕ, Result, IfOk};
+ghost use Rattle.llb_wire.specs.Records.{Record as Read};
+ghost use Rattle.llb_ops.specs.declared.fault.OpFault.{OpFault};
+ghost use Rattle.llb_ops.specs.Faults.{Gives};
+ghost use Rattle.llb_ops.specs.Records.{views, all, one as one_rule, each as each_rule, one_of as one_of_rule};
+
+use crate::fault::OpFault;
+use crate::records::{Record, chosen, count, joined, since};
+use llb_wire::{Many, Memory};
+use std::alloc::Global;
+
+/// A message: what it is of its bytes, and its canonical bytes.
+pub trait Message: Drop {
+    ghost reading: { List ℕ → Result Self OpFault };
+
+    fn read(alloc: Global, bytes: &[u8]) -> Result<Self, OpFault>
+        ensures { Gives (λ m. m) result (reading bytes.now) };
+
+    ghost writing: { Self → List ℕ };
+
+    fn write(&self, alloc: Global) -> Result<Vec<u8>, Memory>
+        ensures { IfOk result (λ v. v.items ≡ writing self.now) };
+}
+
+/// A member of a oneof: what the one of a number is of its records, and its canonical bytes.
+pub trait Member: Drop {
+    ghost reading: { ℕ → List Read → Result Self OpFault };
+
+    fn read(alloc: Global, number: u32, records: &[Record<'_>]) -> Result<Self, OpFault>
+        ensures { Gives (λ m. m) result (reading number (all number (views records.now))) };
+
+    ghost writing: { Self → List ℕ };
+
+    fn write(&self, alloc: Global) -> Result<Vec<u8>, Memory>
+        ensures { IfOk result (λ v. v.items ≡ writing self.now) };
+}
+
+/// A message that stands once: its payloads, one behind the other.
+#[tactic(auto, unfolding(crate::specs::Records::one))]
+pub fn one<M: Message>(
+    alloc: Global,
+    records: &[Record<'_>],
+    number: u32,
+) -> Result<Option<M>, OpFault>
+    ensures { Gives (λ m. m) result (one_rule M.reading (all number (views records.now))) }
+{
+    if count(records, number) == 0 {
+        return Ok(None);
+    }
+    let bytes = joined(alloc, records, number)?;
+    let message = M::read(alloc, &bytes)?;
+    Ok(Some(message))
+}
+
+/// Messages that are repeated, in order.
+pub fn each<M: Message>(
+    alloc: Global,
+    records: &[Record<'_>],
+    number: u32,
+) -> Result<Many<M>, OpFault>
+    ensures { Gives (λ ms. ms) result (each_rule M.reading (all number (views records.now))) }
+{
+    let mut messages = Vec::new(alloc);
+    for part in records {
+        if part.number == number {
+            let message = M::read(alloc, part.payload)?;
+            messages.push(message)?;
+        }
+    }
+    Ok(Many::new(messages))
+}
+
+/// The member of a oneof that is set, if any.
+pub fn one_of<M: Member>(
+    alloc: Global,
+    records: &[Record<'_>],
+    members: &[u32],
+) -> Result<Option<M>, OpFault>
+    ensures { Gives (λ m. m) result (one_of_rule members.now M.reading (views records.now)) }
+{
+    match chosen(records, members) {
+        Some(number) => {
+            let member = M::read(alloc, number, since(records, members, number))?;
+            Ok(Some(member))
+        }
+        None => Ok(None),
+    }
+}

@@ -1,0 +1,310 @@
+//! The records of a message, and what each kind of field is of them. Nothing here knows a message.
+
+ghost use Rattle.std.specs.Prelude.{◌≡◌, ◌+◌, ◌≤◌, ◌<◌, ◌==◌, Option, Some, Ok, length, drop, take, map, IfOk, option_map, is_none, not, true};
+ghost use Rattle.std.specs.Str.{IsUtf8, is_utf8};
+ghost use Rattle.llb_wire.specs.Records.{record_of};
+ghost use Rattle.llb_ops.specs.Faults.{Gives};
+ghost use Rattle.llb_ops.specs.declared.shape.Form.TheVariants as form;
+ghost use Rattle.llb_ops.specs.Records.{view, views, form_of, wire_fits, records_from, texts_fit, text_fits, parts as parts_of, all as all_of, last_of, number as number_of, payload as payload_of, payloads, uint32, int32, int64, flag, joined as joined_of, unnamed as unnamed_of, chosen as chosen_of, since as since_of, is_member as is_member_of, is_other as is_other_of, member as member_of, within_limits as within_limits_of};
+
+use crate::fault::OpFault;
+use crate::shape::{FIELD_LIMIT, Form, Named};
+use llb_wire::{Bytes, Field, Many, Text, Wire, next_record};
+use std::alloc::Global;
+use std::str::{from_utf8, from_utf8_unchecked};
+
+/// A record and its bytes.
+#[derive(Clone, Copy)]
+pub struct Record<'a> {
+    pub number: u32,
+    pub wire: Wire,
+    pub value: u64,
+    pub payload: &'a [u8],
+    pub text: &'a [u8],
+}
+
+/// The form of the field of that number, where the message names it.
+fn form(shape: &[Named], number: u32) -> Option<Form>
+    ensures { result ≡ form_of shape.now number }
+{
+    shape.iter().find(|n| n.0 == number).map(|n| n.1)
+}
+
+fn fits(shape: &[Named], field: &Field) -> bool
+    ensures { result ≡ wire_fits (form_of shape.now field.now.number) field.now.wire }
+{
+    match (form(shape, field.number), field.wire) {
+        (None, _) => true,
+        (Some(Form::Number), Wire::Varint) => true,
+        (Some(Form::Number), _) => false,
+        (Some(_), Wire::Len) => true,
+        (Some(_), _) => false,
+    }
+}
+
+/// The record at the front, and the bytes after it.
+fn take_record<'a>(bytes: &'a [u8], field: &Field) -> (Record<'a>, &'a [u8])
+    requires ordered { field.now.start ≤ field.now.«end» }
+    requires inside { field.now.«end» ≤ length bytes.now }
+    ensures record { view result.0 ≡ record_of bytes.now field.now }
+    ensures after { result.1.now ≡ drop field.now.«end» bytes.now }
+{
+    let (text, after) = bytes.split_at(field.end);
+    let (_, payload) = text.split_at(field.start);
+    let record = Record {
+        number: field.number,
+        wire: field.wire,
+        value: field.value,
+        payload,
+        text,
+    };
+    (record, after)
+}
+
+/// The records of a message from left to right.
+pub fn split<'a>(
+    alloc: Global,
+    shape: &[Named],
+    bytes: &'a [u8],
+) -> Result<Vec<Record<'a>>, OpFault>
+    ensures { Gives (λ v. views v.items) result (records_from shape.now 0 bytes.now) }
+{
+    let mut records = Vec::new(alloc);
+    let mut rest = bytes;
+    while let Some(field) = next_record(rest, 0)? {
+        if !fits(shape, &field) {
+            return Err(OpFault::WrongWireType);
+        }
+        let (record, after) = take_record(rest, &field);
+        records.push(record)?;
+        rest = after;
+    }
+    Ok(records)
+}
+
+#[tactic(auto, using(crate::proofs::Texts::utf8_true, crate::proofs::Texts::utf8_false))]
+fn is_text(bytes: &[u8]) -> bool
+    ensures { result ≡ is_utf8 bytes.now }
+{
+    match from_utf8(bytes) {
+        Ok(_) => true,
+        Err(_) => false,
+    }
+}
+
+fn text_is_utf8(shape: &[Named], part: &Record<'_>) -> bool
+    ensures { result ≡ text_fits shape.now (view part.now) }
+{
+    match form(shape, part.number) {
+        Some(Form::Text) => is_text(part.payload),
+        _ => true,
+    }
+}
+
+fn texts_are_utf8(shape: &[Named], records: &[Record<'_>]) -> bool
+    ensures { result ≡ texts_fit shape.now (views records.now) }
+{
+    for record in records {
+        if !text_is_utf8(shape, record) {
+            return false;
+        }
+    }
+    true
+}
+
+/// The records of a message: each named field has its wire type, and texts are UTF-8.
+#[tactic(auto, unfolding(crate::specs::Records::parts))]
+pub fn parts<'a>(
+    alloc: Global,
+    shape: &[Named],
+    bytes: &'a [u8],
+) -> Result<Vec<Record<'a>>, OpFault>
+    ensures gives { Gives (λ v. views v.items) result (parts_of shape.now bytes.now) }
+    ensures texts { IfOk result (λ v. texts_fit shape.now (views v.items) ≡ true) }
+{
+    let records = split(alloc, shape, bytes)?;
+    if !texts_are_utf8(shape, &records) {
+        return Err(OpFault::NotUtf8);
+    }
+    Ok(records)
+}
+
+/// The last record of a field, which holds.
+fn last<'a>(records: &[Record<'a>], number: u32) -> Option<Record<'a>>
+    ensures { option_map view result ≡ last_of (all_of number (views records.now)) }
+{
+    let mut last = None;
+    for record in records {
+        if record.number == number {
+            last = Some(*record);
+        }
+    }
+    last
+}
+
+fn last_number(records: &[Record<'_>], number: u32) -> u64
+    ensures { result ≡ number_of (all_of number (views records.now)) }
+{
+    match last(records, number) {
+        Some(record) => record.value,
+        None => 0,
+    }
+}
+
+pub fn last_int64(records: &[Record<'_>], number: u32) -> i64
+    ensures { result ≡ int64 (number_of (all_of number (views records.now))) }
+{
+    last_number(records, number).cast_signed()
+}
+
+pub fn last_uint32(records: &[Record<'_>], number: u32) -> u32
+    ensures { result ≡ uint32 (number_of (all_of number (views records.now))) }
+{
+    (last_number(records, number) % 0x1_0000_0000) as u32
+}
+
+pub fn last_int32(records: &[Record<'_>], number: u32) -> i32
+    ensures { result ≡ int32 (number_of (all_of number (views records.now))) }
+{
+    last_uint32(records, number).cast_signed()
+}
+
+pub fn last_flag(records: &[Record<'_>], number: u32) -> bool
+    ensures { result ≡ flag (number_of (all_of number (views records.now))) }
+{
+    last_number(records, number) != 0
+}
+
+fn last_payload<'a>(records: &[Record<'a>], number: u32) -> &'a [u8]
+    ensures { result.now ≡ payload_of (all_of number (views records.now)) }
+{
+    match last(records, number) {
+        Some(record) => record.payload,
+        None => &[],
+    }
+}
+
+pub fn last_bytes(alloc: Global, records: &[Record<'_>], number: u32) -> Result<Bytes, OpFault>
+    ensures { Gives (λ b. b) result (Ok (payload_of (all_of number (views records.now)))) }
+{
+    let bytes = Bytes::from_slice(alloc, last_payload(records, number))?;
+    Ok(bytes)
+}
+
+/// A text, which was found to be UTF-8 when the records were read.
+pub fn last_text(
+    alloc: Global,
+    shape: &[Named],
+    records: &[Record<'_>],
+    number: u32,
+) -> Result<Text, OpFault>
+    requires named { form_of shape.now number ≡ Some form.Text }
+    requires texts { texts_fit shape.now (views records.now) ≡ true }
+    ensures { Gives (λ t. t) result (Ok (payload_of (all_of number (views records.now)))) }
+{
+    let payload = last_payload(records, number);
+    let text = Text::from_str(alloc, unsafe { from_utf8_unchecked(payload) })?;
+    Ok(text)
+}
+
+/// The payloads of a field, one behind the other.
+pub fn joined(alloc: Global, records: &[Record<'_>], number: u32) -> Result<Vec<u8>, OpFault>
+    ensures { Gives (λ v. v.items) result (Ok (joined_of (all_of number (views records.now)))) }
+{
+    let mut out = Vec::new(alloc);
+    for record in records {
+        if record.number == number {
+            out.extend_from_slice(record.payload)?;
+        }
+    }
+    Ok(out)
+}
+
+/// The byte strings of a field that is repeated, in order.
+pub fn each_bytes(
+    alloc: Global,
+    records: &[Record<'_>],
+    number: u32,
+) -> Result<Many<Bytes>, OpFault>
+    ensures { Gives (λ bs. bs) result (Ok (payloads (all_of number (views records.now)))) }
+{
+    let mut items = Vec::new(alloc);
+    for record in records {
+        if record.number == number {
+            let bytes = Bytes::from_slice(alloc, record.payload)?;
+            items.push(bytes)?;
+        }
+    }
+    Ok(Many::new(items))
+}
+
+/// How many records a field has.
+pub fn count(records: &[Record<'_>], number: u32) -> usize
+    ensures { result ≡ length (all_of number (views records.now)) }
+{
+    records.iter().filter(|r| r.number == number).count()
+}
+
+/// No repeated field has too many records.
+pub fn within_limits(repeated: &[u32], records: &[Record<'_>]) -> bool
+    ensures { result ≡ within_limits_of repeated.now (views records.now) }
+{
+    for number in repeated {
+        if count(records, *number) > FIELD_LIMIT {
+            return false;
+        }
+    }
+    true
+}
+
+/// The number of the member of a oneof that is set: that of the last record of any.
+pub fn chosen(records: &[Record<'_>], members: &[u32]) -> Option<u32>
+    ensures { result ≡ chosen_of members.now (views records.now) }
+{
+    let mut last = None;
+    for part in records {
+        if members.contains(&part.number) {
+            last = Some(part.number);
+        }
+    }
+    last
+}
+
+fn is_other(members: &[u32], number: u32, part: &Record<'_>) -> bool
+    ensures { result ≡ is_other_of members.now number (view part.now) }
+{
+    members.contains(&part.number) && part.number != number
+}
+
+/// The records behind the last one of another member of a oneof.
+pub fn since<'r, 'a>(records: &'r [Record<'a>], members: &[u32], number: u32) -> &'r [Record<'a>]
+    ensures { views result.now ≡ since_of (is_other_of members.now number) (views records.now) }
+{
+    let mut start = 0;
+    for (i, part) in records.iter().enumerate() {
+        if is_other(members, number, part) {
+            start = i + 1;
+        }
+    }
+    let (_, rest) = records.split_at(start);
+    rest
+}
+
+fn is_unnamed(shape: &[Named], part: &Record<'_>) -> bool
+    ensures { result ≡ is_none (form_of shape.now part.now.number) }
+{
+    form(shape, part.number).is_none()
+}
+
+/// The fields that the message doesn't name, as they stand.
+pub fn unnamed(alloc: Global, shape: &[Named], records: &[Record<'_>]) -> Result<Bytes, OpFault>
+    ensures { Gives (λ b. b) result (Ok (unnamed_of shape.now (views records.now))) }
+{
+    let mut out = Vec::new(alloc);
+    for record in records {
+        if is_unnamed(shape, record) {
+            out.extend_from_slice(record.text)?;
+        }
+    }
+    Ok(Bytes::new(out))
+}

@@ -1,0 +1,127 @@
+//! Fields in their canonical bytes, one behind the other.
+
+ghost use Rattle.std.specs.Prelude.{◌≡◌, ◌<◌, ◌++◌, ◌≤◌, OnOk};
+ghost use Rattle.llb_ops.specs.Writing.{set_number, set_bytes, number_field, bytes_field, signed_field, flag_field, message_field, messages_field, one_of_field};
+
+use crate::message::{Member, Message};
+use llb_wire::{Bytes, Many, Memory, Wire, write_record};
+use std::alloc::Global;
+
+/// A number, also where it is 0.
+#[tactic(auto, unfolding(crate::specs::Writing::set_number))]
+pub fn put_set_number(out: &mut Vec<u8>, number: u32, value: u64) -> Result<(), Memory>
+    requires some { 0 < number }
+    requires small { number ≤ 536_870_911 }
+    ensures { OnOk result (out.new.items ≡ out.old.items ++ set_number number value) }
+{
+    write_record(number, Wire::Varint, value, &[], out)?;
+    Ok(())
+}
+
+/// Bytes, also where there are none.
+#[tactic(auto, unfolding(crate::specs::Writing::set_bytes))]
+pub fn put_set_bytes(out: &mut Vec<u8>, number: u32, bytes: &[u8]) -> Result<(), Memory>
+    requires some { 0 < number }
+    requires small { number ≤ 536_870_911 }
+    ensures { OnOk result (out.new.items ≡ out.old.items ++ set_bytes number bytes.now) }
+{
+    write_record(number, Wire::Len, 0, bytes, out)?;
+    Ok(())
+}
+
+#[tactic(auto, unfolding(crate::specs::Writing::number_field))]
+fn put_number(out: &mut Vec<u8>, number: u32, value: u64) -> Result<(), Memory>
+    requires some { 0 < number }
+    requires small { number ≤ 536_870_911 }
+    ensures { OnOk result (out.new.items ≡ out.old.items ++ number_field number value) }
+{
+    if value != 0 {
+        put_set_number(out, number, value)?;
+    }
+    Ok(())
+}
+
+pub fn put_signed(out: &mut Vec<u8>, number: u32, value: i64) -> Result<(), Memory>
+    requires some { 0 < number }
+    requires small { number ≤ 536_870_911 }
+    ensures { OnOk result (out.new.items ≡ out.old.items ++ signed_field number value) }
+{
+    put_number(out, number, value.cast_unsigned())
+}
+
+pub fn put_flag(out: &mut Vec<u8>, number: u32, value: bool) -> Result<(), Memory>
+    requires some { 0 < number }
+    requires small { number ≤ 536_870_911 }
+    ensures { OnOk result (out.new.items ≡ out.old.items ++ flag_field number value) }
+{
+    put_number(out, number, u64::from(value))
+}
+
+#[tactic(auto, unfolding(crate::specs::Writing::bytes_field))]
+pub fn put_bytes(out: &mut Vec<u8>, number: u32, bytes: &[u8]) -> Result<(), Memory>
+    requires some { 0 < number }
+    requires small { number ≤ 536_870_911 }
+    ensures { OnOk result (out.new.items ≡ out.old.items ++ bytes_field number bytes.now) }
+{
+    if !bytes.is_empty() {
+        put_set_bytes(out, number, bytes)?;
+    }
+    Ok(())
+}
+
+#[tactic(auto, unfolding(crate::specs::Writing::message_field))]
+pub fn put_message<M: Message>(
+    alloc: Global,
+    out: &mut Vec<u8>,
+    number: u32,
+    message: &Option<M>,
+) -> Result<(), Memory>
+    requires some { 0 < number }
+    requires small { number ≤ 536_870_911 }
+    ensures { OnOk result (out.new.items ≡ out.old.items ++ message_field M.writing number message.now) }
+{
+    if let Some(message) = message {
+        let bytes = message.write(alloc)?;
+        put_set_bytes(out, number, &bytes)?;
+    }
+    Ok(())
+}
+
+pub fn put_messages<M: Message>(
+    alloc: Global,
+    out: &mut Vec<u8>,
+    number: u32,
+    messages: &Many<M>,
+) -> Result<(), Memory>
+    requires some { 0 < number }
+    requires small { number ≤ 536_870_911 }
+    ensures { OnOk result (out.new.items ≡ out.old.items ++ messages_field M.writing number messages.now) }
+{
+    for message in messages.as_slice() {
+        let bytes = message.write(alloc)?;
+        put_set_bytes(out, number, &bytes)?;
+    }
+    Ok(())
+}
+
+pub fn put_one_of<M: Member>(
+    alloc: Global,
+    out: &mut Vec<u8>,
+    member: &Option<M>,
+) -> Result<(), Memory>
+    ensures { OnOk result (out.new.items ≡ out.old.items ++ one_of_field M.writing member.now) }
+{
+    if let Some(member) = member {
+        let bytes = member.write(alloc)?;
+        out.extend_from_slice(&bytes)?;
+    }
+    Ok(())
+}
+
+/// The records of fields that the message doesn't name, as they stand.
+pub fn put_extra(out: &mut Vec<u8>, extra: &Bytes) -> Result<(), Memory>
+    ensures { OnOk result (out.new.items ≡ out.old.items ++ extra.now) }
+{
+    out.extend_from_slice(extra.as_slice())?;
+    Ok(())
+}
