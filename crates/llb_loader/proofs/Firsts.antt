@@ -1,11 +1,10 @@
 -- The first row with a digest text, among all rows and among the first n.
-use Rattle.std.proofs.Common.{◌≡◌, ◌≢◌, ℕ, zero, suc, ◌+◌, ◌-◌, ◌<◌, ◌≤◌, Bool, true, false, cond, List, [], ◌⊎◌, inl, inr, Option, Some, None, length, get_or, refl, sym, ◌∙◌, ap, subst, ltb, arith}
+use Rattle.std.proofs.Common.{◌≡◌, ◌≢◌, ℕ, zero, suc, ◌+◌, ◌-◌, ◌<◌, Bool, true, false, cond, List, [], ◌⊎◌, inl, inr, Option, Some, None, length, get_or, refl, sym, ◌∙◌, ap, subst, ltb, arith}
 use Rattle.std.proofs.lemmas.Bool.{cases_eq, cases_lt, cases_Bool}
 use Rattle.std.proofs.lemmas.List.{get_or_read}
 use Rattle.std.proofs.lemmas.List.Sums.{position_or_len_is}
 use Rattle.std.proofs.lemmas.Slice.Eq.{bytes_eq-Decides}
 use Rattle.std.specs.Str.{bytes_eq}
-use Rattle.std.specs.List.{position}
 use Rattle.std.specs.Map.{update}
 use Rattle.llb_loader.specs.declared.row.Row.{Row}
 use Rattle.std.proofs.Math.Numerals.{add-one}

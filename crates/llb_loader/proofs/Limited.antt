@@ -1,5 +1,5 @@
 -- An op that is read has as many inputs and actions as a message may have, and a definition as many entries.
-use Rattle.std.proofs.Common.{◌≡◌, ℕ, ◌+◌, ◌<◌, ◌≤◌, Bool, true, false, cond, eqb, leb, ltb, ◌&&◌, List, [], ◌∷◌, inl, inr, Option, Some, None, Result, Ok, Err, length, refl, sym, ◌∙◌, ap, subst, arith}
+use Rattle.std.proofs.Common.{◌≡◌, ℕ, ◌≤◌, Bool, true, false, cond, eqb, leb, ltb, ◌&&◌, List, [], ◌∷◌, Option, Some, None, Result, Ok, Err, length, refl, sym, ap, arith}
 use Rattle.std.proofs.lemmas.Bool.{leb-true, ltb-false}
 use Rattle.std.specs.List.{list_all}
 use Rattle.llb_wire.specs.Answer.{◌>>=◌}
@@ -12,7 +12,7 @@ use Rattle.llb_ops.specs.declared.op.Kind.TheVariants.{Exec, Source, File, Build
 use Rattle.llb_ops.specs.declared.file.FileOp.{FileOp}
 use Rattle.llb_ops.specs.declared.file.Action.{Action}
 use Rattle.llb_ops.specs.Records.{parts, all, joined, each, one_of, member_of, member, chosen, within_limits, unnamed, payloads, records_from}
-use Rattle.llb_ops.specs.Limits.{entry_limit, field_limit, definition_limit, entries_limit}
+use Rattle.llb_ops.specs.Limits.{entry_limit, definition_limit, entries_limit}
 use Rattle.llb_ops.specs.Messages.{op_of, op_message_of, op_shape, file_op_of, file_op_shape, kind_of, kinds, input_of, action_of}
 use Rattle.llb_ops.specs.Definition.{definition_of, entries_fit, definition_shape}
 use Rattle.llb_loader.specs.Rules.{kind_actions, actions_of}

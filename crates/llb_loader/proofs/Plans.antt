@@ -1,10 +1,10 @@
 -- The rows that inputs name, by their places.
-use Rattle.std.proofs.Common.{◌≡◌, ◌≢◌, ℕ, zero, suc, ◌+◌, ◌<◌, ◌≤◌, Bool, true, false, cond, eqb, List, [], ◌∷◌, ◌⊎◌, inl, inr, Option, Some, None, length, get_or, map, refl, sym, ◌∙◌, ap, subst, arith, ℤ, pos, negsuc, nat_abs}
+use Rattle.std.proofs.Common.{◌≡◌, ◌≢◌, ℕ, zero, suc, ◌<◌, ◌≤◌, Bool, true, false, cond, eqb, List, [], ◌∷◌, ◌⊎◌, inl, inr, Option, Some, None, length, get_or, refl, sym, ◌∙◌, ap, subst, arith, ℤ, pos, negsuc, nat_abs}
 use Rattle.std.proofs.lemmas.Int.{ints}
-use Rattle.std.proofs.lemmas.Bool.{cases_eq, cases_lt, cases_Bool, eq-eqb}
+use Rattle.std.proofs.lemmas.Bool.{cases_lt, cases_Bool, eq-eqb}
 use Rattle.std.proofs.lemmas.List.{get_or-map, get_or_past, length-map}
 use Rattle.std.proofs.lemmas.List.Elements.{All-nil, All-cons, All-map, All-get_or, All-contains}
-use Rattle.std.specs.List.{All, Contains, filter_map, cons_option}
+use Rattle.std.specs.List.{All, filter_map, cons_option}
 use Rattle.std.specs.Option.{unwrap_or}
 use Rattle.llb_ops.specs.declared.op.Op.{Op}
 use Rattle.llb_ops.specs.declared.op.Input.{Input}
@@ -12,8 +12,8 @@ use Rattle.llb_loader.specs.declared.row.Row.{Row}
 use Rattle.llb_loader.specs.Rows.{inputs, InRange, HasEdge, Walk, Reached}
 use Rattle.llb_loader.specs.Rules.{IsBelow}
 use Rattle.llb_loader.specs.Naming.{first_with, other_than, row_named, rows_named, graph_of}
-use Rattle.llb_loader.specs.Linking.{op_at, input_at}
-use Rattle.llb_loader.proofs.Firsts.{IsFirst, first_cases}
+use Rattle.llb_loader.specs.Linking.{op_at}
+use Rattle.llb_loader.proofs.Firsts.{first_cases}
 use Rattle.llb_loader.proofs.Outputs.{below_at}
 
 all_cons_option : {X : Type 0} (h : X → Option ℕ) (P : ℕ → Type 0) → ((x : X) (y : ℕ) → h x ≡ Some y → P y) → (x : X) (ys : List ℕ) (o : Option ℕ) → h x ≡ o → All P ys → All P (cons_option o ys)

@@ -1,19 +1,18 @@
 -- From what the checks find among the marked rows to the refusals of the plan.
-use Rattle.std.proofs.Common.{◌≡◌, ◌≢◌, ℕ, zero, suc, ◌+◌, ◌<◌, ◌≤◌, ◌==◌, Bool, true, false, cond, eqb, List, [], ◌∷◌, ◌⊎◌, ◌↔◌, inl, inr, Option, Some, None, length, get_or, map, refl, sym, ◌∙◌, ap, subst, arith, pos}
+use Rattle.std.proofs.Common.{◌≡◌, ◌≢◌, ℕ, ◌<◌, ◌≤◌, Bool, true, false, cond, eqb, List, [], ◌⊎◌, ◌↔◌, inl, inr, Option, Some, None, length, get_or, map, refl, sym, ◌∙◌, ap, subst, arith, pos}
 use Rattle.std.proofs.lemmas.Bool.{cases_eq, cases_lt, cases_Bool, eq-eqb, ne_eqb}
-use Rattle.std.proofs.lemmas.List.{get_or-map, length-map}
+use Rattle.std.proofs.lemmas.List.{get_or-map}
 use Rattle.std.specs.Option.{unwrap_or}
 use Rattle.llb_ops.specs.declared.op.Op.{Op}
 use Rattle.llb_ops.specs.declared.op.Input.{Input}
 use Rattle.llb_loader.specs.declared.row.Row.{Row}
 use Rattle.llb_loader.specs.declared.fault.LoadFault.{LoadFault}
-use Rattle.llb_loader.specs.declared.fault.LoadFault.TheVariants as fault
-use Rattle.llb_loader.specs.Rows.{inputs, Reached}
+use Rattle.llb_loader.specs.Rows.{inputs}
 use Rattle.llb_loader.specs.Placing.{IsMarked}
-use Rattle.llb_loader.specs.Naming.{IsTerminal, row_named, rows_named, graph_of}
+use Rattle.llb_loader.specs.Naming.{row_named}
 use Rattle.llb_loader.specs.Rules.{IsBelow, output_count}
-use Rattle.llb_loader.specs.Linking.{op_at, input_at, Plan, plan, links_in, input_row, ReachedRow, HasInput, IsUnknown, outputs_there, IsBadIndex, Foremost, IsApart, HasResult, IsStarted, IsNamed, IsOrdered, IsTaken, IsValid, IsUnsupported, IsInvalid, Refused}
-use Rattle.llb_loader.specs.Checks.{NamesAll, FirstUnknown, RefusesUnknown, RefusesFeature, RefusesRule, RefusesIndex, FitsAll, FirstBad, asked_of, count_there}
+use Rattle.llb_loader.specs.Linking.{op_at, input_at, Plan, plan, links_in, input_row, ReachedRow, HasInput, outputs_there, IsBadIndex, Foremost, HasResult, IsStarted, IsNamed, IsOrdered, IsTaken, IsValid, Refused}
+use Rattle.llb_loader.specs.Checks.{RefusesUnknown, RefusesFeature, RefusesRule, RefusesIndex, FitsAll, FirstBad, asked_of, count_there}
 use Rattle.llb_loader.proofs.Plans.{named_below, in_range, graph_at, row_below, NamedAt, named_at}
 
 pub not_empty : (n : ℕ) → false ≡ eqb n 0 → 0 < n

@@ -1,6 +1,6 @@
 -- The vertices that are built of a whole plan are a graph, and the one that the plan says.
-use Rattle.std.proofs.Common.{◌≡◌, ◌≢◌, ℕ, zero, suc, ◌+◌, ◌<◌, ◌≤◌, Bool, true, false, cond, not, ◌&&◌, ◌||◌, List, [], ◌∷◌, ◌⊎◌, inl, inr, Option, Some, None, length, get_or, map, take, refl, sym, ◌∙◌, ap, subst, arith, pos, nat_abs}
-use Rattle.std.proofs.lemmas.Bool.{cases_lt, cases_Bool}
+use Rattle.std.proofs.Common.{◌≡◌, ℕ, zero, suc, ◌<◌, ◌≤◌, Bool, true, false, cond, not, ◌&&◌, ◌||◌, List, [], ◌∷◌, ◌⊎◌, inl, inr, Option, Some, None, length, get_or, map, refl, sym, ◌∙◌, ap, subst, arith, pos}
+use Rattle.std.proofs.lemmas.Bool.{cases_lt}
 use Rattle.std.proofs.lemmas.List.{get_or-map, get_or_past, get_or_default, get_or-take, length-map, length-take-le, same_lists}
 use Rattle.std.proofs.lemmas.List.Elements.{All-get_or, All-nil, All-cons, Contains-get_or}
 use Rattle.std.proofs.lemmas.List.Sums.{count_by-le-length}
@@ -15,13 +15,13 @@ use Rattle.llb_loader.specs.declared.fault.Feature.{Feature}
 use Rattle.llb_loader.specs.declared.fault.Feature.TheVariants.{NotYet, OwnerByName}
 use Rattle.llb_loader.specs.declared.graph.Edge.{Edge}
 use Rattle.llb_loader.specs.declared.graph.Vertex.{Vertex}
-use Rattle.llb_loader.specs.Rows.{inputs, HasEdge, Walk, Reached}
+use Rattle.llb_loader.specs.Rows.{inputs, HasEdge, Walk}
 use Rattle.llb_loader.specs.Laws.{rank_in}
-use Rattle.llb_loader.specs.Naming.{row_at, row_named, rows_named}
+use Rattle.llb_loader.specs.Naming.{row_named}
 use Rattle.llb_loader.specs.Features.{is_read, feature_of}
 use Rattle.llb_loader.specs.Rules.{kind_actions, actions_of, is_made, is_output, owner_of, owner_by_name, outputs_of, output_count, IsBelow, HasAction, MeetsEach, rules}
-use Rattle.llb_loader.specs.Graph.{Numbered, links, LeadsBelow, IsFileVertex, IsGraph}
-use Rattle.llb_loader.specs.Linking.{Plan, op_at, input_at, links_in, input_row, ReachedRow, HasInput, outputs_there, IsNamed, IsWhole, edge_of, vertex_of, numbered_of}
+use Rattle.llb_loader.specs.Graph.{links, LeadsBelow, IsFileVertex, IsGraph}
+use Rattle.llb_loader.specs.Linking.{Plan, op_at, input_at, links_in, input_row, ReachedRow, HasInput, outputs_there, IsNamed, IsWhole, edge_of, vertex_of}
 use Rattle.llb_loader.specs.Checks.{IsWithin}
 use Rattle.llb_loader.specs.Building.{IsBuildable, IsBuilt, AreBuilt, edge_at, vertex_at, edge_to}
 use Rattle.llb_loader.proofs.Searching.{reached_step}

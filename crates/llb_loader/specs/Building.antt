@@ -1,5 +1,5 @@
 -- Vertices as they are built: from a row's digest and op, the rows that its inputs name, and the numbers of rows.
-use Rattle.std.specs.Prelude.{◌≡◌, ◌≢◌, ℕ, ◌<◌, ◌≤◌, nat_abs, List, [], length, slice_index, slice_index_or, None}
+use Rattle.std.specs.Prelude.{◌≡◌, ℕ, ◌<◌, nat_abs, List, [], length, slice_index, slice_index_or, None}
 use Rattle.llb_ops.specs.declared.op.Op.{Op}
 use Rattle.llb_ops.specs.declared.op.Input.{Input}
 use Rattle.llb_loader.specs.declared.row.Row.{Row}

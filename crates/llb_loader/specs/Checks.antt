@@ -1,12 +1,11 @@
 -- What the checks over the marked rows find: each looks at the rows in their order and stops at the first that fails.
-use Rattle.std.specs.Prelude.{◌≡◌, ◌≢◌, ℕ, ◌<◌, ◌≤◌, ◌==◌, Bool, false, cond, List, length, slice_index_or, Option, Some, None}
+use Rattle.std.specs.Prelude.{◌≡◌, ◌≢◌, ℕ, ◌<◌, ◌≤◌, ◌==◌, Bool, false, cond, List, length, slice_index_or, Some, None}
 use Rattle.llb_ops.specs.declared.op.Op.{Op}
 use Rattle.llb_loader.specs.declared.row.Row.{Row}
 use Rattle.llb_loader.specs.declared.fault.LoadFault.{LoadFault}
 use Rattle.llb_loader.specs.declared.fault.LoadFault.TheVariants.{UnknownDigest, Unsupported, Invalid, BadIndex}
 use Rattle.llb_loader.specs.declared.fault.Feature.{Feature}
 use Rattle.llb_loader.specs.declared.fault.Rule.{Rule}
-use Rattle.llb_loader.specs.Placing.{IsMarked}
 use Rattle.llb_loader.specs.Rows.{inputs}
 use Rattle.llb_loader.specs.Naming.{row_named}
 use Rattle.llb_loader.specs.Linking.{op_at, input_at}

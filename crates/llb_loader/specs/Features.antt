@@ -1,5 +1,5 @@
 -- What an op can have that is not taken.
-use Rattle.std.specs.Prelude.{Bool, true, false, not, List, [], ◌∷◌, Option, Some}
+use Rattle.std.specs.Prelude.{Bool, false, not, List, [], ◌∷◌, Option, Some}
 use Rattle.std.specs.List.{list_all, list_any, find}
 use Rattle.llb_ops.specs.declared.op.Op.{Op}
 use Rattle.llb_ops.specs.declared.op.Kind.{Kind}

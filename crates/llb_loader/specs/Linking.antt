@@ -1,6 +1,5 @@
 -- The graph of the rows, or the first fault: what each refusal says, and what has to hold for the next one to stand.
-use Rattle.std.specs.Prelude.{◌≡◌, ◌≢◌, ℕ, ◌+◌, ◌-◌, ◌<◌, ◌≤◌, ℤ, pos, nat_abs, List, [], ◌∷◌, length, map, slice_index_or, Option, Some, None, IsSome, ◌⊎◌, ⊤}
-use Rattle.std.specs.List.{All}
+use Rattle.std.specs.Prelude.{◌≡◌, ℕ, ◌<◌, ◌≤◌, pos, nat_abs, List, [], length, map, slice_index_or, Option, Some, None, ◌⊎◌}
 use Rattle.std.specs.Option.{unwrap_or}
 use Rattle.llb_ops.specs.declared.op.Op.{Op}
 use Rattle.llb_ops.specs.declared.op.Input.{Input}

@@ -1,5 +1,5 @@
 -- What loading answers.
-use Rattle.std.specs.Prelude.{◌≡◌, ℕ, List, map, Result, Ok, Err, ◌⊎◌}
+use Rattle.std.specs.Prelude.{◌≡◌, ℕ, List, map, Ok, Err, ◌⊎◌}
 use Rattle.llb_ops.specs.declared.fault.OpFault.{OpFault}
 use Rattle.llb_ops.specs.Definition.{definition_of}
 use Rattle.llb_loader.specs.declared.row.Row.{Row}

@@ -1,4 +1,4 @@
-use Rattle.std.proofs.Common.{◌≡◌, ℕ, ◌<◌, Option, sym, subst, MatchOption, arith, length}
+use Rattle.std.proofs.Common.{Option, sym, subst, MatchOption}
 use Rattle.llb_ops.specs.declared.op.Op.{Op}
 use Rattle.llb_loader.specs.declared.fault.Rule.{Rule}
 use Rattle.llb_loader.specs.Placing.{IsMarked}

@@ -1,4 +1,4 @@
-use Rattle.std.proofs.Common.{◌≡◌, ◌≢◌, ℕ, ◌<◌, Bool, true, false, Option, None, sym, ◌∙◌, ap}
+use Rattle.std.proofs.Common.{◌≡◌, ◌≢◌, ℕ, true, false, Option, None, sym, ◌∙◌, ap}
 use Rattle.std.specs.Option.{is_some}
 use Rattle.llb_ops.specs.declared.op.Input.{Input}
 use Rattle.llb_loader.specs.Naming.{row_named}

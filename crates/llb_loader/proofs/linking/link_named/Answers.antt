@@ -1,15 +1,15 @@
-use Rattle.std.proofs.Common.{◌≡◌, ◌↔◌, ℕ, ◌<◌, ◌≤◌, Bool, false, length, map, List, Option, Some, None, refl, sym, ◌∙◌, ap, subst, arith, IfSome}
+use Rattle.std.proofs.Common.{◌≡◌, ◌↔◌, ℕ, ◌<◌, ◌≤◌, Bool, length, map, List, Option, Some, None, sym, ◌∙◌, ap, subst, arith, IfSome}
 use Rattle.std.proofs.lemmas.List.{length-map}
 use Rattle.std.proofs.lemmas.Result.{err_from_is_err_and}
-use Rattle.std.specs.Global.{Vec, Global}
+use Rattle.std.specs.Global.{Vec}
 use Rattle.llb_ops.specs.declared.op.Op.{Op}
 use Rattle.llb_loader.specs.Rows.{lists, inputs, InRange}
 use Rattle.llb_loader.specs.Placing.{IsMarked}
 use Rattle.llb_loader.specs.Numbering.{IsNumbering}
-use Rattle.llb_loader.specs.Naming.{graph_of, rows_named}
+use Rattle.llb_loader.specs.Naming.{rows_named}
 use Rattle.llb_loader.specs.Features.{feature_of}
 use Rattle.llb_loader.specs.Rules.{output_count, MeetsEach, rules}
-use Rattle.llb_loader.specs.Linking.{Plan, plan, op_at, links_in, ReachedRow, IsNamed, IsOrdered, IsTaken, IsValid, IsWhole}
+use Rattle.llb_loader.specs.Linking.{Plan, plan, op_at, links_in, ReachedRow, IsOrdered, IsTaken, IsValid, IsWhole}
 use Rattle.llb_loader.specs.Checks.{RefusesFeature, RefusesRule, RefusesIndex, FitsAll, asked_of}
 use Rattle.llb_loader.proofs.Plans.{in_range}
 use Rattle.llb_loader.proofs.Refusals.{started_below, refuses_feature, refuses_rule, refuses_index, asked_linked, indexes_fit}

@@ -1,4 +1,4 @@
-use Rattle.std.proofs.Common.{◌≡◌, ◌↔◌, ℕ, ◌<◌, length, List, Some, None, inl, refl, sym, ◌∙◌, ap, subst, arith, Bool, true, false}
+use Rattle.std.proofs.Common.{◌≡◌, ◌↔◌, ℕ, ◌<◌, length, List, inl, refl, sym, ◌∙◌, ap, subst, arith, Bool}
 use Rattle.std.proofs.lemmas.List.{length-map}
 use Rattle.std.proofs.lemmas.Result.{err_from_is_err_and}
 use Rattle.std.specs.Global.{Vec}
@@ -7,7 +7,7 @@ use Rattle.llb_ops.specs.declared.op.Input.{Input}
 use Rattle.llb_loader.specs.Rows.{lists, InRange, Reached}
 use Rattle.llb_loader.specs.Placing.{IsMarked}
 use Rattle.llb_loader.specs.Naming.{graph_of, rows_named, row_named}
-use Rattle.llb_loader.specs.Linking.{plan, op_at, input_at, IsStarted, HasResult, ReachedRow}
+use Rattle.llb_loader.specs.Linking.{plan, op_at, IsStarted, ReachedRow}
 use Rattle.llb_loader.specs.Checks.{RefusesUnknown}
 use Rattle.llb_loader.proofs.Plans.{in_range, named_below}
 use Rattle.llb_loader.proofs.Parts.{op_read, input_read}

@@ -1,17 +1,16 @@
-use Rattle.std.proofs.Common.{◌≡◌, ℕ, ◌<◌, ◌≤◌, length, List, get_or, refl, sym, ◌∙◌, ap, subst, arith, inr}
+use Rattle.std.proofs.Common.{◌≡◌, ℕ, ◌<◌, length, List, get_or, refl, sym, ◌∙◌, ap, subst, arith, inr}
 use Rattle.std.proofs.lemmas.List.{length-map, get_or_read, get_or_default}
 use Rattle.std.specs.Global.{Vec}
 use Rattle.std.specs.List.{All}
 use Rattle.llb_ops.specs.declared.op.Op.{Op}
-use Rattle.llb_ops.specs.declared.op.Input.{Input}
 use Rattle.llb_loader.specs.declared.graph.Vertex.{Vertex}
 use Rattle.llb_loader.specs.declared.graph.Edge.{Edge}
 use Rattle.llb_loader.specs.Rows.{lists, inputs, InRange}
 use Rattle.llb_loader.specs.Naming.{rows_named}
 use Rattle.llb_loader.specs.Rules.{IsBelow}
-use Rattle.llb_loader.specs.Graph.{IsGraph, Numbered}
-use Rattle.llb_loader.specs.Linking.{Plan, plan, links_in, op_at, input_at, GraphOf, numbered_of}
-use Rattle.llb_loader.specs.Building.{IsBuildable, IsBuilt, AreBuilt, edge_to}
+use Rattle.llb_loader.specs.Graph.{Numbered}
+use Rattle.llb_loader.specs.Linking.{Plan, plan, links_in, op_at, input_at, numbered_of}
+use Rattle.llb_loader.specs.Building.{IsBuildable, AreBuilt, edge_to}
 use Rattle.llb_loader.proofs.Parts.{op_read}
 use Rattle.llb_loader.proofs.Plans.{in_range}
 use Rattle.llb_loader.proofs.Refusals.{started_below}

@@ -1,4 +1,4 @@
-use Rattle.std.proofs.Common.{◌≡◌, ℕ, length, List, inr, ◌∙◌, ap, subst, arith}
+use Rattle.std.proofs.Common.{ℕ, length, List, inr, ◌∙◌, ap, subst, arith}
 use Rattle.std.proofs.lemmas.List.{length-map}
 use Rattle.std.proofs.lemmas.Result.{MatchResult-weaker}
 use Rattle.llb_loader.specs.declared.row.Row.{Row}

@@ -1,4 +1,4 @@
-use Rattle.std.proofs.Common.{rules, ◌≡◌, ℕ, ◌+◌, ◌<◌, ◌*◌, List, Option, Some, None, length, Fits, w64, refl, sym, ◌∙◌, ap, subst, arith, below_more, ◌≢◌, Bool, true, false, IsTrue}
+use Rattle.std.proofs.Common.{rules, ◌≡◌, ℕ, ◌+◌, ◌<◌, List, Option, Some, None, length, refl, sym, ◌∙◌, ap, subst, arith, ◌≢◌, true, false, IsTrue}
 use Rattle.std.proofs.lemmas.Map.Text.{hash_map_updates_str}
 use Rattle.std.specs.Borrow.{Bor}
 use Rattle.std.specs.Str.{bytes_eq}

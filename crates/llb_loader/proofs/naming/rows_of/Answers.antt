@@ -1,4 +1,4 @@
-use Rattle.std.proofs.Common.{◌≡◌, ℕ, ◌++◌, List, [], ◌∷◌, refl, sym, ◌∙◌, ap}
+use Rattle.std.proofs.Common.{ℕ, ◌++◌, List, [], ◌∷◌, sym, ◌∙◌, ap}
 use Rattle.llb_ops.specs.declared.op.Input.{Input}
 use Rattle.llb_loader.specs.Naming.{row_named}
 use Rattle.llb_loader.proofs.Named.{filter_map_some, filter_map_none}

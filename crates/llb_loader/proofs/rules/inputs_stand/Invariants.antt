@@ -1,4 +1,4 @@
-use Rattle.std.proofs.Common.{◌≡◌, ℕ, ◌+◌, ◌<◌, slice_index_or}
+use Rattle.std.proofs.Common.{ℕ, ◌+◌, ◌<◌, slice_index_or}
 use Rattle.llb_ops.specs.declared.file.Action.{Action}
 use Rattle.llb_loader.specs.Rules.{IsInput}
 use Rattle.llb_loader.proofs.rules.inputs_stand.Given as goal

@@ -1,4 +1,4 @@
-use Rattle.std.proofs.Common.{rules, arith, sym, ◌∙◌}
+use Rattle.std.proofs.Common.{arith, sym, ◌∙◌}
 use Rattle.llb_loader.proofs.Outputs.{count_more_yes, count_more_no}
 use Rattle.llb_loader.proofs.rules.outputs_among.Goals as goal
 use Rattle.llb_loader.proofs.rules.outputs_among.Goals.{then-has_output, else-has_output}

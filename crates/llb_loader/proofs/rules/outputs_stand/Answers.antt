@@ -1,9 +1,9 @@
-use Rattle.std.proofs.Common.{rules, ◌≡◌, ◌<◌, Bool, true, false, arith, sym, ◌∙◌, ap, subst, length, List, get_or}
-use Rattle.std.proofs.lemmas.List.{length-map, get_or_read}
+use Rattle.std.proofs.Common.{◌<◌, arith, sym, ◌∙◌, length}
+use Rattle.std.proofs.lemmas.List.{length-map}
 use Rattle.llb_ops.specs.declared.file.Action.{Action}
-use Rattle.llb_loader.specs.Rules.{outputs_of, count_outputs, output_at, IsBelow, is_output}
+use Rattle.llb_loader.specs.Rules.{outputs_of, count_outputs}
 use Rattle.llb_loader.proofs.Rows.{mark_read}
-use Rattle.llb_loader.proofs.Outputs.{IsTaking, taking_start, taking_skip, taking_mark, taking_end, outside, twice, output_read, count_more_yes, count_more_no, is_none_from, not_none_from, true_when, false_when, below_at}
+use Rattle.llb_loader.proofs.Outputs.{taking_start, taking_skip, taking_mark, taking_end, outside, twice, output_read, count_more_yes, count_more_no, is_none_from, not_none_from, true_when, false_when, below_at}
 use Rattle.llb_loader.proofs.rules.outputs_stand.Goals as goal
 use Rattle.llb_loader.proofs.rules.outputs_stand.Goals.{then-has_output+in-Some+else-index, else-has_output}
 

@@ -1,0 +1,127 @@
+-- What a run tells of the bytes that it read.
+use Rattle.std.proofs.Common.{◌≡◌, ℕ, ◌<◌, ◌≤◌, Bool, true, false, cond, ltb, List, [], length, ◌⊎◌, Option, Some, None, Result, Ok, Err, inl, inr, refl, sym, ap, subst, ◌∙◌}
+use Rattle.std.specs.Prelude.{IfSome, slice_get}
+use Rattle.std.proofs.lemmas.Bool.{lt-ltb}
+use Rattle.std.specs.Io.KnownBytes.{Appends}
+use Rattle.llb_wire.specs.Sink.{PartOut}
+use Rattle.llb_ops.specs.declared.fault.OpFault.TheVariants.{OverLimit}
+use Rattle.llb_ops.specs.Limits.{definition_limit}
+use Rattle.llb_ops.specs.Definition.{definition_of}
+use Rattle.llb_tree.specs.Tree.{TreeMap}
+use Rattle.llb_loader.specs.declared.fault.LoadFault.{LoadFault}
+use Rattle.llb_loader.specs.declared.fault.LoadFault.TheVariants.{Definition}
+use Rattle.llb_loader.specs.Faults.{is_memory}
+use Rattle.llb_loader.specs.Graph.{Numbered, IsGraph}
+use Rattle.llb_loader.specs.Load.{IsGraphIn, IsRefusalIn}
+use Rattle.llb_model.specs.Outcome.{Outcome, outcome, ending_in, output_in}
+use Rattle.llb_model.specs.State.{Status, Waiting, Running, Settled, ending_of, ending_at}
+use Rattle.llb_model.specs.Run.{StandsPlainly}
+use Rattle.llb_board.specs.Board.{Seen}
+use Rattle.llbm.specs.declared.fault.ProgramFault.{ProgramFault}
+use Rattle.llbm.specs.declared.fault.ProgramFault.TheVariants.{Refused, Loading, Print}
+use Rattle.llbm.specs.TreeText.{tree_text}
+use Rattle.llbm.specs.Answer.{result_of, Yields, YieldsNone, IsRefused, YieldsPart}
+use Rattle.llbm.specs.Answer.{Runs}
+use Rattle.llbm.specs.Running.{passed_on, IsRefusal, IsFinished, Shows, Answers}
+use Rattle.llbm.specs.Bounded.{ReadsAll}
+use Rattle.llbm.specs.declared.bounded.ReadFault.{ReadFault}
+use Rattle.llbm.specs.declared.bounded.ReadFault.TheVariants.{TooLong}
+use Rattle.llbm.specs.declared.tree_text.PrintFault.{PrintFault}
+use Rattle.std.specs.Prelude.{Vec}
+use Rattle.std.specs.Global.{Global}
+use Rattle.std.specs.Io.KnownBytes.{Keeps}
+use Rattle.std.proofs.KnownBytes.{Appends-kept}
+use Rattle.std.proofs.lemmas.List.{append-nil}
+
+pub some_map : {A : Type 0} (P Q : A → Type 0) (o : Option A) → ((x : A) → P x → Q x) → IfSome o P → IfSome o Q
+some_map P Q None f h = tt
+some_map P Q (Some x) f h = f x h
+
+-- bytes past the limit are refused
+pub refuses_long : (bytes : List ℕ) → 67108864 < length bytes → IsRefused bytes
+unfolding definition_of
+refuses_long bytes long =
+    let yes : ltb definition_limit (length bytes) ≡ true = lt-ltb _ _ long in
+    (Definition OverLimit, inl (OverLimit, rw yes refl, refl))
+
+-- what the loader refuses is refused
+pub tells : (left : Option (List ℕ)) (e : LoadFault) (bytes : List ℕ) → IfSome left (λ xs. bytes ≡ xs) → (is_memory e ≡ false → IsRefusalIn bytes e) → IsRefusal (passed_on e) → IfSome left IsRefused
+tells left e bytes read refused h =
+    some_map (λ xs. bytes ≡ xs) IsRefused left (λ xs same. (e, subst (λ ys. IsRefusalIn ys e) same (refused (by_test (is_memory e) refl h)))) read
+  where
+    by_test : (b : Bool) → is_memory e ≡ b → IsRefusal (cond b Loading (Refused e)) → is_memory e ≡ false
+    by_test true is h = absurd h
+    by_test false is h = is
+
+by_stand : (o : Option Status) (p : Option Outcome) (i : ℕ) → StandsPlainly o p → output_in (ending_of o) i ≡ output_in (ending_in p) i
+by_stand (Some (Settled e)) p i h = ap (λ q. output_in (ending_in q) i) (sym h)
+by_stand (Some Waiting) p i h = ap (λ q. output_in (ending_in q) i) (sym h)
+by_stand (Some (Running w)) p i h = absurd h
+by_stand None p i h = absurd h
+
+-- on a finished board the result's output is the graph's result
+pub result_is : (g : Numbered) → IsGraph g → (b : Seen) → IsFinished g b → output_in (ending_at b.state.statuses g.result.vertex) g.result.index ≡ result_of g
+result_is g graph b fin = by_stand (slice_get b.state.statuses g.result.vertex) (outcome g g.result.vertex) g.result.index (fin.plain g.result.vertex graph.result.lower)
+
+module _ (left : Option (List ℕ)) (g : Numbered) (graph : IsGraph g) (b : Seen) (fin : IsFinished g b) (loads : IfSome left (λ bytes. IsGraphIn bytes g)) where
+  yields : (bytes : List ℕ) → IsGraphIn bytes g → (t : TreeMap) → output_in (ending_at b.state.statuses g.result.vertex) g.result.index ≡ Some t → Yields bytes (tree_text t)
+  yields bytes loaded t is = record { graph = g; loaded = loaded; tree = t; result = sym (result_is g graph b fin) ∙ is; printed = refl }
+
+  pub answers_text : (out out' : Option (List ℕ)) (t : TreeMap) → output_in (ending_at b.state.statuses g.result.vertex) g.result.index ≡ Some t → Appends out out' (tree_text t)
+      → IfSome left (λ bytes. (text : List ℕ) × Yields bytes text × Appends out out' text)
+  answers_text out out' t is app = some_map (λ bytes. IsGraphIn bytes g) (λ bytes. (text : List ℕ) × Yields bytes text × Appends out out' text) left (λ bytes loaded. (tree_text t, yields bytes loaded t is, app)) loads
+
+  pub answers_part : (out out' : Option (List ℕ)) (t : TreeMap) → output_in (ending_at b.state.statuses g.result.vertex) g.result.index ≡ Some t → PartOut out out' (tree_text t) → IfSome left (YieldsPart out out')
+  answers_part out out' t is part = some_map (λ bytes. IsGraphIn bytes g) (YieldsPart out out') left (λ bytes loaded. (tree_text t, yields bytes loaded t is, part)) loads
+
+  pub answers_none : output_in (ending_at b.state.statuses g.result.vertex) g.result.index ≡ None → IfSome left YieldsNone
+  answers_none none = some_map (λ bytes. IsGraphIn bytes g) YieldsNone left (λ bytes loaded. record { graph = g; loaded = loaded; result = sym (result_is g graph b fin) ∙ none }) loads
+
+-- ---- what the parts answered, where the answer is known
+
+abbrev read_err : ReadFault → Result (Vec ℕ Global) ReadFault
+read_err e = Err e
+
+abbrev shown_ok : Bool → Result Bool ProgramFault
+shown_ok b = Ok b
+
+abbrev answer_ok : {B : Type 0} → Option B → Result (Option B) ProgramFault
+answer_ok o = Ok o
+
+pub too_long : (left left' : Option (List ℕ)) (r : Result (Vec ℕ Global) ReadFault) (e : ReadFault) → r ≡ Err e → e ≡ TooLong → ReadsAll 67108864 left left' r → IfSome left (λ xs. 67108864 < length xs)
+too_long left left' r e is same reads =
+    let h : ReadsAll 67108864 left left' (Err TooLong) = subst (ReadsAll 67108864 left left') (is ∙ ap read_err same) reads in h
+
+pub all_read : (left left' : Option (List ℕ)) (r : Result (Vec ℕ Global) ReadFault) (bytes : Vec ℕ Global) → r ≡ Ok bytes → ReadsAll 67108864 left left' r → IfSome left (λ xs. bytes.items ≡ xs)
+all_read left left' r bytes is reads =
+    let h : ReadsAll 67108864 left left' (Ok bytes) = subst (ReadsAll 67108864 left left') is reads in h.1
+
+pub shows_true : (out out' : Option (List ℕ)) (tree : Option TreeMap) (r : Result Bool ProgramFault) (b : Bool) → r ≡ Ok b → b ≡ true → Shows out out' tree r → (t : TreeMap) × (tree ≡ Some t) × Appends out out' (tree_text t)
+shows_true out out' tree r b is same shows =
+    let h : Shows out out' tree (Ok true) = subst (Shows out out' tree) (is ∙ ap shown_ok same) shows in h
+
+pub answer_done : {B : Type 0} (left out out' : Option (List ℕ)) (r : Result (Option B) ProgramFault) (o : Option B) → r ≡ Ok o → o ≡ None → Answers left out out' r → IfSome left (λ bytes. (text : List ℕ) × Yields bytes text × Appends out out' text)
+answer_done {B} left out out' r o is same answers =
+    let h : Answers {B = B} left out out' (Ok None) = subst (Answers left out out') (is ∙ ap answer_ok same) answers in h
+
+-- ---- a whole run
+
+pub run_done : (left out out' last : Option (List ℕ)) → IfSome left (λ bytes. (text : List ℕ) × Yields bytes text × Appends out out' text) → Keeps out' last → Runs left out last 0
+run_done left out out' last done keeps =
+    inl (
+      refl,
+      some_map (λ bytes. (text : List ℕ) × Yields bytes text × Appends out out' text) (λ bytes. (text : List ℕ) × Yields bytes text × Appends out last text) left
+          (λ bytes y. (y.0, y.1, Appends-kept out out' last y.0 y.2 keeps)) done,
+    )
+
+pub run_unflushed : (left out out' last : Option (List ℕ)) (status : ℕ) → IfSome left (λ bytes. (text : List ℕ) × Yields bytes text × Appends out out' text) → Keeps out' last → status ≡ 3 → Runs left out last status
+run_unflushed left out out' last status done keeps three =
+    inr (inr (inr (
+      three,
+      inr (some_map (λ bytes. (text : List ℕ) × Yields bytes text × Appends out out' text) (YieldsPart out last) left
+          (λ bytes y. (y.0, y.1, (y.0, [], sym (append-nil y.0), Appends-kept out out' last y.0 y.2 keeps))) done),
+    )))
+
+pub no_refusal : (status : ℕ) (e : PrintFault) → (status ≡ 3) ⊎ ((status ≡ 2) × IsRefusal (Print e)) → status ≡ 3
+no_refusal status e (inl h) = h
+no_refusal status e (inr h) = absurd h.1

@@ -1,0 +1,107 @@
+-- What a driver's events do to a board.
+use Rattle.std.proofs.Common.{◌≡◌, ℕ, zero, suc, ◌+◌, ◌-◌, ◌<◌, ◌≤◌, List, [], ◌∷◌, ◌++◌, length, map, Option, Some, None, option_map, Result, Ok, Err, refl, sym, ap, subst, ◌∙◌, append_assoc, arith}
+use Rattle.std.proofs.lemmas.List.{append-nil, length-append}
+use Rattle.llb_loader.specs.Graph.{Numbered, IsGraph}
+use Rattle.llb_model.specs.State.{State, opening}
+use Rattle.std.specs.Prelude.{slice_get, slice_index, replicate, is_ok, Bool, true, false}
+use Rattle.std.specs.Bool.{OnTrue}
+use Rattle.llb_model.specs.Table.{Event, Claim, Step, Settle, Reply, table}
+use Rattle.llb_model.specs.Run.{run, chosen, claims_of, AreAscending}
+use Rattle.llb_model.proofs.Sound.{IsSound, opening_sound, run_sound}
+use Rattle.llb_model.proofs.Alone.{Ascends, alone_step}
+use Rattle.llb_board.specs.Board.{Seen, Replays, after_event, on_grant}
+use Rattle.llb_board.specs.Rules.{GivesClaim, claim_of, claim_cause, GivesStep, step_of, step_cause, GivesSettle, settle_of, settle_cause}
+use Rattle.llb_board.specs.Views.{claim_reply, step_reply, settle_reply}
+use Rattle.llb_board.specs.declared.job.Job.{Job}
+use Rattle.llb_board.specs.declared.event.Stepped.{Stepped}
+use Rattle.llb_board.specs.declared.event.Settled.{Settled}
+use Rattle.llb_board.specs.declared.fault.ClaimFault.{ClaimFault}
+use Rattle.llb_board.specs.declared.fault.StepFault.{StepFault}
+use Rattle.llb_board.specs.declared.fault.SettleFault.{SettleFault}
+use Rattle.llb_board.proofs.Runs.{run_append, run_one, joined}
+use Rattle.llbm.specs.Alone.{Takes, Goes}
+
+pub sound_of : (b : Seen) → IsGraph b.graph → Replays b → IsSound b.graph b.state
+sound_of b graph here = run_sound b.graph graph (opening b.graph (length b.state.workers)) b.state b.events here.replies (opening_sound b.graph (length b.state.workers)) here.leads
+
+abbrev some_pair : {B : Type 0} → State → B → Option (State × B)
+some_pair s r = Some (s, r)
+
+abbrev ok_pair : {F : Type 0} → Seen → Reply → Result (Seen × Reply) F
+ok_pair b r = Ok (b, r)
+
+abbrev ok_of : {A F : Type 0} → A → Result A F
+ok_of x = Ok x
+
+inside : {A F : Type 0} {x y : A} → ok_of {F = F} x ≡ ok_of y → x ≡ y
+inside e = cc
+
+-- a call that is granted takes its event
+pub takes_of : {F : Type 0} (b : Seen) (e : Event) (f : F) (o : Option (State × Reply)) (n : Seen) (r : Reply) → table b.graph b.state e ≡ o → on_grant b e f o ≡ Ok (n, r) → Takes b e n
+takes_of {F} b e f None n r is given = absurd cc
+takes_of {F} b e f (Some (s, q)) n r is given =
+    let same : after_event b e s ≡ n = ap (λ (x : Seen × Reply). x.0) (inside given) in
+    subst (Takes b e) same (record { graph = refl; reply = q; given = is; events = refl })
+
+pub goes_nil : (b : Seen) → Goes b b
+unfolding run
+goes_nil b = record { graph = refl; more = []; replies = []; leads = refl; events = sym (append-nil b.events) }
+
+pub goes_on : (a b c : Seen) (e : Event) → Goes a b → Takes b e c → Goes a c
+goes_on a b c e goes takes = record {
+  graph = takes.graph ∙ goes.graph;
+  more = goes.more ++ e ∷ [];
+  replies = goes.replies ++ takes.reply ∷ [];
+  leads =
+      run_append a.graph a.state goes.more (e ∷ [])
+      ∙ ap (λ o. joined o (λ t. run a.graph t (e ∷ []))) goes.leads
+      ∙ ap (option_map {U = State × List Reply} (λ (t : State × List Reply). (t.0, goes.replies ++ t.1))) (run_one a.graph b.state c.state e takes.reply given);
+  events = takes.events ∙ ap (λ es. es ++ e ∷ []) goes.events ∙ append_assoc a.events goes.more (e ∷ []);
+}
+  where
+    given : table a.graph b.state e ≡ Some (c.state, takes.reply)
+    given = ap (λ g. table g b.state e) (sym goes.graph) ∙ takes.given
+
+-- the claims so far ascend, and go on to
+pub ascends_on : (b c : Seen) (e : Event) → IsGraph b.graph → Replays b → chosen b.graph b.state ≡ Some e → Takes b e c → Ascends b.graph b.state b.events → Ascends c.graph c.state c.events
+ascends_on b c e graph here is takes up =
+    subst (λ g. Ascends g c.state c.events) (sym takes.graph) (subst (Ascends b.graph c.state) (sym takes.events)
+    (alone_step b.graph graph b.state c.state e takes.reply b.events (sound_of b graph here) is takes.given up))
+
+pub longer : (b c : Seen) (e : Event) → Takes b e c → length c.events ≡ length b.events + 1
+longer b c e takes = ap length takes.events ∙ length-append b.events (e ∷ [])
+
+-- ---- the three calls
+
+pub claim_takes : (b n : Seen) (w v : ℕ) (r : Result Job ClaimFault) → GivesClaim (λ job. (n, claim_reply job)) r (claim_of b w v) → is_ok r ≡ true → Takes b (Claim w v) n
+claim_takes b n w v (Ok job) gives ok = takes_of b (Claim w v) (claim_cause (slice_get b.state.workers w) (slice_get b.graph.vertices v)) (table b.graph b.state (Claim w v)) n (claim_reply job) refl gives
+claim_takes b n w v (Err e) gives ok = absurd cc
+
+pub step_takes : (b n : Seen) (w : ℕ) (r : Result Stepped StepFault) → GivesStep (λ s. (n, step_reply s)) r (step_of b w) → is_ok r ≡ true → Takes b (Step w) n
+step_takes b n w (Ok s) gives ok = takes_of b (Step w) (step_cause (slice_get b.state.workers w)) (table b.graph b.state (Step w)) n (step_reply s) refl gives
+step_takes b n w (Err e) gives ok = absurd cc
+
+pub settle_takes : (b n : Seen) (w : ℕ) (r : Result Settled SettleFault) → GivesSettle (λ s. (n, settle_reply s)) r (settle_of b w) → is_ok r ≡ true → Takes b (Settle w) n
+settle_takes b n w (Ok s) gives ok = takes_of b (Settle w) (settle_cause (slice_get b.state.workers w)) (table b.graph b.state (Settle w)) n (settle_reply s) refl gives
+settle_takes b n w (Err e) gives ok = absurd cc
+
+-- a fact where a test is true
+pub on_true : (b : Bool) (P : Type 0) → (b ≡ true → P) → OnTrue b P
+on_true true P f = f refl
+on_true false P f = tt
+
+-- a front of a longer record
+pub goes_longer : (a b : Seen) → Goes a b → length a.events ≤ length b.events
+goes_longer a b goes = omega (arith, ap length goes.events, length-append a.events goes.more)
+
+pub first_made : (n w : ℕ) → slice_index (n ∷ replicate 63 0) (suc w) ≡ 0
+first_made n w = zeros 63 w
+  where
+    zeros : (k w : ℕ) → slice_index (replicate k 0) w ≡ 0
+    zeros zero w = refl
+    zeros (suc k) zero = refl
+    zeros (suc k) (suc w) = zeros k w
+
+pub length_seen : {A B : Type 0} (f : A → B) (xs : List A) → length (map f xs) ≡ length xs
+length_seen f [] = refl
+length_seen f (x ∷ xs) = ap suc (length_seen f xs)

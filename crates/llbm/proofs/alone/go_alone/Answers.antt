@@ -1,0 +1,19 @@
+use Rattle.std.proofs.Common.{sym, subst}
+use Rattle.llb_model.proofs.Alone.{Ascends}
+use Rattle.llb_board.specs.Views.{event_of}
+use Rattle.llbm.proofs.Driving.{goes_nil, goes_on, ascends_on}
+use Rattle.llbm.proofs.alone.go_alone.Goals as goal
+
+pub loop-event-init : goal.loop-event-init
+loop-event-init c =
+    let b = c.args.board.now in
+    (goes_nil b, λ none. subst (Ascends b.graph b.state) (sym none) (record { ascending = tt; past = tt }))
+
+pub loop-event-preserved : goal.loop-event-preserved
+loop-event-preserved c =
+    let b = c.loop-event.board in
+    let e = event_of c.in-Some.event in
+    let taken = c.if-not-do_event.ensures.taken in (
+      goes_on c.args.board.now b c.do_event.new.board e c.loop-event.invariant.0 taken,
+      λ none. ascends_on b c.do_event.new.board e c.is_graph.ensures c.replays.ensures (sym c.in-Some.ensures) taken (c.loop-event.invariant.1 none),
+    )

@@ -1,0 +1,6 @@
+use Rattle.std.proofs.Common.{sym, ◌∙◌}
+use Rattle.llbm.proofs.Driving.{on_true, settle_takes}
+use Rattle.llbm.proofs.alone.settles.Goals as goal
+
+pub returns-clause-taken : goal.returns-clause-taken
+returns-clause-taken c = on_true c.is_ok.result _ (λ t. settle_takes c.args.board.now c.settle.new.self c.args.w c.settle.result c.settle.ensures.gives (sym c.is_ok.ensures.value ∙ t))

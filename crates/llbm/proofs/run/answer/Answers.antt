@@ -1,0 +1,31 @@
+use Rattle.std.proofs.Common.{◌≡◌, subst, inr}
+use Rattle.std.specs.Prelude.{Some}
+use Rattle.llb_loader.specs.declared.graph.Edge.{Edge}
+use Rattle.llb_model.specs.Outcome.{output_in}
+use Rattle.llb_model.specs.State.{ending_at}
+use Rattle.llbm.proofs.Answering.{answers_text, answers_part, shows_true}
+use Rattle.llbm.proofs.run.answer.Goals as goal
+
+pub returns-in-Ok-true : goal.returns-in-Ok-true
+returns-in-Ok-true g c =
+    let left = g.R.Read.remaining c.args.input.now in
+    let out = g.W.Write.contents c.args.out.now in
+    let last = g.W.Write.contents c.print_result.new.out in
+    let b = c.in_ok-board.board in
+    let edge = c.result-edge.result in
+    let s = shows_true out last (output_in (ending_at b.state.statuses edge.vertex) edge.index) c.print_result.result c.in-Ok-true.field-0 c.in-Ok-true.is c.in-Ok-true.field-0-test c.print_result.ensures in
+    answers_text left c.in_ok-graph.graph c.is_graph.ensures b c.in_ok-board.ensures.board c.in_ok-graph.ensures out last s.0
+    (subst (λ (e : Edge). output_in (ending_at b.state.statuses e.vertex) e.index ≡ Some s.0) c.result-edge.ensures s.1) s.2
+
+pub returns-in-Err : goal.returns-in-Err
+returns-in-Err g c =
+    let left = g.R.Read.remaining c.args.input.now in
+    let out = g.W.Write.contents c.args.out.now in
+    let last = g.W.Write.contents c.print_result.new.out in
+    let b = c.in_ok-board.board in
+    let s = c.in-Err.ensures in
+    inr (
+      s.0,
+      answers_part left c.in_ok-graph.graph c.is_graph.ensures b c.in_ok-board.ensures.board c.in_ok-graph.ensures out last s.1.0
+          (subst (λ (e : Edge). output_in (ending_at b.state.statuses e.vertex) e.index ≡ Some s.1.0) c.result-edge.ensures s.1.1) s.1.2,
+    )

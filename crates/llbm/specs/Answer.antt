@@ -1,0 +1,45 @@
+-- What the program answers to the bytes that it reads.
+use Rattle.std.specs.Prelude.{◌≡◌, ◌⊎◌, ℕ, List, Option, Some, None, Result, Ok, Err, IfSome}
+use Rattle.std.specs.Io.KnownBytes.{Appends, Keeps}
+use Rattle.llb_wire.specs.Sink.{PartOut}
+use Rattle.llb_tree.specs.Tree.{TreeMap}
+use Rattle.llb_loader.specs.declared.fault.LoadFault.{LoadFault}
+use Rattle.llb_loader.specs.Graph.{Numbered}
+use Rattle.llb_loader.specs.Load.{IsGraphIn, IsRefusalIn}
+use Rattle.llb_model.specs.Outcome.{outcome, ending_in, output_in}
+use Rattle.llbm.specs.TreeText.{tree_text}
+
+-- the tree that a graph's result is, by the plain outcome of its vertex: none where that failed or is blocked
+abbrev pub result_of : Numbered → Option TreeMap
+result_of g = output_in (ending_in (outcome g g.result.vertex)) g.result.index
+
+-- bytes that are the definition of a graph whose result is a tree of that text
+pub record Yields (bytes text : List ℕ) : Type 0 where
+  pub graph : Numbered
+  pub loaded : IsGraphIn bytes graph
+  pub tree : TreeMap
+  pub result : result_of graph ≡ Some tree
+  pub printed : text ≡ tree_text tree
+
+-- bytes that are the definition of a graph whose result is no tree: a vertex failed
+pub record YieldsNone (bytes : List ℕ) : Type 0 where
+  pub graph : Numbered
+  pub loaded : IsGraphIn bytes graph
+  pub result : result_of graph ≡ None
+
+-- bytes that are no definition of a graph
+abbrev pub IsRefused : List ℕ → Type 0
+IsRefused bytes = (e : LoadFault) × IsRefusalIn bytes e
+
+-- a front of the text that the bytes yield is out, and no more
+abbrev pub YieldsPart : Option (List ℕ) → Option (List ℕ) → List ℕ → Type 0
+YieldsPart out out' bytes = (text : List ℕ) × Yields bytes text × PartOut out out' text
+
+-- How a run ends. 0: the text of the result is out, and nothing else. 1: the result is no tree, and nothing is out. 2: the bytes are
+-- refused, and nothing is out. 3: a device or memory failed; nothing is out, or a front of the text.
+abbrev pub Runs : Option (List ℕ) → Option (List ℕ) → Option (List ℕ) → ℕ → Type 0
+Runs input out out' status =
+    ((status ≡ 0) × IfSome input (λ bytes. (text : List ℕ) × Yields bytes text × Appends out out' text))
+    ⊎ (((status ≡ 1) × Keeps out out' × IfSome input YieldsNone)
+    ⊎ (((status ≡ 2) × Keeps out out' × IfSome input IsRefused)
+    ⊎ ((status ≡ 3) × (Keeps out out' ⊎ IfSome input (YieldsPart out out')))))

@@ -1,0 +1,57 @@
+-- The parts of a run, each with what it tells of the bytes.
+use Rattle.std.specs.Prelude.{◌≡◌, ◌⊎◌, ℕ, ◌<◌, Bool, true, false, List, length, Option, Some, None, Result, Ok, Err, IfSome, slice_get, ⊤, if◌then◌else◌}
+use Rattle.std.specs.Io.KnownBytes.{Appends, Keeps}
+use Rattle.llb_wire.specs.Sink.{PartOut}
+use Rattle.llb_tree.specs.Tree.{TreeMap}
+use Rattle.llb_loader.specs.Graph.{Numbered}
+use Rattle.llb_loader.specs.Load.{IsGraphIn}
+use Rattle.llb_model.specs.Outcome.{outcome}
+use Rattle.llb_model.specs.Run.{StandsPlainly}
+use Rattle.llb_board.specs.Board.{Seen}
+use Rattle.llbm.specs.TreeText.{tree_text}
+use Rattle.llbm.specs.Answer.{Yields, YieldsNone, IsRefused, YieldsPart}
+use Rattle.llbm.specs.declared.fault.ProgramFault.{ProgramFault}
+use Rattle.llbm.specs.declared.fault.ProgramFault.TheVariants.{Refused, Loading}
+use Rattle.llbm.specs.declared.tree_text.PrintFault.{PrintFault}
+use Rattle.llb_loader.specs.declared.fault.LoadFault.{LoadFault}
+use Rattle.llb_loader.specs.Faults.{is_memory}
+
+-- how a fault of the loader is passed on
+abbrev pub passed_on : LoadFault → ProgramFault
+passed_on e = if is_memory e then Loading else Refused e
+
+-- a tree's text is out, or a front of it
+abbrev pub PrintsOut : Option (List ℕ) → Option (List ℕ) → List ℕ → Result (Unit {0}) PrintFault → Type 0
+PrintsOut out out' text (Ok u) = Appends out out' text
+PrintsOut out out' text (Err e) = PartOut out out' text
+
+-- a fault that refuses the input
+abbrev pub IsRefusal : ProgramFault → Type 0
+IsRefusal (Refused e) = ⊤
+IsRefusal _ = ⊥
+
+-- a refusal of the input stands only where the input is refused
+abbrev pub TellsRefusal : Option (List ℕ) → ProgramFault → Type 0
+TellsRefusal input e = IsRefusal e → IfSome input IsRefused
+
+-- the graph of the input, or why there is none
+abbrev pub Loads : Option (List ℕ) → Result Numbered ProgramFault → Type 0
+Loads input (Ok g) = IfSome input (λ bytes. IsGraphIn bytes g)
+Loads input (Err e) = TellsRefusal input e
+
+-- a board on which every vertex of the graph stands as its plain outcome
+pub record IsFinished (g : Numbered) (b : Seen) : Type 0 where
+  pub graph : b.graph ≡ g
+  pub plain : (v : ℕ) → v < length g.vertices → StandsPlainly (slice_get b.state.statuses v) (outcome g v)
+
+-- a tree is out where there is one
+abbrev pub Shows : Option (List ℕ) → Option (List ℕ) → Option TreeMap → Result Bool ProgramFault → Type 0
+Shows out out' tree (Ok true) = (t : TreeMap) × (tree ≡ Some t) × Appends out out' (tree_text t)
+Shows out out' tree (Ok false) = (tree ≡ None) × Keeps out out'
+Shows out out' tree (Err e) = (¬ IsRefusal e) × ((t : TreeMap) × (tree ≡ Some t) × PartOut out out' (tree_text t))
+
+-- the text is out; or the result is no tree, or a fault stands, and at most a front of the text is out
+abbrev pub Answers : {B : Type 0} → Option (List ℕ) → Option (List ℕ) → Option (List ℕ) → Result (Option B) ProgramFault → Type 0
+Answers input out out' (Ok None) = IfSome input (λ bytes. (text : List ℕ) × Yields bytes text × Appends out out' text)
+Answers input out out' (Ok (Some b)) = Keeps out out' × IfSome input YieldsNone
+Answers input out out' (Err e) = (Keeps out out' × TellsRefusal input e) ⊎ ((¬ IsRefusal e) × IfSome input (YieldsPart out out'))

@@ -1,0 +1,57 @@
+-- The text of a tree: one line for each entry in path order.
+use Rattle.std.specs.Prelude.{◌≡◌, ℕ, ◌/◌, ◌%◌, List, [], ◌∷◌, ◌++◌, codes, Option, Result, Ok, Err, Bool, true, false}
+use Rattle.std.specs.List.{flat_map}
+use Rattle.std.specs.Fmt.{decimal}
+use Rattle.std.specs.FinMap as finite
+use Rattle.std.specs.Io.KnownBytes.{Appends}
+use Rattle.hex.specs.Hex.{encode_lower}
+use Rattle.llb_wire.specs.Answer as answer
+use Rattle.llb_wire.specs.Sink.{PartOut}
+use Rattle.llb_tree.specs.Tree.{Entry, Dir, File, MetaValue, TreeMap}
+use Rattle.llbm.specs.declared.tree_text.PrintFault.{PrintFault}
+use Rattle.llbm.specs.declared.tree_text.PrintFault.TheVariants.{Memory, Write}
+
+-- four octal digits
+abbrev pub octal : ℕ → List ℕ
+octal mode = decimal (mode / 512) ++ (decimal (mode / 64 % 8) ++ (decimal (mode / 8 % 8) ++ decimal (mode % 8)))
+
+abbrev pub meta_text : MetaValue → List ℕ
+meta_text m = octal m.mode ++ (codes " " ++ (decimal m.uid ++ (codes " " ++ (decimal m.gid ++ codes " "))))
+
+-- hexadecimal digits, a dash for none
+abbrev pub content_text : List ℕ → List ℕ
+content_text [] = codes "-"
+content_text (b ∷ content) = encode_lower (b ∷ content)
+
+-- a slash before each name, one alone for the root
+abbrev pub names_text : List (List ℕ) → List ℕ
+names_text p = flat_map (λ name. codes "/" ++ name) p
+
+abbrev pub path_text : List (List ℕ) → List ℕ
+path_text [] = codes "/"
+path_text (n ∷ p) = names_text (n ∷ p)
+
+abbrev pub line_of : List (List ℕ) → Entry → List ℕ
+line_of p (Dir m) = codes "d " ++ (meta_text m ++ (path_text p ++ codes "\n"))
+line_of p (File m content) = codes "f " ++ (meta_text m ++ (content_text content ++ (codes " " ++ (path_text p ++ codes "\n"))))
+
+-- the lines of some entries
+abbrev pub lines_of : List (List (List ℕ) × Entry) → List ℕ
+lines_of entries = flat_map (λ e. line_of e.0 e.1) entries
+
+-- all paths of the tree, in path order
+abbrev pub tree_text : TreeMap → List ℕ
+tree_text t = lines_of (finite.entries t)
+
+abbrev pub is_memory : PrintFault → Bool
+is_memory Memory = true
+is_memory Write = false
+
+abbrev pub Gives : {X Y : Type 0} → (X → Y) → Result X PrintFault → Result Y PrintFault → Type 0
+Gives = answer.Gives is_memory
+
+-- the whole text is out; or a front of it, where memory was refused or the writer failed
+abbrev pub Prints : Option (List ℕ) → Option (List ℕ) → Bool → List ℕ → Result (Unit {0}) PrintFault → Type 0
+Prints taken taken' failed' text (Ok u) = Appends taken taken' text
+Prints taken taken' failed' text (Err Memory) = PartOut taken taken' text
+Prints taken taken' failed' text (Err Write) = (failed' ≡ true) × PartOut taken taken' text

@@ -1,0 +1,110 @@
+//! One driver: the chosen events, one after another, on the caller's own thread, until the run is complete.
+
+ghost use Rattle.std.specs.Prelude.{◌≡◌, ◌<◌, ℕ, None, [], length, slice_get, slice_index, suc, IfNone, true};
+ghost use Rattle.std.specs.Bool.{OnTrue, OnFalse};
+ghost use Rattle.llb_model.specs.Table.{Claim, Step, Settle};
+ghost use Rattle.llb_board.specs.Views.{event_of};
+ghost use Rattle.llb_model.specs.Outcome.{outcome};
+ghost use Rattle.llb_model.specs.Run.{chosen, is_complete, claims_of, AreAscending, StandsPlainly};
+ghost use Rattle.llbm.specs.Alone.{Takes, Goes, MadeBy};
+
+use llb_board::laws::{chosen_until_complete, complete_is_plain};
+use llb_board::{Board, Event};
+use thiserror::Error;
+
+/// Why a run ended before it was complete.
+#[derive(Clone, Copy, Debug, PartialEq, Eq, Error)]
+pub enum RunFault {
+    /// 151: memory was refused.
+    #[error("151")]
+    Memory,
+}
+
+/// How a run ended: the board, the number of events that each worker made, and the fault, none only where the board is
+/// complete.
+#[derive(Drop)]
+pub struct RunEnd {
+    pub board: Board,
+    pub made: [u64; 64],
+    pub fault: Option<RunFault>,
+}
+
+fn claims(board: &mut Board, w: u32, v: u32) -> bool
+    ensures taken { OnTrue result (Takes board.old (Claim w v) board.new) }
+    ensures kept { OnFalse result (board.new ≡ board.old) }
+{
+    board.claim(w, v).is_ok()
+}
+
+fn steps(board: &mut Board, w: u32) -> bool
+    ensures taken { OnTrue result (Takes board.old (Step w) board.new) }
+    ensures kept { OnFalse result (board.new ≡ board.old) }
+{
+    board.step(w).is_ok()
+}
+
+fn settles(board: &mut Board, w: u32) -> bool
+    ensures taken { OnTrue result (Takes board.old (Settle w) board.new) }
+    ensures kept { OnFalse result (board.new ≡ board.old) }
+{
+    board.settle(w).is_ok()
+}
+
+// Does one event; where that is refused, the board is as before.
+fn do_event(board: &mut Board, event: Event) -> bool
+    ensures taken { OnTrue result (Takes board.old (event_of event) board.new) }
+    ensures kept { OnFalse result (board.new ≡ board.old) }
+{
+    match event {
+        Event::Claim(w, v) => claims(board, w, v),
+        Event::Step(w) => steps(board, w),
+        Event::Settle(w) => settles(board, w),
+    }
+}
+
+// Does the chosen events until none is left, or one is refused, and tells whether none is left.
+fn go_alone(board: &mut Board) -> bool
+    ensures goes { Goes board.old board.new }
+    ensures ends { OnTrue result (chosen board.new.graph board.new.state ≡ None) }
+    ensures claims { board.old.events ≡ [] → AreAscending (claims_of board.new.events) }
+{
+    while let Some(event) = board.chosen() {
+        board.is_graph();
+        board.replays();
+        if !do_event(board, event) {
+            return false;
+        }
+        let _ = board.events();
+    }
+    true
+}
+
+// All events are the first worker's.
+fn made_by_first(count: u64) -> [u64; 64]
+    ensures first { slice_index result 0 ≡ count }
+    ensures others { (w : ℕ) → slice_index result (suc w) ≡ 0 }
+{
+    let mut made = [0; 64];
+    made[0] = count;
+    made
+}
+
+/// Does the chosen events until the board is complete; 151 where memory is refused. All events are the first worker's.
+/// On a complete board every vertex stands as its plain outcome.
+pub fn run_alone(board: Board) -> RunEnd
+    ensures goes { Goes board result.board }
+    ensures ends { IfNone result.fault (is_complete result.board.graph result.board.state ≡ true) }
+    ensures claims { board.events ≡ [] → AreAscending (claims_of result.board.events) }
+    ensures plain { result.fault ≡ None → (v : ℕ) → v < length result.board.graph.vertices
+        → StandsPlainly (slice_get result.board.state.statuses v) (outcome result.board.graph v) }
+    ensures made { MadeBy board result.board result.made }
+{
+    let mut board = board;
+    let before = board.events().len();
+    let whole = go_alone(&mut board);
+    let made = made_by_first((board.events().len() - before) as u64);
+    chosen_until_complete(&board);
+    complete_is_plain(&board);
+    let fault = if whole { None } else { Some(RunFault::Memory) };
+    RunEnd { board, made, fault }
+}

@@ -1,0 +1,165 @@
+//! From the bytes of a definition to the text of its result: read, load, open a board, do the chosen events, print.
+
+ghost use Rattle.std.specs.Prelude.{◌≡◌, ◌⊎◌, IfOk, IfErr};
+ghost use Rattle.llb_model.specs.Outcome.{output_in};
+ghost use Rattle.llb_model.specs.State.{ending_at};
+ghost use Rattle.llbm.specs.Answer.{Runs};
+ghost use Rattle.llbm.specs.TreeText.{tree_text};
+ghost use Rattle.llbm.specs.Running.{passed_on, PrintsOut, Loads, IsFinished, IsRefusal, Shows, Answers};
+
+use crate::alone::{RunEnd, run_alone};
+use crate::bounded::{ReadFault, read_bounded};
+use crate::fault::ProgramFault;
+use crate::tree_text::{PrintFault, print_tree};
+use llb_board::{Board, Status};
+use llb_loader::{Edge, Graph, LoadFault, load};
+use llb_ops::OpFault;
+use llb_tree::Tree;
+use llb_wire::Over;
+use std::alloc::Global;
+use std::io;
+use std::io::{Read, Write};
+
+const LIMIT: usize = 67_108_864;
+
+const READS: u64 = 134_217_728;
+
+// A refusal by the loader is one of the program; want of memory is not.
+fn passed_on(fault: LoadFault) -> ProgramFault
+    ensures { result ≡ passed_on fault }
+{
+    match fault {
+        LoadFault::Memory => ProgramFault::Loading,
+        _ => ProgramFault::Refused(fault),
+    }
+}
+
+// Reads the definition and loads it.
+fn loaded<R: Read>(alloc: Global, input: &mut R) -> Result<Graph, ProgramFault>
+    ensures { Loads (R.remaining input.old) result }
+{
+    match read_bounded(alloc, input, LIMIT, READS) {
+        Err(ReadFault::TooLong) => Err(ProgramFault::Refused(LoadFault::Definition(
+            OpFault::OverLimit,
+        ))),
+        Err(ReadFault::Read) => Err(ProgramFault::Read),
+        Err(ReadFault::Memory) => Err(ProgramFault::Memory),
+        Ok(bytes) => match load(alloc, &bytes) {
+            Ok(graph) => Ok(graph),
+            Err(fault) => Err(passed_on(fault)),
+        },
+    }
+}
+
+// Runs the graph to its end.
+fn finished(alloc: Global, graph: Graph) -> Result<Board, ProgramFault>
+    ensures board { IfOk result (IsFinished graph) }
+    ensures fault { IfErr result (λ e. ¬ IsRefusal e) }
+{
+    let board = match Board::open(alloc, graph, 1) {
+        Ok(board) => board,
+        Err(_) => return Err(ProgramFault::Opening),
+    };
+    let RunEnd { board, fault, .. } = run_alone(board);
+    match fault {
+        None => Ok(board),
+        Some(fault) => Err(ProgramFault::Run(fault)),
+    }
+}
+
+// Writes the text of a tree to a writer.
+fn print_over<W: Write>(alloc: Global, tree: &Tree, out: &mut W) -> Result<(), PrintFault>
+    ensures { PrintsOut (W.contents out.old) (W.contents out.new) (tree_text tree.now) result }
+{
+    let mut sink = Over::new(out);
+    print_tree(alloc, tree, &mut sink)
+}
+
+// Writes the text of the result, where it is a tree, and tells whether it is.
+fn print_result<W: Write>(
+    alloc: Global,
+    board: &Board,
+    edge: Edge,
+    out: &mut W,
+) -> Result<bool, ProgramFault>
+    ensures { Shows (W.contents out.old) (W.contents out.new) (output_in (ending_at board.now.state.statuses edge.vertex) edge.index) result }
+{
+    let Some(tree) = board.output(edge.vertex, edge.index) else {
+        return Ok(false);
+    };
+    match print_over(alloc, tree, out) {
+        Ok(()) => Ok(true),
+        Err(fault) => Err(ProgramFault::Print(fault)),
+    }
+}
+
+// The whole way; a board comes back where the result is no tree.
+fn answer<R: Read, W: Write>(
+    alloc: Global,
+    input: &mut R,
+    out: &mut W,
+) -> Result<Option<Board>, ProgramFault>
+    ensures { Answers (R.remaining input.old) (W.contents out.old) (W.contents out.new) result }
+{
+    let graph = loaded(alloc, input)?;
+    graph.is_graph();
+    let edge = graph.result();
+    let board = finished(alloc, graph)?;
+    match print_result(alloc, &board, edge, out) {
+        Ok(true) => Ok(None),
+        Ok(false) => Ok(Some(board)),
+        Err(fault) => Err(fault),
+    }
+}
+
+// A line for each vertex that failed, by number.
+fn failures<E: Write>(board: &Board, err: &mut E) -> io::Result<()> {
+    for v in 0..u32::MAX {
+        match board.status(v) {
+            None => return Ok(()),
+            Some(Status::Failed(fault)) => writeln!(err, "failed {v} {fault}")?,
+            Some(_) => {}
+        }
+    }
+    Ok(())
+}
+
+// The status for a fault, once its line is out.
+pub fn refusal<E: Write>(fault: &ProgramFault, err: &mut E) -> u8
+    ensures { result ≡ 3 ⊎ ((result ≡ 2) × IsRefusal fault.now) }
+{
+    if writeln!(err, "fault {fault}").is_err() {
+        return 3;
+    }
+    match fault {
+        ProgramFault::Refused(_) => 2,
+        _ => 3,
+    }
+}
+
+/// Reads a definition from `input`, runs it with one worker, and writes the text of its result to `out`; refusals and
+/// failures go to `err`, a line each. Answers the exit status: 0 where the whole text is out; 1 where a vertex failed; 2
+/// where the definition is refused; 3 where a read, a write or memory failed. But for 0, nothing is written to `out`,
+/// or, for 3, a front of the text. Reading ends past 67,108,864 bytes (`fault 81 13`) or after 2^27 reads (`fault 181`).
+pub fn run_over<R: Read, W: Write, E: Write>(
+    alloc: Global,
+    input: &mut R,
+    out: &mut W,
+    err: &mut E,
+) -> u8
+    ensures { Runs (R.remaining input.old) (W.contents out.old) (W.contents out.new) result }
+{
+    match answer(alloc, input, out) {
+        Ok(None) => match out.flush() {
+            Ok(()) => 0,
+            Err(_) => refusal(&ProgramFault::Print(PrintFault::Write), err),
+        },
+        Ok(Some(board)) => {
+            if failures(&board, err).is_err() {
+                return 3;
+            }
+            1
+        }
+        Err(fault) => refusal(&fault, err),
+    }
+}
