@@ -10,10 +10,10 @@ mod tests;
 pub mod tree_text;
 
 use crate::fault::ProgramFault;
-use crate::run::{refusal, run_over};
+use crate::run::run_over;
 use llb_wire::Text;
 use std::alloc::Global;
-use std::io::BufWriter;
+use std::io::{BufWriter, Write};
 use std::process::ExitCode;
 use std::{env, io};
 
@@ -23,11 +23,20 @@ fn unknown_word(rt: &HostRuntime, alloc: Global) -> io::Result<Option<Text>> {
     Ok(words.next().map(Text::new))
 }
 
+// A word is refused with its line and status 2.
+fn refused<E: Write>(word: Text, err: &mut E) -> u8 {
+    let fault = ProgramFault::Words(word);
+    if writeln!(err, "fault {fault}").is_err() {
+        return 3;
+    }
+    2
+}
+
 fn main(rt: HostRuntime) -> io::Result<ExitCode> {
     let alloc = rt.alloc();
     let mut err = rt.stderr();
     if let Some(word) = unknown_word(&rt, alloc)? {
-        return Ok(ExitCode::from(refusal(&ProgramFault::Words(word), &mut err)));
+        return Ok(ExitCode::from(refused(word, &mut err)));
     }
     let mut input = rt.reader();
     let mut out = BufWriter::new(alloc, io::writer(&rt))?;

@@ -125,7 +125,7 @@ fn failures<E: Write>(board: &Board, err: &mut E) -> io::Result<()> {
 }
 
 // The status for a fault, once its line is out.
-pub fn refusal<E: Write>(fault: &ProgramFault, err: &mut E) -> u8
+fn refusal<E: Write>(fault: &ProgramFault, err: &mut E) -> u8
     ensures { result ≡ 3 ⊎ ((result ≡ 2) × IsRefusal fault.now) }
 {
     if writeln!(err, "fault {fault}").is_err() {
