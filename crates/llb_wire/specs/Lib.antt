@@ -4,3 +4,4 @@ pub mod Reading
 pub mod Records
 pub mod Sink
 pub use Rattle.std.specs.Io.KnownBytes.{Appends, Keeps}
+pub mod Hashing

@@ -4,6 +4,7 @@
 #![tactic(auto)]
 
 mod bytes;
+mod duplicate;
 mod fault;
 mod field;
 mod many;
@@ -13,6 +14,7 @@ mod text;
 mod writing;
 
 pub use bytes::Bytes;
+pub use duplicate::Duplicate;
 pub use fault::{Memory, WireFault};
 pub use field::{Field, Wire};
 pub use many::Many;

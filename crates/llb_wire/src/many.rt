@@ -1,8 +1,9 @@
 //! Lists of a public type, which contracts see as lists.
 
-ghost use Rattle.std.specs.Prelude.{◌≡◌, ◌==◌, length};
+ghost use Rattle.std.specs.Prelude.{◌≡◌, ◌==◌, length, IfOk};
 
-use std::alloc::Global;
+use crate::duplicate::Duplicate;
+use crate::fault::Memory;
 use std::marker::Model;
 
 /// A list that owns its items. Contracts see the list of their values.
@@ -45,15 +46,21 @@ impl<T> Many<T> {
         self.items.is_empty()
     }
 
-    /// The allocator that the list grows by.
-    pub fn allocator(&self) -> Global {
-        *self.items.allocator()
-    }
-
     /// Gives the items back.
     pub fn into_vec(self) -> Vec<T>
         ensures { result.items ≡ self }
     {
         self.items
+    }
+}
+
+impl<T: Duplicate> Duplicate for Many<T> {
+    fn duplicate(&self) -> Result<Many<T>, Memory> {
+        let mut items = Vec::new(*self.items.allocator());
+        for item in &self.items {
+            let copy = item.duplicate()?;
+            items.push(copy)?;
+        }
+        Ok(Many { items })
     }
 }

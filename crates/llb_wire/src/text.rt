@@ -8,6 +8,7 @@ use crate::fault::Memory;
 use std::alloc::Global;
 use std::cmp::Ordering;
 use std::fmt;
+use std::hash::{Hash, Hasher};
 use std::marker::Model;
 
 /// A text in UTF-8 that owns its memory. Contracts see the list of its bytes.
@@ -93,6 +94,19 @@ impl PartialEq for Text {
 
     fn eq(&self, other: &Self) -> bool {
         self.as_str().as_bytes() == other.as_str().as_bytes()
+    }
+}
+
+impl Hash for Text {
+    ghost use Rattle.std.specs.Hash as fed;
+    ghost use Rattle.llb_wire.specs.Hashing.{texts_alike};
+
+    ghost hash_input = { λ t. fed.str t };
+
+    ghost respects_eq = { texts_alike };
+
+    fn hash<H: Hasher>(&self, state: &mut H) {
+        self.as_str().hash(state);
     }
 }
 
