@@ -77,6 +77,10 @@ ok_of x = Ok x
 pub ok_is : {A : Type 0} (x y : A) → ok_of x ≡ ok_of y → x ≡ y
 ok_is x y e = cc
 
+-- what is there is no fault
+pub no_fault : {A : Type 0} (x : A) (e : OpFault) → ok_of x ≡ Err e → ⊥
+no_fault x e h = cc
+
 abbrev pub pair_read : {A B : Type 0} → (List Record → Result A OpFault) → (List Record → Result B OpFault) → List Record → Result (A × B) OpFault
 pair_read f g rs = f rs >>= λ a. (g rs >>= λ b. Ok (a, b))
 
@@ -194,7 +198,7 @@ good_again shape rs h =
     let fit = All-map (IsGood shape) (FitsShape shape) rs (λ r g. g.fits) h in
     rw (parts_again shape rs fit, texts_good shape rs h) refl
 
-all_short : (rs : List Record) → length (spelled rs) < 2 ^ 64 → AllByRecursion IsShort rs
+pub all_short : (rs : List Record) → length (spelled rs) < 2 ^ 64 → AllByRecursion IsShort rs
 all_short [] h = tt
 all_short (r ∷ rs) h = (omega (arith, h, length-append r.text (spelled rs)), all_short rs (omega (arith, h, length-append r.text (spelled rs))))
 

@@ -1,5 +1,7 @@
 pub mod Split
 pub mod Texts
+pub mod EntriesIn
+pub mod Admission
 pub mod Each
 pub mod Members
 pub mod Counts
@@ -11,4 +13,10 @@ pub mod FieldOf
 pub mod Numbers
 pub mod Sorts
 pub mod Choices
+pub mod Copying
+pub mod Settled
+pub mod ExecTrips
+pub mod MergeTrips
+pub mod SourceTrips
 pub mod Trips
+pub mod DefinitionTrips

@@ -12,8 +12,8 @@ use Rattle.llb_wire.specs.Records.{Record}
 use Rattle.llb_ops.specs.declared.fault.OpFault.{OpFault}
 use Rattle.llb_ops.specs.declared.shape.Form.TheVariants as form
 use Rattle.llb_ops.specs.Limits.{field_limit}
-use Rattle.llb_ops.specs.Records.{Shape, form_of, wire_fits, text_ok, all, is_member, number, payload, joined, one, each}
-use Rattle.llb_ops.specs.Writing.{number_field, bytes_field, set_number, set_bytes, message_field, messages_field}
+use Rattle.llb_ops.specs.Records.{Shape, form_of, wire_fits, text_ok, all, is_member, number, payload, payloads, joined, one, each}
+use Rattle.llb_ops.specs.Writing.{number_field, bytes_field, set_number, set_bytes, message_field, messages_field, each_field}
 use Rattle.llb_ops.proofs.Again.{number_part, bytes_part, number_part_is, bytes_part_is, spelled}
 use Rattle.llb_ops.proofs.Kept.{bind_ok}
 use Rattle.llb_ops.proofs.Texts.{last_payload}
@@ -169,6 +169,24 @@ string {shape} {M} n range fits empty =
     (λ xs a good e short. ap (λ b. Ok b) (payload_read n a))
     (λ xs a e w. refl)
 
+pub set_spelled : (n : ℕ) (bytes : List ℕ) → spelled (bytes_part n bytes ∷ []) ≡ set_bytes n bytes
+unfolding set_bytes
+set_spelled n bytes = append-nil _
+
+-- a text or bytes that are written also where they are empty
+abbrev pub set_string : {shape : Shape} {M : Type 0} (n : ℕ) → is_number n ≡ true → wire_fits (form_of shape n) wire.Len ≡ true → text_ok (form_of shape n) [] ≡ true → FieldOf shape M (List ℕ)
+set_string {shape} {M} n range fits empty =
+    plain {shape = shape} {M = M} {A = List ℕ} n (λ xs. Ok (payload xs)) (λ xs k. k (payload xs)) (λ xs. true) (λ a. bytes_part n a ∷ []) (set_bytes n)
+    (λ xs k. refl)
+    (set_spelled n)
+    (λ a. (refl, tt))
+    (λ xs a good e.
+    let texts = All-map (IsOf shape n) (λ r. text_ok (form_of shape n) r.payload ≡ true) xs (λ r h. text_of shape n r h) good in
+    let text : text_ok (form_of shape n) a ≡ true = subst (λ (b : List ℕ). text_ok (form_of shape n) b ≡ true) (ok_is (payload xs) a e) (last_payload (λ b. text_ok (form_of shape n) b ≡ true) xs empty texts) in
+    (bytes_written shape n a range fits text, tt))
+    (λ xs a good e short. refl)
+    (λ xs a e w. refl)
+
 -- ---- messages
 
 -- any bytes may stand in the field
@@ -284,3 +302,63 @@ messages {shape} {W} {M} n read write returns range named =
     (λ xs ms good e. messages_are shape write n ms range named)
     (λ xs ms good e short. messages_back read write n xs ms returns e short)
     (λ xs ms e w. ap (λ k. nat_le k field_limit) (length-map ms (λ m. bytes_part n (write m)) ∙ each_length read xs ms e) ∙ w)
+
+-- ---- texts and byte strings that are repeated
+
+abbrev pub some_strings : ℕ → List (List ℕ) → List Record
+some_strings n items = map (λ bytes. bytes_part n bytes) items
+
+pub strings_own : (n : ℕ) (items : List (List ℕ)) → AllByRecursion (λ r. r.number ≡ n) (some_strings n items)
+strings_own n [] = tt
+strings_own n (a ∷ items) = (refl, strings_own n items)
+
+pub strings_spelled : (n : ℕ) (items : List (List ℕ)) → spelled (some_strings n items) ≡ each_field n items
+unfolding each_field set_bytes
+strings_spelled n [] = refl
+strings_spelled n (a ∷ items) = ap (λ xs. (bytes_part n a).text ++ xs) (strings_spelled n items)
+
+pub strings_are : (shape : Shape) (n : ℕ) (xs : List Record) → is_number n ≡ true → wire_fits (form_of shape n) wire.Len ≡ true → AllByRecursion (IsOf shape n) xs → AllByRecursion (IsWritten shape) (some_strings n (payloads xs))
+strings_are shape n [] range fits good = tt
+strings_are shape n (r ∷ xs) range fits good = (bytes_written shape n r.payload range fits (text_of shape n r good.0), strings_are shape n xs range fits good.1)
+
+pub strings_read : (n : ℕ) (items : List (List ℕ)) → payloads (some_strings n items) ≡ items
+strings_read n [] = refl
+strings_read n (a ∷ items) = ap (λ xs. a ∷ xs) (strings_read n items)
+
+abbrev pub strings : {shape : Shape} {M : Type 0} (n : ℕ) → is_number n ≡ true → wire_fits (form_of shape n) wire.Len ≡ true → FieldOf shape M (List (List ℕ))
+strings {shape} {M} n range fits =
+    plain {shape = shape} {M = M} {A = List (List ℕ)} n (λ xs. Ok (payloads xs)) (λ xs k. k (payloads xs)) (λ xs. nat_le (length xs) field_limit) (some_strings n) (each_field n)
+    (λ xs k. refl)
+    (strings_spelled n)
+    (strings_own n)
+    (λ xs a good e. subst (λ (items : List (List ℕ)). AllByRecursion (IsWritten shape) (some_strings n items)) (ok_is (payloads xs) a e) (strings_are shape n xs range fits good))
+    (λ xs a good e short. ap (λ items. Ok items) (strings_read n a))
+    (λ xs a e w. ap (λ k. nat_le k field_limit) (length-map a (λ bytes. bytes_part n bytes) ∙ ap length (sym (ok_is (payloads xs) a e)) ∙ length-map xs (λ r. r.payload)) ∙ w)
+
+-- ---- what each message of a list was read of
+
+abbrev pub IsRead : {M : Type 0} → (List ℕ → Result M OpFault) → M → Type 0
+IsRead read m = (bytes : List ℕ) × (read bytes ≡ Ok m)
+
+pub each_read : {M : Type 0} (read : List ℕ → Result M OpFault) (xs : List Record) (ms : List M) → each read xs ≡ Ok ms → AllByRecursion (IsRead read) ms
+unfolding each
+each_read read xs [] e = tt
+each_read read [] (m ∷ ms) e = absurd (nothing e) where
+  nothing : {M : Type 0} {m : M} {ms : List M} → ok_of {A = List M} [] ≡ ok_of (m ∷ ms) → ⊥
+  nothing e = cc
+each_read read (x ∷ xs) (m ∷ ms) e =
+    let a = bind_ok (read x.payload) (λ m. (each read xs >>= λ ms. Ok (m ∷ ms))) (m ∷ ms) e in
+    let b = bind_ok (each read xs) (λ ms. Ok (a.0 ∷ ms)) (m ∷ ms) a.2 in
+    let is = ok_is (a.0 ∷ b.0) (m ∷ ms) b.2 in
+    ((x.payload, a.1 ∙ ap (λ y. Ok y) (head_is a.0 m b.0 ms is)), each_read read xs ms (b.1 ∙ ap (λ y. Ok y) (tail_is a.0 m b.0 ms is))) where
+      head_is : {M : Type 0} (x y : M) (xs ys : List M) → x ∷ xs ≡ y ∷ ys → x ≡ y
+      head_is x y xs ys e = cc
+
+      tail_is : {M : Type 0} (x y : M) (xs ys : List M) → x ∷ xs ≡ y ∷ ys → xs ≡ ys
+      tail_is x y xs ys e = cc
+
+pub each_back : {M : Type 0} (read : List ℕ → Result M OpFault) (write : M → List ℕ) (n : ℕ) (ms : List M) → Returns read write → AllByRecursion (IsRead read) ms → AllByRecursion IsShort (some_messages write n ms) → each read (some_messages write n ms) ≡ Ok ms
+unfolding each
+each_back read write n [] returns from short = refl
+each_back read write n (m ∷ ms) returns from short =
+    rw (message_short read write n m from.0 returns short.0, each_back read write n ms returns from.1 short.1) refl

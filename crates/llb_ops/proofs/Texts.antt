@@ -1,5 +1,5 @@
 -- Whether bytes are a text, and that the texts of a message are.
-use Rattle.std.proofs.Common.{◌≡◌, ℕ, suc, ◌-◌, Bool, true, false, eqb, List, [], ◌∷◌, length, Option, Some, refl, sym, ap, subst, arith}
+use Rattle.std.proofs.Common.{◌≡◌, ℕ, zero, suc, ◌-◌, ◌<◌, Bool, true, false, eqb, List, [], ◌∷◌, length, get_or, Option, Some, refl, sym, ap, subst, arith}
 use Rattle.std.specs.Prelude.{slice_get, ◌&&◌}
 use Rattle.std.specs.Option.{option_map_or}
 use Rattle.std.specs.Str.{IsUtf8, is_utf8}
@@ -9,7 +9,8 @@ use Rattle.std.proofs.lemmas.Str.{IsUtf8-from_is_utf8, is_utf8-from_IsUtf8}
 use Rattle.llb_wire.specs.Records.{Record}
 use Rattle.llb_ops.specs.declared.shape.Form.{Form}
 use Rattle.llb_ops.specs.declared.shape.Form.TheVariants as form
-use Rattle.llb_ops.specs.Records.{Shape, form_of, text_ok, text_fits, texts_fit, all, last_of, payload}
+use Rattle.llb_ops.specs.declared.records.Record.{Record as Held}
+use Rattle.llb_ops.specs.Records.{Shape, view, views, form_of, text_ok, text_fits, texts_fit, all, last_of, payload}
 
 pub utf8_true : (bytes : List ℕ) → IsUtf8 bytes → is_utf8 bytes ≡ true
 utf8_true bytes h = is_utf8-from_IsUtf8 bytes h
@@ -58,3 +59,14 @@ empty_utf8 = is_utf8-from_IsUtf8 [] ([], (refl, refl))
 
 pub text_is_utf8 : (shape : Shape) (n : ℕ) (rs : List Record) → form_of shape n ≡ Some form.Text → texts_fit shape rs ≡ true → is_utf8 (payload (all n rs)) ≡ true
 text_is_utf8 shape n rs named fit = last_payload (λ bytes. is_utf8 bytes ≡ true) (all n rs) empty_utf8 (texts_of shape n rs named fit)
+
+-- the record at a place of a field of texts is UTF-8
+pub text_at : (shape : Shape) (n : ℕ) (rs : List Held) (i : ℕ) (d : Held) → i < length rs → (get_or rs i d).number ≡ n → form_of shape n ≡ Some form.Text → texts_fit shape (views rs) ≡ true → is_utf8 (get_or rs i d).payload.now ≡ true
+text_at shape n [] i d lt e named fit = absurd (omega (arith, lt))
+text_at shape n (r ∷ rs) zero d lt e named fit =
+    let both = and_both (text_fits shape (view r)) (texts_fit shape (views rs)) fit in
+    let text : form_of shape r.number ≡ Some form.Text = subst (λ (k : ℕ). form_of shape k ≡ Some form.Text) (sym e) named in
+    subst (λ (o : Option Form). text_ok o r.payload.now ≡ true) text both.0
+text_at shape n (r ∷ rs) (suc i) d lt e named fit =
+    let both = and_both (text_fits shape (view r)) (texts_fit shape (views rs)) fit in
+    text_at shape n rs i d (omega (arith, lt)) e named both.1

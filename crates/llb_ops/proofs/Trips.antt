@@ -17,21 +17,26 @@ use Rattle.llb_ops.specs.declared.file.ActionKind.{ActionKind}
 use Rattle.llb_ops.specs.declared.file.ActionKind.TheVariants as action
 use Rattle.llb_ops.specs.declared.file.MkFile.{MkFile}
 use Rattle.llb_ops.specs.declared.file.MkDir.{MkDir}
+use Rattle.llb_ops.specs.declared.file.CopyFile.{CopyFile}
+use Rattle.llb_ops.specs.declared.file.Rm.{Rm}
 use Rattle.llb_ops.specs.declared.file.ChownOpt.{ChownOpt}
 use Rattle.llb_ops.specs.declared.file.UserOpt.{UserOpt}
 use Rattle.llb_ops.specs.declared.file.User.{User}
 use Rattle.llb_ops.specs.declared.file.User.TheVariants.{ByName, ById}
 use Rattle.llb_ops.specs.Records.{int64, int32, uint32, flag, number, joined, is_member, one_of}
-use Rattle.llb_ops.specs.Messages.{input_shape, input_of, users, user_of, user_opt_shape, user_opt_of, chown_opt_shape, chown_opt_of, mk_file_shape, mk_file_of, mk_dir_shape, mk_dir_of, action_shape, action_kinds, action_kind_of, action_of, file_op_shape, file_op_of, op_shape, kinds, kind_of, op_message_of, op_of}
+use Rattle.llb_ops.specs.Messages.{input_shape, input_of, users, user_of, user_opt_shape, user_opt_of, chown_opt_shape, chown_opt_of, mk_file_shape, mk_file_of, mk_dir_shape, mk_dir_of, copy_file_shape, copy_file_of, copy_file_with, rm_shape, rm_of, action_shape, action_kinds, action_kind_of, action_of, file_op_shape, file_op_of, exec_op_of, source_op_of, merge_op_of, op_shape, kinds, kind_of, op_message_of, op_of}
 use Rattle.llb_ops.specs.Limits.{entry_limit}
 use Rattle.llb_ops.specs.Laws.{IsReadAgain}
-use Rattle.llb_ops.specs.Writing.{bit, input_bytes, user_bytes, user_opt_bytes, chown_opt_bytes, mk_file_bytes, mk_dir_bytes, action_kind_bytes, action_bytes, file_op_bytes, kind_bytes, op_bytes, set_bytes, set_number}
+use Rattle.llb_ops.specs.Writing.{bit, input_bytes, user_bytes, user_opt_bytes, chown_opt_bytes, mk_file_bytes, mk_dir_bytes, copy_file_bytes, rm_bytes, exec_op_bytes, source_op_bytes, merge_op_bytes, action_kind_bytes, action_bytes, file_op_bytes, kind_bytes, op_bytes, set_bytes, set_number}
 use Rattle.llb_ops.proofs.Again.{number_part, bytes_part}
 use Rattle.llb_ops.proofs.Kept.{bind_ok}
 use Rattle.llb_ops.proofs.Texts.{empty_utf8}
 use Rattle.llb_ops.proofs.Numbers.{from_signed, int64_recodes, int32_recodes, flag_recodes}
 use Rattle.llb_ops.proofs.FieldOf.{IsShort, IsWritten, FieldOf, Returns, end, both, returns_by, ok_is}
-use Rattle.llb_ops.proofs.Sorts.{numeric, string, message, messages, message_short, bytes_written, number_written}
+use Rattle.llb_ops.proofs.Sorts.{numeric, string, strings, message, messages, message_short, bytes_written, number_written, IsRead}
+use Rattle.llb_ops.proofs.ExecTrips.{exec_op_returns}
+use Rattle.llb_ops.proofs.MergeTrips.{merge_op_returns}
+use Rattle.llb_ops.proofs.SourceTrips.{source_op_returns}
 use Rattle.llb_ops.proofs.Choices.{choice}
 
 abbrev input_fields : FieldOf input_shape Input (List ℕ × (ℤ × Unit {0}))
@@ -130,30 +135,66 @@ pub mk_dir_returns : Returns mk_dir_of mk_dir_bytes
 unfolding mk_dir_of mk_dir_bytes
 mk_dir_returns = returns_by mk_dir_fields mk_dir_made mk_dir_of mk_dir_bytes refl (λ bytes. refl) (λ a extra. refl)
 
+abbrev copy_file_fields : FieldOf copy_file_shape CopyFile (List ℕ × (List ℕ × (Option ChownOpt × (ℤ × (Bool × (Bool × (Bool × (Bool × (Bool × (Bool × (ℤ × (List (List ℕ) × (List (List ℕ) × Unit {0})))))))))))))
+copy_file_fields =
+    both (string 1 refl refl empty_utf8)
+    (both (string 2 refl refl empty_utf8)
+    (both (message 3 chown_opt_of chown_opt_bytes chown_opt_returns refl refl)
+    (both (numeric 4 int32 from_signed int32_recodes refl refl)
+    (both (numeric 5 flag bit flag_recodes refl refl)
+    (both (numeric 6 flag bit flag_recodes refl refl)
+    (both (numeric 7 flag bit flag_recodes refl refl)
+    (both (numeric 8 flag bit flag_recodes refl refl)
+    (both (numeric 9 flag bit flag_recodes refl refl)
+    (both (numeric 10 flag bit flag_recodes refl refl)
+    (both (numeric 11 int64 from_signed int64_recodes refl refl)
+    (both (strings 12 refl refl)
+    (both (strings 13 refl refl) end refl) refl) refl) refl) refl) refl) refl) refl) refl) refl) refl) refl) refl
+
+abbrev copy_file_made : List ℕ × (List ℕ × (Option ChownOpt × (ℤ × (Bool × (Bool × (Bool × (Bool × (Bool × (Bool × (ℤ × (List (List ℕ) × (List (List ℕ) × Unit {0})))))))))))) → List ℕ → CopyFile
+copy_file_made a extra = record { src = a.0; dest = a.1.0; owner = a.1.1.0; mode = a.1.1.1.0; follow_symlink = a.1.1.1.1.0; dir_copy_contents = a.1.1.1.1.1.0; attempt_unpack_docker_compatibility = a.1.1.1.1.1.1.0; create_dest_path = a.1.1.1.1.1.1.1.0; allow_wildcard = a.1.1.1.1.1.1.1.1.0; allow_empty_wildcard = a.1.1.1.1.1.1.1.1.1.0; timestamp = a.1.1.1.1.1.1.1.1.1.1.0; include_patterns = a.1.1.1.1.1.1.1.1.1.1.1.0; exclude_patterns = a.1.1.1.1.1.1.1.1.1.1.1.1.0; extra = extra }
+
+pub copy_file_returns : Returns copy_file_of copy_file_bytes
+unfolding copy_file_of copy_file_with copy_file_bytes
+copy_file_returns = returns_by copy_file_fields copy_file_made copy_file_of copy_file_bytes refl (λ bytes. refl) (λ a extra. refl)
+
+abbrev rm_fields : FieldOf rm_shape Rm (List ℕ × (Bool × (Bool × Unit {0})))
+rm_fields =
+    both (string 1 refl refl empty_utf8)
+    (both (numeric 2 flag bit flag_recodes refl refl)
+    (both (numeric 3 flag bit flag_recodes refl refl) end refl) refl) refl
+
+abbrev rm_made : List ℕ × (Bool × (Bool × Unit {0})) → List ℕ → Rm
+rm_made a extra = record { path = a.0; allow_not_found = a.1.0; allow_wildcard = a.1.1.0; extra = extra }
+
+pub rm_returns : Returns rm_of rm_bytes
+unfolding rm_of rm_bytes
+rm_returns = returns_by rm_fields rm_made rm_of rm_bytes refl (λ bytes. refl) (λ a extra. refl)
+
 abbrev action_record : ActionKind → Record
-action_record (action.Copy bytes) = bytes_part 4 bytes
+action_record (action.Copy m) = bytes_part 4 (copy_file_bytes m)
 action_record (action.MkFile m) = bytes_part 5 (mk_file_bytes m)
 action_record (action.MkDir m) = bytes_part 6 (mk_dir_bytes m)
-action_record (action.Rm bytes) = bytes_part 7 bytes
+action_record (action.Rm m) = bytes_part 7 (rm_bytes m)
 
 action_text : (a : ActionKind) → (action_record a).text ≡ action_kind_bytes a
 unfolding action_kind_bytes set_bytes
-action_text (action.Copy bytes) = refl
+action_text (action.Copy m) = refl
 action_text (action.MkFile m) = refl
 action_text (action.MkDir m) = refl
-action_text (action.Rm bytes) = refl
+action_text (action.Rm m) = refl
 
 action_own : (a : ActionKind) → is_member action_kinds (action_record a) ≡ true
-action_own (action.Copy bytes) = refl
+action_own (action.Copy m) = refl
 action_own (action.MkFile m) = refl
 action_own (action.MkDir m) = refl
-action_own (action.Rm bytes) = refl
+action_own (action.Rm m) = refl
 
 abbrev ActionRead : ActionKind → Type 0
-ActionRead (action.Copy bytes) = Unit {0}
-ActionRead (action.MkFile m) = (bytes : List ℕ) × (mk_file_of bytes ≡ Ok m)
-ActionRead (action.MkDir m) = (bytes : List ℕ) × (mk_dir_of bytes ≡ Ok m)
-ActionRead (action.Rm bytes) = Unit {0}
+ActionRead (action.Copy m) = IsRead copy_file_of m
+ActionRead (action.MkFile m) = IsRead mk_file_of m
+ActionRead (action.MkDir m) = IsRead mk_dir_of m
+ActionRead (action.Rm m) = IsRead rm_of m
 
 -- a member that is a message is what the message's bytes are read as
 of_message : {M A : Type 0} (P : A → Type 0) (read : List ℕ → Result M OpFault) (make : M → A) (bytes : List ℕ) (a : A) → (read bytes >>= λ m. Ok (make m)) ≡ Ok a → ((m : M) → read bytes ≡ Ok m → P (make m)) → P a
@@ -162,26 +203,26 @@ of_message P read make bytes a e h =
     subst P (ok_is (make m.0) a m.2) (h m.0 m.1)
 
 action_cases : (b4 b5 b6 : Bool) (bytes : List ℕ) (a : ActionKind)
-    → cond {A = Result ActionKind OpFault} b4 (Ok (action.Copy bytes)) (cond b5 (mk_file_of bytes >>= λ m. Ok (action.MkFile m)) (cond b6 (mk_dir_of bytes >>= λ m. Ok (action.MkDir m)) (Ok (action.Rm bytes)))) ≡ Ok a → ActionRead a
-action_cases true b5 b6 bytes a e = subst ActionRead (ok_is (action.Copy bytes) a e) tt
+    → cond {A = Result ActionKind OpFault} b4 (copy_file_of bytes >>= λ m. Ok (action.Copy m)) (cond b5 (mk_file_of bytes >>= λ m. Ok (action.MkFile m)) (cond b6 (mk_dir_of bytes >>= λ m. Ok (action.MkDir m)) (rm_of bytes >>= λ m. Ok (action.Rm m)))) ≡ Ok a → ActionRead a
+action_cases true b5 b6 bytes a e = of_message ActionRead copy_file_of (λ m. action.Copy m) bytes a e (λ m h. (bytes, h))
 action_cases false true b6 bytes a e = of_message ActionRead mk_file_of (λ m. action.MkFile m) bytes a e (λ m h. (bytes, h))
 action_cases false false true bytes a e = of_message ActionRead mk_dir_of (λ m. action.MkDir m) bytes a e (λ m h. (bytes, h))
-action_cases false false false bytes a e = subst ActionRead (ok_is (action.Rm bytes) a e) tt
+action_cases false false false bytes a e = of_message ActionRead rm_of (λ m. action.Rm m) bytes a e (λ m h. (bytes, h))
 
 action_from : (n : ℕ) (xs : List Record) (a : ActionKind) → action_kind_of n xs ≡ Ok a → ActionRead a
 action_from n xs a e = action_cases (n == 4) (n == 5) (n == 6) (joined xs) a e
 
 action_written : (a : ActionKind) → IsWritten action_shape (action_record a)
-action_written (action.Copy bytes) = bytes_written action_shape 4 bytes refl refl refl
+action_written (action.Copy m) = bytes_written action_shape 4 (copy_file_bytes m) refl refl refl
 action_written (action.MkFile m) = bytes_written action_shape 5 (mk_file_bytes m) refl refl refl
 action_written (action.MkDir m) = bytes_written action_shape 6 (mk_dir_bytes m) refl refl refl
-action_written (action.Rm bytes) = bytes_written action_shape 7 bytes refl refl refl
+action_written (action.Rm m) = bytes_written action_shape 7 (rm_bytes m) refl refl refl
 
 action_again : (a : ActionKind) → ActionRead a → IsShort (action_record a) → one_of action_kinds action_kind_of (action_record a ∷ []) ≡ Ok (Some a)
-action_again (action.Copy bytes) h short = ap (λ b. Ok (Some (action.Copy b))) (append-nil bytes)
+action_again (action.Copy m) h short = rw (append-nil (copy_file_bytes m), message_short copy_file_of copy_file_bytes 4 m h copy_file_returns short) refl
 action_again (action.MkFile m) h short = rw (append-nil (mk_file_bytes m), message_short mk_file_of mk_file_bytes 5 m h mk_file_returns short) refl
 action_again (action.MkDir m) h short = rw (append-nil (mk_dir_bytes m), message_short mk_dir_of mk_dir_bytes 6 m h mk_dir_returns short) refl
-action_again (action.Rm bytes) h short = ap (λ b. Ok (Some (action.Rm b))) (append-nil bytes)
+action_again (action.Rm m) h short = rw (append-nil (rm_bytes m), message_short rm_of rm_bytes 7 m h rm_returns short) refl
 
 abbrev action_fields : FieldOf action_shape Action (ℤ × (ℤ × (ℤ × (Option ActionKind × Unit {0}))))
 action_fields =
@@ -212,64 +253,64 @@ file_op_returns = returns_by file_op_fields file_op_made file_op_of file_op_byte
 -- ---- ops
 
 abbrev kind_record : Kind → Record
-kind_record (Exec bytes) = bytes_part 2 bytes
-kind_record (Source bytes) = bytes_part 3 bytes
+kind_record (Exec m) = bytes_part 2 (exec_op_bytes m)
+kind_record (Source m) = bytes_part 3 (source_op_bytes m)
 kind_record (File m) = bytes_part 4 (file_op_bytes m)
 kind_record (Build bytes) = bytes_part 5 bytes
-kind_record (Merge bytes) = bytes_part 6 bytes
+kind_record (Merge m) = bytes_part 6 (merge_op_bytes m)
 kind_record (Diff bytes) = bytes_part 7 bytes
 
 kind_text : (a : Kind) → (kind_record a).text ≡ kind_bytes a
 unfolding kind_bytes set_bytes
-kind_text (Exec bytes) = refl
-kind_text (Source bytes) = refl
+kind_text (Exec m) = refl
+kind_text (Source m) = refl
 kind_text (File m) = refl
 kind_text (Build bytes) = refl
-kind_text (Merge bytes) = refl
+kind_text (Merge m) = refl
 kind_text (Diff bytes) = refl
 
 kind_own : (a : Kind) → is_member kinds (kind_record a) ≡ true
-kind_own (Exec bytes) = refl
-kind_own (Source bytes) = refl
+kind_own (Exec m) = refl
+kind_own (Source m) = refl
 kind_own (File m) = refl
 kind_own (Build bytes) = refl
-kind_own (Merge bytes) = refl
+kind_own (Merge m) = refl
 kind_own (Diff bytes) = refl
 
 abbrev KindRead : Kind → Type 0
-KindRead (Exec bytes) = Unit {0}
-KindRead (Source bytes) = Unit {0}
-KindRead (File m) = (bytes : List ℕ) × (file_op_of bytes ≡ Ok m)
+KindRead (Exec m) = IsRead exec_op_of m
+KindRead (Source m) = IsRead source_op_of m
+KindRead (File m) = IsRead file_op_of m
 KindRead (Build bytes) = Unit {0}
-KindRead (Merge bytes) = Unit {0}
+KindRead (Merge m) = IsRead merge_op_of m
 KindRead (Diff bytes) = Unit {0}
 
 kind_cases : (b2 b3 b4 b5 b6 : Bool) (bytes : List ℕ) (a : Kind)
-    → cond {A = Result Kind OpFault} b2 (Ok (Exec bytes)) (cond b3 (Ok (Source bytes)) (cond b4 (file_op_of bytes >>= λ m. Ok (File m)) (cond b5 (Ok (Build bytes)) (cond b6 (Ok (Merge bytes)) (Ok (Diff bytes)))))) ≡ Ok a → KindRead a
-kind_cases true b3 b4 b5 b6 bytes a e = subst KindRead (ok_is (Exec bytes) a e) tt
-kind_cases false true b4 b5 b6 bytes a e = subst KindRead (ok_is (Source bytes) a e) tt
+    → cond {A = Result Kind OpFault} b2 (exec_op_of bytes >>= λ m. Ok (Exec m)) (cond b3 (source_op_of bytes >>= λ m. Ok (Source m)) (cond b4 (file_op_of bytes >>= λ m. Ok (File m)) (cond b5 (Ok (Build bytes)) (cond b6 (merge_op_of bytes >>= λ m. Ok (Merge m)) (Ok (Diff bytes)))))) ≡ Ok a → KindRead a
+kind_cases true b3 b4 b5 b6 bytes a e = of_message KindRead exec_op_of (λ m. Exec m) bytes a e (λ m h. (bytes, h))
+kind_cases false true b4 b5 b6 bytes a e = of_message KindRead source_op_of (λ m. Source m) bytes a e (λ m h. (bytes, h))
 kind_cases false false true b5 b6 bytes a e = of_message KindRead file_op_of (λ m. File m) bytes a e (λ m h. (bytes, h))
 kind_cases false false false true b6 bytes a e = subst KindRead (ok_is (Build bytes) a e) tt
-kind_cases false false false false true bytes a e = subst KindRead (ok_is (Merge bytes) a e) tt
+kind_cases false false false false true bytes a e = of_message KindRead merge_op_of (λ m. Merge m) bytes a e (λ m h. (bytes, h))
 kind_cases false false false false false bytes a e = subst KindRead (ok_is (Diff bytes) a e) tt
 
 kind_from : (n : ℕ) (xs : List Record) (a : Kind) → kind_of n xs ≡ Ok a → KindRead a
 kind_from n xs a e = kind_cases (n == 2) (n == 3) (n == 4) (n == 5) (n == 6) (joined xs) a e
 
 kind_written : (a : Kind) → IsWritten op_shape (kind_record a)
-kind_written (Exec bytes) = bytes_written op_shape 2 bytes refl refl refl
-kind_written (Source bytes) = bytes_written op_shape 3 bytes refl refl refl
+kind_written (Exec m) = bytes_written op_shape 2 (exec_op_bytes m) refl refl refl
+kind_written (Source m) = bytes_written op_shape 3 (source_op_bytes m) refl refl refl
 kind_written (File m) = bytes_written op_shape 4 (file_op_bytes m) refl refl refl
 kind_written (Build bytes) = bytes_written op_shape 5 bytes refl refl refl
-kind_written (Merge bytes) = bytes_written op_shape 6 bytes refl refl refl
+kind_written (Merge m) = bytes_written op_shape 6 (merge_op_bytes m) refl refl refl
 kind_written (Diff bytes) = bytes_written op_shape 7 bytes refl refl refl
 
 kind_again : (a : Kind) → KindRead a → IsShort (kind_record a) → one_of kinds kind_of (kind_record a ∷ []) ≡ Ok (Some a)
-kind_again (Exec bytes) h short = ap (λ b. Ok (Some (Exec b))) (append-nil bytes)
-kind_again (Source bytes) h short = ap (λ b. Ok (Some (Source b))) (append-nil bytes)
+kind_again (Exec m) h short = rw (append-nil (exec_op_bytes m), message_short exec_op_of exec_op_bytes 2 m h exec_op_returns short) refl
+kind_again (Source m) h short = rw (append-nil (source_op_bytes m), message_short source_op_of source_op_bytes 3 m h source_op_returns short) refl
 kind_again (File m) h short = rw (append-nil (file_op_bytes m), message_short file_op_of file_op_bytes 4 m h file_op_returns short) refl
 kind_again (Build bytes) h short = ap (λ b. Ok (Some (Build b))) (append-nil bytes)
-kind_again (Merge bytes) h short = ap (λ b. Ok (Some (Merge b))) (append-nil bytes)
+kind_again (Merge m) h short = rw (append-nil (merge_op_bytes m), message_short merge_op_of merge_op_bytes 6 m h merge_op_returns short) refl
 kind_again (Diff bytes) h short = ap (λ b. Ok (Some (Diff b))) (append-nil bytes)
 
 abbrev op_fields : FieldOf op_shape Op (List Input × (Option Kind × Unit {0}))

@@ -1,22 +1,28 @@
 -- A definition: its entries, in order, with the limits on them (`Definition` of `ops.proto`).
-use Rattle.std.specs.Prelude.{ℕ, List, [], ◌∷◌, length, Result, Ok, Err, nat_lt, nat_le, if◌then◌else◌}
+use Rattle.std.specs.Prelude.{ℕ, ◌+◌, ◌==◌, ◌&&◌, Bool, List, [], ◌∷◌, length, Result, Ok, Err, nat_lt, nat_le, if◌then◌else◌}
 use Rattle.std.specs.List.{list_all}
 use Rattle.llb_wire.specs.Answer.{◌>>=◌}
+use Rattle.llb_wire.specs.Records.{Record}
 use Rattle.llb_ops.specs.declared.fault.OpFault.{OpFault}
 use Rattle.llb_ops.specs.declared.fault.OpFault.TheVariants.{OverLimit}
 use Rattle.llb_ops.specs.declared.shape.Form.TheVariants.{Bytes}
 use Rattle.llb_ops.specs.Limits.{definition_limit, entries_limit, entry_limit}
 use Rattle.llb_ops.specs.Records.{Shape, records_from, all, payloads}
+use Rattle.llb_ops.specs.Writing.{each_field}
 
 -- def, repeated; metadata and Source, which are not looked into
 abbrev pub definition_shape : Shape
 definition_shape = (1, Bytes) ∷ (2, Bytes) ∷ (3, Bytes) ∷ []
 
+-- no entry is too long
+abbrev pub are_short : List (List ℕ) → Bool
+are_short entries = list_all (λ e. nat_le (length e) entry_limit) entries
+
 -- not too many entries, and none too long
 abbrev pub entries_fit : List (List ℕ) → Result (List (List ℕ)) OpFault
 entries_fit entries =
     if nat_lt entries_limit (length entries) then Err OverLimit
-    else if list_all (λ e. nat_le (length e) entry_limit) entries then Ok entries
+    else if are_short entries then Ok entries
     else Err OverLimit
 
 -- the entries of a definition
@@ -24,3 +30,25 @@ unfoldable pub definition_of : List ℕ → Result (List (List ℕ)) OpFault
 definition_of bytes =
     if nat_lt definition_limit (length bytes) then Err OverLimit
     else (records_from definition_shape 0 bytes >>= λ rs. entries_fit (payloads (all 1 rs)))
+
+-- what is said of a definition before its entries are taken
+abbrev pub admission : Result (List (List ℕ)) OpFault → Result (Unit {0}) OpFault
+admission (Ok entries) = Ok tt
+admission (Err f) = Err f
+
+-- the entries of readable records, whatever their number and lengths
+unfoldable pub entries_in : List ℕ → Result (List (List ℕ)) OpFault
+entries_in bytes = records_from definition_shape 0 bytes >>= λ rs. Ok (payloads (all 1 rs))
+
+-- how many there are, and whether none is too long
+abbrev pub counted : Result (List (List ℕ)) OpFault → Result (ℕ × Bool) OpFault
+counted (Ok entries) = Ok (length entries, are_short entries)
+counted (Err f) = Err f
+
+-- the same with one record more in front
+abbrev pub one_more : ℕ × Bool → Record → ℕ × Bool
+one_more t r = if r.number == 1 then (t.0 + 1, t.1 && nat_le (length r.payload) entry_limit) else t
+
+-- the canonical bytes of a definition: its entries
+abbrev pub definition_bytes : List (List ℕ) → List ℕ
+definition_bytes entries = each_field 1 entries

@@ -1,6 +1,6 @@
 -- What each message is of its records, with its row of fields (`ops.proto` of BuildKit). The order of the lines is the
 -- order of the faults: the records, the message fields by their numbers, the limits.
-use Rattle.std.specs.Prelude.{ℕ, List, [], ◌∷◌, length, Result, Ok, Err, nat_lt, ◌==◌, if◌then◌else◌}
+use Rattle.std.specs.Prelude.{ℕ, List, [], ◌∷◌, length, Option, Result, Ok, Err, nat_lt, ◌==◌, if◌then◌else◌}
 use Rattle.llb_wire.specs.Answer.{◌>>=◌}
 use Rattle.llb_wire.specs.Records.{Record}
 use Rattle.llb_ops.specs.declared.fault.OpFault.{OpFault}
@@ -16,12 +16,24 @@ use Rattle.llb_ops.specs.declared.file.ActionKind.{ActionKind}
 use Rattle.llb_ops.specs.declared.file.ActionKind.TheVariants as action
 use Rattle.llb_ops.specs.declared.file.MkFile.{MkFile}
 use Rattle.llb_ops.specs.declared.file.MkDir.{MkDir}
+use Rattle.llb_ops.specs.declared.file.CopyFile.{CopyFile}
+use Rattle.llb_ops.specs.declared.file.Rm.{Rm}
 use Rattle.llb_ops.specs.declared.file.ChownOpt.{ChownOpt}
 use Rattle.llb_ops.specs.declared.file.UserOpt.{UserOpt}
 use Rattle.llb_ops.specs.declared.file.User.{User}
 use Rattle.llb_ops.specs.declared.file.User.TheVariants.{ByName, ById}
+use Rattle.llb_ops.specs.declared.exec.ExecOp.{ExecOp}
+use Rattle.llb_ops.specs.declared.exec.Meta.{Meta}
+use Rattle.llb_ops.specs.declared.exec.Mount.{Mount}
+use Rattle.llb_ops.specs.declared.exec.TmpfsOpt.{TmpfsOpt}
+use Rattle.llb_ops.specs.declared.exec.CacheOpt.{CacheOpt}
+use Rattle.llb_ops.specs.declared.merge.MergeOp.{MergeOp}
+use Rattle.llb_ops.specs.declared.merge.MergeInput.{MergeInput}
+use Rattle.llb_ops.specs.declared.source.SourceOp.{SourceOp}
+use Rattle.llb_ops.specs.declared.source.AttributeEntry.{AttributeEntry}
 use Rattle.llb_ops.specs.Limits.{entry_limit}
-use Rattle.llb_ops.specs.Records.{Shape, parts, all, payload, number, flag, uint32, int32, int64, joined, one, each, one_of, within_limits, unnamed}
+use Rattle.llb_ops.specs.Attributes.{settled}
+use Rattle.llb_ops.specs.Records.{Shape, parts, all, payload, payloads, number, flag, uint32, int32, int64, joined, one, each, one_of, within_limits, unnamed}
 
 -- digest, index
 abbrev pub input_shape : Shape
@@ -93,6 +105,50 @@ mk_dir_of bytes = do
     extra = unnamed mk_dir_shape rs;
   })
 
+-- src, dest, owner, mode, followSymlink, dirCopyContents, attemptUnpackDockerCompatibility, createDestPath, allowWildcard,
+-- allowEmptyWildcard, timestamp, include_patterns and exclude_patterns, both repeated
+abbrev pub copy_file_shape : Shape
+copy_file_shape = (1, Text) ∷ (2, Text) ∷ (3, Bytes) ∷ (4, Number) ∷ (5, Number) ∷ (6, Number) ∷ (7, Number) ∷ (8, Number) ∷ (9, Number) ∷ (10, Number) ∷ (11, Number) ∷ (12, Text) ∷ (13, Text) ∷ []
+
+-- what a copy is of its records, but for the owner
+unfoldable pub copy_file_with : List Record → Option ChownOpt → CopyFile
+copy_file_with rs owner = record {
+  src = payload (all 1 rs);
+  dest = payload (all 2 rs);
+  owner = owner;
+  mode = int32 (number (all 4 rs));
+  follow_symlink = flag (number (all 5 rs));
+  dir_copy_contents = flag (number (all 6 rs));
+  attempt_unpack_docker_compatibility = flag (number (all 7 rs));
+  create_dest_path = flag (number (all 8 rs));
+  allow_wildcard = flag (number (all 9 rs));
+  allow_empty_wildcard = flag (number (all 10 rs));
+  timestamp = int64 (number (all 11 rs));
+  include_patterns = payloads (all 12 rs);
+  exclude_patterns = payloads (all 13 rs);
+  extra = unnamed copy_file_shape rs;
+}
+
+unfoldable pub copy_file_of : List ℕ → Result CopyFile OpFault
+copy_file_of bytes = do
+  rs ← parts copy_file_shape bytes
+  owner ← one chown_opt_of (all 3 rs)
+  if within_limits (12 ∷ 13 ∷ []) rs then Ok (copy_file_with rs owner) else Err OverLimit
+
+-- path, allowNotFound, allowWildcard
+abbrev pub rm_shape : Shape
+rm_shape = (1, Text) ∷ (2, Number) ∷ (3, Number) ∷ []
+
+unfoldable pub rm_of : List ℕ → Result Rm OpFault
+rm_of bytes = do
+  rs ← parts rm_shape bytes
+  Ok (record {
+    path = payload (all 1 rs);
+    allow_not_found = flag (number (all 2 rs));
+    allow_wildcard = flag (number (all 3 rs));
+    extra = unnamed rm_shape rs;
+  })
+
 -- input, secondaryInput, output, copy, mkfile, mkdir, rm
 abbrev pub action_shape : Shape
 action_shape = (1, Number) ∷ (2, Number) ∷ (3, Number) ∷ (4, Bytes) ∷ (5, Bytes) ∷ (6, Bytes) ∷ (7, Bytes) ∷ []
@@ -102,10 +158,10 @@ action_kinds = 4 ∷ 5 ∷ 6 ∷ 7 ∷ []
 
 abbrev pub action_kind_of : ℕ → List Record → Result ActionKind OpFault
 action_kind_of n rs =
-    if n == 4 then Ok (action.Copy (joined rs))
+    if n == 4 then (copy_file_of (joined rs) >>= λ m. Ok (action.Copy m))
     else if n == 5 then (mk_file_of (joined rs) >>= λ m. Ok (action.MkFile m))
     else if n == 6 then (mk_dir_of (joined rs) >>= λ m. Ok (action.MkDir m))
-    else Ok (action.Rm (joined rs))
+    else (rm_of (joined rs) >>= λ m. Ok (action.Rm m))
 
 unfoldable pub action_of : List ℕ → Result Action OpFault
 action_of bytes = do
@@ -129,6 +185,133 @@ file_op_of bytes = do
   actions ← each action_of (all 2 rs)
   if within_limits (2 ∷ []) rs then Ok (record { actions = actions; extra = unnamed file_op_shape rs }) else Err OverLimit
 
+-- args and env, both repeated; cwd, user
+abbrev pub meta_shape : Shape
+meta_shape = (1, Text) ∷ (2, Text) ∷ (3, Text) ∷ (4, Text) ∷ []
+
+unfoldable pub meta_of : List ℕ → Result Meta OpFault
+meta_of bytes = do
+  rs ← parts meta_shape bytes
+  if within_limits (1 ∷ 2 ∷ []) rs then Ok (record {
+    args = payloads (all 1 rs);
+    env = payloads (all 2 rs);
+    cwd = payload (all 3 rs);
+    user = payload (all 4 rs);
+    extra = unnamed meta_shape rs;
+  }) else Err OverLimit
+
+-- size
+abbrev pub tmpfs_opt_shape : Shape
+tmpfs_opt_shape = (1, Number) ∷ []
+
+unfoldable pub tmpfs_opt_of : List ℕ → Result TmpfsOpt OpFault
+tmpfs_opt_of bytes = do
+  rs ← parts tmpfs_opt_shape bytes
+  Ok (record {
+    size = int64 (number (all 1 rs));
+    extra = unnamed tmpfs_opt_shape rs;
+  })
+
+-- ID, sharing
+abbrev pub cache_opt_shape : Shape
+cache_opt_shape = (1, Text) ∷ (2, Number) ∷ []
+
+unfoldable pub cache_opt_of : List ℕ → Result CacheOpt OpFault
+cache_opt_of bytes = do
+  rs ← parts cache_opt_shape bytes
+  Ok (record {
+    id = payload (all 1 rs);
+    sharing = int32 (number (all 2 rs));
+    extra = unnamed cache_opt_shape rs;
+  })
+
+-- input, selector, dest, output, readonly, mountType, TmpfsOpt, cacheOpt
+abbrev pub mount_shape : Shape
+mount_shape = (1, Number) ∷ (2, Text) ∷ (3, Text) ∷ (4, Number) ∷ (5, Number) ∷ (6, Number) ∷ (19, Bytes) ∷ (20, Bytes) ∷ []
+
+unfoldable pub mount_of : List ℕ → Result Mount OpFault
+mount_of bytes = do
+  rs ← parts mount_shape bytes
+  tmpfs_opt ← one tmpfs_opt_of (all 19 rs)
+  cache_opt ← one cache_opt_of (all 20 rs)
+  Ok (record {
+    input = int64 (number (all 1 rs));
+    selector = payload (all 2 rs);
+    dest = payload (all 3 rs);
+    output = int64 (number (all 4 rs));
+    readonly = flag (number (all 5 rs));
+    mount_type = int32 (number (all 6 rs));
+    tmpfs_opt = tmpfs_opt;
+    cache_opt = cache_opt;
+    extra = unnamed mount_shape rs;
+  })
+
+-- meta; mounts, repeated; network, security; secretenv, repeated
+abbrev pub exec_op_shape : Shape
+exec_op_shape = (1, Bytes) ∷ (2, Bytes) ∷ (3, Number) ∷ (4, Number) ∷ (5, Bytes) ∷ []
+
+unfoldable pub exec_op_of : List ℕ → Result ExecOp OpFault
+exec_op_of bytes = do
+  rs ← parts exec_op_shape bytes
+  meta ← one meta_of (all 1 rs)
+  mounts ← each mount_of (all 2 rs)
+  if within_limits (2 ∷ 5 ∷ []) rs then Ok (record {
+    meta = meta;
+    mounts = mounts;
+    network = int32 (number (all 3 rs));
+    security = int32 (number (all 4 rs));
+    secretenv = payloads (all 5 rs);
+    extra = unnamed exec_op_shape rs;
+  }) else Err OverLimit
+
+-- input
+abbrev pub merge_input_shape : Shape
+merge_input_shape = (1, Number) ∷ []
+
+unfoldable pub merge_input_of : List ℕ → Result MergeInput OpFault
+merge_input_of bytes = do
+  rs ← parts merge_input_shape bytes
+  Ok (record {
+    input = int64 (number (all 1 rs));
+    extra = unnamed merge_input_shape rs;
+  })
+
+-- inputs, repeated
+abbrev pub merge_op_shape : Shape
+merge_op_shape = (1, Bytes) ∷ []
+
+unfoldable pub merge_op_of : List ℕ → Result MergeOp OpFault
+merge_op_of bytes = do
+  rs ← parts merge_op_shape bytes
+  inputs ← each merge_input_of (all 1 rs)
+  if within_limits (1 ∷ []) rs then Ok (record {
+    inputs = inputs;
+    extra = unnamed merge_op_shape rs;
+  }) else Err OverLimit
+
+-- key, value
+abbrev pub attribute_entry_shape : Shape
+attribute_entry_shape = (1, Text) ∷ (2, Text) ∷ []
+
+unfoldable pub attribute_entry_of : List ℕ → Result AttributeEntry OpFault
+attribute_entry_of bytes = do
+  rs ← parts attribute_entry_shape bytes
+  Ok (record { key = payload (all 1 rs); value = payload (all 2 rs); extra = unnamed attribute_entry_shape rs })
+
+-- identifier; attrs, a map
+abbrev pub source_op_shape : Shape
+source_op_shape = (1, Text) ∷ (2, Bytes) ∷ []
+
+unfoldable pub source_op_of : List ℕ → Result SourceOp OpFault
+source_op_of bytes = do
+  rs ← parts source_op_shape bytes
+  entries ← each attribute_entry_of (all 2 rs)
+  if within_limits (2 ∷ []) rs then Ok (record {
+    identifier = payload (all 1 rs);
+    attrs = settled entries;
+    extra = unnamed source_op_shape rs;
+  }) else Err OverLimit
+
 -- inputs, repeated; exec, source, file, build, merge, diff
 abbrev pub op_shape : Shape
 op_shape = (1, Bytes) ∷ (2, Bytes) ∷ (3, Bytes) ∷ (4, Bytes) ∷ (5, Bytes) ∷ (6, Bytes) ∷ (7, Bytes) ∷ []
@@ -138,11 +321,11 @@ kinds = 2 ∷ 3 ∷ 4 ∷ 5 ∷ 6 ∷ 7 ∷ []
 
 abbrev pub kind_of : ℕ → List Record → Result Kind OpFault
 kind_of n rs =
-    if n == 2 then Ok (Exec (joined rs))
-    else if n == 3 then Ok (Source (joined rs))
+    if n == 2 then (exec_op_of (joined rs) >>= λ m. Ok (Exec m))
+    else if n == 3 then (source_op_of (joined rs) >>= λ m. Ok (Source m))
     else if n == 4 then (file_op_of (joined rs) >>= λ m. Ok (File m))
     else if n == 5 then Ok (Build (joined rs))
-    else if n == 6 then Ok (Merge (joined rs))
+    else if n == 6 then (merge_op_of (joined rs) >>= λ m. Ok (Merge m))
     else Ok (Diff (joined rs))
 
 unfoldable pub op_message_of : List ℕ → Result Op OpFault

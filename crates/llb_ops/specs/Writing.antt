@@ -1,6 +1,6 @@
 -- The canonical bytes of each message: named fields in ascending order of their numbers in their shortest spelling, without
 -- those that are 0 or empty, messages and the set member of a oneof always; then the extra bytes.
-use Rattle.std.specs.Prelude.{ℕ, ℤ, List, [], ◌++◌, length, Option, Some, None, Bool, true, false, ◌==◌, if◌then◌else◌}
+use Rattle.std.specs.Prelude.{ℕ, ℤ, List, [], ◌++◌, length, map, Option, Some, None, Bool, true, false, ◌==◌, if◌then◌else◌}
 use Rattle.std.specs.List.{flat_map}
 use Rattle.std.specs.Int.{w64, cast_unsigned}
 use Rattle.llb_wire.specs.declared.field.Wire.TheVariants as wire
@@ -15,10 +15,22 @@ use Rattle.llb_ops.specs.declared.file.ActionKind.{ActionKind}
 use Rattle.llb_ops.specs.declared.file.ActionKind.TheVariants as action
 use Rattle.llb_ops.specs.declared.file.MkFile.{MkFile}
 use Rattle.llb_ops.specs.declared.file.MkDir.{MkDir}
+use Rattle.llb_ops.specs.declared.file.CopyFile.{CopyFile}
+use Rattle.llb_ops.specs.declared.file.Rm.{Rm}
 use Rattle.llb_ops.specs.declared.file.ChownOpt.{ChownOpt}
 use Rattle.llb_ops.specs.declared.file.UserOpt.{UserOpt}
 use Rattle.llb_ops.specs.declared.file.User.{User}
 use Rattle.llb_ops.specs.declared.file.User.TheVariants.{ByName, ById}
+use Rattle.llb_ops.specs.declared.exec.ExecOp.{ExecOp}
+use Rattle.llb_ops.specs.declared.exec.Meta.{Meta}
+use Rattle.llb_ops.specs.declared.exec.Mount.{Mount}
+use Rattle.llb_ops.specs.declared.exec.TmpfsOpt.{TmpfsOpt}
+use Rattle.llb_ops.specs.declared.exec.CacheOpt.{CacheOpt}
+use Rattle.llb_ops.specs.declared.merge.MergeOp.{MergeOp}
+use Rattle.llb_ops.specs.declared.merge.MergeInput.{MergeInput}
+use Rattle.llb_ops.specs.declared.source.SourceOp.{SourceOp}
+use Rattle.llb_ops.specs.declared.source.AttributeEntry.{AttributeEntry}
+use Rattle.llb_ops.specs.Attributes.{entry_of}
 
 -- a field that is written in any case
 unfoldable pub set_number : ℕ → ℕ → List ℕ
@@ -53,6 +65,10 @@ message_field write n (Some m) = set_bytes n (write m)
 unfoldable pub messages_field : {A : Type 0} → (A → List ℕ) → ℕ → List A → List ℕ
 messages_field write n ms = flat_map (λ m. set_bytes n (write m)) ms
 
+-- texts and byte strings that are repeated, also empty ones
+unfoldable pub each_field : ℕ → List (List ℕ) → List ℕ
+each_field n items = flat_map (λ bytes. set_bytes n bytes) items
+
 -- the set member of a oneof, by its own writing
 abbrev pub one_of_field : {A : Type 0} → (A → List ℕ) → Option A → List ℕ
 one_of_field write None = []
@@ -79,11 +95,20 @@ unfoldable pub mk_dir_bytes : MkDir → List ℕ
 mk_dir_bytes m = bytes_field 1 m.path ++ signed_field 2 m.mode ++ flag_field 3 m.make_parents
     ++ message_field chown_opt_bytes 4 m.owner ++ signed_field 5 m.timestamp ++ m.extra
 
+unfoldable pub copy_file_bytes : CopyFile → List ℕ
+copy_file_bytes m = bytes_field 1 m.src ++ bytes_field 2 m.dest ++ message_field chown_opt_bytes 3 m.owner ++ signed_field 4 m.mode
+    ++ flag_field 5 m.follow_symlink ++ flag_field 6 m.dir_copy_contents ++ flag_field 7 m.attempt_unpack_docker_compatibility ++ flag_field 8 m.create_dest_path
+    ++ flag_field 9 m.allow_wildcard ++ flag_field 10 m.allow_empty_wildcard ++ signed_field 11 m.timestamp ++ each_field 12 m.include_patterns
+    ++ each_field 13 m.exclude_patterns ++ m.extra
+
+unfoldable pub rm_bytes : Rm → List ℕ
+rm_bytes m = bytes_field 1 m.path ++ flag_field 2 m.allow_not_found ++ flag_field 3 m.allow_wildcard ++ m.extra
+
 unfoldable pub action_kind_bytes : ActionKind → List ℕ
-action_kind_bytes (action.Copy bytes) = set_bytes 4 bytes
+action_kind_bytes (action.Copy m) = set_bytes 4 (copy_file_bytes m)
 action_kind_bytes (action.MkFile m) = set_bytes 5 (mk_file_bytes m)
 action_kind_bytes (action.MkDir m) = set_bytes 6 (mk_dir_bytes m)
-action_kind_bytes (action.Rm bytes) = set_bytes 7 bytes
+action_kind_bytes (action.Rm m) = set_bytes 7 (rm_bytes m)
 
 unfoldable pub action_bytes : Action → List ℕ
 action_bytes m = signed_field 1 m.input ++ signed_field 2 m.secondary_input ++ signed_field 3 m.output
@@ -92,12 +117,44 @@ action_bytes m = signed_field 1 m.input ++ signed_field 2 m.secondary_input ++ s
 unfoldable pub file_op_bytes : FileOp → List ℕ
 file_op_bytes m = messages_field action_bytes 2 m.actions ++ m.extra
 
+unfoldable pub meta_bytes : Meta → List ℕ
+meta_bytes m = each_field 1 m.args ++ each_field 2 m.env ++ bytes_field 3 m.cwd ++ bytes_field 4 m.user
+    ++ m.extra
+
+unfoldable pub tmpfs_opt_bytes : TmpfsOpt → List ℕ
+tmpfs_opt_bytes m = signed_field 1 m.size ++ m.extra
+
+unfoldable pub cache_opt_bytes : CacheOpt → List ℕ
+cache_opt_bytes m = bytes_field 1 m.id ++ signed_field 2 m.sharing ++ m.extra
+
+unfoldable pub mount_bytes : Mount → List ℕ
+mount_bytes m = signed_field 1 m.input ++ bytes_field 2 m.selector ++ bytes_field 3 m.dest ++ signed_field 4 m.output
+    ++ flag_field 5 m.readonly ++ signed_field 6 m.mount_type ++ message_field tmpfs_opt_bytes 19 m.tmpfs_opt ++ message_field cache_opt_bytes 20 m.cache_opt
+    ++ m.extra
+
+unfoldable pub exec_op_bytes : ExecOp → List ℕ
+exec_op_bytes m = message_field meta_bytes 1 m.meta ++ messages_field mount_bytes 2 m.mounts ++ signed_field 3 m.network ++ signed_field 4 m.security
+    ++ each_field 5 m.secretenv ++ m.extra
+
+unfoldable pub merge_input_bytes : MergeInput → List ℕ
+merge_input_bytes m = signed_field 1 m.input ++ m.extra
+
+unfoldable pub merge_op_bytes : MergeOp → List ℕ
+merge_op_bytes m = messages_field merge_input_bytes 1 m.inputs ++ m.extra
+
+-- an entry of a map: key and value are both written
+unfoldable pub attribute_entry_bytes : AttributeEntry → List ℕ
+attribute_entry_bytes m = set_bytes 1 m.key ++ set_bytes 2 m.value ++ m.extra
+
+unfoldable pub source_op_bytes : SourceOp → List ℕ
+source_op_bytes m = bytes_field 1 m.identifier ++ messages_field attribute_entry_bytes 2 (map entry_of m.attrs) ++ m.extra
+
 unfoldable pub kind_bytes : Kind → List ℕ
-kind_bytes (Exec bytes) = set_bytes 2 bytes
-kind_bytes (Source bytes) = set_bytes 3 bytes
+kind_bytes (Exec m) = set_bytes 2 (exec_op_bytes m)
+kind_bytes (Source m) = set_bytes 3 (source_op_bytes m)
 kind_bytes (File m) = set_bytes 4 (file_op_bytes m)
 kind_bytes (Build bytes) = set_bytes 5 bytes
-kind_bytes (Merge bytes) = set_bytes 6 bytes
+kind_bytes (Merge m) = set_bytes 6 (merge_op_bytes m)
 kind_bytes (Diff bytes) = set_bytes 7 bytes
 
 unfoldable pub op_bytes : Op → List ℕ

@@ -1,16 +1,17 @@
 //! A definition: its entries, in order. What an entry says is read elsewhere.
 
-ghost use Rattle.std.specs.Prelude.{◌≡◌, Ok, length, nat_le};
-ghost use Rattle.std.specs.List.{list_all};
-ghost use Rattle.llb_ops.specs.Faults.{Gives};
-ghost use Rattle.llb_ops.specs.Limits.{entry_limit};
-ghost use Rattle.llb_ops.specs.Records.{views, all, payloads};
-ghost use Rattle.llb_ops.specs.Definition.{definition_of};
+ghost use Rattle.std.specs.Prelude.{◌≡◌, ◌<◌, ◌≤◌, ◌==◌, ◌++◌, ◌∷◌, [], if◌then◌else◌, Ok, length, true, IfErr, OnOk};
+ghost use Rattle.llb_wire.specs.Answer.{MemoryLast};
+ghost use Rattle.llb_ops.specs.Faults.{Gives, is_memory};
+ghost use Rattle.llb_ops.specs.Records.{view};
+ghost use Rattle.llb_ops.specs.Definition.{definition_of, admission, entries_in, counted, one_more, definition_bytes};
+ghost use Rattle.llb_ops.specs.Laws.{AreReadAgain};
 
 use crate::fault::OpFault;
-use crate::records::{Record, count, each_bytes, split};
+use crate::records::{Record, fits, take_record};
 use crate::shape::{DEFINITION_LIMIT, ENTRIES_LIMIT, ENTRY_LIMIT, Form, Named};
-use llb_wire::Bytes;
+use crate::writing::put_each_bytes;
+use llb_wire::{Bytes, next_record};
 use std::alloc::Global;
 use std::marker::Model;
 
@@ -58,17 +59,83 @@ impl Entries {
 
 const DEFINITION: [Named; 3] = [(1, Form::Bytes), (2, Form::Bytes), (3, Form::Bytes)];
 
-fn entries_are_short(records: &[Record<'_>]) -> bool
-    ensures { result ≡ list_all (λ e. nat_le (length e) entry_limit) (payloads (all 1 (views records.now))) }
+// The count, and whether none is too long, with one record more.
+fn with_record(count: usize, short: bool, part: &Record<'_>) -> (usize, bool)
+    requires { count < 67_108_864 }
+    ensures { result ≡ one_more (count, short) (view part.now) }
 {
-    for part in records {
-        if part.number == 1 {
-            if part.payload.len() > ENTRY_LIMIT {
-                return false;
-            }
-        }
+    if part.number == 1 {
+        (count + 1, short && part.payload.len() <= ENTRY_LIMIT)
+    } else {
+        (count, short)
     }
-    true
+}
+
+// How many entries there are, and whether none is too long.
+fn tally(bytes: &[u8]) -> Result<(usize, bool), OpFault>
+    requires { length bytes.now ≤ 67_108_864 }
+    ensures { result ≡ counted (entries_in bytes.now) }
+{
+    let mut rest = bytes;
+    let mut count = 0;
+    let mut short = true;
+    while let Some(field) = next_record(rest, 0)? {
+        if !fits(&DEFINITION, &field) {
+            return Err(OpFault::WrongWireType);
+        }
+        let (record, after) = take_record(rest, &field);
+        let (with_it, all_short) = with_record(count, short, &record);
+        count = with_it;
+        short = all_short;
+        rest = after;
+    }
+    Ok((count, short))
+}
+
+// The entries with that of one record more, where it has one.
+fn put_entry(alloc: Global, entries: &mut Vec<Bytes>, part: &Record<'_>) -> Result<(), OpFault>
+    ensures kept { OnOk result (entries.new.items ≡ (if part.now.number == 1 then entries.old.items ++ part.now.payload.now ∷ [] else entries.old.items)) }
+    ensures refused { IfErr result (λ e. is_memory e ≡ true) }
+{
+    if part.number == 1 {
+        let entry = Bytes::from_slice(alloc, part.payload)?;
+        entries.push(entry)?;
+    }
+    Ok(())
+}
+
+// The entries of readable records.
+fn gathered(alloc: Global, bytes: &[u8]) -> Result<Vec<Bytes>, OpFault>
+    ensures { Gives (λ v. v.items) result (entries_in bytes.now) }
+{
+    let mut entries = Vec::new(alloc);
+    let mut rest = bytes;
+    while let Some(field) = next_record(rest, 0)? {
+        if !fits(&DEFINITION, &field) {
+            return Err(OpFault::WrongWireType);
+        }
+        let (record, after) = take_record(rest, &field);
+        put_entry(alloc, &mut entries, &record)?;
+        rest = after;
+    }
+    Ok(entries)
+}
+
+// The definition's first fault, if it has one.
+fn admitted(bytes: &[u8]) -> Result<(), OpFault>
+    ensures { result ≡ admission (definition_of bytes.now) }
+{
+    if bytes.len() > DEFINITION_LIMIT {
+        return Err(OpFault::OverLimit);
+    }
+    let (count, short) = tally(bytes)?;
+    if count > ENTRIES_LIMIT {
+        return Err(OpFault::OverLimit);
+    }
+    if !short {
+        return Err(OpFault::OverLimit);
+    }
+    Ok(())
 }
 
 /// Reads the entries of a definition.
@@ -76,21 +143,28 @@ fn entries_are_short(records: &[Record<'_>]) -> bool
 /// The first fault is answered: `OverLimit` (13) of a definition of more than 67,108,864 bytes; its
 /// records from left to right, `Wire` (1 to 4) or `WrongWireType` (11) of a field that it names;
 /// `OverLimit` (13) of more than 65,536 entries, then of an entry of more than 16,777,216 bytes.
-/// `Memory` (14) where memory is refused.
-#[tactic(auto, unfolding(crate::specs::Definition::definition_of))]
+/// `Memory` (14) where memory is refused for entries that are there.
 pub fn read_definition(alloc: Global, bytes: &[u8]) -> Result<Entries, OpFault>
-    ensures { Gives (λ e. e) result (definition_of bytes.now) }
+    ensures gives { Gives (λ e. e) result (definition_of bytes.now) }
+    ensures last { MemoryLast is_memory result (definition_of bytes.now) }
 {
-    if bytes.len() > DEFINITION_LIMIT {
-        return Err(OpFault::OverLimit);
-    }
-    let records = split(alloc, &DEFINITION, bytes)?;
-    if count(&records, 1) > ENTRIES_LIMIT {
-        return Err(OpFault::OverLimit);
-    }
-    if !entries_are_short(&records) {
-        return Err(OpFault::OverLimit);
-    }
-    let entries = each_bytes(alloc, &records, 1)?;
-    Ok(Entries::new(entries.into_vec()))
+    admitted(bytes)?;
+    let entries = gathered(alloc, bytes)?;
+    Ok(Entries::new(entries))
+}
+
+/// The canonical bytes of a definition with these entries. `Memory` (14) where memory is refused.
+pub fn write_definition(alloc: Global, entries: &Entries) -> Result<Bytes, OpFault>
+    ensures { Gives (λ bytes. bytes) result (Ok (definition_bytes entries.now)) }
+{
+    let mut out = Vec::new(alloc);
+    put_each_bytes(&mut out, 1, entries.as_slice())?;
+    Ok(Bytes::new(out))
+}
+
+/// The entries of a definition in bytes are read again of their canonical bytes.
+pub fn definition_is_read_again(entries: &Entries)
+    ensures { AreReadAgain entries.now }
+{
+    let _ = entries;
 }

@@ -1,21 +1,22 @@
 //! File ops and their actions, as `ops.proto` of BuildKit names them.
 
-ghost use Rattle.std.specs.Prelude.{◌≡◌, Ok};
+ghost use Rattle.std.specs.Prelude.{◌≡◌, Ok, true};
 ghost use Rattle.llb_ops.specs.Faults.{Gives};
+ghost use Rattle.llb_ops.specs.Records.{views, texts_fit};
+ghost use Rattle.llb_ops.specs.Messages.{copy_file_shape, copy_file_with};
 
-use crate::copied::{Copied, copy_many, copy_option};
 use crate::fault::OpFault;
 use crate::message::{Member, Message, each, one, one_of};
 use crate::records::{
-    Record, joined, last_bytes, last_flag, last_int32, last_int64, last_text, last_uint32, parts,
-    unnamed, within_limits,
+    Record, each_text, joined, last_bytes, last_flag, last_int32, last_int64, last_text,
+    last_uint32, parts, unnamed, within_limits,
 };
 use crate::shape::{Form, Named};
 use crate::writing::{
-    put_bytes, put_extra, put_flag, put_message, put_messages, put_one_of, put_set_bytes,
-    put_set_number, put_signed,
+    put_bytes, put_each_text, put_extra, put_flag, put_message, put_messages, put_one_of,
+    put_set_bytes, put_set_number, put_signed,
 };
-use llb_wire::{Bytes, Many, Memory, Text};
+use llb_wire::{Bytes, Duplicate, Many, Memory, Text};
 use std::alloc::Global;
 
 /// Actions on trees, done in their order.
@@ -36,13 +37,33 @@ pub struct Action {
     pub extra: Bytes,
 }
 
-/// What an action does. Members that are not read yet are kept as their joined payloads.
+/// What an action does.
 #[derive(Debug, Drop)]
 pub enum ActionKind {
-    Copy(Bytes),
+    Copy(CopyFile),
     MkFile(MkFile),
     MkDir(MkDir),
-    Rm(Bytes),
+    Rm(Rm),
+}
+
+/// `FileActionCopy`.
+#[derive(Debug, Drop)]
+pub struct CopyFile {
+    pub src: Text,
+    pub dest: Text,
+    pub owner: Option<ChownOpt>,
+    /// -1 leaves each entry its mode.
+    pub mode: i32,
+    pub follow_symlink: bool,
+    pub dir_copy_contents: bool,
+    pub attempt_unpack_docker_compatibility: bool,
+    pub create_dest_path: bool,
+    pub allow_wildcard: bool,
+    pub allow_empty_wildcard: bool,
+    pub timestamp: i64,
+    pub include_patterns: Many<Text>,
+    pub exclude_patterns: Many<Text>,
+    pub extra: Bytes,
 }
 
 /// `FileActionMkFile`: `body` is the message's `data`.
@@ -64,6 +85,15 @@ pub struct MkDir {
     pub make_parents: bool,
     pub owner: Option<ChownOpt>,
     pub timestamp: i64,
+    pub extra: Bytes,
+}
+
+/// `FileActionRm`.
+#[derive(Debug, Drop)]
+pub struct Rm {
+    pub path: Text,
+    pub allow_not_found: bool,
+    pub allow_wildcard: bool,
     pub extra: Bytes,
 }
 
@@ -90,142 +120,11 @@ pub enum User {
 }
 
 impl FileOp {
-    /// An equal second owner.
+    /// An equal second owner. `Memory` (14) where memory is refused.
     pub fn copy(&self) -> Result<FileOp, OpFault>
         ensures { Gives (λ x. x) result (Ok self.now) }
     {
-        Ok(FileOp {
-            actions: copy_many(&self.actions)?,
-            extra: self.extra.copy()?,
-        })
-    }
-}
-
-impl Action {
-    /// An equal second owner.
-    pub fn copy(&self) -> Result<Action, OpFault>
-        ensures { Gives (λ x. x) result (Ok self.now) }
-    {
-        Ok(Action {
-            input: self.input,
-            secondary_input: self.secondary_input,
-            output: self.output,
-            kind: copy_option(&self.kind)?,
-            extra: self.extra.copy()?,
-        })
-    }
-}
-
-impl Copied for Action {
-    fn copied(&self) -> Result<Action, OpFault> {
-        self.copy()
-    }
-}
-
-impl ActionKind {
-    /// An equal second owner.
-    pub fn copy(&self) -> Result<ActionKind, OpFault>
-        ensures { Gives (λ x. x) result (Ok self.now) }
-    {
-        Ok(match self {
-            ActionKind::Copy(x) => ActionKind::Copy(x.copy()?),
-            ActionKind::MkFile(x) => ActionKind::MkFile(x.copy()?),
-            ActionKind::MkDir(x) => ActionKind::MkDir(x.copy()?),
-            ActionKind::Rm(x) => ActionKind::Rm(x.copy()?),
-        })
-    }
-}
-
-impl Copied for ActionKind {
-    fn copied(&self) -> Result<ActionKind, OpFault> {
-        self.copy()
-    }
-}
-
-impl MkFile {
-    /// An equal second owner.
-    pub fn copy(&self) -> Result<MkFile, OpFault>
-        ensures { Gives (λ x. x) result (Ok self.now) }
-    {
-        Ok(MkFile {
-            path: self.path.copy()?,
-            mode: self.mode,
-            body: self.body.copy()?,
-            owner: copy_option(&self.owner)?,
-            timestamp: self.timestamp,
-            extra: self.extra.copy()?,
-        })
-    }
-}
-
-impl MkDir {
-    /// An equal second owner.
-    pub fn copy(&self) -> Result<MkDir, OpFault>
-        ensures { Gives (λ x. x) result (Ok self.now) }
-    {
-        Ok(MkDir {
-            path: self.path.copy()?,
-            mode: self.mode,
-            make_parents: self.make_parents,
-            owner: copy_option(&self.owner)?,
-            timestamp: self.timestamp,
-            extra: self.extra.copy()?,
-        })
-    }
-}
-
-impl ChownOpt {
-    /// An equal second owner.
-    pub fn copy(&self) -> Result<ChownOpt, OpFault>
-        ensures { Gives (λ x. x) result (Ok self.now) }
-    {
-        Ok(ChownOpt {
-            user: copy_option(&self.user)?,
-            group: copy_option(&self.group)?,
-            extra: self.extra.copy()?,
-        })
-    }
-}
-
-impl Copied for ChownOpt {
-    fn copied(&self) -> Result<ChownOpt, OpFault> {
-        self.copy()
-    }
-}
-
-impl UserOpt {
-    /// An equal second owner.
-    pub fn copy(&self) -> Result<UserOpt, OpFault>
-        ensures { Gives (λ x. x) result (Ok self.now) }
-    {
-        Ok(UserOpt {
-            user: copy_option(&self.user)?,
-            extra: self.extra.copy()?,
-        })
-    }
-}
-
-impl Copied for UserOpt {
-    fn copied(&self) -> Result<UserOpt, OpFault> {
-        self.copy()
-    }
-}
-
-impl User {
-    /// An equal second owner.
-    pub fn copy(&self) -> Result<User, OpFault>
-        ensures { Gives (λ x. x) result (Ok self.now) }
-    {
-        Ok(match self {
-            User::ByName(x) => User::ByName(x.copy()?),
-            User::ById(x) => User::ById(*x),
-        })
-    }
-}
-
-impl Copied for User {
-    fn copied(&self) -> Result<User, OpFault> {
-        self.copy()
+        Ok(self.duplicate()?)
     }
 }
 
@@ -318,10 +217,10 @@ impl Member for ActionKind {
     fn read(alloc: Global, number: u32, records: &[Record<'_>]) -> Result<ActionKind, OpFault> {
         let bytes = joined(alloc, records, number)?;
         match number {
-            4 => Ok(ActionKind::Copy(Bytes::new(bytes))),
+            4 => Ok(ActionKind::Copy(CopyFile::read(alloc, &bytes)?)),
             5 => Ok(ActionKind::MkFile(MkFile::read(alloc, &bytes)?)),
             6 => Ok(ActionKind::MkDir(MkDir::read(alloc, &bytes)?)),
-            _ => Ok(ActionKind::Rm(Bytes::new(bytes))),
+            _ => Ok(ActionKind::Rm(Rm::read(alloc, &bytes)?)),
         }
     }
 
@@ -333,10 +232,10 @@ impl Member for ActionKind {
     fn write(&self, alloc: Global) -> Result<Vec<u8>, Memory> {
         let mut out = Vec::new(alloc);
         match self {
-            ActionKind::Copy(bytes) => put_set_bytes(&mut out, 4, bytes.as_slice())?,
+            ActionKind::Copy(action) => put_set_bytes(&mut out, 4, &action.write(alloc)?)?,
             ActionKind::MkFile(action) => put_set_bytes(&mut out, 5, &action.write(alloc)?)?,
             ActionKind::MkDir(action) => put_set_bytes(&mut out, 6, &action.write(alloc)?)?,
-            ActionKind::Rm(bytes) => put_set_bytes(&mut out, 7, bytes.as_slice())?,
+            ActionKind::Rm(action) => put_set_bytes(&mut out, 7, &action.write(alloc)?)?,
         }
         Ok(out)
     }
@@ -440,6 +339,132 @@ impl Message for MkDir {
     }
 }
 
+const COPY_FILE: [Named; 13] = [
+    (1, Form::Text),
+    (2, Form::Text),
+    (3, Form::Bytes),
+    (4, Form::Number),
+    (5, Form::Number),
+    (6, Form::Number),
+    (7, Form::Number),
+    (8, Form::Number),
+    (9, Form::Number),
+    (10, Form::Number),
+    (11, Form::Number),
+    (12, Form::Text),
+    (13, Form::Text),
+];
+
+// A copy of its records, but for the owner.
+#[tactic(auto, unfolding(crate::specs::Messages::copy_file_with))]
+fn copy_file_with(
+    alloc: Global,
+    records: &[Record<'_>],
+    owner: Option<ChownOpt>,
+) -> Result<CopyFile, OpFault>
+    requires { texts_fit copy_file_shape (views records.now) ≡ true }
+    ensures { Gives (λ m. m) result (Ok (copy_file_with (views records.now) owner)) }
+{
+    let src = last_text(alloc, &COPY_FILE, records, 1)?;
+    let dest = last_text(alloc, &COPY_FILE, records, 2)?;
+    let include_patterns = each_text(alloc, &COPY_FILE, records, 12)?;
+    let exclude_patterns = each_text(alloc, &COPY_FILE, records, 13)?;
+    let extra = unnamed(alloc, &COPY_FILE, records)?;
+    Ok(CopyFile {
+        src,
+        dest,
+        owner,
+        mode: last_int32(records, 4),
+        follow_symlink: last_flag(records, 5),
+        dir_copy_contents: last_flag(records, 6),
+        attempt_unpack_docker_compatibility: last_flag(records, 7),
+        create_dest_path: last_flag(records, 8),
+        allow_wildcard: last_flag(records, 9),
+        allow_empty_wildcard: last_flag(records, 10),
+        timestamp: last_int64(records, 11),
+        include_patterns,
+        exclude_patterns,
+        extra,
+    })
+}
+
+impl Message for CopyFile {
+    ghost use Rattle.llb_ops.specs.Messages.{copy_file_of};
+
+    ghost reading = { copy_file_of };
+
+    #[tactic(auto, unfolding(crate::specs::Messages::copy_file_of))]
+    fn read(alloc: Global, bytes: &[u8]) -> Result<CopyFile, OpFault> {
+        let records = parts(alloc, &COPY_FILE, bytes)?;
+        let owner = one::<ChownOpt>(alloc, &records, 3)?;
+        if !within_limits(&[12, 13], &records) {
+            return Err(OpFault::OverLimit);
+        }
+        copy_file_with(alloc, &records, owner)
+    }
+
+    ghost use Rattle.llb_ops.specs.Writing.{copy_file_bytes};
+
+    ghost writing = { copy_file_bytes };
+
+    #[tactic(auto, unfolding(crate::specs::Writing::copy_file_bytes))]
+    fn write(&self, alloc: Global) -> Result<Vec<u8>, Memory> {
+        let mut out = Vec::new(alloc);
+        put_bytes(&mut out, 1, self.src.as_str().as_bytes())?;
+        put_bytes(&mut out, 2, self.dest.as_str().as_bytes())?;
+        put_message(alloc, &mut out, 3, &self.owner)?;
+        put_signed(&mut out, 4, i64::from(self.mode))?;
+        put_flag(&mut out, 5, self.follow_symlink)?;
+        put_flag(&mut out, 6, self.dir_copy_contents)?;
+        put_flag(&mut out, 7, self.attempt_unpack_docker_compatibility)?;
+        put_flag(&mut out, 8, self.create_dest_path)?;
+        put_flag(&mut out, 9, self.allow_wildcard)?;
+        put_flag(&mut out, 10, self.allow_empty_wildcard)?;
+        put_signed(&mut out, 11, self.timestamp)?;
+        put_each_text(&mut out, 12, &self.include_patterns)?;
+        put_each_text(&mut out, 13, &self.exclude_patterns)?;
+        put_extra(&mut out, &self.extra)?;
+        Ok(out)
+    }
+}
+
+const RM: [Named; 3] = [(1, Form::Text), (2, Form::Number), (3, Form::Number)];
+
+impl Message for Rm {
+    ghost use Rattle.llb_ops.specs.Messages.{rm_of};
+
+    ghost reading = { rm_of };
+
+    #[tactic(auto, unfolding(crate::specs::Messages::rm_of))]
+    fn read(alloc: Global, bytes: &[u8]) -> Result<Rm, OpFault> {
+        let records = parts(alloc, &RM, bytes)?;
+        let path = last_text(alloc, &RM, &records, 1)?;
+        let allow_not_found = last_flag(&records, 2);
+        let allow_wildcard = last_flag(&records, 3);
+        let extra = unnamed(alloc, &RM, &records)?;
+        Ok(Rm {
+            path,
+            allow_not_found,
+            allow_wildcard,
+            extra,
+        })
+    }
+
+    ghost use Rattle.llb_ops.specs.Writing.{rm_bytes};
+
+    ghost writing = { rm_bytes };
+
+    #[tactic(auto, unfolding(crate::specs::Writing::rm_bytes))]
+    fn write(&self, alloc: Global) -> Result<Vec<u8>, Memory> {
+        let mut out = Vec::new(alloc);
+        put_bytes(&mut out, 1, self.path.as_str().as_bytes())?;
+        put_flag(&mut out, 2, self.allow_not_found)?;
+        put_flag(&mut out, 3, self.allow_wildcard)?;
+        put_extra(&mut out, &self.extra)?;
+        Ok(out)
+    }
+}
+
 const CHOWN_OPT: [Named; 2] = [(1, Form::Bytes), (2, Form::Bytes)];
 
 impl Message for ChownOpt {
@@ -524,5 +549,123 @@ impl Member for User {
             User::ById(id) => put_set_number(&mut out, 2, u64::from(*id))?,
         }
         Ok(out)
+    }
+}
+
+impl Duplicate for FileOp {
+    fn duplicate(&self) -> Result<FileOp, Memory> {
+        Ok(FileOp {
+            actions: self.actions.duplicate()?,
+            extra: self.extra.duplicate()?,
+        })
+    }
+}
+
+impl Duplicate for Action {
+    fn duplicate(&self) -> Result<Action, Memory> {
+        Ok(Action {
+            input: self.input,
+            secondary_input: self.secondary_input,
+            output: self.output,
+            kind: self.kind.duplicate()?,
+            extra: self.extra.duplicate()?,
+        })
+    }
+}
+
+impl Duplicate for ActionKind {
+    fn duplicate(&self) -> Result<ActionKind, Memory> {
+        Ok(match self {
+            ActionKind::Copy(x) => ActionKind::Copy(x.duplicate()?),
+            ActionKind::MkFile(x) => ActionKind::MkFile(x.duplicate()?),
+            ActionKind::MkDir(x) => ActionKind::MkDir(x.duplicate()?),
+            ActionKind::Rm(x) => ActionKind::Rm(x.duplicate()?),
+        })
+    }
+}
+
+impl Duplicate for MkFile {
+    fn duplicate(&self) -> Result<MkFile, Memory> {
+        Ok(MkFile {
+            path: self.path.duplicate()?,
+            mode: self.mode,
+            body: self.body.duplicate()?,
+            owner: self.owner.duplicate()?,
+            timestamp: self.timestamp,
+            extra: self.extra.duplicate()?,
+        })
+    }
+}
+
+impl Duplicate for MkDir {
+    fn duplicate(&self) -> Result<MkDir, Memory> {
+        Ok(MkDir {
+            path: self.path.duplicate()?,
+            mode: self.mode,
+            make_parents: self.make_parents,
+            owner: self.owner.duplicate()?,
+            timestamp: self.timestamp,
+            extra: self.extra.duplicate()?,
+        })
+    }
+}
+
+impl Duplicate for CopyFile {
+    fn duplicate(&self) -> Result<CopyFile, Memory> {
+        Ok(CopyFile {
+            src: self.src.duplicate()?,
+            dest: self.dest.duplicate()?,
+            owner: self.owner.duplicate()?,
+            mode: self.mode,
+            follow_symlink: self.follow_symlink,
+            dir_copy_contents: self.dir_copy_contents,
+            attempt_unpack_docker_compatibility: self.attempt_unpack_docker_compatibility,
+            create_dest_path: self.create_dest_path,
+            allow_wildcard: self.allow_wildcard,
+            allow_empty_wildcard: self.allow_empty_wildcard,
+            timestamp: self.timestamp,
+            include_patterns: self.include_patterns.duplicate()?,
+            exclude_patterns: self.exclude_patterns.duplicate()?,
+            extra: self.extra.duplicate()?,
+        })
+    }
+}
+
+impl Duplicate for Rm {
+    fn duplicate(&self) -> Result<Rm, Memory> {
+        Ok(Rm {
+            path: self.path.duplicate()?,
+            allow_not_found: self.allow_not_found,
+            allow_wildcard: self.allow_wildcard,
+            extra: self.extra.duplicate()?,
+        })
+    }
+}
+
+impl Duplicate for ChownOpt {
+    fn duplicate(&self) -> Result<ChownOpt, Memory> {
+        Ok(ChownOpt {
+            user: self.user.duplicate()?,
+            group: self.group.duplicate()?,
+            extra: self.extra.duplicate()?,
+        })
+    }
+}
+
+impl Duplicate for UserOpt {
+    fn duplicate(&self) -> Result<UserOpt, Memory> {
+        Ok(UserOpt {
+            user: self.user.duplicate()?,
+            extra: self.extra.duplicate()?,
+        })
+    }
+}
+
+impl Duplicate for User {
+    fn duplicate(&self) -> Result<User, Memory> {
+        Ok(match self {
+            User::ByName(x) => User::ByName(x.duplicate()?),
+            User::ById(x) => User::ById(*x),
+        })
     }
 }

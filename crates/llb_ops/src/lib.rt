@@ -1,20 +1,25 @@
 //! Records are messages: an op is read from its records, and written in its canonical bytes.
 #![tactic(auto)]
 
-mod copied;
 mod definition;
+mod exec;
 mod fault;
 mod file;
+mod merge;
 mod message;
 mod op;
 mod records;
 mod shape;
+mod source;
 mod writing;
 
-pub use definition::{Entries, read_definition};
+pub use definition::{Entries, definition_is_read_again, read_definition, write_definition};
+pub use exec::{CacheOpt, ExecOp, Meta, Mount, TmpfsOpt};
 pub use fault::OpFault;
-pub use file::{Action, ActionKind, ChownOpt, FileOp, MkDir, MkFile, User, UserOpt};
+pub use file::{Action, ActionKind, ChownOpt, CopyFile, FileOp, MkDir, MkFile, Rm, User, UserOpt};
+pub use merge::{MergeInput, MergeOp};
 pub use op::{Input, Kind, Op, op_is_read_again, read_op, write_op};
+pub use source::{Attribute, Attributes, SourceOp};
 
 #[cfg(test)]
 mod tests;

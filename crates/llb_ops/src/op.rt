@@ -6,14 +6,16 @@ ghost use Rattle.llb_ops.specs.Messages.{op_of};
 ghost use Rattle.llb_ops.specs.Writing.{op_bytes};
 ghost use Rattle.llb_ops.specs.Laws.{IsReadAgain};
 
-use crate::copied::{Copied, copy_many, copy_option};
+use crate::exec::ExecOp;
 use crate::fault::OpFault;
 use crate::file::FileOp;
+use crate::merge::MergeOp;
 use crate::message::{Member, Message, each, one_of};
 use crate::records::{Record, joined, last_int64, last_text, parts, unnamed, within_limits};
 use crate::shape::{ENTRY_LIMIT, Form, Named};
+use crate::source::SourceOp;
 use crate::writing::{put_bytes, put_extra, put_messages, put_one_of, put_set_bytes, put_signed};
-use llb_wire::{Bytes, Many, Memory, Text};
+use llb_wire::{Bytes, Duplicate, Many, Memory, Text};
 use std::alloc::Global;
 
 /// A vertex of the build graph as its entry tells it.
@@ -26,14 +28,14 @@ pub struct Op {
     pub extra: Bytes,
 }
 
-/// What an op does. Members that are not read yet are kept as their joined payloads.
+/// What an op does. Builds and diffs are kept as their joined payloads.
 #[derive(Debug, Drop)]
 pub enum Kind {
-    Exec(Bytes),
-    Source(Bytes),
+    Exec(ExecOp),
+    Source(SourceOp),
     File(FileOp),
     Build(Bytes),
-    Merge(Bytes),
+    Merge(MergeOp),
     Diff(Bytes),
 }
 
@@ -46,56 +48,11 @@ pub struct Input {
 }
 
 impl Op {
-    /// An equal second owner.
+    /// An equal second owner. `Memory` (14) where memory is refused.
     pub fn copy(&self) -> Result<Op, OpFault>
         ensures { Gives (λ x. x) result (Ok self.now) }
     {
-        Ok(Op {
-            inputs: copy_many(&self.inputs)?,
-            kind: copy_option(&self.kind)?,
-            extra: self.extra.copy()?,
-        })
-    }
-}
-
-impl Kind {
-    /// An equal second owner.
-    pub fn copy(&self) -> Result<Kind, OpFault>
-        ensures { Gives (λ x. x) result (Ok self.now) }
-    {
-        Ok(match self {
-            Kind::Exec(x) => Kind::Exec(x.copy()?),
-            Kind::Source(x) => Kind::Source(x.copy()?),
-            Kind::File(x) => Kind::File(x.copy()?),
-            Kind::Build(x) => Kind::Build(x.copy()?),
-            Kind::Merge(x) => Kind::Merge(x.copy()?),
-            Kind::Diff(x) => Kind::Diff(x.copy()?),
-        })
-    }
-}
-
-impl Copied for Kind {
-    fn copied(&self) -> Result<Kind, OpFault> {
-        self.copy()
-    }
-}
-
-impl Input {
-    /// An equal second owner.
-    pub fn copy(&self) -> Result<Input, OpFault>
-        ensures { Gives (λ x. x) result (Ok self.now) }
-    {
-        Ok(Input {
-            digest: self.digest.copy()?,
-            index: self.index,
-            extra: self.extra.copy()?,
-        })
-    }
-}
-
-impl Copied for Input {
-    fn copied(&self) -> Result<Input, OpFault> {
-        self.copy()
+        Ok(self.duplicate()?)
     }
 }
 
@@ -143,11 +100,11 @@ impl Member for Kind {
     fn read(alloc: Global, number: u32, records: &[Record<'_>]) -> Result<Kind, OpFault> {
         let bytes = joined(alloc, records, number)?;
         match number {
-            2 => Ok(Kind::Exec(Bytes::new(bytes))),
-            3 => Ok(Kind::Source(Bytes::new(bytes))),
+            2 => Ok(Kind::Exec(ExecOp::read(alloc, &bytes)?)),
+            3 => Ok(Kind::Source(SourceOp::read(alloc, &bytes)?)),
             4 => Ok(Kind::File(FileOp::read(alloc, &bytes)?)),
             5 => Ok(Kind::Build(Bytes::new(bytes))),
-            6 => Ok(Kind::Merge(Bytes::new(bytes))),
+            6 => Ok(Kind::Merge(MergeOp::read(alloc, &bytes)?)),
             _ => Ok(Kind::Diff(Bytes::new(bytes))),
         }
     }
@@ -160,11 +117,11 @@ impl Member for Kind {
     fn write(&self, alloc: Global) -> Result<Vec<u8>, Memory> {
         let mut out = Vec::new(alloc);
         match self {
-            Kind::Exec(bytes) => put_set_bytes(&mut out, 2, bytes.as_slice())?,
-            Kind::Source(bytes) => put_set_bytes(&mut out, 3, bytes.as_slice())?,
+            Kind::Exec(op) => put_set_bytes(&mut out, 2, &op.write(alloc)?)?,
+            Kind::Source(op) => put_set_bytes(&mut out, 3, &op.write(alloc)?)?,
             Kind::File(op) => put_set_bytes(&mut out, 4, &op.write(alloc)?)?,
             Kind::Build(bytes) => put_set_bytes(&mut out, 5, bytes.as_slice())?,
-            Kind::Merge(bytes) => put_set_bytes(&mut out, 6, bytes.as_slice())?,
+            Kind::Merge(op) => put_set_bytes(&mut out, 6, &op.write(alloc)?)?,
             Kind::Diff(bytes) => put_set_bytes(&mut out, 7, bytes.as_slice())?,
         }
         Ok(out)
@@ -247,4 +204,37 @@ pub fn op_is_read_again(op: &Op)
     ensures { IsReadAgain op.now }
 {
     let _ = op;
+}
+
+impl Duplicate for Op {
+    fn duplicate(&self) -> Result<Op, Memory> {
+        Ok(Op {
+            inputs: self.inputs.duplicate()?,
+            kind: self.kind.duplicate()?,
+            extra: self.extra.duplicate()?,
+        })
+    }
+}
+
+impl Duplicate for Kind {
+    fn duplicate(&self) -> Result<Kind, Memory> {
+        Ok(match self {
+            Kind::Exec(x) => Kind::Exec(x.duplicate()?),
+            Kind::Source(x) => Kind::Source(x.duplicate()?),
+            Kind::File(x) => Kind::File(x.duplicate()?),
+            Kind::Build(x) => Kind::Build(x.duplicate()?),
+            Kind::Merge(x) => Kind::Merge(x.duplicate()?),
+            Kind::Diff(x) => Kind::Diff(x.duplicate()?),
+        })
+    }
+}
+
+impl Duplicate for Input {
+    fn duplicate(&self) -> Result<Input, Memory> {
+        Ok(Input {
+            digest: self.digest.duplicate()?,
+            index: self.index,
+            extra: self.extra.duplicate()?,
+        })
+    }
 }

@@ -30,7 +30,8 @@ fn form(shape: &[Named], number: u32) -> Option<Form>
     shape.iter().find(|n| n.0 == number).map(|n| n.1)
 }
 
-fn fits(shape: &[Named], field: &Field) -> bool
+/// The record has the wire type of its field, where the message names it.
+pub fn fits(shape: &[Named], field: &Field) -> bool
     ensures { result ≡ wire_fits (form_of shape.now field.now.number) field.now.wire }
 {
     match (form(shape, field.number), field.wire) {
@@ -43,7 +44,7 @@ fn fits(shape: &[Named], field: &Field) -> bool
 }
 
 /// The record at the front, and the bytes after it.
-fn take_record<'a>(bytes: &'a [u8], field: &Field) -> (Record<'a>, &'a [u8])
+pub fn take_record<'a>(bytes: &'a [u8], field: &Field) -> (Record<'a>, &'a [u8])
     requires ordered { field.now.start ≤ field.now.«end» }
     requires inside { field.now.«end» ≤ length bytes.now }
     ensures record { view result.0 ≡ record_of bytes.now field.now }
@@ -205,6 +206,27 @@ pub fn last_text(
     let payload = last_payload(records, number);
     let text = Text::from_str(alloc, unsafe { from_utf8_unchecked(payload) })?;
     Ok(text)
+}
+
+/// The texts of a field that is repeated, in order.
+pub fn each_text(
+    alloc: Global,
+    shape: &[Named],
+    records: &[Record<'_>],
+    number: u32,
+) -> Result<Many<Text>, OpFault>
+    requires named { form_of shape.now number ≡ Some form.Text }
+    requires texts { texts_fit shape.now (views records.now) ≡ true }
+    ensures { Gives (λ ts. ts) result (Ok (payloads (all_of number (views records.now)))) }
+{
+    let mut items = Vec::new(alloc);
+    for record in records {
+        if record.number == number {
+            let text = Text::from_str(alloc, unsafe { from_utf8_unchecked(record.payload) })?;
+            items.push(text)?;
+        }
+    }
+    Ok(Many::new(items))
 }
 
 /// The payloads of a field, one behind the other.

@@ -1,10 +1,10 @@
 //! Fields in their canonical bytes, one behind the other.
 
 ghost use Rattle.std.specs.Prelude.{◌≡◌, ◌<◌, ◌++◌, ◌≤◌, OnOk};
-ghost use Rattle.llb_ops.specs.Writing.{set_number, set_bytes, number_field, bytes_field, signed_field, flag_field, message_field, messages_field, one_of_field};
+ghost use Rattle.llb_ops.specs.Writing.{set_number, set_bytes, number_field, bytes_field, signed_field, flag_field, message_field, messages_field, each_field, one_of_field};
 
 use crate::message::{Member, Message};
-use llb_wire::{Bytes, Many, Memory, Wire, write_record};
+use llb_wire::{Bytes, Many, Memory, Text, Wire, write_record};
 use std::alloc::Global;
 
 /// A number, also where it is 0.
@@ -100,6 +100,30 @@ pub fn put_messages<M: Message>(
     for message in messages.as_slice() {
         let bytes = message.write(alloc)?;
         put_set_bytes(out, number, &bytes)?;
+    }
+    Ok(())
+}
+
+/// Byte strings that are repeated.
+pub fn put_each_bytes(out: &mut Vec<u8>, number: u32, items: &[Bytes]) -> Result<(), Memory>
+    requires some { 0 < number }
+    requires small { number ≤ 536_870_911 }
+    ensures { OnOk result (out.new.items ≡ out.old.items ++ each_field number items.now) }
+{
+    for bytes in items {
+        put_set_bytes(out, number, bytes.as_slice())?;
+    }
+    Ok(())
+}
+
+/// Texts that are repeated.
+pub fn put_each_text(out: &mut Vec<u8>, number: u32, items: &Many<Text>) -> Result<(), Memory>
+    requires some { 0 < number }
+    requires small { number ≤ 536_870_911 }
+    ensures { OnOk result (out.new.items ≡ out.old.items ++ each_field number items.now) }
+{
+    for text in items.as_slice() {
+        put_set_bytes(out, number, text.as_str().as_bytes())?;
     }
     Ok(())
 }

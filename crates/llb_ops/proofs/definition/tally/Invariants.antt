@@ -1,0 +1,13 @@
+use Rattle.std.proofs.Common.{◌≡◌, ◌+◌, ◌≤◌, length}
+use Rattle.llb_ops.specs.Definition.{entries_in, counted}
+use Rattle.llb_ops.proofs.EntriesIn.{tallied}
+use Rattle.llb_ops.proofs.definition.tally.Given as goal
+
+abbrev pub invariant-loop-field : goal.invariant-loop-field
+invariant-loop-field l = record {
+  so_far : tallied (l.count, l.short) (entries_in l.rest) ≡ counted (entries_in l.bytes);
+  few : l.count + length l.rest ≤ 67_108_864;
+}
+
+abbrev pub decreases-loop-field : goal.decreases-loop-field
+decreases-loop-field l = length l.rest

@@ -1,0 +1,348 @@
+//! Executions, their mounts and caches, as `ops.proto` of BuildKit names them. Enums of the wire are numbers.
+
+use crate::fault::OpFault;
+use crate::message::{Message, each, one};
+use crate::records::{
+    each_bytes, each_text, last_flag, last_int32, last_int64, last_text, parts, unnamed,
+    within_limits,
+};
+use crate::shape::{Form, Named};
+use crate::writing::{
+    put_bytes, put_each_bytes, put_each_text, put_extra, put_flag, put_message, put_messages,
+    put_signed,
+};
+use llb_wire::{Bytes, Duplicate, Many, Memory, Text};
+use std::alloc::Global;
+
+/// Commands that run with mounts.
+#[derive(Debug, Drop)]
+pub struct ExecOp {
+    pub meta: Option<Meta>,
+    pub mounts: Many<Mount>,
+    pub network: i32,
+    pub security: i32,
+    /// The payloads of messages that are not looked into.
+    pub secretenv: Many<Bytes>,
+    pub extra: Bytes,
+}
+
+/// What is run, and where.
+#[derive(Debug, Drop)]
+pub struct Meta {
+    pub args: Many<Text>,
+    pub env: Many<Text>,
+    pub cwd: Text,
+    pub user: Text,
+    pub extra: Bytes,
+}
+
+/// A tree under a path.
+#[derive(Debug, Drop)]
+pub struct Mount {
+    pub input: i64,
+    pub selector: Text,
+    pub dest: Text,
+    /// The output that the mount's tree is, -1 for none.
+    pub output: i64,
+    pub readonly: bool,
+    /// 0 bind, 1 secret, 2 SSH, 3 cache, 4 tmpfs.
+    pub mount_type: i32,
+    pub tmpfs_opt: Option<TmpfsOpt>,
+    pub cache_opt: Option<CacheOpt>,
+    pub extra: Bytes,
+}
+
+/// Of a tmpfs mount: its size in bytes.
+#[derive(Debug, Drop)]
+pub struct TmpfsOpt {
+    pub size: i64,
+    pub extra: Bytes,
+}
+
+/// Of a cache mount.
+#[derive(Debug, Drop)]
+pub struct CacheOpt {
+    pub id: Text,
+    /// 0 shared, 1 private, 2 locked.
+    pub sharing: i32,
+    pub extra: Bytes,
+}
+
+const EXEC_OP: [Named; 5] = [
+    (1, Form::Bytes),
+    (2, Form::Bytes),
+    (3, Form::Number),
+    (4, Form::Number),
+    (5, Form::Bytes),
+];
+
+impl Message for ExecOp {
+    ghost use Rattle.llb_ops.specs.Messages.{exec_op_of};
+
+    ghost reading = { exec_op_of };
+
+    #[tactic(auto, unfolding(crate::specs::Messages::exec_op_of))]
+    fn read(alloc: Global, bytes: &[u8]) -> Result<ExecOp, OpFault> {
+        let records = parts(alloc, &EXEC_OP, bytes)?;
+        let meta = one::<Meta>(alloc, &records, 1)?;
+        let mounts = each::<Mount>(alloc, &records, 2)?;
+        let network = last_int32(&records, 3);
+        let security = last_int32(&records, 4);
+        let secretenv = each_bytes(alloc, &records, 5)?;
+        if !within_limits(&[2, 5], &records) {
+            return Err(OpFault::OverLimit);
+        }
+        let extra = unnamed(alloc, &EXEC_OP, &records)?;
+        Ok(ExecOp {
+            meta,
+            mounts,
+            network,
+            security,
+            secretenv,
+            extra,
+        })
+    }
+
+    ghost use Rattle.llb_ops.specs.Writing.{exec_op_bytes};
+
+    ghost writing = { exec_op_bytes };
+
+    #[tactic(auto, unfolding(crate::specs::Writing::exec_op_bytes))]
+    fn write(&self, alloc: Global) -> Result<Vec<u8>, Memory> {
+        let mut out = Vec::new(alloc);
+        put_message(alloc, &mut out, 1, &self.meta)?;
+        put_messages(alloc, &mut out, 2, &self.mounts)?;
+        put_signed(&mut out, 3, i64::from(self.network))?;
+        put_signed(&mut out, 4, i64::from(self.security))?;
+        put_each_bytes(&mut out, 5, self.secretenv.as_slice())?;
+        put_extra(&mut out, &self.extra)?;
+        Ok(out)
+    }
+}
+
+const META: [Named; 4] = [
+    (1, Form::Text),
+    (2, Form::Text),
+    (3, Form::Text),
+    (4, Form::Text),
+];
+
+impl Message for Meta {
+    ghost use Rattle.llb_ops.specs.Messages.{meta_of};
+
+    ghost reading = { meta_of };
+
+    #[tactic(auto, unfolding(crate::specs::Messages::meta_of))]
+    fn read(alloc: Global, bytes: &[u8]) -> Result<Meta, OpFault> {
+        let records = parts(alloc, &META, bytes)?;
+        let args = each_text(alloc, &META, &records, 1)?;
+        let env = each_text(alloc, &META, &records, 2)?;
+        let cwd = last_text(alloc, &META, &records, 3)?;
+        let user = last_text(alloc, &META, &records, 4)?;
+        if !within_limits(&[1, 2], &records) {
+            return Err(OpFault::OverLimit);
+        }
+        let extra = unnamed(alloc, &META, &records)?;
+        Ok(Meta {
+            args,
+            env,
+            cwd,
+            user,
+            extra,
+        })
+    }
+
+    ghost use Rattle.llb_ops.specs.Writing.{meta_bytes};
+
+    ghost writing = { meta_bytes };
+
+    #[tactic(auto, unfolding(crate::specs::Writing::meta_bytes))]
+    fn write(&self, alloc: Global) -> Result<Vec<u8>, Memory> {
+        let mut out = Vec::new(alloc);
+        put_each_text(&mut out, 1, &self.args)?;
+        put_each_text(&mut out, 2, &self.env)?;
+        put_bytes(&mut out, 3, self.cwd.as_str().as_bytes())?;
+        put_bytes(&mut out, 4, self.user.as_str().as_bytes())?;
+        put_extra(&mut out, &self.extra)?;
+        Ok(out)
+    }
+}
+
+const MOUNT: [Named; 8] = [
+    (1, Form::Number),
+    (2, Form::Text),
+    (3, Form::Text),
+    (4, Form::Number),
+    (5, Form::Number),
+    (6, Form::Number),
+    (19, Form::Bytes),
+    (20, Form::Bytes),
+];
+
+impl Message for Mount {
+    ghost use Rattle.llb_ops.specs.Messages.{mount_of};
+
+    ghost reading = { mount_of };
+
+    #[tactic(auto, unfolding(crate::specs::Messages::mount_of))]
+    fn read(alloc: Global, bytes: &[u8]) -> Result<Mount, OpFault> {
+        let records = parts(alloc, &MOUNT, bytes)?;
+        let input = last_int64(&records, 1);
+        let selector = last_text(alloc, &MOUNT, &records, 2)?;
+        let dest = last_text(alloc, &MOUNT, &records, 3)?;
+        let output = last_int64(&records, 4);
+        let readonly = last_flag(&records, 5);
+        let mount_type = last_int32(&records, 6);
+        let tmpfs_opt = one::<TmpfsOpt>(alloc, &records, 19)?;
+        let cache_opt = one::<CacheOpt>(alloc, &records, 20)?;
+        let extra = unnamed(alloc, &MOUNT, &records)?;
+        Ok(Mount {
+            input,
+            selector,
+            dest,
+            output,
+            readonly,
+            mount_type,
+            tmpfs_opt,
+            cache_opt,
+            extra,
+        })
+    }
+
+    ghost use Rattle.llb_ops.specs.Writing.{mount_bytes};
+
+    ghost writing = { mount_bytes };
+
+    #[tactic(auto, unfolding(crate::specs::Writing::mount_bytes))]
+    fn write(&self, alloc: Global) -> Result<Vec<u8>, Memory> {
+        let mut out = Vec::new(alloc);
+        put_signed(&mut out, 1, self.input)?;
+        put_bytes(&mut out, 2, self.selector.as_str().as_bytes())?;
+        put_bytes(&mut out, 3, self.dest.as_str().as_bytes())?;
+        put_signed(&mut out, 4, self.output)?;
+        put_flag(&mut out, 5, self.readonly)?;
+        put_signed(&mut out, 6, i64::from(self.mount_type))?;
+        put_message(alloc, &mut out, 19, &self.tmpfs_opt)?;
+        put_message(alloc, &mut out, 20, &self.cache_opt)?;
+        put_extra(&mut out, &self.extra)?;
+        Ok(out)
+    }
+}
+
+const TMPFS_OPT: [Named; 1] = [(1, Form::Number)];
+
+impl Message for TmpfsOpt {
+    ghost use Rattle.llb_ops.specs.Messages.{tmpfs_opt_of};
+
+    ghost reading = { tmpfs_opt_of };
+
+    #[tactic(auto, unfolding(crate::specs::Messages::tmpfs_opt_of))]
+    fn read(alloc: Global, bytes: &[u8]) -> Result<TmpfsOpt, OpFault> {
+        let records = parts(alloc, &TMPFS_OPT, bytes)?;
+        let size = last_int64(&records, 1);
+        let extra = unnamed(alloc, &TMPFS_OPT, &records)?;
+        Ok(TmpfsOpt { size, extra })
+    }
+
+    ghost use Rattle.llb_ops.specs.Writing.{tmpfs_opt_bytes};
+
+    ghost writing = { tmpfs_opt_bytes };
+
+    #[tactic(auto, unfolding(crate::specs::Writing::tmpfs_opt_bytes))]
+    fn write(&self, alloc: Global) -> Result<Vec<u8>, Memory> {
+        let mut out = Vec::new(alloc);
+        put_signed(&mut out, 1, self.size)?;
+        put_extra(&mut out, &self.extra)?;
+        Ok(out)
+    }
+}
+
+const CACHE_OPT: [Named; 2] = [(1, Form::Text), (2, Form::Number)];
+
+impl Message for CacheOpt {
+    ghost use Rattle.llb_ops.specs.Messages.{cache_opt_of};
+
+    ghost reading = { cache_opt_of };
+
+    #[tactic(auto, unfolding(crate::specs::Messages::cache_opt_of))]
+    fn read(alloc: Global, bytes: &[u8]) -> Result<CacheOpt, OpFault> {
+        let records = parts(alloc, &CACHE_OPT, bytes)?;
+        let id = last_text(alloc, &CACHE_OPT, &records, 1)?;
+        let sharing = last_int32(&records, 2);
+        let extra = unnamed(alloc, &CACHE_OPT, &records)?;
+        Ok(CacheOpt { id, sharing, extra })
+    }
+
+    ghost use Rattle.llb_ops.specs.Writing.{cache_opt_bytes};
+
+    ghost writing = { cache_opt_bytes };
+
+    #[tactic(auto, unfolding(crate::specs::Writing::cache_opt_bytes))]
+    fn write(&self, alloc: Global) -> Result<Vec<u8>, Memory> {
+        let mut out = Vec::new(alloc);
+        put_bytes(&mut out, 1, self.id.as_str().as_bytes())?;
+        put_signed(&mut out, 2, i64::from(self.sharing))?;
+        put_extra(&mut out, &self.extra)?;
+        Ok(out)
+    }
+}
+
+impl Duplicate for ExecOp {
+    fn duplicate(&self) -> Result<ExecOp, Memory> {
+        Ok(ExecOp {
+            meta: self.meta.duplicate()?,
+            mounts: self.mounts.duplicate()?,
+            network: self.network,
+            security: self.security,
+            secretenv: self.secretenv.duplicate()?,
+            extra: self.extra.duplicate()?,
+        })
+    }
+}
+
+impl Duplicate for Meta {
+    fn duplicate(&self) -> Result<Meta, Memory> {
+        Ok(Meta {
+            args: self.args.duplicate()?,
+            env: self.env.duplicate()?,
+            cwd: self.cwd.duplicate()?,
+            user: self.user.duplicate()?,
+            extra: self.extra.duplicate()?,
+        })
+    }
+}
+
+impl Duplicate for Mount {
+    fn duplicate(&self) -> Result<Mount, Memory> {
+        Ok(Mount {
+            input: self.input,
+            selector: self.selector.duplicate()?,
+            dest: self.dest.duplicate()?,
+            output: self.output,
+            readonly: self.readonly,
+            mount_type: self.mount_type,
+            tmpfs_opt: self.tmpfs_opt.duplicate()?,
+            cache_opt: self.cache_opt.duplicate()?,
+            extra: self.extra.duplicate()?,
+        })
+    }
+}
+
+impl Duplicate for TmpfsOpt {
+    fn duplicate(&self) -> Result<TmpfsOpt, Memory> {
+        Ok(TmpfsOpt {
+            size: self.size,
+            extra: self.extra.duplicate()?,
+        })
+    }
+}
+
+impl Duplicate for CacheOpt {
+    fn duplicate(&self) -> Result<CacheOpt, Memory> {
+        Ok(CacheOpt {
+            id: self.id.duplicate()?,
+            sharing: self.sharing,
+            extra: self.extra.duplicate()?,
+        })
+    }
+}

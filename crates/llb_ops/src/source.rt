@@ -1,0 +1,202 @@
+//! Sources and their attributes, as `ops.proto` of BuildKit names them.
+
+ghost use Rattle.std.specs.Prelude.{◌≡◌, ◌++◌, IfOk, OnOk, map};
+ghost use Rattle.llb_ops.specs.Attributes.{entry_of, settled};
+ghost use Rattle.llb_ops.specs.Writing.{attribute_entry_bytes, messages_field};
+
+use crate::fault::OpFault;
+use crate::message::{Message, each};
+use crate::records::{last_text, parts, unnamed, within_limits};
+use crate::shape::{Form, Named};
+use crate::writing::{put_bytes, put_extra, put_set_bytes};
+use indexmap::IndexMap;
+use llb_wire::{Bytes, Duplicate, Many, Memory, Text};
+use std::alloc::Global;
+use std::marker::Model;
+
+/// A tree from outside, named by its identifier.
+#[derive(Debug, Drop)]
+pub struct SourceOp {
+    pub identifier: Text,
+    pub attrs: Attributes,
+    pub extra: Bytes,
+}
+
+/// The attributes of a source by their keys: the last entry for a key, at the place of the first. Contracts see the list
+/// of keys and attributes.
+#[derive(Debug, Drop)]
+pub struct Attributes {
+    held: IndexMap<Text, Attribute>,
+}
+
+/// What stands behind a key.
+#[derive(Debug, Drop)]
+pub struct Attribute {
+    pub value: Text,
+    pub extra: Bytes,
+}
+
+/// An entry of the map of attributes, which is a message with key 1 and value 2.
+#[derive(Debug, Drop)]
+pub struct AttributeEntry {
+    pub key: Text,
+    pub value: Text,
+    pub extra: Bytes,
+}
+
+impl Model for Attributes {
+    ghost use Rattle.std.specs.Prelude.{List};
+    ghost use Rattle.llb_ops.specs.Attributes.{Held};
+
+    ghost Value = { List Held };
+
+    ghost view = { λ a. a.held.entries };
+}
+
+impl Attributes {
+    /// Takes a map over.
+    pub fn new(held: IndexMap<Text, Attribute>) -> Attributes
+        ensures { result ≡ held.entries }
+    {
+        Attributes { held }
+    }
+
+    pub fn as_map(&self) -> &IndexMap<Text, Attribute>
+        ensures { result.now.entries ≡ self.now }
+    {
+        &self.held
+    }
+
+    /// The last entry for each key, at the place of the first.
+    pub(crate) fn settled(
+        alloc: Global,
+        entries: Many<AttributeEntry>,
+    ) -> Result<Attributes, Memory>
+        ensures { IfOk result (λ a. a ≡ settled entries) }
+    {
+        let mut held = IndexMap::new(alloc);
+        for entry in entries.into_vec() {
+            let attribute = Attribute {
+                value: entry.value,
+                extra: entry.extra,
+            };
+            held.insert(entry.key, attribute)?;
+        }
+        Ok(Attributes { held })
+    }
+}
+
+const ATTRIBUTE_ENTRY: [Named; 2] = [(1, Form::Text), (2, Form::Text)];
+
+impl Message for AttributeEntry {
+    ghost use Rattle.llb_ops.specs.Messages.{attribute_entry_of};
+
+    ghost reading = { attribute_entry_of };
+
+    #[tactic(auto, unfolding(crate::specs::Messages::attribute_entry_of))]
+    fn read(alloc: Global, bytes: &[u8]) -> Result<AttributeEntry, OpFault> {
+        let records = parts(alloc, &ATTRIBUTE_ENTRY, bytes)?;
+        let key = last_text(alloc, &ATTRIBUTE_ENTRY, &records, 1)?;
+        let value = last_text(alloc, &ATTRIBUTE_ENTRY, &records, 2)?;
+        let extra = unnamed(alloc, &ATTRIBUTE_ENTRY, &records)?;
+        Ok(AttributeEntry { key, value, extra })
+    }
+
+    ghost use Rattle.llb_ops.specs.Writing.{attribute_entry_bytes};
+
+    ghost writing = { attribute_entry_bytes };
+
+    fn write(&self, alloc: Global) -> Result<Vec<u8>, Memory> {
+        written_entry(alloc, &self.key, &self.value, &self.extra)
+    }
+}
+
+// An entry: key and value are both written.
+#[tactic(auto, unfolding(crate::specs::Writing::attribute_entry_bytes))]
+fn written_entry(alloc: Global, key: &Text, value: &Text, extra: &Bytes) -> Result<Vec<u8>, Memory>
+    ensures { IfOk result (λ v. v.items ≡ attribute_entry_bytes (record { key = key.now; value = value.now; extra = extra.now })) }
+{
+    let mut out = Vec::new(alloc);
+    put_set_bytes(&mut out, 1, key.as_str().as_bytes())?;
+    put_set_bytes(&mut out, 2, value.as_str().as_bytes())?;
+    put_extra(&mut out, extra)?;
+    Ok(out)
+}
+
+// The attributes as the entries of field 2.
+fn put_attributes(alloc: Global, out: &mut Vec<u8>, attrs: &Attributes) -> Result<(), Memory>
+    ensures { OnOk result (out.new.items ≡ out.old.items ++ messages_field attribute_entry_bytes 2 (map entry_of attrs.now)) }
+{
+    for (key, attribute) in attrs.held.iter() {
+        let bytes = written_entry(alloc, key, &attribute.value, &attribute.extra)?;
+        put_set_bytes(out, 2, &bytes)?;
+    }
+    Ok(())
+}
+
+const SOURCE_OP: [Named; 2] = [(1, Form::Text), (2, Form::Bytes)];
+
+impl Message for SourceOp {
+    ghost use Rattle.llb_ops.specs.Messages.{source_op_of};
+
+    ghost reading = { source_op_of };
+
+    #[tactic(auto, unfolding(crate::specs::Messages::source_op_of))]
+    fn read(alloc: Global, bytes: &[u8]) -> Result<SourceOp, OpFault> {
+        let records = parts(alloc, &SOURCE_OP, bytes)?;
+        let identifier = last_text(alloc, &SOURCE_OP, &records, 1)?;
+        let entries = each::<AttributeEntry>(alloc, &records, 2)?;
+        if !within_limits(&[2], &records) {
+            return Err(OpFault::OverLimit);
+        }
+        let attrs = Attributes::settled(alloc, entries)?;
+        let extra = unnamed(alloc, &SOURCE_OP, &records)?;
+        Ok(SourceOp {
+            identifier,
+            attrs,
+            extra,
+        })
+    }
+
+    ghost use Rattle.llb_ops.specs.Writing.{source_op_bytes};
+
+    ghost writing = { source_op_bytes };
+
+    #[tactic(auto, unfolding(crate::specs::Writing::source_op_bytes))]
+    fn write(&self, alloc: Global) -> Result<Vec<u8>, Memory> {
+        let mut out = Vec::new(alloc);
+        put_bytes(&mut out, 1, self.identifier.as_str().as_bytes())?;
+        put_attributes(alloc, &mut out, &self.attrs)?;
+        put_extra(&mut out, &self.extra)?;
+        Ok(out)
+    }
+}
+
+impl Duplicate for SourceOp {
+    fn duplicate(&self) -> Result<SourceOp, Memory> {
+        Ok(SourceOp {
+            identifier: self.identifier.duplicate()?,
+            attrs: self.attrs.duplicate()?,
+            extra: self.extra.duplicate()?,
+        })
+    }
+}
+
+impl Duplicate for Attributes {
+    fn duplicate(&self) -> Result<Attributes, Memory> {
+        let mut held = IndexMap::new(*self.held.allocator());
+        for (key, attribute) in self.held.iter() {
+            held.insert(key.duplicate()?, attribute.duplicate()?)?;
+        }
+        Ok(Attributes { held })
+    }
+}
+
+impl Duplicate for Attribute {
+    fn duplicate(&self) -> Result<Attribute, Memory> {
+        Ok(Attribute {
+            value: self.value.duplicate()?,
+            extra: self.extra.duplicate()?,
+        })
+    }
+}
