@@ -5,6 +5,8 @@ pub mod Places
 pub mod Sets
 pub mod Unique
 pub mod Outputs
+pub mod Apart
+pub mod Rulings
 pub mod Firsts
 pub mod Named
 pub mod Parts
@@ -13,3 +15,4 @@ pub mod Refusals
 pub mod Builds
 pub mod Limited
 pub mod Whole
+pub mod Single

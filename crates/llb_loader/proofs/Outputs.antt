@@ -1,29 +1,31 @@
 -- Output numbers, of which some are taken one after another.
-use Rattle.std.proofs.Common.{◌≡◌, ◌≢◌, ℕ, zero, suc, ◌+◌, ◌<◌, ◌≤◌, Bool, true, false, List, [], ◌∷◌, ◌⊎◌, inl, inr, length, take, get_or, set, replicate, refl, sym, ◌∙◌, ap, arith, ℤ, pos, negsuc, IsTrue, ◌↔◌}
+use Rattle.std.proofs.Common.{◌≡◌, ◌≢◌, ℕ, zero, suc, ◌+◌, ◌<◌, ◌≤◌, Bool, true, false, List, [], ◌∷◌, ◌⊎◌, inl, inr, length, take, map, get_or, set, replicate, refl, sym, ◌∙◌, ap, arith, ℤ, pos, negsuc, IsTrue, ◌↔◌}
 use Rattle.std.proofs.lemmas.Int.{ints}
 use Rattle.std.proofs.lemmas.Bool.{cases_lt}
 use Rattle.std.proofs.lemmas.List.{get_or-map, get_or_past, length-map, length-set, get_or-set_same, length-replicate, take_all}
 use Rattle.std.proofs.lemmas.List.Sums.{count_by_more_yes, count_by_more_no, sum_by-cons}
-use Rattle.llb_ops.specs.declared.file.Action.{Action}
 use Rattle.llb_loader.specs.Placing.{IsMarked}
-use Rattle.llb_loader.specs.Rules.{none, is_output, outputs_of, count_outputs, output_at, AreOutputs, IsBelow}
+use Rattle.llb_loader.specs.Rules.{none, is_output, count_outputs, output_at, AreOutputs, IsBelow}
 use Rattle.llb_loader.proofs.Rows.{unmarked, unmarked-mark, unmarked-none, weight}
 use Rattle.llb_loader.proofs.Searching.{mark_stays, mark_cases, none_marked}
 
--- what is read of an action
-pub output_read : (actions : List Action) (i : ℕ) (x : Action) → i < length actions → x ≡ get_or actions i x → output_at (outputs_of actions) i ≡ x.output
-output_read actions i x h e = get_or-map (λ (a : Action). a.output) actions i x none h ∙ ap (λ (a : Action). a.output) (sym e)
+pub more_yes : (os : List ℤ) (i : ℕ) → i < length os → is_output (output_at os i) ≡ true → count_outputs (take (i + 1) os) ≡ count_outputs (take i os) + 1
+more_yes os i h t = count_by_more_yes is_output os i none h t
 
-below_outputs : (actions : List Action) (i : ℕ) → i < length actions → i < length (outputs_of actions)
-below_outputs actions i h = let e = length-map actions (λ (a : Action). a.output) in omega (arith, e, h)
+pub more_no : (os : List ℤ) (i : ℕ) → i < length os → is_output (output_at os i) ≡ false → count_outputs (take (i + 1) os) ≡ count_outputs (take i os)
+more_no os i h t = count_by_more_no is_output os i none h t
 
-pub count_more_yes : (actions : List Action) (i : ℕ) (x : Action) → i < length actions → x ≡ get_or actions i x → is_output x.output ≡ true
-    → count_outputs (take (i + 1) (outputs_of actions)) ≡ count_outputs (take i (outputs_of actions)) + 1
-count_more_yes actions i x h e t = count_by_more_yes is_output (outputs_of actions) i none (below_outputs actions i h) (ap is_output (output_read actions i x h e) ∙ t)
+-- what is read of the items of a list, each with an output number
+pub output_read : {X : Type 0} (output : X → ℤ) (xs : List X) (i : ℕ) (x : X) → i < length xs → x ≡ get_or xs i x → output_at (map output xs) i ≡ output x
+output_read output xs i x h e = get_or-map output xs i x none h ∙ ap output (sym e)
 
-pub count_more_no : (actions : List Action) (i : ℕ) (x : Action) → i < length actions → x ≡ get_or actions i x → is_output x.output ≡ false
-    → count_outputs (take (i + 1) (outputs_of actions)) ≡ count_outputs (take i (outputs_of actions))
-count_more_no actions i x h e t = count_by_more_no is_output (outputs_of actions) i none (below_outputs actions i h) (ap is_output (output_read actions i x h e) ∙ t)
+pub count_more_yes : {X : Type 0} (output : X → ℤ) (xs : List X) (i : ℕ) (x : X) → i < length xs → x ≡ get_or xs i x → is_output (output x) ≡ true
+    → count_outputs (take (i + 1) (map output xs)) ≡ count_outputs (take i (map output xs)) + 1
+count_more_yes output xs i x h e t = more_yes (map output xs) i (let l = length-map xs output in omega (arith, l, h)) (ap is_output (output_read output xs i x h e) ∙ t)
+
+pub count_more_no : {X : Type 0} (output : X → ℤ) (xs : List X) (i : ℕ) (x : X) → i < length xs → x ≡ get_or xs i x → is_output (output x) ≡ false
+    → count_outputs (take (i + 1) (map output xs)) ≡ count_outputs (take i (map output xs))
+count_more_no output xs i x h e t = more_no (map output xs) i (let l = length-map xs output in omega (arith, l, h)) (ap is_output (output_read output xs i x h e) ∙ t)
 
 -- the first i numbers are taken: each marks its place
 pub record IsTaking (os : List ℤ) (seen : List Bool) (i : ℕ) : Type 0 where
@@ -42,7 +44,7 @@ all_marked (true ∷ s) e (suc j) h = all_marked s (let d = sum_by-cons weight t
 all_marked (false ∷ s) e j h = absurd (let d = sum_by-cons weight false s in omega (arith, e, d))
 
 -- a place below i + 1 is below i or i
-at_or_below : (a i : ℕ) → a < i + 1 → (a < i) ⊎ (a ≡ i)
+pub at_or_below : (a i : ℕ) → a < i + 1 → (a < i) ⊎ (a ≡ i)
 at_or_below a i h = elim (cases_lt a i) [ inl l ↦ inl l | inr g ↦ inr (omega (arith, h, g)) ]
 
 not_none : (z : ℤ) (j : ℕ) → z ≡ pos j → z ≢ none

@@ -5,8 +5,7 @@ use Rattle.std.proofs.lemmas.List.{get_or-take, length-take-le, take_more, take_
 use Rattle.std.proofs.lemmas.List.Elements.{Contains-get_or, All-contains}
 use Rattle.std.specs.List.{All, Contains}
 use Rattle.llb_loader.specs.Rows.{inputs}
-use Rattle.llb_loader.specs.Numbering.{IsReady, IsNumbering, GoesDown}
-use Rattle.llb_loader.specs.Laws.{rank_in}
+use Rattle.llb_loader.specs.Numbering.{IsReady, IsNumbering, GoesDown, rank_in}
 
 rank_head : (x k : ℕ) (xs : List ℕ) → x ≡ k → rank_in (x ∷ xs) k ≡ 0
 rank_head x k xs e = ap (λ (b : Bool). cond b 0 (suc (rank_in xs k))) (eq-eqb x k e)

@@ -1,25 +1,27 @@
 -- The vertices that are built of a whole plan are a graph, and the one that the plan says.
-use Rattle.std.proofs.Common.{◌≡◌, ℕ, zero, suc, ◌<◌, ◌≤◌, Bool, true, false, cond, not, ◌&&◌, ◌||◌, List, [], ◌∷◌, ◌⊎◌, inl, inr, Option, Some, None, length, get_or, map, refl, sym, ◌∙◌, ap, subst, arith, pos}
+use Rattle.std.proofs.Common.{◌≡◌, ℕ, zero, suc, ◌<◌, ◌≤◌, Bool, true, false, cond, ◌||◌, List, [], ◌∷◌, ◌⊎◌, inl, inr, Option, Some, None, length, get_or, map, refl, sym, ◌∙◌, ap, subst, arith, pos}
 use Rattle.std.proofs.lemmas.Bool.{cases_lt}
 use Rattle.std.proofs.lemmas.List.{get_or-map, get_or_past, get_or_default, get_or-take, length-map, length-take-le, same_lists}
 use Rattle.std.proofs.lemmas.List.Elements.{All-get_or, All-nil, All-cons, Contains-get_or}
 use Rattle.std.proofs.lemmas.List.Sums.{count_by-le-length}
-use Rattle.std.specs.List.{All, Contains, filter_map, cons_option, list_all, list_any}
+use Rattle.std.specs.List.{All, Contains, filter_map, cons_option, list_any, find}
 use Rattle.std.specs.Option.{unwrap_or}
 use Rattle.llb_ops.specs.declared.op.Op.{Op}
 use Rattle.llb_ops.specs.declared.op.Input.{Input}
 use Rattle.llb_ops.specs.declared.op.Kind.{Kind}
 use Rattle.llb_ops.specs.declared.op.Kind.TheVariants.{Exec, Source, File, Build, Merge, Diff}
 use Rattle.llb_ops.specs.declared.file.Action.{Action}
-use Rattle.llb_loader.specs.declared.fault.Feature.{Feature}
-use Rattle.llb_loader.specs.declared.fault.Feature.TheVariants.{NotYet, OwnerByName}
+use Rattle.llb_ops.specs.declared.file.ActionKind.{ActionKind}
+use Rattle.llb_ops.specs.declared.file.ActionKind.TheVariants.{Copy, MkFile, MkDir, Rm}
+use Rattle.llb_ops.specs.declared.exec.Mount.{Mount}
+use Rattle.llb_loader.specs.declared.fault.Feature.TheVariants as feature
 use Rattle.llb_loader.specs.declared.graph.Edge.{Edge}
 use Rattle.llb_loader.specs.declared.graph.Vertex.{Vertex}
+use Rattle.llb_loader.specs.Numbering.{rank_in}
 use Rattle.llb_loader.specs.Rows.{inputs, HasEdge, Walk}
-use Rattle.llb_loader.specs.Laws.{rank_in}
 use Rattle.llb_loader.specs.Naming.{row_named}
-use Rattle.llb_loader.specs.Features.{is_read, feature_of}
-use Rattle.llb_loader.specs.Rules.{kind_actions, actions_of, is_made, is_output, owner_of, owner_by_name, outputs_of, output_count, IsBelow, HasAction, MeetsEach, rules}
+use Rattle.llb_loader.specs.Features.{is_later, is_not_yet, is_diff, is_build, is_nameless, has, features, refused_features, feature_of}
+use Rattle.llb_loader.specs.Rules.{kind_actions, kind_mounts, kind_merged, kind_steps, kind_outputs, actions_of, is_made, is_output, owner_of, owner_by_name, outputs_of, mount_outputs, count_outputs, step_count, output_count, IsBelow, ActionInputs, AreOutputs, MeetsAll, MeetsEach, rules}
 use Rattle.llb_loader.specs.Graph.{links, LeadsBelow, IsFileVertex, IsGraph}
 use Rattle.llb_loader.specs.Linking.{Plan, op_at, input_at, links_in, input_row, ReachedRow, HasInput, outputs_there, IsNamed, IsWhole, edge_of, vertex_of}
 use Rattle.llb_loader.specs.Checks.{IsWithin}
@@ -31,59 +33,122 @@ use Rattle.llb_loader.proofs.Refusals.{reached_in, input_named}
 
 -- ---- one op
 
-and_parts : (a b : Bool) → (a && b) ≡ true → (a ≡ true) × (b ≡ true)
-and_parts true b e = (refl, e)
-and_parts false b e = absurd (let x : false ≡ true = e in cc)
-
 or_parts : (a b : Bool) → (a || b) ≡ false → (a ≡ false) × (b ≡ false)
 or_parts false b e = (refl, e)
 or_parts true b e = absurd (let x : true ≡ false = e in cc)
-
-all_true : {X : Type 0} (p : X → Bool) (xs : List X) → list_all p xs ≡ true → All (λ x. p x ≡ true) xs
-all_true p [] e = All-nil (λ x. p x ≡ true)
-all_true p (x ∷ xs) e = let b = and_parts (p x) (list_all p xs) e in All-cons (λ x. p x ≡ true) x xs b.0 (all_true p xs b.1)
 
 all_false : {X : Type 0} (p : X → Bool) (xs : List X) → list_any p xs ≡ false → All (λ x. p x ≡ false) xs
 all_false p [] e = All-nil (λ x. p x ≡ false)
 all_false p (x ∷ xs) e = let b = or_parts (p x) (list_any p xs) e in All-cons (λ x. p x ≡ false) x xs b.0 (all_false p xs b.1)
 
-read_parts : (k : Option Kind) → is_read k ≡ true → (list_all (λ a. is_made a.kind) (kind_actions k) ≡ true) × (HasAction k → 0 < length (kind_actions k))
-read_parts (Some (File f)) e = (e, λ h. h)
-read_parts (Some (Exec b)) e = absurd (let x : false ≡ true = e in cc)
-read_parts (Some (Source b)) e = absurd (let x : false ≡ true = e in cc)
-read_parts (Some (Build b)) e = absurd (let x : false ≡ true = e in cc)
-read_parts (Some (Merge b)) e = absurd (let x : false ≡ true = e in cc)
-read_parts (Some (Diff b)) e = absurd (let x : false ≡ true = e in cc)
-read_parts None e = absurd (let x : false ≡ true = e in cc)
+-- a member of a file op that is taken makes a file or a directory
+made_member : (k : Option ActionKind) → is_later k ≡ false → is_nameless k ≡ false → is_made k ≡ true
+made_member (Some (MkFile m)) l n = refl
+made_member (Some (MkDir m)) l n = refl
+made_member (Some (Copy m)) l n = absurd (let x : true ≡ false = l in cc)
+made_member (Some (Rm m)) l n = absurd (let x : true ≡ false = l in cc)
+made_member None l n = absurd (let x : true ≡ false = n in cc)
 
-feature_parts : (r n : Bool) → ◌≡◌ {A = Option Feature} (cond (not r) (Some NotYet) (cond n (Some OwnerByName) None)) None → (r ≡ true) × (n ≡ false)
-feature_parts true true e = absurd (let x : Some OwnerByName ≡ None = e in cc)
-feature_parts true false e = (refl, refl)
-feature_parts false n e = absurd (let x : Some NotYet ≡ None = e in cc)
+made_all : (actions : List Action) → All (λ a. is_later a.kind ≡ false) actions → All (λ a. is_nameless a.kind ≡ false) actions → All (λ a. is_made a.kind ≡ true) actions
+made_all actions l n a d h = made_member (get_or actions a d).kind (l a d h) (n a d h)
+
+-- where nothing is found, no test holds
+not_found : {X : Type 0} (p : X → Bool) (x : X) (xs : List X) → find p (x ∷ xs) ≡ None → (p x ≡ false) × (find p xs ≡ None)
+not_found {X} p x xs e = not_found_at (p x) x (find p xs) e
+  where
+    not_found_at : (b : Bool) (x : X) (rest : Option X) → cond b (Some x) rest ≡ None → (b ≡ false) × (rest ≡ None)
+    not_found_at true x rest e = absurd (let y : ◌≡◌ {A = Option X} (Some x) None = e in cc)
+    not_found_at false x rest e = (refl, e)
+
+-- what follows of an op without features that meets the rules: it is a file op
+pub record IsFileOp (n : ℕ) (kind : Option Kind) : Type 0 where
+  pub some : 0 < length (kind_actions kind)
+  pub made : All (λ a. is_made a.kind ≡ true) (kind_actions kind)
+  pub numbered : All (λ a. owner_by_name (owner_of a.kind) ≡ false) (kind_actions kind)
+  pub inputs : ActionInputs n (kind_actions kind)
+  pub outputs : AreOutputs (outputs_of (kind_actions kind))
+  pub steps : kind_steps kind ≡ length (kind_actions kind)
+  pub counted : kind_outputs kind ≡ count_outputs (outputs_of (kind_actions kind))
+
+refused_by : (kind : Option Kind) → find (has kind) features ≡ None → (is_not_yet kind ≡ false) × (is_diff kind ≡ false) × (is_build kind ≡ false)
+    × (list_any (λ a. is_nameless a.kind) (kind_actions kind) ≡ false) × (list_any (λ a. owner_by_name (owner_of a.kind)) (kind_actions kind) ≡ false)
+refused_by kind e =
+    let a = not_found (has kind) feature.NotYet refused_features e in
+    let b = not_found (has kind) feature.DiffOp (feature.BuildOp ∷ feature.Source ∷ feature.SecretMount ∷ feature.SshMount ∷ feature.SecretEnv ∷ feature.Action ∷ feature.Unpack ∷ feature.Patterns ∷ feature.OwnerByName ∷ feature.CopyField ∷ []) a.1 in
+    let c = not_found (has kind) feature.BuildOp (feature.Source ∷ feature.SecretMount ∷ feature.SshMount ∷ feature.SecretEnv ∷ feature.Action ∷ feature.Unpack ∷ feature.Patterns ∷ feature.OwnerByName ∷ feature.CopyField ∷ []) b.1 in
+    let d = not_found (has kind) feature.Source (feature.SecretMount ∷ feature.SshMount ∷ feature.SecretEnv ∷ feature.Action ∷ feature.Unpack ∷ feature.Patterns ∷ feature.OwnerByName ∷ feature.CopyField ∷ []) c.1 in
+    let f = not_found (has kind) feature.SecretMount (feature.SshMount ∷ feature.SecretEnv ∷ feature.Action ∷ feature.Unpack ∷ feature.Patterns ∷ feature.OwnerByName ∷ feature.CopyField ∷ []) d.1 in
+    let g = not_found (has kind) feature.SshMount (feature.SecretEnv ∷ feature.Action ∷ feature.Unpack ∷ feature.Patterns ∷ feature.OwnerByName ∷ feature.CopyField ∷ []) f.1 in
+    let h = not_found (has kind) feature.SecretEnv (feature.Action ∷ feature.Unpack ∷ feature.Patterns ∷ feature.OwnerByName ∷ feature.CopyField ∷ []) g.1 in
+    let i = not_found (has kind) feature.Action (feature.Unpack ∷ feature.Patterns ∷ feature.OwnerByName ∷ feature.CopyField ∷ []) h.1 in
+    let j = not_found (has kind) feature.Unpack (feature.Patterns ∷ feature.OwnerByName ∷ feature.CopyField ∷ []) i.1 in
+    let k = not_found (has kind) feature.Patterns (feature.OwnerByName ∷ feature.CopyField ∷ []) j.1 in
+    let l = not_found (has kind) feature.OwnerByName (feature.CopyField ∷ []) k.1 in
+    (a.0, b.0, c.0, i.0, l.0)
+
+file_op : (is : List Input) (kind : Option Kind) → find (has kind) features ≡ None → MeetsAll is kind rules → IsFileOp (length is) kind
+file_op is (Some (File f)) free met =
+    let r = refused_by (Some (File f)) free in
+    record {
+      some = met.1.1.0;
+      made = made_all f.actions (all_false (λ (a : Action). is_later a.kind) f.actions r.0) (all_false (λ (a : Action). is_nameless a.kind) f.actions r.3);
+      numbered = all_false (λ (a : Action). owner_by_name (owner_of a.kind)) f.actions r.4;
+      inputs = met.1.1.1.0.first;
+      outputs = met.1.1.1.1.0;
+      steps = refl;
+      counted = refl;
+    }
+file_op is (Some (Exec x)) free met = absurd (let r = (refused_by (Some (Exec x)) free).0 in let y : true ≡ false = r in cc)
+file_op is (Some (Source x)) free met = absurd (let r = (refused_by (Some (Source x)) free).0 in let y : true ≡ false = r in cc)
+file_op is (Some (Merge x)) free met = absurd (let r = (refused_by (Some (Merge x)) free).0 in let y : true ≡ false = r in cc)
+file_op is (Some (Diff x)) free met = absurd (let r = (refused_by (Some (Diff x)) free).1 in let y : true ≡ false = r in cc)
+file_op is (Some (Build x)) free met = absurd (let r = (refused_by (Some (Build x)) free).2 in let y : true ≡ false = r in cc)
+file_op is None free met = absurd (let y : false ≡ true = met.0 in cc)
 
 file_vertex : (text : List ℕ) (op : Op) (named ranks : List ℕ) (v : Vertex) → IsBuilt text op named ranks v → IsWithin op → feature_of op ≡ None → MeetsEach op rules → IsFileVertex v
 file_vertex text op named ranks v b within free met =
-    let f = feature_parts (is_read op.kind) (list_any (λ (a : Action). owner_by_name (owner_of a.kind)) (actions_of op)) free in
-    let r = read_parts op.kind f.0 in
-    let w = subst (λ (o : Op). (0 < length (actions_of o)) × (length (actions_of o) ≤ 1_024)) (sym b.op) (r.1 met.1.0, within.actions) in
+    let f = file_op op.inputs op.kind free met in
     record {
-      some = w.0;
-      few = w.1;
-      made = subst (λ (o : Op). All (λ a. is_made a.kind ≡ true) (actions_of o)) (sym b.op) (all_true (λ (a : Action). is_made a.kind) (actions_of op) r.0);
-      numbered = subst (λ (o : Op). All (λ a. owner_by_name (owner_of a.kind) ≡ false) (actions_of o)) (sym b.op) (all_false (λ (a : Action). owner_by_name (owner_of a.kind)) (actions_of op) f.1);
-      action_inputs = rw b.op met.1.1.0;
-      action_outputs = rw b.op met.1.1.1.0;
+      some = rw b.op f.some;
+      few = rw b.op within.actions;
+      made = subst (λ (o : Op). All (λ a. is_made a.kind ≡ true) (actions_of o)) (sym b.op) f.made;
+      numbered = subst (λ (o : Op). All (λ a. owner_by_name (owner_of a.kind) ≡ false) (actions_of o)) (sym b.op) f.numbered;
+      action_inputs = rw b.op f.inputs;
+      action_outputs = rw b.op f.outputs;
       inputs = rw b.op b.len;
-      steps = rw b.op b.steps;
-      outputs = rw b.op b.outputs;
+      steps = rw b.op (b.steps ∙ f.steps);
+      outputs = rw b.op (b.outputs ∙ f.counted);
     }
 
-count_within : (op : Op) → IsWithin op → output_count op ≤ 1_024
-count_within op w =
-    let a = count_by-le-length is_output (outputs_of (actions_of op)) in
-    let b = length-map (actions_of op) (λ (x : Action). x.output) in
-    let c = w.actions in
-    omega (arith, a, b, c)
+kind_count_within : (kind : Option Kind) → length (kind_actions kind) ≤ 1_024 → length (kind_mounts kind) ≤ 1_024 → kind_outputs kind ≤ 1_024
+kind_count_within (Some (File f)) a m =
+    let c = count_by-le-length is_output (outputs_of f.actions) in
+    let l = length-map f.actions (λ (x : Action). x.output) in
+    omega (arith, a, c, l)
+kind_count_within (Some (Exec x)) a m =
+    let c = count_by-le-length is_output (mount_outputs x.mounts) in
+    let l = length-map x.mounts (λ (x : Mount). x.output) in
+    omega (arith, m, c, l)
+kind_count_within (Some (Source x)) a m = omega arith
+kind_count_within (Some (Merge x)) a m = omega arith
+kind_count_within (Some (Build x)) a m = omega arith
+kind_count_within (Some (Diff x)) a m = omega arith
+kind_count_within None a m = omega arith
+
+pub count_within : (op : Op) → IsWithin op → output_count op ≤ 1_024
+count_within op w = kind_count_within op.kind w.actions w.mounts
+
+kind_steps_within : (kind : Option Kind) → length (kind_actions kind) ≤ 1_024 → length (kind_merged kind) ≤ 1_024 → kind_steps kind ≤ 1_024
+kind_steps_within (Some (File f)) a m = a
+kind_steps_within (Some (Merge x)) a m = m
+kind_steps_within (Some (Source x)) a m = omega arith
+kind_steps_within (Some (Exec x)) a m = omega arith
+kind_steps_within (Some (Build x)) a m = omega arith
+kind_steps_within (Some (Diff x)) a m = omega arith
+kind_steps_within None a m = omega arith
+
+pub steps_within : (op : Op) → IsWithin op → step_count op ≤ 1_024
+steps_within op w = kind_steps_within op.kind w.actions w.merged
 
 cons_le : (o : Option ℕ) (ys : List ℕ) (n : ℕ) → length ys ≤ n → length (cons_option o ys) ≤ suc n
 cons_le None ys n l = omega (arith, l)

@@ -6,7 +6,7 @@ use Rattle.llb_loader.specs.declared.row.Row.{Row}
 use Rattle.llb_loader.specs.declared.graph.Edge.{Edge}
 use Rattle.llb_loader.specs.declared.graph.Vertex.{Vertex}
 use Rattle.llb_loader.specs.Rows.{inputs}
-use Rattle.llb_loader.specs.Rules.{IsBelow, actions_of, output_count}
+use Rattle.llb_loader.specs.Rules.{IsBelow, step_count, output_count}
 use Rattle.llb_loader.specs.Naming.{row_at}
 use Rattle.llb_loader.specs.Linking.{op_at, input_at}
 use Rattle.llb_loader.specs.Checks.{IsWithin}
@@ -33,7 +33,7 @@ pub record IsBuilt (text : List ℕ) (from : Op) (named ranks : List ℕ) (v : V
   pub op : v.op ≡ from
   pub len : length v.inputs ≡ length from.inputs
   pub edges : (i : ℕ) → i < length from.inputs → edge_at v.inputs i ≡ edge_to (slice_index ranks (slice_index named i)) (input_at from i)
-  pub steps : v.steps ≡ length (actions_of from)
+  pub steps : v.steps ≡ step_count from
   pub outputs : v.outputs ≡ output_count from
 
 -- the first n vertices are those of the first n rows of an order

@@ -10,12 +10,14 @@ use Rattle.llb_loader.specs.Rows.{inputs}
 use Rattle.llb_loader.specs.Naming.{row_named}
 use Rattle.llb_loader.specs.Linking.{op_at, input_at}
 use Rattle.llb_loader.specs.Features.{feature_of}
-use Rattle.llb_loader.specs.Rules.{actions_of, rules, MeetsEach, BreaksFirst, IsBelow}
+use Rattle.llb_loader.specs.Rules.{actions_of, mounts_of, merged_of, rules, MeetsEach, BreaksFirst, IsBelow}
 
--- as many inputs and actions as a message can have
+-- as many inputs, actions and mounts as a message can have
 pub record IsWithin (op : Op) : Type 0 where
   pub inputs : length op.inputs ≤ 1_024
   pub actions : length (actions_of op) ≤ 1_024
+  pub mounts : length (mounts_of op) ≤ 1_024
+  pub merged : length (merged_of op) ≤ 1_024
 
 abbrev pub NamesAll : List Row → ℕ → Op → ℕ → Type 0
 NamesAll rows t op n = (i : ℕ) → i < n → row_named rows t (input_at op i).digest ≢ None

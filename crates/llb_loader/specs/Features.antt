@@ -1,27 +1,93 @@
 -- What an op can have that is not taken.
-use Rattle.std.specs.Prelude.{Bool, false, not, List, [], ◌∷◌, Option, Some}
-use Rattle.std.specs.List.{list_all, list_any, find}
+use Rattle.std.specs.Prelude.{◌==◌, Bool, true, false, not, ◌||◌, nat_eq, List, [], ◌∷◌, length, Option, Some, None, codes}
+use Rattle.std.specs.List.{list_any, find, starts_with}
 use Rattle.llb_ops.specs.declared.op.Op.{Op}
 use Rattle.llb_ops.specs.declared.op.Kind.{Kind}
-use Rattle.llb_ops.specs.declared.op.Kind.TheVariants.{File}
+use Rattle.llb_ops.specs.declared.op.Kind.TheVariants.{Exec, Source, File, Build, Merge, Diff}
+use Rattle.llb_ops.specs.declared.file.ActionKind.{ActionKind}
+use Rattle.llb_ops.specs.declared.file.ActionKind.TheVariants.{Copy, Rm}
+use Rattle.llb_ops.specs.declared.file.CopyFile.{CopyFile}
 use Rattle.llb_loader.specs.declared.fault.Feature.{Feature}
-use Rattle.llb_loader.specs.declared.fault.Feature.TheVariants.{NotYet, OwnerByName}
-use Rattle.llb_loader.specs.Rules.{actions_of, is_made, owner_of, owner_by_name}
+use Rattle.llb_loader.specs.declared.fault.Feature.TheVariants as feature
+use Rattle.llb_loader.specs.Mounts.{secret, ssh, has_type}
+use Rattle.llb_loader.specs.Rules.{kind_actions, kind_mounts, owner_of, owner_by_name}
 
--- a file op whose actions make files and directories
-abbrev pub is_read : Option Kind → Bool
-is_read (Some (File f)) = list_all (λ a. is_made a.kind) f.actions
-is_read _ = false
+-- a member that is not taken yet
+abbrev pub is_later : Option ActionKind → Bool
+is_later (Some (Copy c)) = true
+is_later (Some (Rm r)) = true
+is_later _ = false
 
-abbrev pub has : Op → Feature → Bool
-has op NotYet = not (is_read op.kind)
-has op OwnerByName = list_any (λ a. owner_by_name (owner_of a.kind)) (actions_of op)
-has op _ = false
+-- a kind that is not taken yet: a source, a merge, an exec, or a file op with such a member
+abbrev pub is_not_yet : Option Kind → Bool
+is_not_yet (Some (Source s)) = true
+is_not_yet (Some (Merge m)) = true
+is_not_yet (Some (Exec x)) = true
+is_not_yet (Some (File f)) = list_any (λ a. is_later a.kind) f.actions
+is_not_yet _ = false
 
--- the features that can be met, in their order
+abbrev pub is_diff : Option Kind → Bool
+is_diff (Some (Diff b)) = true
+is_diff _ = false
+
+abbrev pub is_build : Option Kind → Bool
+is_build (Some (Build b)) = true
+is_build _ = false
+
+-- a source that is not local
+abbrev pub is_remote : Option Kind → Bool
+is_remote (Some (Source s)) = not (starts_with nat_eq s.identifier (codes "local://"))
+is_remote _ = false
+
+-- a secret in the environment
+abbrev pub has_secret : Option Kind → Bool
+has_secret (Some (Exec x)) = not (length x.secretenv == 0)
+has_secret _ = false
+
+abbrev pub is_nameless : Option ActionKind → Bool
+is_nameless None = true
+is_nameless (Some k) = false
+
+-- a copy with a property
+abbrev pub copies_with : (CopyFile → Bool) → Option ActionKind → Bool
+copies_with p (Some (Copy c)) = p c
+copies_with p _ = false
+
+-- a copy with patterns of what to leave in or out
+abbrev pub has_pattern : CopyFile → Bool
+has_pattern c = not (length c.include_patterns == 0) || not (length c.exclude_patterns == 0)
+
+abbrev pub unpacks : CopyFile → Bool
+unpacks c = c.attempt_unpack_docker_compatibility
+
+-- a copy with a field that it doesn't name
+abbrev pub has_field : CopyFile → Bool
+has_field c = not (length c.extra == 0)
+
+abbrev pub has : Option Kind → Feature → Bool
+has kind feature.NotYet = is_not_yet kind
+has kind feature.DiffOp = is_diff kind
+has kind feature.BuildOp = is_build kind
+has kind feature.Source = is_remote kind
+has kind feature.SecretMount = list_any (has_type secret) (kind_mounts kind)
+has kind feature.SshMount = list_any (has_type ssh) (kind_mounts kind)
+has kind feature.SecretEnv = has_secret kind
+has kind feature.Action = list_any (λ a. is_nameless a.kind) (kind_actions kind)
+has kind feature.Unpack = list_any (λ a. copies_with unpacks a.kind) (kind_actions kind)
+has kind feature.Patterns = list_any (λ a. copies_with has_pattern a.kind) (kind_actions kind)
+has kind feature.OwnerByName = list_any (λ a. owner_by_name (owner_of a.kind)) (kind_actions kind)
+has kind feature.CopyField = list_any (λ a. copies_with has_field a.kind) (kind_actions kind)
+
+-- the features that are not taken at all, in their order
+abbrev pub refused_features : List Feature
+refused_features =
+    feature.DiffOp ∷ feature.BuildOp ∷ feature.Source ∷ feature.SecretMount ∷ feature.SshMount ∷ feature.SecretEnv
+    ∷ feature.Action ∷ feature.Unpack ∷ feature.Patterns ∷ feature.OwnerByName ∷ feature.CopyField ∷ []
+
+-- the features in their order
 abbrev pub features : List Feature
-features = NotYet ∷ OwnerByName ∷ []
+features = feature.NotYet ∷ refused_features
 
 -- the first feature of an op
 abbrev pub feature_of : Op → Option Feature
-feature_of op = find (has op) features
+feature_of op = find (has op.kind) features

@@ -1,9 +1,10 @@
 pub mod Rows
+pub mod Mounts
 pub mod Rules
+pub mod Checking
 pub mod Graph
 pub mod Numbering
 pub mod Placing
-pub mod Laws
 pub mod Faults
 pub mod Digest
 pub mod Naming
@@ -14,3 +15,4 @@ pub mod Checks
 pub mod Building
 pub mod Link
 pub mod Load
+pub mod Laws

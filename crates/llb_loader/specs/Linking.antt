@@ -11,11 +11,10 @@ use Rattle.llb_loader.specs.declared.fault.LoadFault.TheVariants.{TooFew, Collis
 use Rattle.llb_loader.specs.declared.fault.Feature.{Feature}
 use Rattle.llb_loader.specs.declared.fault.Rule.{Rule}
 use Rattle.llb_loader.specs.Rows.{Reached}
-use Rattle.llb_loader.specs.Numbering.{IsNumbering, HasCycle}
-use Rattle.llb_loader.specs.Laws.{rank_in}
+use Rattle.llb_loader.specs.Numbering.{IsNumbering, HasCycle, rank_in}
 use Rattle.llb_loader.specs.Naming.{row_at, AllSame, Collides, Least, IsTerminal, row_named, graph_of}
 use Rattle.llb_loader.specs.Features.{feature_of}
-use Rattle.llb_loader.specs.Rules.{actions_of, output_count, IsBelow, rules, MeetsEach, BreaksFirst}
+use Rattle.llb_loader.specs.Rules.{step_count, output_count, IsBelow, rules, MeetsEach, BreaksFirst}
 use Rattle.llb_loader.specs.Graph.{Numbered}
 
 -- op k, an empty one past the end
@@ -144,7 +143,7 @@ vertex_of p order k = record {
   digest = (row_at p.rows k).digest;
   op = op_at p.ops k;
   inputs = map (edge_of p order) (op_at p.ops k).inputs;
-  steps = length (actions_of (op_at p.ops k));
+  steps = step_count (op_at p.ops k);
   outputs = output_count (op_at p.ops k);
 }
 

@@ -1,5 +1,5 @@
 -- The numbering of the reached rows.
-use Rattle.std.specs.Prelude.{ℕ, ◌<◌, ◌≤◌, List, length, take, slice_index}
+use Rattle.std.specs.Prelude.{ℕ, suc, ◌<◌, ◌≤◌, ◌==◌, cond, List, [], ◌∷◌, length, take, slice_index}
 use Rattle.std.specs.List.{All, Contains}
 use Rattle.llb_loader.specs.Rows.{inputs, HasEdge, Reached}
 
@@ -26,3 +26,8 @@ GoesDown g start rank = (a b : ℕ) → Reached g start a → HasEdge g a b → 
 -- no ranks make every edge go down
 abbrev pub HasCycle : List (List ℕ) → ℕ → Type 0
 HasCycle g start = (rank : ℕ → ℕ) → ¬ GoesDown g start rank
+
+-- where k stands in the list first, the list's length where it doesn't
+abbrev pub rank_in : List ℕ → ℕ → ℕ
+rank_in [] k = 0
+rank_in (x ∷ xs) k = cond (x == k) 0 (suc (rank_in xs k))

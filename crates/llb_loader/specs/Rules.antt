@@ -1,17 +1,28 @@
--- What an op must be, so that it can be a vertex: the rules on its actions, and the counts of its steps and outputs.
-use Rattle.std.specs.Prelude.{◌≡◌, ◌≢◌, ℕ, zero, ◌+◌, ℤ, pos, negsuc, ◌≤ℤ◌, ◌<ℤ◌, Bool, true, false, ◌||◌, ◌⊎◌, List, [], ◌∷◌, length, IsSome, ⊤, ◌<◌, map, count_by, Option, Some, None, slice_index_or}
+-- What an op must be, so that it can be a vertex: the rules in their order, and the counts of its steps and outputs.
+use Rattle.std.specs.Prelude.{◌≡◌, ◌≢◌, ℕ, zero, ◌+◌, ℤ, pos, negsuc, ◌≤ℤ◌, ◌<ℤ◌, Bool, true, false, ◌||◌, ◌⊎◌, List, [], ◌∷◌, length, IsSome, ⊤, ◌<◌, map, count_by, Option, Some, None, slice_index_or, codes}
+use Rattle.std.specs.List.{All, Contains}
 use Rattle.llb_loader.specs.declared.fault.Rule.{Rule}
 use Rattle.llb_loader.specs.declared.fault.Rule.TheVariants as rule
 use Rattle.llb_ops.specs.declared.op.Op.{Op}
+use Rattle.llb_ops.specs.declared.op.Input.{Input}
 use Rattle.llb_ops.specs.declared.op.Kind.{Kind}
-use Rattle.llb_ops.specs.declared.op.Kind.TheVariants.{File}
+use Rattle.llb_ops.specs.declared.op.Kind.TheVariants.{Exec, Source, File, Merge}
+use Rattle.llb_ops.specs.declared.exec.ExecOp.{ExecOp}
+use Rattle.llb_ops.specs.declared.exec.Meta.{Meta}
+use Rattle.llb_ops.specs.declared.exec.Mount.{Mount}
+use Rattle.llb_ops.specs.declared.exec.CacheOpt.{CacheOpt}
 use Rattle.llb_ops.specs.declared.file.Action.{Action}
+use Rattle.llb_ops.specs.declared.file.FileOp.{FileOp}
 use Rattle.llb_ops.specs.declared.file.ActionKind.{ActionKind}
-use Rattle.llb_ops.specs.declared.file.ActionKind.TheVariants.{MkFile, MkDir}
+use Rattle.llb_ops.specs.declared.file.ActionKind.TheVariants.{Copy, MkFile, MkDir}
 use Rattle.llb_ops.specs.declared.file.ChownOpt.{ChownOpt}
 use Rattle.llb_ops.specs.declared.file.UserOpt.{UserOpt}
 use Rattle.llb_ops.specs.declared.file.User.{User}
 use Rattle.llb_ops.specs.declared.file.User.TheVariants.{ByName}
+use Rattle.llb_ops.specs.declared.merge.MergeOp.{MergeOp}
+use Rattle.llb_ops.specs.declared.merge.MergeInput.{MergeInput}
+use Rattle.llb_ops.specs.declared.source.SourceOp.{SourceOp}
+use Rattle.llb_loader.specs.Mounts.{bind, cache, tmpfs, dests_of, keys_of, AreApart, ReadsPaths}
 
 -- the number that stands for no input and no output
 abbrev pub none : ℤ
@@ -30,6 +41,22 @@ kind_actions _ = []
 abbrev pub actions_of : Op → List Action
 actions_of op = kind_actions op.kind
 
+-- the mounts of a kind: those of an exec
+abbrev pub kind_mounts : Option Kind → List Mount
+kind_mounts (Some (Exec x)) = x.mounts
+kind_mounts _ = []
+
+abbrev pub mounts_of : Op → List Mount
+mounts_of op = kind_mounts op.kind
+
+-- what a kind merges: the inputs of a merge
+abbrev pub kind_merged : Option Kind → List MergeInput
+kind_merged (Some (Merge m)) = m.inputs
+kind_merged _ = []
+
+abbrev pub merged_of : Op → List MergeInput
+merged_of op = kind_merged op.kind
+
 -- a member that makes a file or a directory
 abbrev pub is_made : Option ActionKind → Bool
 is_made (Some (MkFile m)) = true
@@ -40,6 +67,7 @@ is_made _ = false
 abbrev pub owner_of : Option ActionKind → Option ChownOpt
 owner_of (Some (MkFile m)) = m.owner
 owner_of (Some (MkDir m)) = m.owner
+owner_of (Some (Copy c)) = c.owner
 owner_of _ = None
 
 abbrev pub is_by_name : Option User → Bool
@@ -69,6 +97,19 @@ pub record IsBelow (n : ℕ) (i : ℤ) : Type 0 where
 abbrev pub ActionInputs : ℕ → List Action → Type 0
 ActionInputs n actions = (a : ℕ) (d : Action) → a < length actions → IsInput (n + a) (slice_index_or actions a d).input
 
+-- the second input of a member: that of a copy
+abbrev pub TakesSecond : ℕ → Option ActionKind → ℤ → Type 0
+TakesSecond n (Some (Copy c)) second = IsInput n second
+TakesSecond n _ second = ⊤
+
+-- action a copies from one of n inputs, the result of an action before it, or nothing
+abbrev pub SecondInputs : ℕ → List Action → Type 0
+SecondInputs n actions = (a : ℕ) (d : Action) → a < length actions → TakesSecond (n + a) (slice_index_or actions a d).kind (slice_index_or actions a d).secondary_input
+
+pub record TakeInputs (n : ℕ) (actions : List Action) : Type 0 where
+  pub first : ActionInputs n actions
+  pub second : SecondInputs n actions
+
 -- the output numbers of actions
 abbrev pub outputs_of : List Action → List ℤ
 outputs_of actions = map (λ a. a.output) actions
@@ -87,31 +128,123 @@ pub record AreOutputs (outputs : List ℤ) : Type 0 where
   pub once : (a b : ℕ) → output_at outputs a ≢ none → output_at outputs a ≡ output_at outputs b → a ≡ b
   pub each : (j : ℕ) → j < count_outputs outputs → (a : ℕ) × (output_at outputs a ≡ pos j)
 
+-- ---- mounts
+
+-- the output numbers of mounts
+abbrev pub mount_outputs : List Mount → List ℤ
+mount_outputs mounts = map (λ m. m.output) mounts
+
+-- a bind or a cache mount shows one of n inputs, or nothing
+abbrev pub ShowsInput : ℕ → Mount → Type 0
+ShowsInput n m = (m.mount_type ≡ bind) ⊎ (m.mount_type ≡ cache) → IsInput n m.input
+
+-- a cache mount has its options
+abbrev pub HasOptions : Mount → Type 0
+HasOptions m = m.mount_type ≡ cache → IsSome m.cache_opt
+
+abbrev pub IsKnownSharing : Option CacheOpt → Type 0
+IsKnownSharing (Some c) = IsBelow 3 c.sharing
+IsKnownSharing None = ⊤
+
+-- a cache is shared in one of three ways
+abbrev pub IsShared : Mount → Type 0
+IsShared m = m.mount_type ≡ cache → IsKnownSharing m.cache_opt
+
+-- only a mount that is neither a cache nor a tmpfs gives an output, and outputs are numbered from 0
+pub record AreMountOutputs (mounts : List Mount) : Type 0 where
+  pub numbered : AreOutputs (mount_outputs mounts)
+  pub caches : All (λ m. m.mount_type ≡ cache → m.output ≡ none) mounts
+  pub tmpfs : All (λ m. m.mount_type ≡ tmpfs → m.output ≡ none) mounts
+
+-- there is a word to run
+abbrev pub HasWord : Option Meta → Type 0
+HasWord (Some meta) = 0 < length meta.args
+HasWord None = ⊤
+
+-- ---- counts
+
+-- the number of micro-steps; that of an exec's commands is not counted yet
+abbrev pub kind_steps : Option Kind → ℕ
+kind_steps (Some (Source s)) = 1
+kind_steps (Some (File f)) = length f.actions
+kind_steps (Some (Merge m)) = length m.inputs
+kind_steps _ = 0
+
+abbrev pub step_count : Op → ℕ
+step_count op = kind_steps op.kind
+
 -- the number of outputs
+abbrev pub kind_outputs : Option Kind → ℕ
+kind_outputs (Some (Source s)) = 1
+kind_outputs (Some (Merge m)) = 1
+kind_outputs (Some (File f)) = count_outputs (outputs_of f.actions)
+kind_outputs (Some (Exec x)) = count_outputs (mount_outputs x.mounts)
+kind_outputs _ = 0
+
 abbrev pub output_count : Op → ℕ
-output_count op = count_outputs (outputs_of (actions_of op))
+output_count op = kind_outputs op.kind
 
--- a file op has an action
-abbrev pub HasAction : Option Kind → Type 0
-HasAction (Some (File f)) = 0 < length f.actions
-HasAction _ = ⊤
+-- ---- what is asked of one kind alone
 
-abbrev pub Meets : Op → Rule → Type 0
-Meets op rule.NoKind = IsSome op.kind
-Meets op rule.NoActions = HasAction op.kind
-Meets op rule.ActionInput = ActionInputs (length op.inputs) (actions_of op)
-Meets op rule.ActionOutput = AreOutputs (outputs_of (actions_of op))
-Meets op _ = ⊤
+abbrev pub OfSource : (SourceOp → Type 0) → Option Kind → Type 0
+OfSource P (Some (Source s)) = P s
+OfSource P _ = ⊤
 
--- the rules that can be broken, in the order in which they are checked
+abbrev pub OfFile : (FileOp → Type 0) → Option Kind → Type 0
+OfFile P (Some (File f)) = P f
+OfFile P _ = ⊤
+
+abbrev pub OfExec : (ExecOp → Type 0) → Option Kind → Type 0
+OfExec P (Some (Exec x)) = P x
+OfExec P _ = ⊤
+
+abbrev pub OfMerge : (MergeOp → Type 0) → Option Kind → Type 0
+OfMerge P (Some (Merge m)) = P m
+OfMerge P _ = ⊤
+
+-- ---- the rules
+
+-- an op of a kind on these inputs meets a rule
+abbrev pub Meets : List Input → Option Kind → Rule → Type 0
+Meets inputs kind rule.NoKind = IsSome kind
+Meets inputs kind rule.LocalName = OfSource (λ s. s.identifier ≢ codes "local://") kind
+Meets inputs kind rule.NoActions = OfFile (λ f. 0 < length f.actions) kind
+Meets inputs kind rule.ActionInput = OfFile (λ f. TakeInputs (length inputs) f.actions) kind
+Meets inputs kind rule.ActionOutput = OfFile (λ f. AreOutputs (outputs_of f.actions)) kind
+Meets inputs kind rule.NoMeta = OfExec (λ x. IsSome x.meta) kind
+Meets inputs kind rule.NoArgs = OfExec (λ x. HasWord x.meta) kind
+Meets inputs kind rule.NoMounts = OfExec (λ x. 0 < length x.mounts) kind
+Meets inputs kind rule.NoRoot = OfExec (λ x. Contains (dests_of x.mounts) (Some [])) kind
+Meets inputs kind rule.BadPath = OfExec (λ x. ReadsPaths x.mounts x.meta) kind
+Meets inputs kind rule.SameDest = OfExec (λ x. AreApart (dests_of x.mounts)) kind
+Meets inputs kind rule.MountKind = OfExec (λ x. All (λ m. IsBelow 5 m.mount_type) x.mounts) kind
+Meets inputs kind rule.MountInput = OfExec (λ x. All (ShowsInput (length inputs)) x.mounts) kind
+Meets inputs kind rule.MountOutput = OfExec (λ x. AreMountOutputs x.mounts) kind
+Meets inputs kind rule.NoCacheOpt = OfExec (λ x. All HasOptions x.mounts) kind
+Meets inputs kind rule.Sharing = OfExec (λ x. All IsShared x.mounts) kind
+Meets inputs kind rule.CacheTwice = OfExec (λ x. AreApart (keys_of inputs x.mounts)) kind
+Meets inputs kind rule.MergeInput = OfMerge (λ m. All (λ i. IsInput (length inputs) i.input) m.inputs) kind
+
+abbrev pub MeetsAll : List Input → Option Kind → List Rule → Type 0
+MeetsAll inputs kind [] = ⊤
+MeetsAll inputs kind (r ∷ rs) = Meets inputs kind r × MeetsAll inputs kind rs
+
+-- the first of some rules that is broken
+abbrev pub Breaks : List Input → Option Kind → List Rule → Rule → Type 0
+Breaks inputs kind [] broken = ⊥
+Breaks inputs kind (r ∷ rs) broken = ((broken ≡ r) × (¬ Meets inputs kind r)) ⊎ (Meets inputs kind r × Breaks inputs kind rs broken)
+
+-- the rules in the order in which they are checked
 abbrev pub rules : List Rule
-rules = rule.NoKind ∷ rule.NoActions ∷ rule.ActionInput ∷ rule.ActionOutput ∷ []
+rules =
+    rule.NoKind ∷ rule.LocalName ∷ rule.NoActions ∷ rule.ActionInput ∷ rule.ActionOutput
+    ∷ rule.NoMeta ∷ rule.NoArgs ∷ rule.NoMounts ∷ rule.NoRoot ∷ rule.BadPath ∷ rule.SameDest
+    ∷ rule.MountKind ∷ rule.MountInput ∷ rule.MountOutput
+    ∷ rule.NoCacheOpt ∷ rule.Sharing ∷ rule.CacheTwice ∷ rule.MergeInput ∷ []
 
 abbrev pub MeetsEach : Op → List Rule → Type 0
-MeetsEach op [] = ⊤
-MeetsEach op (r ∷ rs) = Meets op r × MeetsEach op rs
+MeetsEach op rs = MeetsAll op.inputs op.kind rs
 
 -- the first of some rules that an op breaks
 abbrev pub BreaksFirst : Op → List Rule → Rule → Type 0
-BreaksFirst op [] broken = ⊥
-BreaksFirst op (r ∷ rs) broken = ((broken ≡ r) × (¬ Meets op r)) ⊎ (Meets op r × BreaksFirst op rs broken)
+BreaksFirst op rs broken = Breaks op.inputs op.kind rs broken

@@ -3,13 +3,13 @@
 ghost use Rattle.std.specs.Prelude.{◌≡◌, ◌≢◌, ◌<◌, ℕ, length, slice_index, IfOk};
 ghost use Rattle.std.specs.List.{All};
 ghost use Rattle.llb_loader.specs.Rows.{lists, inputs, InRange};
-ghost use Rattle.llb_loader.specs.Rules.{IsBelow, actions_of};
+ghost use Rattle.llb_loader.specs.Rules.{IsBelow};
 ghost use Rattle.llb_loader.specs.Linking.{op_at, input_at};
 ghost use Rattle.llb_loader.specs.Building.{IsBuildable, IsBuilt, AreBuilt, edge_at, edge_to};
 
+use crate::counts::{count_of, steps_of};
 use crate::graph::{Edge, Vertex};
 use crate::row::Row;
-use crate::rules::{count_of, steps_of};
 use llb_ops::{Input, Op};
 use llb_wire::{Bytes, Many, Memory, Text};
 use std::alloc::{AllocError, Global};

@@ -11,10 +11,12 @@ ghost use Rattle.llb_loader.specs.Features.{feature_of};
 ghost use Rattle.llb_loader.specs.Rules.{IsBelow, MeetsEach, rules, output_count};
 ghost use Rattle.llb_loader.specs.Checks.{IsWithin, NamesAll, FirstUnknown, FitsAll, FirstBad, asked_of, RefusesIndex, RefusesUnknown, RefusesFeature, RefusesRule};
 
+use crate::counts::count_of;
 use crate::fault::LoadFault;
+use crate::features::first_feature;
 use crate::naming::row_of;
 use crate::row::Row;
-use crate::rules::{broken_rule, count_of, first_feature};
+use crate::rules::broken_rule;
 use indexmap::IndexMap;
 use llb_ops::{Input, Op};
 use std::alloc::{AllocError, Global};

@@ -46,7 +46,7 @@ pub enum LoadFault {
 /// What an op can have that is not taken; of several the first.
 #[derive(Clone, Copy, Debug, PartialEq, Eq, Error)]
 pub enum Feature {
-    /// An op or an action that is not read yet.
+    /// An op or an action that is not taken yet.
     #[error("NotYet")]
     NotYet,
     /// A diff op.

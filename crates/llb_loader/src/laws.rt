@@ -1,9 +1,11 @@
-// Laws of the numbering.
+// Laws of the numbering, and of the answers.
 
 ghost use Rattle.std.specs.Prelude.{◌≡◌};
 ghost use Rattle.llb_loader.specs.Rows.{lists};
-ghost use Rattle.llb_loader.specs.Numbering.{IsNumbering, GoesDown};
-ghost use Rattle.llb_loader.specs.Laws.{rank_in};
+ghost use Rattle.llb_loader.specs.Numbering.{IsNumbering, GoesDown, rank_in};
+ghost use Rattle.llb_loader.specs.Laws.{HasOneAnswer, HasOneAnswerIn};
+
+use crate::row::Row;
 
 /// There is one numbering at most.
 pub fn one_numbering(rows: &[Vec<usize>], start: usize, first: &[usize], second: &[usize])
@@ -17,3 +19,17 @@ pub fn numbering_goes_down(rows: &[Vec<usize>], start: usize, order: &[usize])
     requires { IsNumbering (lists rows.now) start order.now }
     ensures { GoesDown (lists rows.now) start (rank_in order.now) }
 {}
+
+/// Of rows at most one answer stands: one graph, or one refusal.
+pub fn one_answer(rows: &[Row])
+    ensures { HasOneAnswer rows.now }
+{
+    let _ = rows;
+}
+
+/// Of a definition at most one answer stands.
+pub fn one_answer_in(bytes: &[u8])
+    ensures { HasOneAnswerIn bytes.now }
+{
+    let _ = bytes;
+}

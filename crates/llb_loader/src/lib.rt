@@ -2,15 +2,23 @@
 #![tactic(auto)]
 
 mod build;
+mod caches;
 mod checks;
+mod counts;
 mod digest;
+mod exec_rules;
 mod fault;
+mod features;
+mod file_rules;
 mod graph;
 mod laws;
 mod linking;
 mod loading;
+mod mount_type;
 mod naming;
 mod numbering;
+mod numbers;
+mod paths;
 mod ranks;
 mod reach;
 mod reading;
@@ -19,7 +27,7 @@ mod rules;
 
 pub use fault::{Feature, LoadFault, Rule};
 pub use graph::{Edge, Graph, Vertex};
-pub use laws::{numbering_goes_down, one_numbering};
+pub use laws::{numbering_goes_down, one_answer, one_answer_in, one_numbering};
 pub use linking::link;
 pub use loading::load;
 pub use row::Row;

@@ -21,18 +21,17 @@ pub fn load(alloc: Global, bytes: &[u8]) -> Result<Graph, LoadFault>
     ensures refused { IfErr result (λ e. is_memory e ≡ false → IsRefusalIn bytes.now e) }
 {
     let entries = read_definition(alloc, bytes)?;
-    let rows = rows_of(alloc, &entries)?;
+    let rows = rows_of(alloc, entries)?;
     link(alloc, &rows)
 }
 
 // The entries under their digest texts.
-fn rows_of(alloc: Global, entries: &Entries) -> Result<Vec<Row>, Memory>
-    ensures { IfOk result (λ rows. rows.items ≡ rows_from entries.now) }
+fn rows_of(alloc: Global, entries: Entries) -> Result<Vec<Row>, Memory>
+    ensures { IfOk result (λ rows. rows.items ≡ rows_from entries) }
 {
     let mut rows = Vec::new(alloc);
-    for bytes in entries.as_slice() {
+    for bytes in entries.into_vec() {
         let digest = digest_of(alloc, bytes.as_slice())?;
-        let bytes = bytes.copy()?;
         rows.push(Row { digest, bytes })?;
     }
     Ok(rows)

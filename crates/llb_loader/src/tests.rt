@@ -174,10 +174,10 @@ fn the_order_of_entries_does_not_matter(rt: HostRuntime) -> Result<(), Fail> {
 }
 
 #[test]
-fn an_op_that_is_not_read_yet_counts_only_where_it_is_reached(rt: HostRuntime) -> Result<(), Fail> {
+fn a_diff_op_counts_only_where_it_is_reached(rt: HostRuntime) -> Result<(), Fail> {
     let to_diff = on(rt, DIGEST_OF_DIFF, &[], &[])?;
-    let not_yet = LoadFault::Unsupported(0, Feature::NotYet);
-    assert_eq!(rt; refusal(rt, &[&DIFF, &to_diff])?, Some(not_yet));
+    let unsupported = LoadFault::Unsupported(0, Feature::DiffOp);
+    assert_eq!(rt; refusal(rt, &[&DIFF, &to_diff])?, Some(unsupported));
     let to_a = on(rt, DIGEST_OF_A, &[], &[])?;
     let graph = loaded(rt, &[&DIFF, &MAKES_A, &to_a])?;
     assert_eq!(rt; graph.vertices().len(), 1);
@@ -243,34 +243,82 @@ fn collisions_and_rows_that_are_not_read_come_first(rt: HostRuntime) -> Result<(
     Ok(())
 }
 
-#[test]
-fn the_rules_on_actions_are_checked_in_their_order(rt: HostRuntime) -> Result<(), Fail> {
+/// What is said of the one op that a terminal names.
+fn said_of(rt: HostRuntime, op: &[u8]) -> Result<Option<LoadFault>, Fail> {
+    let op = Vec::from_slice(rt.alloc(), op)?;
     let terminal = on(rt, "A", &[], &[])?;
+    link_refusal(rt, &[("A", &op), ("T", &terminal)])
+}
+
+#[test]
+fn a_kind_that_is_not_taken_yet_is_refused(rt: HostRuntime) -> Result<(), Fail> {
+    let not_yet = Some(LoadFault::Unsupported(0, Feature::NotYet));
+    assert_eq!(rt; said_of(rt, &[0x12, 0x00])?, not_yet, "an exec");
+    assert_eq!(rt; said_of(rt, &[0x1A, 0x00])?, not_yet, "a source");
+    assert_eq!(rt; said_of(rt, &[0x32, 0x00])?, not_yet, "a merge");
+    let copies = [0x22, 0x04, 0x12, 0x02, 0x22, 0x00];
+    assert_eq!(rt; said_of(rt, &copies)?, not_yet, "a copy");
+    let removes = [0x22, 0x06, 0x12, 0x00, 0x12, 0x02, 0x3A, 0x00];
+    assert_eq!(rt;
+        said_of(rt, &removes)?,
+        not_yet,
+        "a removal behind an action without a member"
+    );
+    Ok(())
+}
+
+#[test]
+fn each_feature_is_refused_by_its_name(rt: HostRuntime) -> Result<(), Fail> {
+    let diff = Some(LoadFault::Unsupported(0, Feature::DiffOp));
+    assert_eq!(rt; said_of(rt, &DIFF)?, diff);
+    let build = Some(LoadFault::Unsupported(0, Feature::BuildOp));
+    assert_eq!(rt; said_of(rt, &[0x2A, 0x00])?, build);
+    let action = Some(LoadFault::Unsupported(0, Feature::Action));
+    assert_eq!(rt; said_of(rt, &[0x22, 0x02, 0x12, 0x00])?, action);
     let by_name = [
         0x22, 0x16, 0x12, 0x14, 0x08, 0xFF, 0xFF, 0xFF, 0xFF, 0xFF, 0xFF, 0xFF, 0xFF, 0xFF, 0x01,
         0x2A, 0x07, 0x22, 0x05, 0x0A, 0x03, 0x0A, 0x01, 0x61,
     ];
-    let owner = link_refusal(rt, &[("A", &by_name), ("T", &terminal)])?;
-    assert_eq!(rt;
-        owner,
-        Some(LoadFault::Unsupported(0, Feature::OwnerByName))
-    );
-    let none = link_refusal(rt, &[("A", &[0x22, 0x00]), ("T", &terminal)])?;
-    assert_eq!(rt; none, Some(LoadFault::Invalid(0, Rule::NoActions)));
-    let on_nothing = link_refusal(
-        rt,
-        &[
-            ("A", &[0x22, 0x04, 0x12, 0x02, 0x2A, 0x00]),
-            ("T", &terminal),
-        ],
-    )?;
-    assert_eq!(rt; on_nothing, Some(LoadFault::Invalid(0, Rule::ActionInput)));
+    let owner = Some(LoadFault::Unsupported(0, Feature::OwnerByName));
+    assert_eq!(rt; said_of(rt, &by_name)?, owner);
+    Ok(())
+}
+
+#[test]
+fn each_rule_is_broken_by_its_name(rt: HostRuntime) -> Result<(), Fail> {
+    let no_kind = Some(LoadFault::Invalid(0, Rule::NoKind));
+    assert_eq!(rt; said_of(rt, &[0x52, 0x00])?, no_kind);
+    let no_actions = Some(LoadFault::Invalid(0, Rule::NoActions));
+    assert_eq!(rt; said_of(rt, &[0x22, 0x00])?, no_actions);
+    let input = Some(LoadFault::Invalid(0, Rule::ActionInput));
+    assert_eq!(rt; said_of(rt, &[0x22, 0x04, 0x12, 0x02, 0x2A, 0x00])?, input);
     let second_output = [
         0x22, 0x11, 0x12, 0x0F, 0x08, 0xFF, 0xFF, 0xFF, 0xFF, 0xFF, 0xFF, 0xFF, 0xFF, 0xFF, 0x01,
         0x18, 0x01, 0x2A, 0x00,
     ];
-    let output = link_refusal(rt, &[("A", &second_output), ("T", &terminal)])?;
-    assert_eq!(rt; output, Some(LoadFault::Invalid(0, Rule::ActionOutput)));
+    let output = Some(LoadFault::Invalid(0, Rule::ActionOutput));
+    assert_eq!(rt; said_of(rt, &second_output)?, output);
+    Ok(())
+}
+
+#[test]
+fn a_feature_of_a_later_row_comes_before_a_broken_rule(rt: HostRuntime) -> Result<(), Fail> {
+    let no_kind = on(rt, "B", &[], &[])?;
+    let terminal = on(rt, "A", &[], &[])?;
+    let feature = link_refusal(rt, &[("A", &no_kind), ("B", &DIFF), ("T", &terminal)])?;
+    let unsupported = LoadFault::Unsupported(1, Feature::DiffOp);
+    assert_eq!(rt; feature, Some(unsupported));
+    Ok(())
+}
+
+#[test]
+fn a_cycle_that_is_not_reached_is_no_fault(rt: HostRuntime) -> Result<(), Fail> {
+    let merge = [0x32, 0x02, 0x0A, 0x00];
+    let b = on(rt, "C", &[], &merge)?;
+    let c = on(rt, "B", &[], &merge)?;
+    let terminal = on(rt, "A", &[], &[])?;
+    let given: [(&str, &[u8]); 4] = [("B", &b), ("A", &MAKES_A), ("C", &c), ("T", &terminal)];
+    assert_eq!(rt; link_refusal(rt, &given)?, None);
     Ok(())
 }
 

@@ -9,11 +9,11 @@ use Rattle.llb_loader.proofs.loading.load.Goals as goal
 
 pub link-requires : goal.link-requires
 link-requires c =
-    let few = entries_few c.args.bytes.now c.in_ok-entries.entries c.in_ok-entries.ensures in
+    let few = entries_few c.args.bytes.now c.in_ok-entries.entries c.in_ok-entries.ensures.gives in
     let rows = ap (λ (xs : List Row). length xs) (c.deref.ensures.value ∙ c.in_ok-rows.ensures) in
     let n = length-map c.in_ok-entries.entries (λ (bytes : List ℕ). let r : Row = record { digest = digest_text bytes; bytes = bytes } in r) in
     omega (arith, few, rows, n)
 
 pub returns-clause-refused : goal.returns-clause-refused
 returns-clause-refused c = MatchResult-weaker c.link.result c.link.ensures.refused (λ g t. t) (λ e f m.
-    inr (c.in_ok-entries.entries, c.in_ok-entries.ensures, subst (λ (rows : List Row). IsRefusalOf rows e) (c.deref.ensures.value ∙ c.in_ok-rows.ensures) (f m)))
+    inr (c.in_ok-entries.entries, c.in_ok-entries.ensures.gives, subst (λ (rows : List Row). IsRefusalOf rows e) (c.deref.ensures.value ∙ c.in_ok-rows.ensures) (f m)))

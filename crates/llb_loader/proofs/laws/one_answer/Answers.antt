@@ -1,0 +1,5 @@
+use Rattle.llb_loader.proofs.Single as single
+use Rattle.llb_loader.proofs.laws.one_answer.Goals as goal
+
+pub returns : goal.returns
+returns c = single.one_answer c.args.rows.now

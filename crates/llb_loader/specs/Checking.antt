@@ -1,0 +1,38 @@
+-- The rules kind by kind: those that an op of one kind can break, in groups that are checked one after another.
+use Rattle.std.specs.Prelude.{List, [], ◌∷◌, ◌++◌, Option, MatchOption}
+use Rattle.llb_ops.specs.declared.op.Input.{Input}
+use Rattle.llb_ops.specs.declared.op.Kind.{Kind}
+use Rattle.llb_loader.specs.declared.fault.Rule.{Rule}
+use Rattle.llb_loader.specs.declared.fault.Rule.TheVariants as rule
+use Rattle.llb_loader.specs.Rules.{MeetsAll, Breaks}
+
+-- the first of some rules that is broken, or none is
+abbrev pub IsFirstBroken : List Input → Option Kind → List Rule → Option Rule → Type 0
+IsFirstBroken inputs kind rs broken = MatchOption broken (MeetsAll inputs kind rs) (Breaks inputs kind rs)
+
+abbrev pub source_rules : List Rule
+source_rules = rule.LocalName ∷ []
+
+abbrev pub file_rules : List Rule
+file_rules = rule.NoActions ∷ rule.ActionInput ∷ rule.ActionOutput ∷ []
+
+-- what is run
+abbrev pub word_rules : List Rule
+word_rules = rule.NoMeta ∷ rule.NoArgs ∷ rule.NoMounts ∷ []
+
+-- where the mounts are
+abbrev pub path_rules : List Rule
+path_rules = rule.NoRoot ∷ rule.BadPath ∷ rule.SameDest ∷ []
+
+-- what they show and give
+abbrev pub mount_rules : List Rule
+mount_rules = rule.MountKind ∷ rule.MountInput ∷ rule.MountOutput ∷ []
+
+abbrev pub cache_rules : List Rule
+cache_rules = rule.NoCacheOpt ∷ rule.Sharing ∷ rule.CacheTwice ∷ []
+
+abbrev pub exec_rules : List Rule
+exec_rules = word_rules ++ (path_rules ++ (mount_rules ++ cache_rules))
+
+abbrev pub merge_rules : List Rule
+merge_rules = rule.MergeInput ∷ []

@@ -1,0 +1,109 @@
+-- Mounts of an exec: their types, the paths that their texts read as, and the keys of the caches that they show.
+use Rattle.std.specs.Prelude.{◌≡◌, ℕ, ◌<◌, ℤ, pos, negsuc, Bool, cond, List, map, slice_get, slice_index_or, Option, Some, None, IsSome, ⊤, Result, Ok, Err}
+use Rattle.std.specs.List.{All}
+use Rattle.std.specs.Ordering.{int_eq}
+use Rattle.llb_ops.specs.declared.op.Input.{Input}
+use Rattle.llb_ops.specs.declared.exec.Meta.{Meta}
+use Rattle.llb_ops.specs.declared.exec.Mount.{Mount}
+use Rattle.llb_ops.specs.declared.exec.CacheOpt.{CacheOpt}
+use Rattle.llb_tree.specs.declared.fault.TreeFault.{TreeFault}
+use Rattle.llb_tree.specs.Path.{path_of}
+
+-- the types of mounts by their numbers
+abbrev pub bind : ℤ
+bind = pos 0
+
+abbrev pub secret : ℤ
+secret = pos 1
+
+abbrev pub ssh : ℤ
+ssh = pos 2
+
+abbrev pub cache : ℤ
+cache = pos 3
+
+abbrev pub tmpfs : ℤ
+tmpfs = pos 4
+
+abbrev pub has_type : ℤ → Mount → Bool
+has_type t m = int_eq m.mount_type t
+
+-- ---- values that some places of a list have
+
+abbrev pub value_at : {X : Type 0} → List (Option X) → ℕ → Option X
+value_at values a = slice_index_or values a None
+
+-- both have a value, and the same one
+abbrev pub Share : {X : Type 0} → Option X → Option X → Type 0
+Share {X} a b = (x : X) × (a ≡ Some x) × (b ≡ Some x)
+
+-- one of the first n places has the value
+pub record IsAmong {X : Type 0} (values : List (Option X)) (n : ℕ) (v : Option X) : Type 0 where
+  pub place : ℕ
+  pub below : place < n
+  pub shared : Share (value_at values place) v
+
+-- no two places have one value
+pub record AreApart {X : Type 0} (values : List (Option X)) : Type 0 where
+  pub apart : (a b : ℕ) → a < b → ¬ Share (value_at values a) (value_at values b)
+
+-- ---- paths
+
+abbrev pub value_of : Result (List (List ℕ)) TreeFault → Option (List (List ℕ))
+value_of (Ok path) = Some path
+value_of (Err f) = None
+
+-- the path that a text reads as, if it reads as one
+abbrev pub read_as : List ℕ → Option (List (List ℕ))
+read_as text = value_of (path_of text)
+
+-- where each mount is
+abbrev pub dests_of : List Mount → List (Option (List (List ℕ)))
+dests_of mounts = map (λ m. read_as m.dest) mounts
+
+-- the directory in which the words are run is a path
+abbrev pub ReadsCwd : Option Meta → Type 0
+ReadsCwd (Some meta) = IsSome (read_as meta.cwd)
+ReadsCwd None = ⊤
+
+-- every text that is to be a path is one
+pub record ReadsPaths (mounts : List Mount) (meta : Option Meta) : Type 0 where
+  pub dests : All IsSome (dests_of mounts)
+  pub selectors : All (λ m. IsSome (read_as m.selector)) mounts
+  pub cwd : ReadsCwd meta
+
+-- ---- caches
+
+-- an output by its digest text and its index
+pub record Seed : Type 0 where
+  pub digest : List ℕ
+  pub index : ℤ
+
+abbrev pub seed_by : Option Input → Option Seed
+seed_by (Some i) = Some (record { digest = i.digest; index = i.index })
+seed_by None = None
+
+-- the output that a new instance begins with: that of an input, none for -1
+abbrev pub seed_of : List Input → ℤ → Option Seed
+seed_of inputs (pos n) = seed_by (slice_get inputs n)
+seed_of inputs (negsuc n) = None
+
+-- which cache a mount shows: its ID, its seed, and the way in which it is shared
+pub record CacheKey : Type 0 where
+  pub id : List ℕ
+  pub seed : Option Seed
+  pub mode : ℤ
+
+abbrev pub key_by : Option Seed → Option CacheOpt → Option CacheKey
+key_by seed (Some c) = Some (record { id = c.id; seed = seed; mode = c.sharing })
+key_by seed None = None
+
+-- the options of the cache that a mount shows, if it shows one
+abbrev pub cache_in : Mount → Option CacheOpt
+cache_in m = cond (has_type cache m) m.cache_opt None
+
+abbrev pub key_of : List Input → Mount → Option CacheKey
+key_of inputs m = key_by (seed_of inputs m.input) (cache_in m)
+
+abbrev pub keys_of : List Input → List Mount → List (Option CacheKey)
+keys_of inputs mounts = map (key_of inputs) mounts

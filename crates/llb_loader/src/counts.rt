@@ -1,0 +1,67 @@
+//! How many micro-steps and outputs an op has.
+
+ghost use Rattle.std.specs.Prelude.{◌≡◌};
+ghost use Rattle.llb_loader.specs.Rules.{is_output, count_outputs, outputs_of, mount_outputs, step_count, output_count};
+
+use llb_ops::{Action, Kind, Mount, Op};
+
+/// The number of the op's micro-steps; that of an exec's commands is not counted yet.
+pub(crate) fn steps_of(op: &Op) -> usize
+    ensures { result ≡ step_count op.now }
+{
+    match &op.kind {
+        Some(Kind::Source(_)) => 1,
+        Some(Kind::File(file)) => file.actions.len(),
+        Some(Kind::Merge(merge)) => merge.inputs.len(),
+        _ => 0,
+    }
+}
+
+/// The number of the op's outputs.
+pub(crate) fn count_of(op: &Op) -> usize
+    ensures { result ≡ output_count op.now }
+{
+    match &op.kind {
+        Some(Kind::Source(_)) => 1,
+        Some(Kind::Merge(_)) => 1,
+        Some(Kind::File(file)) => outputs_among(file.actions.as_slice()),
+        Some(Kind::Exec(exec)) => mount_outputs_among(exec.mounts.as_slice()),
+        _ => 0,
+    }
+}
+
+fn outputs_among(actions: &[Action]) -> usize
+    ensures { result ≡ count_outputs (outputs_of actions.now) }
+{
+    let mut count = 0;
+    for action in actions {
+        if has_output(action) {
+            count += 1;
+        }
+    }
+    count
+}
+
+fn mount_outputs_among(mounts: &[Mount]) -> usize
+    ensures { result ≡ count_outputs (mount_outputs mounts.now) }
+{
+    let mut count = 0;
+    for mount in mounts {
+        if mount_has_output(mount) {
+            count += 1;
+        }
+    }
+    count
+}
+
+fn has_output(action: &Action) -> bool
+    ensures { result ≡ is_output action.now.output }
+{
+    action.output != -1
+}
+
+fn mount_has_output(mount: &Mount) -> bool
+    ensures { result ≡ is_output mount.now.output }
+{
+    mount.output != -1
+}

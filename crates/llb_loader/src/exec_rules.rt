@@ -1,0 +1,219 @@
+//! The rules on execs, in four groups: what is run, where the mounts are, what they show and give, and their caches.
+
+ghost use Rattle.std.specs.Prelude.{◌≡◌, ◌↔◌, Some, IfOk, IsTrue, List};
+ghost use Rattle.std.specs.List.{All};
+ghost use Rattle.llb_ops.specs.declared.op.Input.{Input};
+ghost use Rattle.llb_ops.specs.declared.op.Kind.TheVariants as kind;
+ghost use Rattle.llb_loader.specs.Rules.{IsBelow, ShowsInput, HasOptions, IsShared, IsKnownSharing, AreMountOutputs, mount_outputs, none};
+ghost use Rattle.llb_loader.specs.Checking.{IsFirstBroken, exec_rules, word_rules, path_rules, mount_rules, cache_rules};
+
+use crate::caches::caches_apart;
+use crate::fault::Rule;
+use crate::mount_type::{BIND, CACHE, TMPFS};
+use crate::numbers::{are_outputs, is_input};
+use crate::paths::{all_there, cwd_reads, dests_apart, dests_of, has_root, selectors_read};
+use llb_ops::{CacheOpt, ExecOp, Input, Mount};
+use llb_wire::Memory;
+use std::alloc::{AllocError, Global};
+
+/// The first of the rules on execs that the op on these inputs breaks.
+pub(crate) fn broken_in_exec(
+    alloc: Global,
+    inputs: &[Input],
+    exec: &ExecOp,
+) -> Result<Option<Rule>, Memory>
+    ensures { IfOk result (IsFirstBroken inputs.now (Some (kind.Exec exec.now)) exec_rules) }
+{
+    if let Some(rule) = broken_word(exec) {
+        return Ok(Some(rule));
+    }
+    if let Some(rule) = broken_path(alloc, exec)? {
+        return Ok(Some(rule));
+    }
+    if let Some(rule) = broken_mount(alloc, inputs, exec)? {
+        return Ok(Some(rule));
+    }
+    Ok(broken_cache(inputs, exec))
+}
+
+fn broken_word(exec: &ExecOp) -> Option<Rule>
+    ensures { (inputs : List Input) → IsFirstBroken inputs (Some (kind.Exec exec.now)) word_rules result }
+{
+    let Some(meta) = &exec.meta else {
+        return Some(Rule::NoMeta);
+    };
+    if meta.args.is_empty() {
+        return Some(Rule::NoArgs);
+    }
+    if exec.mounts.is_empty() {
+        return Some(Rule::NoMounts);
+    }
+    None
+}
+
+fn broken_path(alloc: Global, exec: &ExecOp) -> Result<Option<Rule>, Memory>
+    ensures { IfOk result (λ broken. (inputs : List Input) → IsFirstBroken inputs (Some (kind.Exec exec.now)) path_rules broken) }
+{
+    let mounts = exec.mounts.as_slice();
+    let dests = dests_of(alloc, mounts)?;
+    if !has_root(&dests) {
+        return Ok(Some(Rule::NoRoot));
+    }
+    if !all_there(&dests) {
+        return Ok(Some(Rule::BadPath));
+    }
+    if !selectors_read(alloc, mounts)? {
+        return Ok(Some(Rule::BadPath));
+    }
+    if !cwd_reads(alloc, &exec.meta)? {
+        return Ok(Some(Rule::BadPath));
+    }
+    if !dests_apart(alloc, &dests)? {
+        return Ok(Some(Rule::SameDest));
+    }
+    Ok(None)
+}
+
+fn broken_mount(alloc: Global, inputs: &[Input], exec: &ExecOp) -> Result<Option<Rule>, AllocError>
+    ensures { IfOk result (IsFirstBroken inputs.now (Some (kind.Exec exec.now)) mount_rules) }
+{
+    let mounts = exec.mounts.as_slice();
+    if !all_known(mounts) {
+        return Ok(Some(Rule::MountKind));
+    }
+    if !all_show(inputs.len(), mounts) {
+        return Ok(Some(Rule::MountInput));
+    }
+    if !are_mount_outputs(alloc, mounts)? {
+        return Ok(Some(Rule::MountOutput));
+    }
+    Ok(None)
+}
+
+fn all_known(mounts: &[Mount]) -> bool
+    ensures { IsTrue result ↔ All (λ m. IsBelow 5 m.mount_type) mounts.now }
+{
+    for mount in mounts {
+        if !is_below(5, mount.mount_type) {
+            return false;
+        }
+    }
+    true
+}
+
+fn is_below(count: u32, number: i32) -> bool
+    ensures { IsTrue result ↔ IsBelow count number }
+{
+    number >= 0 && (number as u32) < count
+}
+
+fn all_show(count: usize, mounts: &[Mount]) -> bool
+    ensures { IsTrue result ↔ All (ShowsInput count) mounts.now }
+{
+    for mount in mounts {
+        if !shows_input(count, mount) {
+            return false;
+        }
+    }
+    true
+}
+
+fn shows_input(count: usize, mount: &Mount) -> bool
+    ensures { IsTrue result ↔ ShowsInput count mount.now }
+{
+    if mount.mount_type == BIND {
+        return is_input(count, mount.input);
+    }
+    if mount.mount_type == CACHE {
+        return is_input(count, mount.input);
+    }
+    true
+}
+
+fn are_mount_outputs(alloc: Global, mounts: &[Mount]) -> Result<bool, AllocError>
+    ensures { IfOk result (λ stand. IsTrue stand ↔ AreMountOutputs mounts.now) }
+{
+    if !all_silent(CACHE, mounts) {
+        return Ok(false);
+    }
+    if !all_silent(TMPFS, mounts) {
+        return Ok(false);
+    }
+    let outputs = outputs_of(alloc, mounts)?;
+    are_outputs(alloc, &outputs)
+}
+
+// Whether no mount of a type has an output.
+fn all_silent(number: i32, mounts: &[Mount]) -> bool
+    ensures { IsTrue result ↔ All (λ m. m.mount_type ≡ number → m.output ≡ none) mounts.now }
+{
+    for mount in mounts {
+        if mount.mount_type == number {
+            if mount.output != -1 {
+                return false;
+            }
+        }
+    }
+    true
+}
+
+fn outputs_of(alloc: Global, mounts: &[Mount]) -> Result<Vec<i64>, AllocError>
+    ensures { IfOk result (λ outputs. outputs.items ≡ mount_outputs mounts.now) }
+{
+    let mut outputs = Vec::new(alloc);
+    for mount in mounts {
+        outputs.push(mount.output)?;
+    }
+    Ok(outputs)
+}
+
+fn broken_cache(inputs: &[Input], exec: &ExecOp) -> Option<Rule>
+    ensures { IsFirstBroken inputs.now (Some (kind.Exec exec.now)) cache_rules result }
+{
+    let mounts = exec.mounts.as_slice();
+    if !all_have_options(mounts) {
+        return Some(Rule::NoCacheOpt);
+    }
+    if !all_shared(mounts) {
+        return Some(Rule::Sharing);
+    }
+    if !caches_apart(inputs, mounts) {
+        return Some(Rule::CacheTwice);
+    }
+    None
+}
+
+fn all_have_options(mounts: &[Mount]) -> bool
+    ensures { IsTrue result ↔ All HasOptions mounts.now }
+{
+    for mount in mounts {
+        if mount.mount_type == CACHE {
+            if mount.cache_opt.is_none() {
+                return false;
+            }
+        }
+    }
+    true
+}
+
+fn all_shared(mounts: &[Mount]) -> bool
+    ensures { IsTrue result ↔ All IsShared mounts.now }
+{
+    for mount in mounts {
+        if mount.mount_type == CACHE {
+            if !is_known(&mount.cache_opt) {
+                return false;
+            }
+        }
+    }
+    true
+}
+
+fn is_known(options: &Option<CacheOpt>) -> bool
+    ensures { IsTrue result ↔ IsKnownSharing options.now }
+{
+    match options {
+        Some(options) => is_below(3, options.sharing),
+        None => true,
+    }
+}

@@ -1,0 +1,212 @@
+//! What an op has that is not taken. Each test looks at the ops of one kind; the order of features is that of `features`.
+
+ghost use Rattle.std.specs.Prelude.{◌≡◌};
+ghost use Rattle.std.specs.List.{list_any, find};
+ghost use Rattle.llb_ops.specs.declared.op.Kind.TheVariants as kind;
+ghost use Rattle.llb_loader.specs.Mounts.{has_type};
+ghost use Rattle.llb_loader.specs.Rules.{owner_of, owner_by_name, user_by_name};
+ghost use Rattle.llb_loader.specs.Features.{is_not_yet, is_later, is_nameless, copies_with, has_pattern, has_field, unpacks, has, refused_features, feature_of};
+
+use crate::fault::Feature;
+use crate::mount_type::{SECRET, SSH};
+use llb_ops::{
+    Action, ActionKind, ChownOpt, CopyFile, ExecOp, FileOp, Kind, Mount, Op, SourceOp, User,
+    UserOpt,
+};
+
+/// The first feature of the op that is not taken.
+pub(crate) fn first_feature(op: &Op) -> Option<Feature>
+    ensures { result ≡ feature_of op.now }
+{
+    if is_not_yet(&op.kind) {
+        return Some(Feature::NotYet);
+    }
+    match &op.kind {
+        Some(Kind::Diff(_)) => Some(Feature::DiffOp),
+        Some(Kind::Build(_)) => Some(Feature::BuildOp),
+        Some(Kind::Source(source)) => source_feature(source),
+        Some(Kind::Exec(exec)) => exec_feature(exec),
+        Some(Kind::File(file)) => file_feature(file),
+        Some(Kind::Merge(_)) => None,
+        None => None,
+    }
+}
+
+fn is_not_yet(kind: &Option<Kind>) -> bool
+    ensures { result ≡ is_not_yet kind.now }
+{
+    match kind {
+        Some(Kind::Source(_)) => true,
+        Some(Kind::Merge(_)) => true,
+        Some(Kind::Exec(_)) => true,
+        Some(Kind::File(file)) => any_later(file.actions.as_slice()),
+        _ => false,
+    }
+}
+
+fn any_later(actions: &[Action]) -> bool
+    ensures { result ≡ list_any (λ a. is_later a.kind) actions.now }
+{
+    for action in actions {
+        match &action.kind {
+            Some(ActionKind::Copy(_)) => return true,
+            Some(ActionKind::Rm(_)) => return true,
+            _ => {}
+        }
+    }
+    false
+}
+
+fn source_feature(source: &SourceOp) -> Option<Feature>
+    ensures { result ≡ find (has (Some (kind.Source source.now))) refused_features }
+{
+    if !source.identifier.as_str().starts_with("local://") {
+        return Some(Feature::Source);
+    }
+    None
+}
+
+fn exec_feature(exec: &ExecOp) -> Option<Feature>
+    ensures { result ≡ find (has (Some (kind.Exec exec.now))) refused_features }
+{
+    let mounts = exec.mounts.as_slice();
+    if any_of_type(mounts, SECRET) {
+        return Some(Feature::SecretMount);
+    }
+    if any_of_type(mounts, SSH) {
+        return Some(Feature::SshMount);
+    }
+    if !exec.secretenv.is_empty() {
+        return Some(Feature::SecretEnv);
+    }
+    None
+}
+
+fn any_of_type(mounts: &[Mount], number: i32) -> bool
+    ensures { result ≡ list_any (has_type number) mounts.now }
+{
+    for mount in mounts {
+        if mount.mount_type == number {
+            return true;
+        }
+    }
+    false
+}
+
+fn file_feature(file: &FileOp) -> Option<Feature>
+    ensures { result ≡ find (has (Some (kind.File file.now))) refused_features }
+{
+    let actions = file.actions.as_slice();
+    if any_nameless(actions) {
+        return Some(Feature::Action);
+    }
+    if any_unpacks(actions) {
+        return Some(Feature::Unpack);
+    }
+    if any_has_pattern(actions) {
+        return Some(Feature::Patterns);
+    }
+    if any_owner_by_name(actions) {
+        return Some(Feature::OwnerByName);
+    }
+    if any_has_field(actions) {
+        return Some(Feature::CopyField);
+    }
+    None
+}
+
+fn any_nameless(actions: &[Action]) -> bool
+    ensures { result ≡ list_any (λ a. is_nameless a.kind) actions.now }
+{
+    for action in actions {
+        if action.kind.is_none() {
+            return true;
+        }
+    }
+    false
+}
+
+fn any_unpacks(actions: &[Action]) -> bool
+    ensures { result ≡ list_any (λ a. copies_with unpacks a.kind) actions.now }
+{
+    for action in actions {
+        if let Some(ActionKind::Copy(copy)) = &action.kind {
+            if copy.attempt_unpack_docker_compatibility {
+                return true;
+            }
+        }
+    }
+    false
+}
+
+fn any_has_pattern(actions: &[Action]) -> bool
+    ensures { result ≡ list_any (λ a. copies_with has_pattern a.kind) actions.now }
+{
+    for action in actions {
+        if let Some(ActionKind::Copy(copy)) = &action.kind {
+            if has_pattern(copy) {
+                return true;
+            }
+        }
+    }
+    false
+}
+
+fn has_pattern(copy: &CopyFile) -> bool
+    ensures { result ≡ has_pattern copy.now }
+{
+    !copy.include_patterns.is_empty() || !copy.exclude_patterns.is_empty()
+}
+
+fn any_has_field(actions: &[Action]) -> bool
+    ensures { result ≡ list_any (λ a. copies_with has_field a.kind) actions.now }
+{
+    for action in actions {
+        if let Some(ActionKind::Copy(copy)) = &action.kind {
+            if !copy.extra.as_slice().is_empty() {
+                return true;
+            }
+        }
+    }
+    false
+}
+
+fn any_owner_by_name(actions: &[Action]) -> bool
+    ensures { result ≡ list_any (λ a. owner_by_name (owner_of a.kind)) actions.now }
+{
+    for action in actions {
+        if action_by_name(action) {
+            return true;
+        }
+    }
+    false
+}
+
+fn action_by_name(action: &Action) -> bool
+    ensures { result ≡ owner_by_name (owner_of action.now.kind) }
+{
+    match &action.kind {
+        Some(ActionKind::MkFile(made)) => by_name(&made.owner),
+        Some(ActionKind::MkDir(made)) => by_name(&made.owner),
+        Some(ActionKind::Copy(copy)) => by_name(&copy.owner),
+        _ => false,
+    }
+}
+
+fn by_name(owner: &Option<ChownOpt>) -> bool
+    ensures { result ≡ owner_by_name owner.now }
+{
+    match owner {
+        Some(owner) => is_name(&owner.user) || is_name(&owner.group),
+        None => false,
+    }
+}
+
+fn is_name(user: &Option<UserOpt>) -> bool
+    ensures { result ≡ user_by_name user.now }
+{
+    match user {
+        Some(user) => matches!(&user.user, Some(User::ByName(_))),
+        None => false,
+    }
+}

@@ -1,0 +1,77 @@
+//! The rules on file ops.
+
+ghost use Rattle.std.specs.Prelude.{◌≡◌, ◌+◌, ◌↔◌, Some, IfOk, IsTrue};
+ghost use Rattle.llb_ops.specs.declared.op.Kind.TheVariants as kind;
+ghost use Rattle.llb_loader.specs.Rules.{TakeInputs, TakesSecond, IsInput, outputs_of};
+ghost use Rattle.llb_loader.specs.Checking.{IsFirstBroken, file_rules};
+
+use crate::fault::Rule;
+use crate::numbers::{are_outputs, is_input};
+use llb_ops::{Action, ActionKind, FileOp, Input};
+use std::alloc::{AllocError, Global};
+
+/// The first of the rules on file ops that the op on these inputs breaks.
+pub(crate) fn broken_in_file(
+    alloc: Global,
+    inputs: &[Input],
+    file: &FileOp,
+) -> Result<Option<Rule>, AllocError>
+    ensures { IfOk result (IsFirstBroken inputs.now (Some (kind.File file.now)) file_rules) }
+{
+    let actions = file.actions.as_slice();
+    if actions.is_empty() {
+        return Ok(Some(Rule::NoActions));
+    }
+    if !take_inputs(inputs.len(), actions) {
+        return Ok(Some(Rule::ActionInput));
+    }
+    let outputs = outputs_of(alloc, actions)?;
+    if !are_outputs(alloc, &outputs)? {
+        return Ok(Some(Rule::ActionOutput));
+    }
+    Ok(None)
+}
+
+// Whether action a reads one of so many inputs, the result of an action before it, or nothing.
+fn take_inputs(count: usize, actions: &[Action]) -> bool
+    ensures { IsTrue result ↔ TakeInputs count actions.now }
+{
+    for (place, action) in actions.iter().enumerate() {
+        if !input_stands(count, place, action.input) {
+            return false;
+        }
+        if !second_stands(count, place, action) {
+            return false;
+        }
+    }
+    true
+}
+
+fn input_stands(count: usize, place: usize, input: i64) -> bool
+    ensures { IsTrue result ↔ IsInput (count + place) input }
+{
+    if input < 0 {
+        return input == -1;
+    }
+    let input = input as usize;
+    input < place || input - place < count
+}
+
+fn second_stands(count: usize, place: usize, action: &Action) -> bool
+    ensures { IsTrue result ↔ TakesSecond (count + place) action.now.kind action.now.secondary_input }
+{
+    match &action.kind {
+        Some(ActionKind::Copy(_)) => input_stands(count, place, action.secondary_input),
+        _ => true,
+    }
+}
+
+fn outputs_of(alloc: Global, actions: &[Action]) -> Result<Vec<i64>, AllocError>
+    ensures { IfOk result (λ outputs. outputs.items ≡ outputs_of actions.now) }
+{
+    let mut outputs = Vec::new(alloc);
+    for action in actions {
+        outputs.push(action.output)?;
+    }
+    Ok(outputs)
+}

@@ -1,0 +1,65 @@
+//! Numbers of inputs and of outputs: which inputs are there, and whether outputs are numbered from 0.
+
+ghost use Rattle.std.specs.Prelude.{◌≡◌, ◌↔◌, ◌<◌, pos, IfOk, MatchOption, IsTrue};
+ghost use Rattle.llb_loader.specs.Rules.{IsInput, IsBelow, is_output, AreOutputs, count_outputs};
+
+use std::alloc::{AllocError, Global};
+
+/// Whether the number is -1 or one below the count.
+pub(crate) fn is_input(count: usize, number: i64) -> bool
+    ensures { IsTrue result ↔ IsInput count number }
+{
+    if number < 0 {
+        return number == -1;
+    }
+    (number as usize) < count
+}
+
+/// Whether the outputs other than -1 are numbered from 0, each once.
+pub(crate) fn are_outputs(alloc: Global, outputs: &[i64]) -> Result<bool, AllocError>
+    ensures { IfOk result (λ stand. IsTrue stand ↔ AreOutputs outputs.now) }
+{
+    let count = count_among(outputs);
+    let mut seen = vec![in alloc; false; count]?;
+    for output in outputs {
+        if is_output(output) {
+            let Some(place) = output_below(count, output) else {
+                return Ok(false);
+            };
+            if seen[place] {
+                return Ok(false);
+            }
+            seen[place] = true;
+        }
+    }
+    Ok(true)
+}
+
+fn count_among(outputs: &[i64]) -> usize
+    ensures { result ≡ count_outputs outputs.now }
+{
+    let mut count = 0;
+    for output in outputs {
+        if is_output(output) {
+            count += 1;
+        }
+    }
+    count
+}
+
+fn is_output(number: &i64) -> bool
+    ensures { result ≡ is_output number.now }
+{
+    *number != -1
+}
+
+// The output as an index, where it is one below the count.
+fn output_below(count: usize, output: &i64) -> Option<usize>
+    ensures { MatchOption result (¬ IsBelow count output.now) (λ k. (k < count) × (output.now ≡ pos k)) }
+{
+    if *output < 0 {
+        return None;
+    }
+    let place = *output as usize;
+    if place < count { Some(place) } else { None }
+}
