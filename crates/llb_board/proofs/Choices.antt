@@ -1,11 +1,11 @@
 -- A search over the vertices, and over the workers, one after another.
-use Rattle.std.proofs.Common.{◌≡◌, ℕ, zero, suc, ◌+◌, ◌-◌, ◌<◌, ◌≤◌, List, [], ◌∷◌, map, drop, length, refl, sym, ap, ◌∙◌, arith, drop-cons, add-one}
-use Rattle.std.specs.Prelude.{Bool, true, false, ◌||◌, ◌&&◌, Option, Some, None, slice_get, if◌then◌else◌}
+use Rattle.std.proofs.Common.{◌≡◌, ℕ, suc, ◌+◌, ◌-◌, ◌<◌, ◌≤◌, List, ◌∷◌, drop, length, sym, ap, ◌∙◌, arith, drop-cons, add-one}
+use Rattle.std.specs.Prelude.{Bool, true, false, ◌||◌, ◌&&◌, Some, None, slice_get, if◌then◌else◌}
 use Rattle.std.proofs.lemmas.List.{drop_all}
 use Rattle.std.proofs.lemmas.Option.{slice_get_within, get_or_from_slice_get}
 use Rattle.llb_loader.specs.Graph.{Numbered}
 use Rattle.llb_model.specs.State.{Status, At, Idle, Runs, Execution, is_blocked, is_finished, program_in}
-use Rattle.llb_model.specs.Table.{Event, Step, Settle}
+use Rattle.llb_model.specs.Table.{Step, Settle}
 use Rattle.llb_model.specs.Run.{least, each, next_of, is_settled}
 
 abbrev pub is_over : Numbered → List Status → ℕ → Bool
@@ -33,14 +33,8 @@ least_none p n v here past = sym here ∙ ap (least p v) (none_left n v past)
 pub each_next : (p : ℕ → Bool) (n v : ℕ) → v < n → each p v (n - v) ≡ (p v && each p (v + 1) (n - (v + 1)))
 each_next p n v low = ap (each p v) (less n v low)
 
-pub each_not : (p : ℕ → Bool) (n v : ℕ) → each p v (n - v) ≡ each p 0 n → v < n → p v ≡ false → false ≡ each p 0 n
-each_not p n v here low is = ap (λ b. b && each p (v + 1) (n - (v + 1))) (sym is) ∙ sym (each_next p n v low) ∙ here
-
 pub each_later : (p : ℕ → Bool) (n v : ℕ) → each p v (n - v) ≡ each p 0 n → v < n → p v ≡ true → each p (v + 1) (n - (v + 1)) ≡ each p 0 n
 each_later p n v here low is = ap (λ b. b && each p (v + 1) (n - (v + 1))) (sym is) ∙ sym (each_next p n v low) ∙ here
-
-pub each_all : (p : ℕ → Bool) (n v : ℕ) → each p v (n - v) ≡ each p 0 n → n ≤ v → true ≡ each p 0 n
-each_all p n v here past = sym (ap (each p v) (none_left n v past)) ∙ here
 
 -- the workers that are left begin with this one
 next_drop : (g : Numbered) (ws : List At) (w : ℕ) (a : At) → slice_get ws w ≡ Some a → next_of g w (drop w ws) ≡ next_of g w (a ∷ drop (w + 1) ws)

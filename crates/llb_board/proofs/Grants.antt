@@ -1,15 +1,15 @@
 -- Where the table grants a claim, a micro-step and a settle, and why not.
-use Rattle.std.proofs.Common.{◌≡◌, ℕ, refl, sym, ap, ◌∙◌, subst}
+use Rattle.std.proofs.Common.{◌≡◌, ℕ, refl, ap, ◌∙◌}
 use Rattle.std.specs.Prelude.{option_map, Bool, true, false, List, Option, Some, None, Result, Ok, Err, slice_get, slice_set, if◌then◌else◌}
 use Rattle.llb_wire.specs.Answer.{◌>>=◌}
 use Rattle.llb_loader.specs.Graph.{Numbered}
 use Rattle.llb_loader.specs.declared.graph.Vertex.{Vertex}
 use Rattle.llb_tree.specs.Tree.{TreeMap}
-use Rattle.llb_model.specs.Program.{MicroStep, Program, View, view_on}
+use Rattle.llb_model.specs.Program.{MicroStep, View, view_on}
 use Rattle.llb_model.specs.Outcome.{Ending, inputs_from}
 use Rattle.llb_model.specs.State.{Status, Waiting, Running, Settled, Execution, At, Idle, Runs, State, ending_at, view_from, runs, program_in, is_finished, ending_from}
-use Rattle.llb_model.specs.Table.{Event, Claim, Step, Settle, Reply, Claimed, job_on, table, claimed, stepped, settled, after_claim, after_step, after_settle, settle_reply, with_step, step_reply, step_of as next_of}
-use Rattle.llb_board.specs.Board.{Seen, after_event, on_grant}
+use Rattle.llb_model.specs.Table.{Claim, Step, Settle, Reply, Claimed, job_on, table, claimed, stepped, settled, after_claim, after_step, after_settle, settle_reply, with_step, step_reply, step_of as next_of}
+use Rattle.llb_board.specs.Board.{Seen, on_grant}
 use Rattle.llb_board.specs.Rules.{claim_cause, claim_of, claim_view, ready_or, or_not_ready, step_cause, step_of, step_at, settle_cause, settle_of, left_at}
 use Rattle.llb_board.specs.declared.fault.ClaimFault.{ClaimFault}
 use Rattle.llb_board.specs.declared.fault.ClaimFault.TheVariants.{NoVertex, NotReady}

@@ -1,7 +1,7 @@
 -- The trees of a vertex's inputs, one edge after another.
-use Rattle.std.proofs.Common.{◌≡◌, ℕ, suc, ◌+◌, ◌<◌, ◌≤◌, List, [], ◌∷◌, ◌++◌, map, drop, length, get_or, refl, ap, sym, ◌∙◌, drop-cons, add-one, append_assoc, arith}
+use Rattle.std.proofs.Common.{◌≡◌, ℕ, ◌+◌, ◌<◌, ◌≤◌, List, [], ◌∷◌, ◌++◌, drop, length, get_or, refl, ap, sym, ◌∙◌, drop-cons, add-one, append_assoc}
 use Rattle.std.proofs.lemmas.List.{append-nil, drop_all}
-use Rattle.std.specs.Prelude.{Option, Some, None, option_map, is_some, Bool, true, false, Result, Ok, Err}
+use Rattle.std.specs.Prelude.{Option, Some, None, option_map, is_some, true, false}
 use Rattle.llb_loader.specs.declared.graph.Edge.{Edge}
 use Rattle.llb_tree.specs.Tree.{TreeMap}
 use Rattle.llb_model.specs.Outcome.{Ending, inputs_from, both, output_in}

@@ -1,11 +1,9 @@
 -- What the board's type keeps, as a call changes its data.
-use Rattle.std.proofs.Common.{◌≡◌, ℕ, zero, suc, ◌+◌, ◌-◌, ◌<◌, ◌≤◌, List, [], ◌∷◌, ◌++◌, map, length, refl, sym, ap, ◌∙◌, subst, arith, get_or, take, drop}
-use Rattle.std.specs.Prelude.{Bool, true, false, ◌||◌, Option, Some, None, is_some, Result, Ok, Err, slice_get, slice_set, replicate, nat_le, if◌then◌else◌}
+use Rattle.std.proofs.Common.{◌≡◌, ℕ, ◌+◌, ◌<◌, ◌≤◌, List, [], ◌∷◌, ◌++◌, map, length, refl, sym, ap, ◌∙◌, subst, arith, get_or, take, drop}
+use Rattle.std.specs.Prelude.{Bool, true, false, Some, is_some, Ok, Err, slice_get, slice_set, replicate, if◌then◌else◌}
 use Rattle.std.proofs.lemmas.List.{length_push, length-replicate, drop_all, take_all, append-nil}
 use Rattle.llb_loader.specs.Graph.{Numbered}
-use Rattle.llb_loader.specs.declared.graph.Vertex.{Vertex}
-use Rattle.llb_tree.specs.Tree.{TreeMap, empty_tree}
-use Rattle.llb_model.specs.declared.fault.VertexFault.{VertexFault}
+use Rattle.llb_tree.specs.Tree.{empty_tree}
 use Rattle.llb_model.specs.Program.{MicroStep, Program, View, program_at}
 use Rattle.llb_model.specs.State.{Status, Waiting, Running, Settled, Execution, At, Idle, Runs, State, program_in, is_finished, stopped, stopped_from, is_failed, ending_of, ending_from}
 use Rattle.llb_model.specs.Table.{Claim, Step, Settle, Reply, Claimed, job_on, execution_on, after_claim, after_settle, settle_reply, SettledDone, SettledFailed, with_step, step_of}
@@ -13,7 +11,7 @@ use Rattle.llb_model.specs.Outcome.{Ending, Done, Failed}
 use Rattle.llb_model.specs.Run.{most_events}
 use Rattle.llb_board.specs.Views.{status_of, at_of, event_of, execution_of, state_of, claim_reply}
 use Rattle.llb_board.specs.Board.{Seen, Replays, after_event, on_grant}
-use Rattle.llb_board.specs.Room.{IsKept, seen, still_to_come, all_to_come, all_left, to_come, left_by, ready_made, needed}
+use Rattle.llb_board.specs.Room.{IsKept, seen, still_to_come, all_to_come, all_left, left_by, ready_made, needed}
 use Rattle.llb_board.specs.Rules.{claim_view, claim_cause, claim_of, step_at, step_cause, step_of as step_rule, left_at, settle_cause, settle_of}
 use Rattle.llb_board.specs.declared.stand.Stand.{Stand}
 use Rattle.llb_board.specs.declared.stand.Stand.TheVariants as stand
@@ -23,7 +21,8 @@ use Rattle.llb_board.specs.declared.stand.Work.{Work}
 use Rattle.llb_board.specs.declared.job.Job.{Job}
 use Rattle.llb_board.specs.declared.event.Event.{Event}
 use Rattle.llb_board.specs.declared.event.Event.TheVariants as event
-use Rattle.llb_board.proofs.Lists.{map_set, set_same, get_set, length_set, map_push, length_map, get_map}
+use Rattle.llb_model.proofs.Lists.{length_set}
+use Rattle.llb_board.proofs.Lists.{map_set, set_same, map_push, length_map, get_map}
 use Rattle.std.proofs.lemmas.Option.{get_or_from_slice_get}
 use Rattle.llb_board.proofs.Steps.{not_done}
 use Rattle.llb_board.proofs.Runs.{replays_after}
@@ -79,6 +78,7 @@ kept_claim g ss ds es halted capacity capacity' w v view work kept is begun outp
       outputs = map_set ready_made ds w (desk.Runs work)
           ∙ (λ i. slice_set (kept.outputs i) w ((outputs ∙ ap (λ (x : Execution). replicate (program_in g x).outputs empty_tree) (sym begun)) i))
           ∙ sym (map_set (needed g) (map at_of ds) w (Runs (execution_of work))) ∙ ap (map (needed g)) (sym (map_set at_of ds w (desk.Runs work)));
+      some = omega (arith, ap (λ (b : Seen). length b.state.workers) e, length_set (map at_of ds) w (Runs (execution_on v view)), kept.some);
       few = omega (arith, ap (λ (b : Seen). length b.state.workers) e, length_set (map at_of ds) w (Runs (execution_on v view)), kept.few);
       halted_are = kept.halted_are ∙ sym stays;
     }
@@ -148,6 +148,7 @@ kept_step g ss ds es halted capacity capacity' w d e x q kept step same =
           ∙ sym (set_same (map (needed g) (map at_of ds)) w (needed g (Runs x)) (get_map (needed g) (map at_of ds) w (Runs x) at))
           ∙ ap (slice_set (map (needed g) (map at_of ds)) w) (sym needs)
           ∙ sym (map_set (needed g) (map at_of ds) w (at_of e)) ∙ ap (map (needed g)) (sym (map_set at_of ds w e));
+      some = omega (arith, ap (λ (b : Seen). length b.state.workers) is, length_set (map at_of ds) w q.0, kept.some);
       few = omega (arith, ap (λ (b : Seen). length b.state.workers) is, length_set (map at_of ds) w q.0, kept.few);
       halted_are = kept.halted_are;
     }
@@ -259,6 +260,7 @@ kept_settle g ss ds es halted halted' capacity capacity' w work stand kept leavi
       room = omega (arith, sum, events, pushed, more, r);
       reserved = subst (λ n. most_events g ≤ n) (sym same) kept.reserved;
       outputs = map_set ready_made ds w desk.Idle ∙ ap (λ l. slice_set l w []) kept.outputs ∙ sym (map_set (needed g) (map at_of ds) w Idle) ∙ ap (map (needed g)) (sym (map_set at_of ds w desk.Idle));
+      some = omega (arith, ap (λ (b : Seen). length b.state.workers) is, length_set (map at_of ds) w Idle, kept.some);
       few = omega (arith, ap (λ (b : Seen). length b.state.workers) is, length_set (map at_of ds) w Idle, kept.few);
       halted_are = marks;
     }

@@ -4,10 +4,10 @@ pub mod Parents
 pub mod Stopped
 pub mod Runs
 pub mod Grants
+pub mod Last
 pub mod Rooms
 pub mod Steps
 pub mod Kept
-pub mod Sound
 pub mod Opened
 pub mod Outputs
 pub mod Choices

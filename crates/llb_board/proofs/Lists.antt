@@ -1,6 +1,6 @@
 -- Lists of equal items, and lists that are changed at a place.
-use Rattle.std.proofs.Common.{◌≡◌, ℕ, zero, suc, ◌+◌, ◌<◌, ◌≤◌, List, [], ◌∷◌, ◌++◌, map, drop, take, length, get_or, refl, ap, sym, ◌∙◌, add-one, arith}
-use Rattle.std.specs.Prelude.{Option, Some, None, replicate, slice_get, slice_set, option_map, ◌≢◌}
+use Rattle.std.proofs.Common.{◌≡◌, ℕ, zero, suc, ◌+◌, ◌≤◌, List, [], ◌∷◌, ◌++◌, map, length, refl, ap, ◌∙◌, arith}
+use Rattle.std.specs.Prelude.{Some, replicate, slice_get, slice_set, option_map}
 use Rattle.std.proofs.lemmas.Option.{slice_get-map}
 use Rattle.std.proofs.lemmas.List.{replicate-append-replicate}
 
@@ -22,23 +22,6 @@ pub set_same : {A : Type 0} (xs : List A) (i : ℕ) (x : A) → slice_get xs i �
 set_same [] i x e = refl
 set_same (y ∷ xs) zero x e = let same : x ≡ y = cc in ap (λ z. z ∷ xs) same
 set_same (y ∷ xs) (suc i) x e = ap (λ l. y ∷ l) (set_same xs i x e)
-
-pub get_set : {A : Type 0} (xs : List A) (i : ℕ) (x y : A) → slice_get xs i ≡ Some y → slice_get (slice_set xs i x) i ≡ Some x
-get_set [] i x y e = absurd (cc)
-get_set (z ∷ xs) zero x y e = refl
-get_set (z ∷ xs) (suc i) x y e = get_set xs i x y e
-
-pub get_set_other : {A : Type 0} (xs : List A) (i k : ℕ) (x : A) → i ≢ k → slice_get (slice_set xs i x) k ≡ slice_get xs k
-get_set_other [] i k x e = refl
-get_set_other (z ∷ xs) zero zero x e = absurd (e refl)
-get_set_other (z ∷ xs) zero (suc k) x e = refl
-get_set_other (z ∷ xs) (suc i) zero x e = refl
-get_set_other (z ∷ xs) (suc i) (suc k) x e = get_set_other xs i k x (λ p. e (ap suc p))
-
-pub length_set : {A : Type 0} (xs : List A) (i : ℕ) (x : A) → length (slice_set xs i x) ≡ length xs
-length_set [] i x = refl
-length_set (y ∷ xs) zero x = refl
-length_set (y ∷ xs) (suc i) x = omega (arith, length_set xs i x)
 
 pub map_push : {A B : Type 0} (f : A → B) (xs : List A) (x : A) → map f (xs ++ x ∷ []) ≡ map f xs ++ f x ∷ []
 map_push f [] x = refl

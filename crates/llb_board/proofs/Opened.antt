@@ -1,12 +1,12 @@
 -- A board on which nothing has happened.
-use Rattle.std.proofs.Common.{◌≡◌, ℕ, zero, suc, ◌+◌, ◌≤◌, List, [], ◌∷◌, map, length, refl, sym, ap, ◌∙◌, subst, arith}
+use Rattle.std.proofs.Common.{◌≡◌, ℕ, zero, suc, ◌≤◌, List, [], ◌∷◌, map, length, refl, sym, ap, ◌∙◌, subst, arith}
 use Rattle.std.specs.Prelude.{Bool, false, Some, replicate}
 use Rattle.std.proofs.lemmas.List.{length-replicate}
 use Rattle.llb_loader.specs.Graph.{Numbered}
 use Rattle.llb_model.specs.State as model
 use Rattle.llb_model.specs.Run.{run, most_events}
-use Rattle.llb_board.specs.Views.{status_of, at_of, event_of, state_of}
-use Rattle.llb_board.specs.Board.{Seen, Replays, opened}
+use Rattle.llb_board.specs.Views.{status_of, at_of, event_of}
+use Rattle.llb_board.specs.Board.{Replays, opened}
 use Rattle.llb_board.specs.Room.{IsKept, seen, ready_made, needed}
 use Rattle.llb_board.specs.declared.stand.Stand.{Stand}
 use Rattle.llb_board.specs.declared.stand.Stand.TheVariants.{Waiting}
@@ -43,6 +43,7 @@ kept_open g workers capacity ss ds es halted s d e h room one =
       room = omega (arith, come_open g.vertices, left_none g workers);
       reserved = room;
       outputs = ap (map ready_made) d ∙ nothing_made workers ∙ sym (map_replicate (needed g) workers model.Idle);
+      some = omega (arith, length-replicate workers model.Idle, one);
       few = omega (arith, length-replicate workers model.Idle, one);
       halted_are = h ∙ sym (unmarked g.vertices);
     } in

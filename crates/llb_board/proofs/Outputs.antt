@@ -1,13 +1,13 @@
 -- The outputs, as the results take their places from the last one on.
-use Rattle.std.proofs.Common.{◌≡◌, ℕ, zero, suc, ◌+◌, ◌<◌, ◌≤◌, List, [], ◌∷◌, ◌++◌, map, drop, length, get_or, refl, ap, sym, ◌∙◌, drop-cons, add-one, append_assoc, zero-add, add-suc, arith}
-use Rattle.std.specs.Prelude.{ℤ, pos, negsuc, ◌==◌, Bool, true, false, Option, Some, None, slice_get, slice_set, replicate, if◌then◌else◌}
+use Rattle.std.proofs.Common.{◌≡◌, ℕ, zero, suc, ◌+◌, ◌<◌, ◌≤◌, List, [], ◌∷◌, ◌++◌, map, drop, length, refl, ap, sym, ◌∙◌, drop-cons, add-one, append_assoc, zero-add, arith}
+use Rattle.std.specs.Prelude.{ℤ, pos, negsuc, ◌==◌, Bool, Option, Some, None, slice_get, slice_set, replicate, if◌then◌else◌}
 use Rattle.std.specs.List.{range_with_len}
 use Rattle.std.proofs.lemmas.List.{drop_all, append-nil, length_push}
 use Rattle.std.proofs.lemmas.Bool.{eq-eqb, ne_eqb}
 use Rattle.std.proofs.lemmas.Option.{slice_get_within, get_or_from_slice_get}
 use Rattle.llb_ops.specs.declared.file.Action.{Action}
 use Rattle.llb_tree.specs.Tree.{TreeMap, empty_tree}
-use Rattle.llb_model.specs.Program.{MicroStep, Act, View, Files, Program, result_for, is_output, outputs_of}
+use Rattle.llb_model.specs.Program.{MicroStep, Act, View, Files, result_for, is_output, outputs_of}
 use Rattle.llb_board.specs.Jobs.{placed, placed_by, results_in}
 use Rattle.llb_board.proofs.Lists.{get_map, length_map}
 

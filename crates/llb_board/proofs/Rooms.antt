@@ -1,16 +1,15 @@
 -- The events that may still come, as one thing changes.
-use Rattle.std.proofs.Common.{◌≡◌, ℕ, zero, suc, ◌+◌, ◌-◌, ◌<◌, ◌≤◌, List, [], ◌∷◌, ◌++◌, map, drop, length, refl, sym, ap, ◌∙◌, arith, add-one, drop-cons, get_or, ◌*◌, ◌^◌}
-use Rattle.std.specs.Prelude.{Option, Some, None, slice_get, slice_set, replicate}
+use Rattle.std.proofs.Common.{◌≡◌, ℕ, zero, suc, ◌+◌, ◌<◌, ◌≤◌, List, [], ◌∷◌, drop, length, refl, sym, ap, ◌∙◌, arith, add-one, drop-cons, get_or, ◌*◌, ◌^◌}
+use Rattle.std.specs.Prelude.{Some, slice_get, slice_set, replicate}
 use Rattle.std.specs.List.{sum_by}
-use Rattle.std.proofs.lemmas.List.{drop_all}
 use Rattle.std.proofs.lemmas.List.Sums.{sum_by-cons}
 use Rattle.std.proofs.lemmas.Option.{slice_get_within, get_or_from_slice_get, slice_get-get_or}
 use Rattle.llb_loader.specs.Graph.{Numbered}
 use Rattle.llb_loader.specs.declared.graph.Vertex.{Vertex}
 use Rattle.llb_model.specs.Program.{program_of, program_at}
 use Rattle.llb_model.specs.Outcome.{Ending}
-use Rattle.llb_model.specs.State.{Status, Waiting, Running, Settled, At, Idle, Runs}
-use Rattle.llb_model.specs.Run.{events_of, most_events}
+use Rattle.llb_model.specs.State.{Status, Waiting, Running, Settled, At, Idle}
+use Rattle.llb_model.specs.Run.{events_of}
 use Rattle.llb_board.specs.Room.{to_come, all_to_come, left_by, all_left}
 
 pub come_set : (vs : List Vertex) (ss : List Status) (v : ℕ) (x : Vertex) (s t : Status) → slice_get vs v ≡ Some x → slice_get ss v ≡ Some s
@@ -60,9 +59,6 @@ counted_more vs k all n v there here is few =
     let next : drop k vs ≡ v ∷ drop (k + 1) vs = drop-cons vs k v (slice_get_within vs k v there) ∙ (λ i. get_or_from_slice_get vs k v v there i ∷ drop (sym (add-one k) i) vs) in
     let add : sum_by events_of (drop k vs) ≡ events_of v + sum_by events_of (drop (k + 1) vs) = ap (sum_by events_of) next ∙ sum_by-cons events_of v (drop (k + 1) vs) in
     record { counted = omega (arith, add, here.counted); small = omega (arith, here.small) }
-
-pub counted_all : (vs : List Vertex) (k all : ℕ) → CountedSoFar vs k all → length vs ≤ k → all ≡ sum_by events_of vs
-counted_all vs k all here past = omega (arith, here.counted, ap (sum_by events_of) (drop_all k vs past))
 
 pub counted_at : (vs : List Vertex) (k all n : ℕ) → k < length vs → CountedSoFar vs k all → n ≡ length (program_at (slice_get vs k)).steps → n < 2 ^ 32 → CountedSoFar vs (k + 1) (all + (n + 2))
 counted_at [] k all n low here is few = absurd (omega arith)

@@ -1,5 +1,5 @@
 -- A micro-step of an execution, as it is done.
-use Rattle.std.proofs.Common.{◌≡◌, ℕ, ◌+◌, List, [], ◌∷◌, ◌++◌, map, length, refl, ap, sym, ◌∙◌, ◌<◌, arith}
+use Rattle.std.proofs.Common.{◌≡◌, ℕ, ◌+◌, List, map, length, refl, ap, sym, ◌∙◌, ◌<◌, arith}
 use Rattle.std.specs.Prelude.{Bool, true, false, Option, Some, None, option_map, Result, Ok, Err, slice_get, nat_le, ◌||◌, is_some, if◌then◌else◌}
 use Rattle.std.proofs.lemmas.Option.{slice_get-map}
 use Rattle.llb_ops.specs.declared.file.Action.{Action}

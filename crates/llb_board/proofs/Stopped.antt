@@ -1,9 +1,9 @@
 -- The vertices that have failed or are behind one that has.
-use Rattle.std.proofs.Common.{◌≡◌, ℕ, zero, suc, ◌+◌, ◌<◌, ◌≤◌, List, [], ◌∷◌, ◌++◌, map, drop, take, length, get_or, refl, ap, sym, ◌∙◌, drop-cons, add-one, add-zero, zero-add, arith}
-use Rattle.std.specs.Prelude.{Bool, true, false, ◌||◌, slice_get, slice_set, Option, Some, None, unwrap_or, replicate}
+use Rattle.std.proofs.Common.{◌≡◌, ℕ, zero, suc, ◌+◌, ◌<◌, ◌≤◌, List, [], ◌∷◌, ◌++◌, drop, take, length, get_or, refl, ap, sym, ◌∙◌, drop-cons, add-one, add-zero, zero-add, arith}
+use Rattle.std.specs.Prelude.{Bool, true, false, ◌||◌, slice_get, slice_set, Some, unwrap_or, replicate}
 use Rattle.std.specs.List.{list_any}
 use Rattle.std.proofs.Math.ListN.{set, length-set}
-use Rattle.std.proofs.lemmas.List.{length-append, drop_all, take_all, replicate-append-replicate, length_push}
+use Rattle.std.proofs.lemmas.List.{drop_all, take_all, replicate-append-replicate, length_push}
 use Rattle.llb_loader.specs.declared.graph.Edge.{Edge}
 use Rattle.llb_loader.specs.declared.graph.Vertex.{Vertex}
 use Rattle.llb_model.specs.State.{Status, Waiting, next_stopped, stopped_from, is_failed, ending_at, ending_of}

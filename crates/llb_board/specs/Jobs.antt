@@ -4,9 +4,6 @@ use Rattle.llb_ops.specs.declared.file.Action.{Action}
 use Rattle.llb_tree.specs.Tree.{TreeMap}
 use Rattle.llb_model.specs.Program.{View, Files}
 
-abbrev pub inputs_in : View → List TreeMap
-inputs_in (Files inputs results) = inputs
-
 abbrev pub results_in : View → List TreeMap
 results_in (Files inputs results) = results
 

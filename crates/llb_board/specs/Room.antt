@@ -1,12 +1,12 @@
 -- How many events may still come, and what a board keeps so that none of them needs memory for the record.
-use Rattle.std.specs.Prelude.{◌≡◌, ℕ, ◌+◌, ◌-◌, ◌≤◌, Bool, List, [], ◌∷◌, Option, Some, None, map, replicate, slice_get, length}
+use Rattle.std.specs.Prelude.{◌≡◌, ℕ, ◌+◌, ◌-◌, ◌<◌, ◌≤◌, Bool, List, [], ◌∷◌, map, replicate, length}
 use Rattle.llb_loader.specs.Graph.{Numbered}
 use Rattle.llb_loader.specs.declared.graph.Vertex.{Vertex}
 use Rattle.llb_tree.specs.Tree.{TreeMap, empty_tree}
-use Rattle.llb_model.specs.State.{Status, Waiting, Running, Settled, Execution, At, Idle, Runs, program_in, stopped}
+use Rattle.llb_model.specs.State.{Status, Waiting, Running, Settled, At, Idle, Runs, program_in, stopped}
 use Rattle.llb_model.specs.Run.{events_of, most_events}
 use Rattle.llb_board.specs.Board.{Seen, Replays}
-use Rattle.llb_board.specs.Views.{status_of, at_of, event_of, state_of}
+use Rattle.llb_board.specs.Views.{event_of, state_of}
 use Rattle.llb_board.specs.declared.stand.Stand.{Stand}
 use Rattle.llb_board.specs.declared.stand.Desk.{Desk}
 use Rattle.llb_board.specs.declared.stand.Desk.TheVariants as desk
@@ -52,5 +52,6 @@ pub record IsKept (b : Seen) (desks : List Desk) (halted : List Bool) (capacity 
   pub room : still_to_come b + length b.events ≤ most_events b.graph
   pub reserved : most_events b.graph ≤ capacity
   pub outputs : map ready_made desks ≡ map (needed b.graph) b.state.workers
+  pub some : 0 < length b.state.workers
   pub few : length b.state.workers ≤ 64
   pub halted_are : halted ≡ stopped b.graph b.state.statuses

@@ -1,12 +1,12 @@
 -- What each call answers: what the table gives, else the first cause of a refusal.
-use Rattle.std.specs.Prelude.{◌≡◌, ℕ, nat_eq, ◌==◌, Bool, true, false, List, Option, Some, None, Result, Ok, Err, slice_get, if◌then◌else◌}
+use Rattle.std.specs.Prelude.{◌≡◌, ℕ, ◌==◌, Bool, true, false, List, Option, Some, None, Result, Ok, Err, slice_get, if◌then◌else◌}
 use Rattle.llb_wire.specs.Answer as answer
 use Rattle.llb_wire.specs.Answer.{◌>>=◌}
 use Rattle.llb_loader.specs.Graph.{Numbered}
 use Rattle.llb_loader.specs.declared.graph.Vertex.{Vertex}
 use Rattle.llb_model.specs.Program.{MicroStep, Program, View}
 use Rattle.llb_model.specs.State.{Status, Settled, At, Idle, Runs, State, Execution, is_finished, ending_from, view_from}
-use Rattle.llb_model.specs.Table.{Event, Claim, Step, Settle, Reply, table, with_step, step_reply, step_of as next_of}
+use Rattle.llb_model.specs.Table.{Claim, Step, Settle, Reply, table, with_step, step_reply, step_of as next_of}
 use Rattle.llb_board.specs.Board.{Seen, opened, on_grant}
 use Rattle.llb_board.specs.declared.fault.ClaimFault.{ClaimFault}
 use Rattle.llb_board.specs.declared.fault.ClaimFault.TheVariants as claim

@@ -1,7 +1,7 @@
 -- What the board's data stands for, in the words of the machine's definitions.
-use Rattle.std.specs.Prelude.{ℕ, Bool, true, false, List, [], ◌∷◌, map, Option, Some, None, option_map, unwrap_or, slice_get, if◌then◌else◌}
+use Rattle.std.specs.Prelude.{ℕ, Bool, false, List, map, Option, option_map, unwrap_or, slice_get, if◌then◌else◌}
 use Rattle.llb_loader.specs.Graph.{Numbered}
-use Rattle.llb_model.specs.Outcome.{Ending, Done, Failed}
+use Rattle.llb_model.specs.Outcome.{Done, Failed}
 use Rattle.llb_model.specs.State as model
 use Rattle.llb_model.specs.Table as table
 use Rattle.llb_board.specs.declared.event.Event.{Event}

@@ -1,17 +1,17 @@
 //! What an action does to a tree: one that makes a file or a directory. It works on a copy, so a fault leaves the tree
 //! that it began with.
 
-ghost use Rattle.std.specs.Prelude.{◌≡◌, ◌≤◌, ◌<◌, Ok, OnErr, Some};
+ghost use Rattle.std.specs.Prelude.{◌≡◌, ◌≤◌, ◌<◌, Ok, Some};
 ghost use Rattle.std.specs.FinMap as finite;
 ghost use Rattle.llb_tree.specs.Tree.{Gives, parents};
-ghost use Rattle.llb_model.specs.Action.{act, mode_of, number_in, id_of, uid_of, gid_of, made, mkfile, mkdir, make_all, make_dir, with_parents, kept_or_made};
+ghost use Rattle.llb_model.specs.Action.{act, mode_of, number_in, id_of, uid_of, gid_of, made, mkfile, mkdir, make_all, make_dir, kept_or_made};
 
 use llb_ops::{ActionKind, ChownOpt, MkDir, MkFile, User, UserOpt};
 use llb_tree::{Entry, Meta, Path, Tree, TreeFault};
 use std::alloc::Global;
 
 /// The tree after an action on a tree.
-pub fn act(alloc: Global, kind: &Option<ActionKind>, base: &Tree) -> Result<Tree, TreeFault>
+pub(crate) fn act(alloc: Global, kind: &Option<ActionKind>, base: &Tree) -> Result<Tree, TreeFault>
     ensures { Gives (λ t. t) result (act kind.now base.now) }
 {
     match kind {

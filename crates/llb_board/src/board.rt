@@ -1,13 +1,14 @@
 //! The board: what stands at each vertex, what each worker runs, and the record of events since it was opened. Its type
 //! keeps that the record is a run of the table to where the board is, and that it has room for every event to come.
 
-ghost use Rattle.std.specs.Prelude.{◌≡◌, ◌≤◌, ◌↔◌, IsTrue, length, map, option_map, slice_get, OnErr, IfErr, IfOk, IsNone};
+ghost use Rattle.std.specs.Prelude.{◌≡◌, ◌<◌, ◌≤◌, length, map, option_map, OnErr, IfErr};
 ghost use Rattle.llb_model.specs.Outcome.{output_in};
 ghost use Rattle.llb_model.specs.State.{ending_at};
 ghost use Rattle.llb_model.specs.Run.{most_events, chosen, is_complete};
 ghost use Rattle.llb_loader.specs.Graph.{IsGraph};
 ghost use Rattle.llb_board.specs.Board.{Seen, Replays};
-ghost use Rattle.llb_board.specs.Rules.{GivesOpen, open_of, graph_in, GivesClaim, claim_of, GivesStep, step_of, GivesSettle, settle_of};
+ghost use Rattle.llb_wire.specs.Answer.{MemoryLast};
+ghost use Rattle.llb_board.specs.Rules.{open_memory, claim_memory, step_memory, GivesOpen, open_of, graph_in, GivesClaim, claim_of, GivesStep, step_of, GivesSettle, settle_of};
 ghost use Rattle.llb_board.specs.Views.{event_of, claim_reply, step_reply, settle_reply, status_of, look, look_at, worker_look};
 
 use crate::choice::{all_settled, next_claim, next_event};
@@ -55,6 +56,7 @@ impl Board {
     /// back in the fault.
     pub fn open(alloc: Global, graph: Graph, workers: u32) -> Result<Board, OpenFault>
         ensures gives { GivesOpen (λ b. b) result (open_of graph workers) }
+        ensures last { MemoryLast open_memory result (open_of graph workers) }
         ensures back { IfErr result (λ e. graph_in e ≡ graph) }
     {
         if workers != 1 {
@@ -76,6 +78,7 @@ impl Board {
     /// An idle worker takes a vertex that waits and has all its inputs. 131, 132, 133, 134, 141.
     pub fn claim(&mut self, w: u32, v: u32) -> Result<Job, ClaimFault>
         ensures gives { GivesClaim (λ job. (self.new, claim_reply job)) result (claim_of self.old w v) }
+        ensures last { MemoryLast claim_memory result (claim_of self.old w v) }
         ensures err { OnErr result (self.new ≡ self.old) }
     {
         let begun = begin_claim(self.alloc, &self.graph, &self.stands, &self.desks, w, v)?;
@@ -89,6 +92,7 @@ impl Board {
     /// The next micro-step of what a worker runs. 131, 136, 137, 141.
     pub fn step(&mut self, w: u32) -> Result<Stepped, StepFault>
         ensures gives { GivesStep (λ r. (self.new, step_reply r)) result (step_of self.old w) }
+        ensures last { MemoryLast step_memory result (step_of self.old w) }
         ensures err { OnErr result (self.new ≡ self.old) }
     {
         let v = match self.desks.get(w as usize) {
@@ -112,6 +116,7 @@ impl Board {
             Some(Desk::Idle) => return Err(SettleFault::NotRunning),
             Some(Desk::Runs(work)) => work.vertex,
         };
+        self.graph.is_graph();
         let actions = actions_at(&self.graph, v);
         let stand = leave(&mut self.desks[w as usize], actions)?;
         let failed = stand.has_failed();
@@ -193,6 +198,14 @@ impl Board {
         ensures { IsGraph self.now.graph }
     {
         self.graph.is_graph();
+    }
+
+    /// There is a worker, and there are at most 64.
+    pub fn has_workers(&self)
+        ensures some { 0 < length self.now.state.workers }
+        ensures few { length self.now.state.workers ≤ 64 }
+    {
+        let _ = &self.desks;
     }
 
     /// The record is a run of the table from the opening state to where the board is.

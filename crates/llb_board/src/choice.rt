@@ -13,7 +13,7 @@ use crate::step::is_finished;
 use llb_loader::Graph;
 
 /// The next event of the lowest running worker.
-pub fn next_event(graph: &Graph, desks: &[Desk]) -> Option<Event>
+pub(crate) fn next_event(graph: &Graph, desks: &[Desk]) -> Option<Event>
     requires { length desks.now ≤ 64 }
     ensures { option_map event_of result ≡ next_of graph.now 0 (map at_of desks.now) }
 {
@@ -32,7 +32,7 @@ pub fn next_event(graph: &Graph, desks: &[Desk]) -> Option<Event>
 }
 
 /// The claim of the least Ready vertex, by worker 0.
-pub fn next_claim(graph: &Graph, stands: &[Stand]) -> Option<Event>
+pub(crate) fn next_claim(graph: &Graph, stands: &[Stand]) -> Option<Event>
     ensures { option_map event_of result ≡ next_claim graph.now (state_of stands.now []) }
 {
     let vertices = graph.vertices();
@@ -45,7 +45,7 @@ pub fn next_claim(graph: &Graph, stands: &[Stand]) -> Option<Event>
 }
 
 /// Whether every vertex is done, failed or blocked.
-pub fn all_settled(graph: &Graph, stands: &[Stand], halted: &[bool]) -> bool
+pub(crate) fn all_settled(graph: &Graph, stands: &[Stand], halted: &[bool]) -> bool
     requires { halted.now ≡ stopped graph.now (map status_of stands.now) }
     ensures { result ≡ is_complete graph.now (state_of stands.now []) }
 {

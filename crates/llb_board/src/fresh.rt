@@ -1,11 +1,8 @@
 //! What a board begins with: all vertices wait, all workers are idle, and the record has room for every event.
 
-ghost use Rattle.std.specs.Prelude.{◌≡◌, ◌≤◌, ◌+◌, [], map, length, replicate, false, vec_capacity, vec_len, IfOk};
+ghost use Rattle.std.specs.Prelude.{◌≡◌, ◌≤◌, ◌+◌, [], length, replicate, false, vec_capacity, IfOk};
 ghost use Rattle.llb_model.specs.State.{Waiting, Idle};
-ghost use Rattle.llb_model.specs.Program.{program_at};
-ghost use Rattle.llb_model.specs.Run.{most_events, events_of};
-ghost use Rattle.llb_board.specs.Views.{status_of, at_of};
-ghost use Rattle.llb_loader.specs.Graph.{IsGraph};
+ghost use Rattle.llb_model.specs.Run.{most_events};
 ghost use Rattle.llb_board.specs.declared.stand.Desk.TheVariants as desk;
 ghost use Rattle.llb_board.specs.declared.stand.Stand.TheVariants as stand;
 
@@ -17,7 +14,7 @@ use std::alloc::{AllocError, Global};
 
 /// The parts of a board on which nothing has happened.
 #[derive(Drop)]
-pub struct Fresh {
+pub(crate) struct Fresh {
     pub stands: Vec<Stand>,
     pub desks: Vec<Desk>,
     pub halted: Vec<bool>,
@@ -25,7 +22,7 @@ pub struct Fresh {
 }
 
 /// For a graph and so many workers.
-pub fn opening(alloc: Global, graph: &Graph, workers: u32) -> Result<Fresh, AllocError>
+pub(crate) fn opening(alloc: Global, graph: &Graph, workers: u32) -> Result<Fresh, AllocError>
     ensures stands { IfOk result (λ f. f.stands.items ≡ replicate (length graph.now.vertices) stand.Waiting) }
     ensures desks { IfOk result (λ f. f.desks.items ≡ replicate workers desk.Idle) }
     ensures halted { IfOk result (λ f. f.halted.items ≡ replicate (length graph.now.vertices) false) }

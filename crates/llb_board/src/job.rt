@@ -32,7 +32,7 @@ impl Model for Program {
 
 impl Program {
     /// The program of a vertex.
-    pub fn of(vertex: &Vertex) -> Result<Program, ClaimFault>
+    pub(crate) fn of(vertex: &Vertex) -> Result<Program, ClaimFault>
         ensures { GivesClaim (λ p. p) result (Ok (program_of vertex.now)) }
     {
         let file = match &vertex.op.kind {
@@ -67,7 +67,7 @@ impl Model for View {
 
 impl View {
     /// Before the first micro-step.
-    pub fn on(alloc: Global, inputs: Vec<Tree>) -> View
+    pub(crate) fn on(alloc: Global, inputs: Vec<Tree>) -> View
         ensures { result ≡ view_on inputs.items }
     {
         View {
@@ -77,7 +77,7 @@ impl View {
     }
 
     /// The tree that an action begins with, by its number; `None` stands for the empty tree.
-    pub fn base(&self, input: i64) -> Option<&Tree>
+    pub(crate) fn base(&self, input: i64) -> Option<&Tree>
         ensures { unwrap_or (option_map (λ t. t.now) result) empty_tree ≡ base_in input (trees_in self.now) }
     {
         if input < 0 {
@@ -91,7 +91,7 @@ impl View {
     }
 
     /// One result more.
-    pub fn push(&mut self, tree: Tree) -> Result<(), AllocError>
+    pub(crate) fn push(&mut self, tree: Tree) -> Result<(), AllocError>
         ensures ok { OnOk result (self.new ≡ with_tree self.old tree) }
         ensures err { OnErr result (self.new ≡ self.old) }
     {
@@ -100,7 +100,7 @@ impl View {
     }
 
     /// The results alone.
-    pub fn into_results(self) -> Vec<Tree>
+    pub(crate) fn into_results(self) -> Vec<Tree>
         ensures { result.items ≡ results_in self }
     {
         self.results

@@ -3,7 +3,7 @@
 ghost use Rattle.std.specs.Prelude.{◌≡◌, ◌↔◌, ◌<◌, ℕ, None, true, length, slice_get};
 ghost use Rattle.llb_model.specs.Outcome.{outcome};
 ghost use Rattle.llb_model.specs.Run.{chosen, is_complete, StandsPlainly};
-ghost use Rattle.llb_board.specs.Board.{SettledArePlain};
+ghost use Rattle.llb_board.specs.Board.{SettledArePlain, ChosenIsGranted, BlockedBehindAFailure, OutcomeByInputs};
 
 use crate::board::Board;
 
@@ -30,4 +30,27 @@ pub fn chosen_until_complete(board: &Board)
 {
     board.is_graph();
     board.replays();
+}
+
+/// The event that is chosen is granted.
+pub fn chosen_is_granted(board: &Board)
+    ensures { ChosenIsGranted board.now }
+{
+    board.is_graph();
+    board.has_workers();
+}
+
+/// A vertex is blocked exactly where it waits, and an input of it has failed or is blocked.
+pub fn blocked_behind_a_failure(board: &Board)
+    ensures { BlockedBehindAFailure board.now }
+{
+    board.is_graph();
+    board.replays();
+}
+
+/// The plain outcome of a vertex is what its whole program makes of the outcomes of its inputs.
+pub fn outcome_by_inputs(board: &Board)
+    ensures { OutcomeByInputs board.now }
+{
+    board.is_graph();
 }

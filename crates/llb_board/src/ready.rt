@@ -1,7 +1,7 @@
 //! Looks on what stands at the vertices: which inputs are there, which vertices are ready, and which are behind one that
 //! has failed.
 
-ghost use Rattle.std.specs.Prelude.{◌≡◌, ◌<◌, ◌^◌, [], map, length, option_map, is_some, slice_get, Some, None, Bool, false, unwrap_or};
+ghost use Rattle.std.specs.Prelude.{◌≡◌, ◌<◌, ◌^◌, [], map, length, option_map, is_some, slice_get, Some, None, false, unwrap_or};
 ghost use Rattle.std.specs.List.{list_any};
 ghost use Rattle.llb_loader.specs.Rules.{actions_of};
 ghost use Rattle.llb_model.specs.Program.{Act, program_at};
@@ -20,7 +20,7 @@ use llb_wire::Many;
 use std::alloc::Global;
 
 /// An output of a vertex that is done.
-pub fn output_at(stands: &[Stand], v: u32, i: u32) -> Option<&Tree>
+pub(crate) fn output_at(stands: &[Stand], v: u32, i: u32) -> Option<&Tree>
     ensures { option_map (λ t. t.now) result ≡ output_in (ending_at (map status_of stands.now) v) i }
 {
     match stands.get(v as usize) {
@@ -30,7 +30,7 @@ pub fn output_at(stands: &[Stand], v: u32, i: u32) -> Option<&Tree>
 }
 
 /// Whether each edge leads to an output that is there.
-pub fn are_there(stands: &[Stand], inputs: &[Edge]) -> bool
+pub(crate) fn are_there(stands: &[Stand], inputs: &[Edge]) -> bool
     ensures { result ≡ is_some (inputs_from (ending_at (map status_of stands.now)) inputs.now) }
 {
     for edge in inputs {
@@ -43,7 +43,7 @@ pub fn are_there(stands: &[Stand], inputs: &[Edge]) -> bool
 }
 
 /// Whether a vertex waits and all its inputs are there.
-pub fn is_ready(stands: &[Stand], v: u32, vertex: &Vertex) -> bool
+pub(crate) fn is_ready(stands: &[Stand], v: u32, vertex: &Vertex) -> bool
     ensures { result ≡ is_some (view_from (map status_of stands.now) (slice_get (map status_of stands.now) v) (Some vertex.now)) }
 {
     match stands.get(v as usize) {
@@ -53,7 +53,11 @@ pub fn is_ready(stands: &[Stand], v: u32, vertex: &Vertex) -> bool
 }
 
 /// Copies of the trees that the edges lead to.
-pub fn gathered(alloc: Global, stands: &[Stand], inputs: &[Edge]) -> Result<Vec<Tree>, ClaimFault>
+pub(crate) fn gathered(
+    alloc: Global,
+    stands: &[Stand],
+    inputs: &[Edge],
+) -> Result<Vec<Tree>, ClaimFault>
     ensures { GivesClaim (λ trees. trees.items) result (or_not_ready (inputs_from (ending_at (map status_of stands.now)) inputs.now)) }
 {
     let mut trees = Vec::with_capacity(alloc, inputs.len())?;
@@ -67,7 +71,7 @@ pub fn gathered(alloc: Global, stands: &[Stand], inputs: &[Edge]) -> Result<Vec<
 }
 
 /// The actions of a vertex, as many as its steps.
-pub fn actions_at(graph: &Graph, v: u32) -> &[Action]
+pub(crate) fn actions_at(graph: &Graph, v: u32) -> &[Action]
     ensures steps { map Act result.now ≡ (program_at (slice_get graph.now.vertices v)).steps }
     ensures few { length result.now < 2 ^ 32 }
 {
@@ -89,7 +93,7 @@ fn actions_of(vertex: &Vertex) -> &[Action]
 }
 
 /// Marks each vertex that has failed, or is behind one that has.
-pub fn mark_stopped(halted: &mut [bool], stands: &[Stand], vertices: &[Vertex])
+pub(crate) fn mark_stopped(halted: &mut [bool], stands: &[Stand], vertices: &[Vertex])
     requires { length halted.old ≡ length vertices.now }
     ensures { halted.new ≡ stopped_from (map status_of stands.now) [] vertices.now }
 {
@@ -117,7 +121,7 @@ fn is_behind(before: &[bool], inputs: &[Edge]) -> bool
     false
 }
 
-pub fn is_marked(before: &[bool], v: u32) -> bool
+pub(crate) fn is_marked(before: &[bool], v: u32) -> bool
     ensures { result ≡ unwrap_or (slice_get before.now v) false }
 {
     match before.get(v as usize) {

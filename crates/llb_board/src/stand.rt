@@ -12,7 +12,7 @@ use llb_wire::Many;
 
 /// What stands at a vertex.
 #[derive(Drop)]
-pub enum Stand {
+pub(crate) enum Stand {
     Waiting,
     Running(u32),
     Done(Many<Tree>),
@@ -20,7 +20,7 @@ pub enum Stand {
 }
 
 impl Stand {
-    pub fn has_failed(&self) -> bool
+    pub(crate) fn has_failed(&self) -> bool
         ensures { result ≡ is_failed (ending_of (Some (status_of self.now))) }
     {
         match self {
@@ -32,14 +32,14 @@ impl Stand {
 
 /// What a worker does.
 #[derive(Drop)]
-pub enum Desk {
+pub(crate) enum Desk {
     Idle,
     Runs(Work),
 }
 
 /// What a running worker has. In `outputs` there is an empty tree for each output of its vertex.
 #[derive(Drop)]
-pub struct Work {
+pub(crate) struct Work {
     pub vertex: u32,
     /// The micro-steps done; one that faults is counted.
     pub done: u32,

@@ -1,6 +1,6 @@
 //! One worker's execution of a vertex: how it begins, a micro-step of it, and how it ends.
 
-ghost use Rattle.std.specs.Prelude.{◌≡◌, ◌<◌, ◌≤◌, ◌^◌, map, length, replicate, slice_get, Ok, OnErr, OnOk, IfOk, option_map};
+ghost use Rattle.std.specs.Prelude.{◌≡◌, ◌<◌, ◌^◌, map, length, replicate, slice_get, Ok, OnErr, OnOk, IfOk, option_map};
 ghost use Rattle.llb_tree.specs.Tree.{Gives, empty_tree};
 ghost use Rattle.llb_model.specs.Action.{act};
 ghost use Rattle.llb_model.specs.Program.{Act, program_of, program_at, view_on, base_in, fault_number, outputs_of};
@@ -11,7 +11,8 @@ ghost use Rattle.llb_board.specs.Jobs.{trees_in, placed, placed_by};
 ghost use Rattle.llb_board.specs.Views.{execution_of, at_of, status_of, state_of, claim_reply, step_reply};
 ghost use Rattle.llb_board.specs.Room.{ready_made};
 ghost use Rattle.llb_board.specs.declared.stand.Desk.TheVariants as desks;
-ghost use Rattle.llb_board.specs.Rules.{GivesClaim, claim_view, or_not_ready, GivesStep, worked, step_at, GivesSettle, left_at};
+ghost use Rattle.llb_wire.specs.Answer.{MemoryLast};
+ghost use Rattle.llb_board.specs.Rules.{claim_memory, step_memory, GivesClaim, claim_view, or_not_ready, GivesStep, worked, step_at, GivesSettle, left_at};
 
 use crate::action::act;
 use crate::event::Stepped;
@@ -28,7 +29,7 @@ use std::alloc::Global;
 use std::mem;
 
 /// As many empty trees.
-pub fn empty_trees(alloc: Global, count: u32) -> Result<Vec<Tree>, ClaimFault>
+pub(crate) fn empty_trees(alloc: Global, count: u32) -> Result<Vec<Tree>, ClaimFault>
     ensures { GivesClaim (λ trees. trees.items) result (Ok (replicate count empty_tree)) }
 {
     let mut trees = Vec::with_capacity(alloc, count as usize)?;
@@ -40,13 +41,13 @@ pub fn empty_trees(alloc: Global, count: u32) -> Result<Vec<Tree>, ClaimFault>
 
 /// A claim that is granted: the job, and the worker's own part.
 #[derive(Drop)]
-pub struct Begun {
+pub(crate) struct Begun {
     pub job: Job,
     pub work: Work,
 }
 
 /// What a worker begins with that claims a vertex, or the first cause of a refusal.
-pub fn begin_claim(
+pub(crate) fn begin_claim(
     alloc: Global,
     graph: &Graph,
     stands: &[Stand],
@@ -55,6 +56,7 @@ pub fn begin_claim(
     v: u32,
 ) -> Result<Begun, ClaimFault>
     ensures gives { GivesClaim (λ b. b.work.view) result (claim_view graph.now (state_of stands.now desks.now) w v) }
+    ensures last { MemoryLast claim_memory result (claim_view graph.now (state_of stands.now desks.now) w v) }
     ensures job { IfOk result (λ b. claim_reply b.job ≡ Claimed (job_on graph.now w v b.work.view)) }
     ensures work { IfOk result (λ b. execution_of b.work ≡ execution_on v b.work.view) }
     ensures outputs { IfOk result (λ b. b.work.outputs.items ≡ replicate (program_at (slice_get graph.now.vertices v)).outputs empty_tree) }
@@ -109,16 +111,17 @@ fn begin(
 }
 
 /// Whether all micro-steps are done, or one has faulted.
-pub fn is_finished(work: &Work, actions: &[Action]) -> bool
+pub(crate) fn is_finished(work: &Work, actions: &[Action]) -> bool
     ensures { result ≡ is_finished (map Act actions.now) (execution_of work.now) }
 {
     work.fault.is_some() || actions.len() <= work.done as usize
 }
 
 /// The next micro-step.
-pub fn step(alloc: Global, work: &mut Work, actions: &[Action]) -> Result<Stepped, StepFault>
+pub(crate) fn step(alloc: Global, work: &mut Work, actions: &[Action]) -> Result<Stepped, StepFault>
     requires { length actions.now < 2 ^ 32 }
     ensures gives { GivesStep (λ r. (execution_of work.new, step_reply r)) result (worked (map Act actions.now) (execution_of work.old)) }
+    ensures last { MemoryLast step_memory result (worked (map Act actions.now) (execution_of work.old)) }
     ensures outputs { work.new.outputs ≡ work.old.outputs }
     ensures err { OnErr result (work.new ≡ work.old) }
 {
@@ -143,9 +146,14 @@ pub fn step(alloc: Global, work: &mut Work, actions: &[Action]) -> Result<Steppe
 }
 
 /// The next micro-step at a worker's desk.
-pub fn step_desk(alloc: Global, desk: &mut Desk, actions: &[Action]) -> Result<Stepped, StepFault>
+pub(crate) fn step_desk(
+    alloc: Global,
+    desk: &mut Desk,
+    actions: &[Action],
+) -> Result<Stepped, StepFault>
     requires { length actions.now < 2 ^ 32 }
     ensures gives { GivesStep (λ r. (at_of desk.new, step_reply r)) result (step_at (map Act actions.now) (at_of desk.old)) }
+    ensures last { MemoryLast step_memory result (step_at (map Act actions.now) (at_of desk.old)) }
     ensures outputs { ready_made desk.new ≡ ready_made desk.old }
     ensures err { OnErr result (desk.new ≡ desk.old) }
 {
@@ -156,7 +164,7 @@ pub fn step_desk(alloc: Global, desk: &mut Desk, actions: &[Action]) -> Result<S
 }
 
 /// The worker leaves what it runs, which is finished.
-pub fn leave(desk: &mut Desk, actions: &[Action]) -> Result<Stand, SettleFault>
+pub(crate) fn leave(desk: &mut Desk, actions: &[Action]) -> Result<Stand, SettleFault>
     requires { ready_made desk.old ≡ replicate (length (ready_made desk.old)) empty_tree }
     ensures gives { GivesSettle (λ stand. status_of stand) result (left_at (record { steps = map Act actions.now; outputs = length (ready_made desk.old) }) (at_of desk.old)) }
     ensures idle { OnOk result (desk.new ≡ desks.Idle) }
@@ -177,7 +185,7 @@ pub fn leave(desk: &mut Desk, actions: &[Action]) -> Result<Stand, SettleFault>
 }
 
 /// How an execution ends: its outputs take the places of the empty trees.
-pub fn end(work: Work, actions: &[Action]) -> Stand
+pub(crate) fn end(work: Work, actions: &[Action]) -> Stand
     requires { work.outputs.items ≡ replicate (length work.outputs.items) empty_tree }
     ensures { status_of result ≡ Settled (ending (record { steps = map Act actions.now; outputs = length work.outputs.items }) (work.view, work.fault)) }
 {

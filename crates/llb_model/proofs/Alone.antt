@@ -1,18 +1,16 @@
 -- A run by chosen events: each is granted, and its claims ascend.
-use Rattle.std.proofs.Common.{◌≡◌, ◌≢◌, ℕ, zero, suc, ◌+◌, ◌-◌, ◌<◌, ◌≤◌, Bool, true, false, ◌||◌, ◌&&◌, cond, List, [], ◌∷◌, ◌++◌, length, Option, Some, None, is_some, option_map, ◌⊎◌, inl, inr, refl, sym, ap, subst, ◌∙◌, arith}
+use Rattle.std.proofs.Common.{◌≡◌, ◌≢◌, ℕ, zero, suc, ◌+◌, ◌<◌, Bool, true, false, ◌||◌, ◌&&◌, cond, List, [], ◌∷◌, ◌++◌, length, Option, Some, None, is_some, option_map, ◌⊎◌, inl, inr, refl, sym, ap, subst, ◌∙◌, arith}
 use Rattle.std.specs.Prelude.{slice_get, slice_set}
 use Rattle.std.specs.List.{list_any}
-use Rattle.std.proofs.lemmas.Bool.{cases_eq, cases_lt}
+use Rattle.std.proofs.lemmas.Bool.{cases_lt}
 use Rattle.llb_loader.specs.Graph.{Numbered, IsGraph}
 use Rattle.llb_loader.specs.declared.graph.Edge.{Edge}
 use Rattle.llb_loader.specs.declared.graph.Vertex.{Vertex}
-use Rattle.llb_model.specs.declared.fault.VertexFault.{VertexFault}
 use Rattle.llb_model.specs.Program.{View}
-use Rattle.llb_model.specs.Outcome.{Ending}
 use Rattle.llb_model.specs.State.{Status, Waiting, Running, Settled, Execution, At, Idle, Runs, State, ending_of, ending_at, ready_view, is_ready, is_waiting, is_failed, runs, program_in, is_finished, ending_from}
 use Rattle.llb_model.specs.Table.{Event, Claim, Step, Settle, Reply, Claimed, job_on, after_claim, claimed, after_step, stepped, with_step, step_of, step_reply, after_settle, settled, settle_reply, table}
 use Rattle.llb_model.specs.Run.{next_of, least, next_claim, or_else, chosen, is_settled, claims_of, AllAbove, AreAscending}
-use Rattle.llb_model.proofs.Lists.{get_set_same, get_set_other, length_set, get_within, got_within, Each_of, Some_of, any_true, true_any, some_as}
+use Rattle.llb_model.proofs.Lists.{get_set_same, get_set_other, get_within, Each_of, any_true, true_any, some_as}
 use Rattle.llb_model.proofs.Outcomes.{each_below}
 use Rattle.llb_model.proofs.Sound.{IsSound, ready_with, claimed_is, stepped_is, settled_is, runs_is, eq_or}
 use Rattle.llb_model.proofs.Blocked.{is_stopped, stopped_is, stopped_there, ready_not_stopped}

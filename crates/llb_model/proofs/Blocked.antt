@@ -1,19 +1,18 @@
 -- A vertex that waits behind a failed one has the plain outcome Blocked, and is never Ready.
-use Rattle.std.proofs.Common.{◌≡◌, ◌≢◌, ℕ, zero, suc, ◌+◌, ◌-◌, ◌<◌, ◌≤◌, Bool, true, false, ◌||◌, ◌&&◌, List, [], ◌∷◌, ◌++◌, length, take, Option, Some, None, is_some, option_map, unwrap_or, ◌⊎◌, inl, inr, refl, sym, ap, subst, ◌∙◌, add-zero, append_assoc, arith}
+use Rattle.std.proofs.Common.{◌≡◌, ℕ, zero, suc, ◌+◌, ◌<◌, Bool, true, false, ◌||◌, ◌&&◌, List, [], ◌∷◌, ◌++◌, length, take, Option, Some, None, is_some, unwrap_or, ◌⊎◌, inl, inr, refl, sym, ap, subst, ◌∙◌, add-zero, append_assoc, arith}
 use Rattle.std.specs.Prelude.{slice_get}
 use Rattle.std.specs.List.{list_any}
 use Rattle.std.proofs.lemmas.List.{length-append}
 use Rattle.llb_loader.specs.Graph.{Numbered, LeadsBelow, IsGraph}
 use Rattle.llb_loader.specs.declared.graph.Edge.{Edge}
 use Rattle.llb_loader.specs.declared.graph.Vertex.{Vertex}
-use Rattle.llb_tree.specs.Tree.{TreeMap}
 use Rattle.llb_model.specs.declared.fault.VertexFault.{VertexFault}
 use Rattle.llb_model.specs.Program.{View, program_of}
-use Rattle.llb_model.specs.Outcome.{Ending, Done, Failed, Outcome, Ended, Blocked, output_in, inputs_from, whole, ending_in, outcome}
-use Rattle.llb_model.specs.State.{Status, Waiting, Running, Settled, State, ending_of, ending_at, is_failed, next_stopped, stopped_from, stopped, is_waiting, is_blocked, ready_view, is_ready}
-use Rattle.llb_model.proofs.Lists.{get_middle, take_middle, get_take, got_within, get_within, Each_of, Some_of, any_true, true_any, some_as, some_with}
+use Rattle.llb_model.specs.Outcome.{Ending, Done, Failed, Blocked, output_in, whole, ending_in, outcome}
+use Rattle.llb_model.specs.State.{Status, Waiting, Running, Settled, State, is_waiting, is_blocked, ending_of, ending_at, is_failed, next_stopped, stopped_from, stopped, ready_view, is_ready}
+use Rattle.llb_model.proofs.Lists.{get_middle, take_middle, get_take, got_within, get_within, Each_of, Some_of, any_true, some_as}
 use Rattle.llb_model.proofs.Outcomes.{plain, inputs_mono, inputs_none, each_below, outcome_is}
-use Rattle.llb_model.proofs.Sound.{IsSound, ready_with, ending_settled, endings_plain}
+use Rattle.llb_model.proofs.Sound.{IsSound, ready_with, endings_plain, ending_settled}
 
 -- ---- the list of stopped vertices
 
@@ -143,3 +142,58 @@ module _ (g : Numbered) (graph : IsGraph g) (s : State) (sound : IsSound g s) wh
           let there = inputs_mono (ending_at s.statuses) (plain g) (endings_plain g s sound) r.vertex.inputs r.trees r.inputs in
           let ended = outcome_is g graph k r.vertex r.there ∙ ap (λ ts. Some (whole (program_of r.vertex) ts)) there in
           absurd (cc (stopped_blocked k stop own, ended))
+
+  -- ---- blocked, in words of the inputs
+
+  -- a stopped vertex that has not failed itself waits
+  stopped_waits : (k : ℕ) → is_stopped g s.statuses k ≡ true → is_failed (ending_at s.statuses k) ≡ false → is_waiting (slice_get s.statuses k) ≡ true
+  stopped_waits k stop own = by_status (slice_get s.statuses k) refl
+    where
+      blocked : outcome g k ≡ Some Blocked
+      blocked = stopped_blocked k stop own
+
+      by_status : (o : Option Status) → slice_get s.statuses k ≡ o → is_waiting o ≡ true
+      by_status None is = let there = get_within s.statuses k (omega (arith, stopped_there g graph s.statuses k stop, sound.count)) in absurd (cc (there.1, is))
+      by_status (Some Waiting) is = refl
+      by_status (Some (Running w)) is =
+          let r = sound.running k w is in
+          let own = sound.working w r.0 r.1 in
+          let ended = outcome_is g graph r.0.vertex own.vertex own.there ∙ ap (λ ts. Some (whole (program_of own.vertex) ts)) own.inputs in
+          absurd (cc (ended, ap (outcome g) r.2, blocked))
+      by_status (Some (Settled (Done trees))) is = absurd (cc (sound.plainly k (Done trees) is, ap ending_in blocked))
+      by_status (Some (Settled (Failed f))) is = absurd (cc (ap (λ o. is_failed (ending_of o)) is, own))
+
+  -- a stopped vertex has failed, or is blocked
+  stops_by : (k : ℕ) → is_stopped g s.statuses k ≡ (is_failed (ending_at s.statuses k) || is_blocked g s.statuses k)
+  stops_by k = by_cases (is_failed (ending_at s.statuses k)) refl (is_stopped g s.statuses k) refl
+    where
+      none_and : (b : Bool) → false ≡ (b && false)
+      none_and true = refl
+      none_and false = refl
+
+      by_cases : (f : Bool) → is_failed (ending_at s.statuses k) ≡ f → (b : Bool) → is_stopped g s.statuses k ≡ b → b ≡ (f || (is_waiting (slice_get s.statuses k) && b))
+      by_cases true own true stop = refl
+      by_cases true own false stop =
+          let f = failed_is (ending_at s.statuses k) own in
+          let v = get_within g.vertices k (omega (arith, got_within s.statuses k (Settled (Failed f.0)) (ending_settled (slice_get s.statuses k) (Failed f.0) f.1), sound.count)) in
+          let yes : is_stopped g s.statuses k ≡ true = stopped_is g graph s.statuses k v.0 v.1 ∙ ap (λ b. b || list_any (λ (e : Edge). is_stopped g s.statuses e.vertex) v.0.inputs) own in
+          absurd (cc (yes, stop))
+      by_cases false own true stop = ap (λ b. b && true) (sym (stopped_waits k stop own))
+      by_cases false own false stop = none_and (is_waiting (slice_get s.statuses k))
+
+  -- a vertex is blocked exactly where it waits, and an input of it has failed or is blocked
+  pub blocked_is : (k : ℕ) (v : Vertex) → slice_get g.vertices k ≡ Some v
+      → is_blocked g s.statuses k ≡ (is_waiting (slice_get s.statuses k) && list_any (λ (e : Edge). is_failed (ending_at s.statuses e.vertex) || is_blocked g s.statuses e.vertex) v.inputs)
+  blocked_is k v there = by_status (slice_get s.statuses k) refl
+    where
+      each_same : (edges : List Edge) → list_any (λ (e : Edge). is_stopped g s.statuses e.vertex) edges ≡ list_any (λ (e : Edge). is_failed (ending_at s.statuses e.vertex) || is_blocked g s.statuses e.vertex) edges
+      each_same [] = refl
+      each_same (e ∷ edges) = λ i. stops_by e.vertex i || each_same edges i
+
+      by_status : (o : Option Status) → slice_get s.statuses k ≡ o
+          → (is_waiting o && is_stopped g s.statuses k) ≡ (is_waiting o && list_any (λ (e : Edge). is_failed (ending_at s.statuses e.vertex) || is_blocked g s.statuses e.vertex) v.inputs)
+      by_status None is = refl
+      by_status (Some (Running w)) is = refl
+      by_status (Some (Settled e)) is = refl
+      by_status (Some Waiting) is =
+          stopped_is g graph s.statuses k v there ∙ ap (λ o. is_failed (ending_of o) || list_any (λ (e : Edge). is_stopped g s.statuses e.vertex) v.inputs) is ∙ each_same v.inputs

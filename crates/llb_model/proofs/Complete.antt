@@ -1,6 +1,6 @@
 -- While no vertex runs, the least vertex that is neither settled nor blocked is Ready. So an event is chosen exactly until the run is
 -- complete; and then every vertex has its plain outcome.
-use Rattle.std.proofs.Common.{◌≡◌, ◌≢◌, ℕ, zero, suc, ◌+◌, ◌-◌, ◌<◌, ◌≤◌, Bool, true, false, ◌||◌, ◌&&◌, cond, List, [], ◌∷◌, length, Option, Some, None, is_some, option_map, unwrap_or, ◌⊎◌, inl, inr, refl, sym, ap, subst, ◌∙◌, arith}
+use Rattle.std.proofs.Common.{◌≡◌, ◌≢◌, ℕ, zero, suc, ◌+◌, ◌<◌, ◌≤◌, Bool, true, false, ◌||◌, ◌&&◌, cond, List, [], ◌∷◌, length, Option, Some, None, is_some, option_map, ◌⊎◌, inl, inr, refl, sym, ap, subst, ◌∙◌, arith}
 use Rattle.std.specs.Prelude.{slice_get, map}
 use Rattle.std.specs.List.{list_any, range_with_len}
 use Rattle.std.proofs.lemmas.Option.{get_or_from_slice_get}
@@ -13,9 +13,9 @@ use Rattle.llb_model.specs.declared.fault.VertexFault.{VertexFault}
 use Rattle.llb_model.specs.Program.{Program, View, Files, program_of, outputs_of, result_for, part, view_on}
 use Rattle.llb_model.specs.Outcome.{Ending, Done, Failed, Outcome, Ended, Blocked, output_in, inputs_from, ending, whole, ending_in, outcome}
 use Rattle.llb_model.specs.State.{Status, Waiting, Running, Settled, Execution, At, Idle, Runs, State, ending_of, ending_at, view_from, ready_view, is_ready, is_waiting, is_blocked, is_failed}
-use Rattle.llb_model.specs.Table.{Event, Claim, Step, Settle}
+use Rattle.llb_model.specs.Table.{Event, Claim}
 use Rattle.llb_model.specs.Run.{next_of, least, next_claim, or_else, chosen, is_settled, each, is_complete, StandsPlainly}
-use Rattle.llb_model.proofs.Lists.{get_within, got_within, Each_of, Some_of, true_any, some_as}
+use Rattle.llb_model.proofs.Lists.{get_within, got_within, true_any, some_as}
 use Rattle.llb_model.proofs.Outcomes.{plain, none_in_inputs, each_below, outcome_is}
 use Rattle.llb_model.proofs.Sound.{IsSound, ready_with}
 use Rattle.llb_model.proofs.Blocked.{is_stopped, stopped_is, stopped_blocked, ready_not_stopped}
@@ -137,9 +137,6 @@ module _ (g : Numbered) (graph : IsGraph g) (s : State) (sound : IsSound g s) wh
           let t = get_within trees e.index (omega arith) in
           let no : slice_get trees e.index ≡ None = sym (ap (λ o. output_in (ending_of o) e.index) is) ∙ none in
           absurd (cc (t.1, no))
-
-  IsOverBelow : ℕ → Type 0
-  IsOverBelow n = (k : ℕ) → k < n → is_over g s k ≡ true
 
   pub progress : (n : ℕ) → n ≤ length g.vertices → ((k w : ℕ) → k < n → slice_get s.statuses k ≢ Some (Running w)) → ((k : ℕ) → k < n → is_ready g s.statuses k ≡ false) → (k : ℕ) → k < n → is_over g s k ≡ true
   progress zero fits none_runs none_ready k lt = absurd (omega arith)

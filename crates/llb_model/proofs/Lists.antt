@@ -1,6 +1,6 @@
 -- What stands at a place of a list that is written, repeated or made longer.
-use Rattle.std.proofs.Common.{◌≡◌, ◌≢◌, ℕ, zero, suc, ◌+◌, ◌<◌, ◌≤◌, Bool, true, false, ◌||◌, List, [], ◌∷◌, ◌++◌, length, take, Option, Some, None, ◌⊎◌, inl, inr, refl, sym, ap, subst, ◌∙◌, add-zero, add-suc, append_assoc, arith}
-use Rattle.std.specs.Prelude.{slice_get, slice_set, replicate, map}
+use Rattle.std.proofs.Common.{◌≡◌, ◌≢◌, ℕ, zero, suc, ◌<◌, ◌≤◌, Bool, true, false, ◌||◌, List, [], ◌∷◌, ◌++◌, length, take, Some, None, ◌⊎◌, inl, inr, refl, sym, ap, ◌∙◌, arith}
+use Rattle.std.specs.Prelude.{slice_get, slice_set, replicate}
 use Rattle.std.specs.List.{list_any}
 
 -- what is found after a write: the new item at its place, else what was there

@@ -1,5 +1,5 @@
 -- The outcome of a vertex is that of its program on the outcomes of its inputs.
-use Rattle.std.proofs.Common.{◌≡◌, ◌≢◌, ℕ, zero, suc, ◌+◌, ◌<◌, ◌≤◌, Bool, true, false, List, [], ◌∷◌, ◌++◌, length, take, Option, Some, None, ◌⊎◌, inl, inr, refl, sym, ap, subst, ◌∙◌, add-zero, add-suc, append_assoc, arith}
+use Rattle.std.proofs.Common.{◌≡◌, ℕ, zero, suc, ◌+◌, List, [], ◌∷◌, ◌++◌, length, take, Option, Some, None, inl, inr, refl, sym, ap, subst, ◌∙◌, add-zero, append_assoc, arith}
 use Rattle.std.specs.Prelude.{slice_get, map}
 use Rattle.std.proofs.lemmas.List.{length-append}
 use Rattle.std.specs.List.{All}
@@ -10,7 +10,7 @@ use Rattle.llb_loader.specs.declared.graph.Edge.{Edge}
 use Rattle.llb_loader.specs.declared.graph.Vertex.{Vertex}
 use Rattle.llb_tree.specs.Tree.{TreeMap}
 use Rattle.llb_model.specs.Program.{program_of}
-use Rattle.llb_model.specs.Outcome.{Ending, Done, Failed, Outcome, Ended, Blocked, output_in, both, all_there, inputs_from, whole, ending_in, next_outcome, outcomes_from, outcomes, outcome}
+use Rattle.llb_model.specs.Outcome.{Ending, Outcome, output_in, both, all_there, inputs_from, whole, ending_in, next_outcome, outcomes_from, outcomes, outcome}
 use Rattle.llb_model.proofs.Lists.{get_middle, take_middle, get_take, Each_of, Some_of, got_within}
 
 -- ---- the list of outcomes

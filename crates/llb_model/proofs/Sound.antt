@@ -1,14 +1,14 @@
 -- Whatever events were granted, a settled vertex has its plain outcome, and a running one has done the first micro-steps of its
 -- program on what its inputs end with.
-use Rattle.std.proofs.Common.{◌≡◌, ◌≢◌, ℕ, zero, suc, ◌+◌, ◌-◌, ◌<◌, ◌≤◌, Bool, true, false, ◌||◌, List, [], ◌∷◌, ◌++◌, length, Option, Some, None, is_some, option_map, ◌⊎◌, inl, inr, refl, sym, ap, subst, ◌∙◌, cond, add-zero, add-suc, arith}
-use Rattle.std.specs.Prelude.{slice_get, slice_set, replicate, nat_le}
+use Rattle.std.proofs.Common.{◌≡◌, ◌≢◌, ℕ, zero, suc, ◌+◌, ◌-◌, ◌<◌, ◌≤◌, Bool, true, false, ◌||◌, List, [], ◌∷◌, length, Option, Some, None, is_some, option_map, ◌⊎◌, inl, inr, refl, sym, ap, subst, ◌∙◌, cond, add-zero, add-suc, arith}
+use Rattle.std.specs.Prelude.{slice_get, slice_set, nat_le}
 use Rattle.std.proofs.lemmas.Bool.{leb-true, leb-false, cases_eq}
 use Rattle.llb_loader.specs.Graph.{Numbered, IsGraph}
 use Rattle.llb_loader.specs.declared.graph.Vertex.{Vertex}
 use Rattle.llb_tree.specs.Tree.{TreeMap}
 use Rattle.llb_model.specs.declared.fault.VertexFault.{VertexFault}
-use Rattle.llb_model.specs.Program.{MicroStep, Program, View, program_of, program_at, view_on, part, go_on, step_on}
-use Rattle.llb_model.specs.Outcome.{Ending, ending, inputs_from, whole, ending_in, outcome}
+use Rattle.llb_model.specs.Program.{Program, View, program_of, program_at, view_on, part, go_on, step_on}
+use Rattle.llb_model.specs.Outcome.{Ending, ending, inputs_from, whole, ending_in}
 use Rattle.llb_model.specs.State.{Status, Waiting, Running, Settled, Execution, At, Idle, Runs, State, opening, ending_of, ending_at, view_from, ready_view, runs, program_in, is_finished, ending_from}
 use Rattle.llb_model.specs.Table.{Event, Claim, Step, Settle, Reply, execution_on, after_claim, claimed, step_of, with_step, after_step, stepped, after_settle, settled, step_reply, settle_reply, table}
 use Rattle.llb_model.specs.Run.{after, run}
@@ -101,9 +101,6 @@ no_fault (Some f) b e = absurd cc
 
 abbrev some_at : At → Option At
 some_at a = Some a
-
-not_running : {C : Type 0} (w : ℕ) → Waiting ≡ Running w → C
-not_running w e = absurd cc
 
 pub opening_sound : (g : Numbered) (workers : ℕ) → IsSound g (opening g workers)
 opening_sound g workers = record {

@@ -5,7 +5,7 @@ use Rattle.llb_loader.specs.Graph.{Numbered}
 use Rattle.llb_loader.specs.declared.graph.Vertex.{Vertex}
 use Rattle.llb_model.specs.Program.{program_of}
 use Rattle.llb_model.specs.Outcome.{Outcome, Ended, Blocked}
-use Rattle.llb_model.specs.State.{Status, Waiting, Running, Settled, Execution, At, Idle, Runs, State, opening, is_ready, is_blocked, is_finished, program_in}
+use Rattle.llb_model.specs.State.{Status, Waiting, Running, Settled, At, Idle, Runs, State, is_ready, is_blocked, is_finished, program_in}
 use Rattle.llb_model.specs.Table.{Event, Claim, Step, Settle, Reply, table}
 
 -- a run goes on from what an event gives, with its reply in front

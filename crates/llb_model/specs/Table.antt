@@ -1,10 +1,10 @@
 -- The transition table: which event is granted in a state, the state after it, and its reply.
-use Rattle.std.specs.Prelude.{ℕ, ◌+◌, Bool, true, false, not, List, Option, Some, None, option_map, slice_get, slice_set, if◌then◌else◌}
+use Rattle.std.specs.Prelude.{ℕ, ◌+◌, List, Option, Some, None, slice_get, slice_set, if◌then◌else◌}
 use Rattle.llb_loader.specs.Graph.{Numbered}
 use Rattle.llb_model.specs.declared.fault.VertexFault.{VertexFault}
 use Rattle.llb_model.specs.Program.{MicroStep, Program, View, program_at, step_on}
 use Rattle.llb_model.specs.Outcome.{Ending, Done, Failed}
-use Rattle.llb_model.specs.State.{Status, Waiting, Running, Settled, Execution, At, Idle, Runs, State, ready_view, runs, program_in, is_finished, ending_from}
+use Rattle.llb_model.specs.State.{Running, Settled, Execution, At, Idle, Runs, State, ready_view, runs, program_in, is_finished, ending_from}
 
 -- a worker claims a vertex, does the next micro-step of what it runs, ends what it runs
 pub data Event : Type 0 where

@@ -1,4 +1,4 @@
-use Rattle.std.proofs.Common.{◌≡◌, ◌<◌, ◌≤◌, length, rules, arith, refl, ap, ◌∙◌, sym, [], ◌∷◌, ◌++◌, get_or, Err, false}
+use Rattle.std.proofs.Common.{◌≡◌, ◌<◌, length, rules, arith, ap, ◌∙◌, [], get_or, Err, false}
 use Rattle.std.proofs.lemmas.List.{get_or_read}
 use Rattle.llb_tree.specs.Tree.{is_memory, parents}
 use Rattle.llb_model.specs.Action.{make_all}

@@ -1,4 +1,4 @@
-use Rattle.std.proofs.Common.{◌≡◌, ◌<◌, map, length, sym, ◌∙◌, ap, refl, rules}
+use Rattle.std.proofs.Common.{◌≡◌, ◌<◌, map, length, sym, ◌∙◌, ap, refl}
 use Rattle.std.specs.Prelude.{true, false, slice_get, Some, is_some, option_map}
 use Rattle.std.proofs.lemmas.Option.{slice_get_read}
 use Rattle.llb_model.specs.State.{is_ready, view_from}

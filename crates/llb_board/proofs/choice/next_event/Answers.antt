@@ -1,11 +1,11 @@
-use Rattle.std.proofs.Common.{◌≡◌, ◌<◌, map, length, sym, ◌∙◌, ap, refl, rules, arith}
-use Rattle.std.specs.Prelude.{true, false, slice_get, Some, if◌then◌else◌}
+use Rattle.std.proofs.Common.{◌≡◌, map, length, sym, ◌∙◌, ap, refl}
+use Rattle.std.specs.Prelude.{slice_get, Some, if◌then◌else◌}
 use Rattle.std.proofs.lemmas.Option.{slice_get_read}
 use Rattle.llb_model.specs.State.{Runs, Idle, is_finished, program_in}
 use Rattle.llb_model.specs.Table.{Step, Settle}
 use Rattle.llb_board.specs.Views.{at_of, execution_of}
-use Rattle.llb_board.proofs.Lists.{get_map, length_map}
-use Rattle.llb_board.proofs.Choices.{next_runs, next_idle, next_none}
+use Rattle.llb_board.proofs.Lists.{get_map}
+use Rattle.llb_board.proofs.Choices.{next_runs, next_idle}
 use Rattle.llb_board.proofs.choice.next_event.Goals as goal
 
 pub returns-then-is_finished : goal.returns-then-is_finished

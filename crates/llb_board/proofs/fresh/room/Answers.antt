@@ -1,7 +1,5 @@
-use Rattle.std.proofs.Common.{◌≡◌, ◌<◌, ◌+◌, map, length, ap, sym, ◌∙◌, arith, rules}
-use Rattle.std.specs.Prelude.{slice_get, Some}
-use Rattle.std.proofs.lemmas.Option.{slice_get-get_or}
-use Rattle.llb_model.specs.Program.{Act, program_at, program_of}
+use Rattle.std.proofs.Common.{◌<◌, length, ap, sym, ◌∙◌}
+use Rattle.llb_model.specs.Program.{Act}
 use Rattle.llb_board.proofs.Lists.{length_map}
 use Rattle.llb_board.proofs.Rooms.{counted_at}
 use Rattle.llb_board.proofs.fresh.room.Goals as goal

@@ -1,11 +1,9 @@
-use Rattle.std.proofs.Common.{◌≡◌, map, length, rules, arith, refl, ap, ◌∙◌, sym, ◌++◌, ◌∷◌, [], ◌+◌}
-use Rattle.std.specs.Prelude.{option_map}
+use Rattle.std.proofs.Common.{map, rules, arith, refl, ap}
 use Rattle.std.proofs.lemmas.List.{length-append}
-use Rattle.llb_model.specs.Outcome.{inputs_from}
 use Rattle.llb_model.specs.State.{ending_at}
 use Rattle.llb_board.specs.Views.{status_of}
 use Rattle.llb_board.specs.Rules.{or_not_ready}
-use Rattle.llb_board.proofs.Inputs.{GatheredSoFar, gathered_start, gathered_next, gathered_missing, gathered_end}
+use Rattle.llb_board.proofs.Inputs.{gathered_start, gathered_next, gathered_missing, gathered_end}
 use Rattle.llb_board.proofs.ready.gathered.Goals as goal
 
 pub loop-edge-init : goal.loop-edge-init

@@ -1,6 +1,5 @@
-use Rattle.std.proofs.Common.{◌≡◌, ◌≤◌, map, drop, length, ◌++◌}
-use Rattle.std.specs.Prelude.{option_map, vec_capacity}
-use Rattle.llb_model.specs.Outcome.{inputs_from}
+use Rattle.std.proofs.Common.{map}
+use Rattle.std.specs.Prelude.{vec_capacity}
 use Rattle.llb_model.specs.State.{ending_at}
 use Rattle.llb_board.specs.Views.{status_of}
 use Rattle.llb_board.proofs.Inputs.{GatheredSoFar}

@@ -1,5 +1,5 @@
 use Rattle.llb_board.proofs.Stopped.{behind_marked, behind_next, behind_end}
-use Rattle.std.proofs.Common.{rules, sym, ◌∙◌}
+use Rattle.std.proofs.Common.{sym, ◌∙◌}
 use Rattle.llb_board.proofs.ready.is_behind.Goals as goal
 
 pub returns-then-is_marked : goal.returns-then-is_marked

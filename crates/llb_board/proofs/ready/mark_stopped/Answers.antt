@@ -1,6 +1,5 @@
-use Rattle.std.proofs.Common.{◌≡◌, map, length, rules, arith, ap, ◌∙◌, sym, get_or, ◌∷◌, [], take, drop, ◌+◌}
+use Rattle.std.proofs.Common.{map, rules}
 use Rattle.llb_board.specs.Views.{status_of}
-use Rattle.llb_model.specs.State.{next_stopped}
 use Rattle.llb_board.proofs.Stopped.{marked_more, marked_end}
 use Rattle.llb_board.proofs.ready.mark_stopped.Goals as goal
 

@@ -1,7 +1,6 @@
-use Rattle.std.proofs.Common.{◌≡◌, length, rules, arith, ap, ◌∙◌, sym, ◌++◌, ◌∷◌, [], vec_len}
-use Rattle.std.specs.Prelude.{replicate}
+use Rattle.std.proofs.Common.{◌≡◌, List, length, rules, arith, ap, ◌∙◌, ◌++◌, ◌∷◌, [], vec_len, replicate}
 use Rattle.std.proofs.lemmas.List.{length-replicate}
-use Rattle.llb_tree.specs.Tree.{empty_tree}
+use Rattle.llb_tree.specs.Tree.{TreeMap, empty_tree}
 use Rattle.llb_board.proofs.Lists.{replicate_more}
 use Rattle.llb_board.proofs.step.empty_trees.Goals as goal
 
@@ -13,7 +12,8 @@ push_reserved-requires c =
 pub loop-i-preserved : goal.loop-i-preserved
 loop-i-preserved c =
     let tree : c.in_ok-empty.field-0 ≡ empty_tree = search rules in
+    let more : c.loop-i.trees.items ++ c.in_ok-empty.field-0 ∷ [] ≡ replicate c.loop-i._i empty_tree ++ empty_tree ∷ [] = λ i. c.loop-i.invariant.all i ++ tree i ∷ [] in
     record {
-      all = c.push_reserved.ensures.items ∙ (λ i. c.loop-i.invariant.all i ++ tree i ∷ []) ∙ replicate_more empty_tree c.loop-i._i;
+      all = ◌∙◌ {A = List TreeMap} c.push_reserved.ensures.items (more ∙ replicate_more empty_tree c.loop-i._i);
       reserved = search rules;
     }

@@ -1,5 +1,4 @@
-use Rattle.std.proofs.Common.{◌≡◌, ◌≤◌}
-use Rattle.std.specs.Prelude.{replicate, vec_capacity}
+use Rattle.std.specs.Prelude.{vec_capacity}
 use Rattle.llb_tree.specs.Tree.{empty_tree}
 use Rattle.llb_board.proofs.Lists.{Replicated}
 use Rattle.llb_board.proofs.step.empty_trees.Given as goal

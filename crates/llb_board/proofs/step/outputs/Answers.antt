@@ -1,4 +1,4 @@
-use Rattle.std.proofs.Common.{◌≡◌, map, length, ap, sym, ◌∙◌, arith, rules, [], vec_len}
+use Rattle.std.proofs.Common.{◌≡◌, map, length, ap, sym, ◌∙◌, rules, [], vec_len}
 use Rattle.std.specs.Prelude.{slice_get}
 use Rattle.llb_model.specs.Program.{Act}
 use Rattle.llb_board.specs.Jobs.{results_in, placed_by}

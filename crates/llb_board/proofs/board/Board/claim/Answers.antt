@@ -1,5 +1,5 @@
-use Rattle.std.proofs.Common.{◌≡◌, ◌<◌, ◌≤◌, ◌+◌, ◌-◌, ℕ, [], ◌∷◌, ◌∙◌, ◌++◌, map, length, refl, rules, arith, ap, sym, vec_len}
-use Rattle.std.specs.Prelude.{false, Err, Ok, Some, slice_get, slice_set, vec_capacity}
+use Rattle.std.proofs.Common.{◌≡◌, [], ◌∙◌, map, length, refl, rules, arith, ap, sym, vec_len}
+use Rattle.std.specs.Prelude.{true, false, is_ok, Err, Ok, slice_set, vec_capacity}
 use Rattle.std.proofs.lemmas.Option.{slice_get_within}
 use Rattle.llb_model.specs.State.{Waiting, Running, Idle, stopped_from}
 use Rattle.llb_board.specs.Views.{status_of, at_of, event_of, state_of, claim_reply}
@@ -10,6 +10,7 @@ use Rattle.llb_board.specs.declared.stand.Stand.TheVariants as stand
 use Rattle.llb_board.specs.declared.stand.Desk.TheVariants as desk
 use Rattle.llb_board.proofs.Lists.{map_set, length_map}
 use Rattle.llb_board.proofs.Grants.{can_claim, claim_refused}
+use Rattle.llb_board.proofs.Last.{claim_last}
 use Rattle.llb_board.proofs.Kept.{claim_fits, kept_claim, claim_gives}
 use Rattle.llb_board.proofs.Stopped.{marks_stay}
 use Rattle.llb_board.proofs.board.Board.claim.Goals as goal
@@ -20,6 +21,14 @@ returns-in_err-begun-clause-gives c =
     let f : claim_memory c.in_err-begun.field-0.0 ≡ false → claim_of c.args.self.now c.args.w c.args.v ≡ Err c.in_err-begun.field-0.0
     = λ m. ap (λ (s : Seen). claim_of s c.args.w c.args.v) (sym c.self.view_is)
     ∙ claim_refused (seen b.graph b.stands.items b.desks.items b.events.items) c.args.w c.args.v c.in_err-begun.field-0.0 (rw (c.deref.ensures.value, c.deref-2.ensures.value) at (c.in_err-begun.ensures.gives m)) in
+    search rules
+
+pub returns-in_err-begun-clause-last : goal.returns-in_err-begun-clause-last
+returns-in_err-begun-clause-last c =
+    let b = c.self.inside in
+    let e : claim_of (seen b.graph b.stands.items b.desks.items b.events.items) c.args.w c.args.v ≡ claim_of c.args.self.now c.args.w c.args.v = ap (λ (s : Seen). claim_of s c.args.w c.args.v) c.self.view_is in
+    let f : claim_memory c.in_err-begun.field-0.0 ≡ true → is_ok (claim_of c.args.self.now c.args.w c.args.v) ≡ true
+    = λ m. sym (ap is_ok e) ∙ claim_last (seen b.graph b.stands.items b.desks.items b.events.items) c.args.w c.args.v (rw (c.deref.ensures.value, c.deref-2.ensures.value) at (c.in_err-begun.ensures.last m)) in
     search rules
 
 pub push_reserved-requires : goal.push_reserved-requires

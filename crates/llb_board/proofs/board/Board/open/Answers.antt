@@ -1,4 +1,4 @@
-use Rattle.std.proofs.Common.{◌≡◌, ◌∙◌, refl, rules, ap, sym}
+use Rattle.std.proofs.Common.{◌≡◌, ◌∙◌, rules, ap, sym}
 use Rattle.std.specs.Prelude.{Bool, Ok, Err, Result, if◌then◌else◌}
 use Rattle.std.proofs.lemmas.Bool.{eq-eqb}
 use Rattle.llb_board.specs.Board.{Seen, opened}

@@ -1,19 +1,18 @@
-use Rattle.std.proofs.Common.{◌≡◌, ◌<◌, ◌≤◌, ◌+◌, ◌-◌, ℕ, [], ◌∷◌, ◌∙◌, ◌++◌, map, take, drop, length, refl, rules, arith, ap, sym, vec_len, zero-add}
+use Rattle.std.proofs.Common.{◌≡◌, [], ◌∙◌, ◌++◌, map, take, drop, length, refl, rules, arith, ap, sym, vec_len, zero-add}
 use Rattle.std.specs.Prelude.{true, false, Err, Ok, Some, None, option_map, slice_get, slice_set, vec_capacity}
 use Rattle.std.proofs.lemmas.Option.{slice_get_read, slice_get_past, slice_get-map, slice_get_within}
 use Rattle.llb_model.specs.Program.{Act}
-use Rattle.llb_model.specs.State.{Idle, Runs, Running, program_in, is_failed, ending_of, stopped, stopped_from}
-use Rattle.llb_board.specs.Views.{at_of, event_of, execution_of, status_of, settle_reply}
+use Rattle.llb_model.specs.State.{Running, is_failed, ending_of, stopped, stopped_from}
+use Rattle.llb_board.specs.Views.{at_of, execution_of, status_of}
 use Rattle.llb_board.specs.Board.{Seen}
-use Rattle.llb_board.specs.Rules.{settle_memory, settle_of, left_at}
+use Rattle.llb_board.specs.Rules.{settle_of}
 use Rattle.llb_board.specs.Room.{seen}
 use Rattle.llb_board.specs.declared.stand.Desk.TheVariants as desk
-use Rattle.llb_board.specs.declared.event.Settled.TheVariants as settled
 use Rattle.llb_board.proofs.Lists.{length_map, get_map}
 use Rattle.llb_board.proofs.Grants.{settle_none, settle_idle, settle_refused}
 use Rattle.llb_board.proofs.Kept.{at_hand, Leaving, program_kept, all_empty, settle_fits, kept_settle, settle_gives, replies_failed, replies_done, marks_kept, whole_written}
 use Rattle.llb_board.proofs.Stopped.{length_marks}
-use Rattle.llb_board.proofs.Sound.{runs_there}
+use Rattle.llb_board.proofs.Plain.{runs_there}
 use Rattle.llb_board.proofs.board.Board.settle.Goals as goal
 
 pub returns-in-None-clause-gives : goal.returns-in-None-clause-gives
@@ -61,7 +60,7 @@ index_mut-requires-2 c =
     let at : slice_get b.desks.items c.args.w ≡ Some (desk.Runs c.in-Some-Runs.work)
     = ap (λ ds. slice_get ds c.args.w) (sym c.deref.ensures.value) ∙ slice_get_read c.deref.result.now (length c.deref.result.now) c.args.w c.in-Some-Runs.field-0.now refl l.3.0 l.1 ∙ ap (λ d. Some d) c.in-Some-Runs.field-0-is in
     let hand = at_hand b.desks.items c.args.w c.index_mut.result.now c.in-Some-Runs.work at c.index_mut.ensures.value in
-    let running = runs_there (seen b.graph b.stands.items b.desks.items b.events.items) c.self.invariant.replays c.args.w (execution_of c.in-Some-Runs.work) (get_map at_of b.desks.items c.args.w (desk.Runs c.in-Some-Runs.work) at) in
+    let running = runs_there (seen b.graph b.stands.items b.desks.items b.events.items) c.is_graph.ensures c.self.invariant.replays c.args.w (execution_of c.in-Some-Runs.work) (get_map at_of b.desks.items c.args.w (desk.Runs c.in-Some-Runs.work) at) in
     let len : vec_len b.stands ≡ length b.stands.items = search rules in
     omega (arith, slice_get_within (map status_of b.stands.items) c.in-Some-Runs.work.vertex (Running c.args.w) running, length_map status_of b.stands.items, len)
 
@@ -76,7 +75,7 @@ push_reserved-requires c =
     let leaving : Leaving b.graph b.stands.items b.desks.items c.args.w c.in-Some-Runs.work c.in_ok-stand.stand = record {
       there = at;
       left = sym same ∙ c.in_ok-stand.ensures.gives;
-      running = runs_there (seen b.graph b.stands.items b.desks.items b.events.items) c.self.invariant.replays c.args.w (execution_of c.in-Some-Runs.work) (get_map at_of b.desks.items c.args.w (desk.Runs c.in-Some-Runs.work) at);
+      running = runs_there (seen b.graph b.stands.items b.desks.items b.events.items) c.is_graph.ensures c.self.invariant.replays c.args.w (execution_of c.in-Some-Runs.work) (get_map at_of b.desks.items c.args.w (desk.Runs c.in-Some-Runs.work) at);
     } in
     let fits = settle_fits b.graph b.stands.items b.desks.items b.events.items b.halted.items (vec_capacity b.events) c.args.w c.in-Some-Runs.work c.in_ok-stand.stand c.self.invariant leaving in
     let len : vec_len b.events ≡ length b.events.items = search rules in
@@ -99,7 +98,7 @@ invariant_of-self-then-failed c =
     let leaving : Leaving b.graph b.stands.items b.desks.items c.args.w c.in-Some-Runs.work c.in_ok-stand.stand = record {
       there = at;
       left = sym same ∙ c.in_ok-stand.ensures.gives;
-      running = runs_there (seen b.graph b.stands.items b.desks.items b.events.items) c.self.invariant.replays c.args.w (execution_of c.in-Some-Runs.work) (get_map at_of b.desks.items c.args.w (desk.Runs c.in-Some-Runs.work) at);
+      running = runs_there (seen b.graph b.stands.items b.desks.items b.events.items) c.is_graph.ensures c.self.invariant.replays c.args.w (execution_of c.in-Some-Runs.work) (get_map at_of b.desks.items c.args.w (desk.Runs c.in-Some-Runs.work) at);
     } in
     let marks : c.mark_stopped.new.halted ≡ stopped b.graph (map status_of (slice_set b.stands.items c.in-Some-Runs.work.vertex c.in_ok-stand.stand))
     = c.mark_stopped.ensures ∙ (λ i. stopped_from (map status_of (c.deref-then-failed.ensures.value i)) [] (c.vertices.ensures.all i)) in
@@ -120,7 +119,7 @@ returns-then-failed-clause-gives c =
     let leaving : Leaving b.graph b.stands.items b.desks.items c.args.w c.in-Some-Runs.work c.in_ok-stand.stand = record {
       there = at;
       left = sym same ∙ c.in_ok-stand.ensures.gives;
-      running = runs_there (seen b.graph b.stands.items b.desks.items b.events.items) c.self.invariant.replays c.args.w (execution_of c.in-Some-Runs.work) (get_map at_of b.desks.items c.args.w (desk.Runs c.in-Some-Runs.work) at);
+      running = runs_there (seen b.graph b.stands.items b.desks.items b.events.items) c.is_graph.ensures c.self.invariant.replays c.args.w (execution_of c.in-Some-Runs.work) (get_map at_of b.desks.items c.args.w (desk.Runs c.in-Some-Runs.work) at);
     } in
     let failed : is_failed (ending_of (Some (status_of c.in_ok-stand.stand))) ≡ true = sym c.has_failed-failed.ensures ∙ c.if-failed.true in
     ap (λ (s : Seen). settle_of s c.args.w) (sym c.self.view_is)
@@ -141,7 +140,7 @@ invariant_of-self-else-failed c =
     let leaving : Leaving b.graph b.stands.items b.desks.items c.args.w c.in-Some-Runs.work c.in_ok-stand.stand = record {
       there = at;
       left = sym same ∙ c.in_ok-stand.ensures.gives;
-      running = runs_there (seen b.graph b.stands.items b.desks.items b.events.items) c.self.invariant.replays c.args.w (execution_of c.in-Some-Runs.work) (get_map at_of b.desks.items c.args.w (desk.Runs c.in-Some-Runs.work) at);
+      running = runs_there (seen b.graph b.stands.items b.desks.items b.events.items) c.is_graph.ensures c.self.invariant.replays c.args.w (execution_of c.in-Some-Runs.work) (get_map at_of b.desks.items c.args.w (desk.Runs c.in-Some-Runs.work) at);
     } in
     let failed : is_failed (ending_of (Some (status_of c.in_ok-stand.stand))) ≡ false = sym c.has_failed-failed.ensures ∙ c.if-failed.false in
     let marks = c.self.invariant.halted_are ∙ sym (marks_kept b.graph b.stands.items b.desks.items c.args.w c.in-Some-Runs.work c.in_ok-stand.stand leaving failed) in
@@ -159,7 +158,7 @@ returns-clause-gives c =
     let leaving : Leaving b.graph b.stands.items b.desks.items c.args.w c.in-Some-Runs.work c.in_ok-stand.stand = record {
       there = at;
       left = sym same ∙ c.in_ok-stand.ensures.gives;
-      running = runs_there (seen b.graph b.stands.items b.desks.items b.events.items) c.self.invariant.replays c.args.w (execution_of c.in-Some-Runs.work) (get_map at_of b.desks.items c.args.w (desk.Runs c.in-Some-Runs.work) at);
+      running = runs_there (seen b.graph b.stands.items b.desks.items b.events.items) c.is_graph.ensures c.self.invariant.replays c.args.w (execution_of c.in-Some-Runs.work) (get_map at_of b.desks.items c.args.w (desk.Runs c.in-Some-Runs.work) at);
     } in
     let failed : is_failed (ending_of (Some (status_of c.in_ok-stand.stand))) ≡ false = sym c.has_failed-failed.ensures ∙ c.if-failed.false in
     ap (λ (s : Seen). settle_of s c.args.w) (sym c.self.view_is)
