@@ -1,5 +1,5 @@
 -- What a run tells of the bytes that it read.
-use Rattle.std.proofs.Common.{◌≡◌, ℕ, ◌<◌, ◌≤◌, Bool, true, false, cond, ltb, List, [], length, ◌⊎◌, Option, Some, None, Result, Ok, Err, inl, inr, refl, sym, ap, subst, ◌∙◌}
+use Rattle.std.proofs.Common.{◌≡◌, ℕ, ◌<◌, Bool, true, false, cond, ltb, List, [], length, ◌⊎◌, Option, Some, None, Result, Ok, Err, inl, inr, refl, sym, ap, subst, ◌∙◌}
 use Rattle.std.specs.Prelude.{IfSome, slice_get}
 use Rattle.std.proofs.lemmas.Bool.{lt-ltb}
 use Rattle.std.specs.Io.KnownBytes.{Appends}
@@ -20,7 +20,8 @@ use Rattle.llb_board.specs.Board.{Seen}
 use Rattle.llbm.specs.declared.fault.ProgramFault.{ProgramFault}
 use Rattle.llbm.specs.declared.fault.ProgramFault.TheVariants.{Refused, Loading, Print}
 use Rattle.llbm.specs.TreeText.{tree_text}
-use Rattle.llbm.specs.Answer.{result_of, Yields, YieldsNone, IsRefused, YieldsPart}
+use Rattle.llbm.specs.GraphText.{graph_text}
+use Rattle.llbm.specs.Answer.{result_of, Yields, YieldsNone, IsRefused, YieldsPart, DrawsPart}
 use Rattle.llbm.specs.Answer.{Runs}
 use Rattle.llbm.specs.Running.{passed_on, IsRefusal, IsFinished, Shows, Answers}
 use Rattle.llbm.specs.Bounded.{ReadsAll}
@@ -125,3 +126,11 @@ run_unflushed left out out' last status done keeps three =
 pub no_refusal : (status : ℕ) (e : PrintFault) → (status ≡ 3) ⊎ ((status ≡ 2) × IsRefusal (Print e)) → status ≡ 3
 no_refusal status e (inl h) = h
 no_refusal status e (inr h) = absurd h.1
+
+-- ---- a show
+
+-- a text that is out is a front of itself
+pub drawn_unflushed : (left out out' last : Option (List ℕ)) (g : Numbered) → IfSome left (λ bytes. IsGraphIn bytes g) → Appends out out' (graph_text g) → Keeps out' last → IfSome left (DrawsPart out last)
+drawn_unflushed left out out' last g loads whole keeps =
+    some_map (λ bytes. IsGraphIn bytes g) (DrawsPart out last) left
+    (λ bytes loaded. (g, loaded, (graph_text g, [], sym (append-nil (graph_text g)), Appends-kept out out' last (graph_text g) whole keeps))) loads

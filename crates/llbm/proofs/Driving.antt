@@ -1,14 +1,14 @@
 -- What a driver's events do to a board.
-use Rattle.std.proofs.Common.{◌≡◌, ℕ, zero, suc, ◌+◌, ◌-◌, ◌<◌, ◌≤◌, List, [], ◌∷◌, ◌++◌, length, map, Option, Some, None, option_map, Result, Ok, Err, refl, sym, ap, subst, ◌∙◌, append_assoc, arith}
+use Rattle.std.proofs.Common.{◌≡◌, ℕ, zero, suc, ◌+◌, ◌≤◌, List, [], ◌∷◌, ◌++◌, length, map, Option, Some, None, option_map, Result, Ok, Err, inl, inr, refl, sym, ap, subst, ◌∙◌, append_assoc, arith}
 use Rattle.std.proofs.lemmas.List.{append-nil, length-append}
-use Rattle.llb_loader.specs.Graph.{Numbered, IsGraph}
-use Rattle.llb_model.specs.State.{State, opening}
+use Rattle.llb_loader.specs.Graph.{IsGraph}
+use Rattle.llb_model.specs.State.{State, At, opening}
 use Rattle.std.specs.Prelude.{slice_get, slice_index, replicate, is_ok, Bool, true, false}
-use Rattle.std.specs.Bool.{OnTrue}
+use Rattle.std.specs.Bool.{OnTrue, OnFalse}
 use Rattle.llb_model.specs.Table.{Event, Claim, Step, Settle, Reply, table}
-use Rattle.llb_model.specs.Run.{run, chosen, claims_of, AreAscending}
+use Rattle.llb_model.specs.Run.{run, chosen}
 use Rattle.llb_model.proofs.Sound.{IsSound, opening_sound, run_sound}
-use Rattle.llb_model.proofs.Alone.{Ascends, alone_step}
+use Rattle.llb_model.proofs.Alone.{Ascends, alone_step, chosen_is, chosen_granted}
 use Rattle.llb_board.specs.Board.{Seen, Replays, after_event, on_grant}
 use Rattle.llb_board.specs.Rules.{GivesClaim, claim_of, claim_cause, GivesStep, step_of, step_cause, GivesSettle, settle_of, settle_cause}
 use Rattle.llb_board.specs.Views.{claim_reply, step_reply, settle_reply}
@@ -19,7 +19,7 @@ use Rattle.llb_board.specs.declared.fault.ClaimFault.{ClaimFault}
 use Rattle.llb_board.specs.declared.fault.StepFault.{StepFault}
 use Rattle.llb_board.specs.declared.fault.SettleFault.{SettleFault}
 use Rattle.llb_board.proofs.Runs.{run_append, run_one, joined}
-use Rattle.llbm.specs.Alone.{Takes, Goes}
+use Rattle.llbm.specs.Alone.{Takes, IsLeft, Goes, TakesMemory}
 
 pub sound_of : (b : Seen) → IsGraph b.graph → Replays b → IsSound b.graph b.state
 sound_of b graph here = run_sound b.graph graph (opening b.graph (length b.state.workers)) b.state b.events here.replies (opening_sound b.graph (length b.state.workers)) here.leads
@@ -85,10 +85,44 @@ pub settle_takes : (b n : Seen) (w : ℕ) (r : Result Settled SettleFault) → G
 settle_takes b n w (Ok s) gives ok = takes_of b (Settle w) (settle_cause (slice_get b.state.workers w)) (table b.graph b.state (Settle w)) n (settle_reply s) refl gives
 settle_takes b n w (Err e) gives ok = absurd cc
 
--- a fact where a test is true
+-- a settle that is refused is not granted
+pub settle_left : (b n : Seen) (w : ℕ) (r : Result Settled SettleFault) → GivesSettle (λ s. (n, settle_reply s)) r (settle_of b w) → is_ok r ≡ false → IsLeft b (Settle w)
+settle_left b n w (Ok s) gives refused = absurd cc
+settle_left b n w (Err e) gives refused = by_grant (table b.graph b.state (Settle w)) (settle_cause (slice_get b.state.workers w)) (gives refl)
+  where
+    by_grant : (o : Option (State × Reply)) (f : SettleFault) → on_grant b (Settle w) f o ≡ Err e → o ≡ None
+    by_grant None f is = refl
+    by_grant (Some p) f is = absurd cc
+
+-- a chosen event that was not done takes memory
+pub left_over : (b : Seen) (e : Event) → IsGraph b.graph → chosen b.graph b.state ≡ Some e → IsLeft b e → TakesMemory (chosen b.graph b.state)
+left_over b e graph is left = subst TakesMemory (sym is) (by_event e is left)
+  where
+    first_worker : (ws : List At) (u : ℕ) (a : At) → slice_get ws u ≡ Some a → (x : At) × (slice_get ws 0 ≡ Some x)
+    first_worker [] zero a there = absurd cc
+    first_worker [] (suc u) a there = absurd cc
+    first_worker (x ∷ ws) u a there = (x, refl)
+
+    by_event : (e : Event) → chosen b.graph b.state ≡ Some e → IsLeft b e → TakesMemory (Some e)
+    by_event (Claim w v) is left = tt
+    by_event (Step w) is left = tt
+    by_event (Settle w) is left = elim (chosen_is b.graph graph b.state (Settle w) is) [
+      | inl n ↦
+          let first = first_worker b.state.workers n.worker _ n.there in
+          let granted = chosen_granted b.graph graph b.state (Settle w) first.0 first.1 is in
+          let both : some_pair granted.later granted.reply ≡ None = sym granted.given ∙ left in
+          absurd cc
+      | inr c ↦ absurd (let bad : Settle w ≡ Claim 0 c.0 = c.1 in cc)
+    ]
+
+-- a fact where a test is true, or false
 pub on_true : (b : Bool) (P : Type 0) → (b ≡ true → P) → OnTrue b P
 on_true true P f = f refl
 on_true false P f = tt
+
+pub on_false : (b : Bool) (P : Type 0) → (b ≡ false → P) → OnFalse b P
+on_false true P f = tt
+on_false false P f = f refl
 
 -- a front of a longer record
 pub goes_longer : (a b : Seen) → Goes a b → length a.events ≤ length b.events

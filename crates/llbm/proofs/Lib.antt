@@ -1,3 +1,4 @@
 pub mod Printing
 pub mod Driving
 pub mod Answering
+pub mod Entering

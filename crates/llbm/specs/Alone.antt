@@ -1,7 +1,6 @@
 -- What a driver does to a board.
-use Rattle.std.specs.Prelude.{◌≡◌, ℕ, zero, suc, ◌+◌, List, [], ◌∷◌, ◌++◌, length, slice_index, Option, Some}
-use Rattle.llb_model.specs.State.{State}
-use Rattle.llb_model.specs.Table.{Event, Reply, table}
+use Rattle.std.specs.Prelude.{◌≡◌, ℕ, suc, ◌+◌, List, [], ◌∷◌, ◌++◌, length, slice_index, Option, Some, None, ⊤}
+use Rattle.llb_model.specs.Table.{Event, Claim, Step, Settle, Reply, table}
 use Rattle.llb_model.specs.Run.{run}
 use Rattle.llb_board.specs.Board.{Seen}
 
@@ -24,3 +23,16 @@ pub record Goes (old new : Seen) : Type 0 where
 pub record MadeBy (old new : Seen) (made : List ℕ) : Type 0 where
   pub first : slice_index made 0 + length old.events ≡ length new.events
   pub others : (w : ℕ) → slice_index made (suc w) ≡ 0
+
+-- an event whose want of memory may end a run: a settle takes none
+abbrev pub TakesMemory : Option Event → Type 0
+TakesMemory (Some (Claim w v)) = ⊤
+TakesMemory (Some (Step w)) = ⊤
+TakesMemory (Some (Settle w)) = ⊥
+TakesMemory None = ⊥
+
+-- why an event was not done, where it takes no memory: it is not granted
+abbrev pub IsLeft : Seen → Event → Type 0
+IsLeft b (Claim w v) = ⊤
+IsLeft b (Step w) = ⊤
+IsLeft b (Settle w) = table b.graph b.state (Settle w) ≡ None

@@ -1,5 +1,5 @@
 -- What the program answers to the bytes that it reads.
-use Rattle.std.specs.Prelude.{◌≡◌, ◌⊎◌, ℕ, List, Option, Some, None, Result, Ok, Err, IfSome}
+use Rattle.std.specs.Prelude.{◌≡◌, ◌⊎◌, ℕ, List, Option, Some, None, IfSome}
 use Rattle.std.specs.Io.KnownBytes.{Appends, Keeps}
 use Rattle.llb_wire.specs.Sink.{PartOut}
 use Rattle.llb_tree.specs.Tree.{TreeMap}
@@ -8,6 +8,9 @@ use Rattle.llb_loader.specs.Graph.{Numbered}
 use Rattle.llb_loader.specs.Load.{IsGraphIn, IsRefusalIn}
 use Rattle.llb_model.specs.Outcome.{outcome, ending_in, output_in}
 use Rattle.llbm.specs.TreeText.{tree_text}
+use Rattle.llbm.specs.GraphText.{graph_text}
+use Rattle.llbm.specs.declared.words.Command.{Command}
+use Rattle.llbm.specs.declared.words.Command.TheVariants.{Run, Show}
 
 -- the tree that a graph's result is, by the plain outcome of its vertex: none where that failed or is blocked
 abbrev pub result_of : Numbered → Option TreeMap
@@ -43,3 +46,24 @@ Runs input out out' status =
     ⊎ (((status ≡ 1) × Keeps out out' × IfSome input YieldsNone)
     ⊎ (((status ≡ 2) × Keeps out out' × IfSome input IsRefused)
     ⊎ ((status ≡ 3) × (Keeps out out' ⊎ IfSome input (YieldsPart out out')))))
+
+-- the text of the graph of the bytes is out, and nothing else
+abbrev pub DrawsAll : Option (List ℕ) → Option (List ℕ) → List ℕ → Type 0
+DrawsAll out out' bytes = (g : Numbered) × IsGraphIn bytes g × Appends out out' (graph_text g)
+
+-- a front of it is, and no more
+abbrev pub DrawsPart : Option (List ℕ) → Option (List ℕ) → List ℕ → Type 0
+DrawsPart out out' bytes = (g : Numbered) × IsGraphIn bytes g × PartOut out out' (graph_text g)
+
+-- How a show ends. 0: the text of the graph is out, and nothing else. 2: the bytes are refused, and nothing is out. 3: a device or memory
+-- failed; nothing is out, or a front of the text.
+abbrev pub Draws : Option (List ℕ) → Option (List ℕ) → Option (List ℕ) → ℕ → Type 0
+Draws input out out' status =
+    ((status ≡ 0) × IfSome input (DrawsAll out out'))
+    ⊎ (((status ≡ 2) × Keeps out out' × IfSome input IsRefused)
+    ⊎ ((status ≡ 3) × (Keeps out out' ⊎ IfSome input (DrawsPart out out'))))
+
+-- how each command ends
+abbrev pub Performs : Command → Option (List ℕ) → Option (List ℕ) → Option (List ℕ) → ℕ → Type 0
+Performs Run = Runs
+Performs Show = Draws

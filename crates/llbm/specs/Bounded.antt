@@ -1,6 +1,6 @@
 -- What a bounded reading gives.
 use Rattle.std.specs.Prelude.{◌≡◌, ◌≤◌, ◌<◌, ℕ, List, length, Option, Result, Ok, Err, IfSome, Vec}
-use Rattle.std.specs.Io.KnownBytes.{Consumes, IsAtEnd}
+use Rattle.std.specs.Io.KnownBytes.{IsAtEnd}
 use Rattle.std.specs.Global.{Global}
 use Rattle.llbm.specs.declared.bounded.ReadFault.{ReadFault}
 use Rattle.llbm.specs.declared.bounded.ReadFault.TheVariants.{TooLong, Read, Memory}

@@ -3,4 +3,7 @@ pub mod Bounded
 pub mod Alone
 pub mod Answer
 pub mod Running
+pub mod Output
+pub mod GraphText
+pub mod CommandLine
 pub use Rattle.std.specs.Io.KnownBytes.{Appends, Consumes, IsAtEnd, Keeps}

@@ -9,21 +9,15 @@ use Rattle.llb_model.specs.Outcome.{outcome}
 use Rattle.llb_model.specs.Run.{StandsPlainly}
 use Rattle.llb_board.specs.Board.{Seen}
 use Rattle.llbm.specs.TreeText.{tree_text}
-use Rattle.llbm.specs.Answer.{Yields, YieldsNone, IsRefused, YieldsPart}
+use Rattle.llbm.specs.Answer.{Yields, YieldsNone, IsRefused, YieldsPart, DrawsAll, DrawsPart}
 use Rattle.llbm.specs.declared.fault.ProgramFault.{ProgramFault}
 use Rattle.llbm.specs.declared.fault.ProgramFault.TheVariants.{Refused, Loading}
-use Rattle.llbm.specs.declared.tree_text.PrintFault.{PrintFault}
 use Rattle.llb_loader.specs.declared.fault.LoadFault.{LoadFault}
 use Rattle.llb_loader.specs.Faults.{is_memory}
 
 -- how a fault of the loader is passed on
 abbrev pub passed_on : LoadFault → ProgramFault
 passed_on e = if is_memory e then Loading else Refused e
-
--- a tree's text is out, or a front of it
-abbrev pub PrintsOut : Option (List ℕ) → Option (List ℕ) → List ℕ → Result (Unit {0}) PrintFault → Type 0
-PrintsOut out out' text (Ok u) = Appends out out' text
-PrintsOut out out' text (Err e) = PartOut out out' text
 
 -- a fault that refuses the input
 abbrev pub IsRefusal : ProgramFault → Type 0
@@ -55,3 +49,8 @@ abbrev pub Answers : {B : Type 0} → Option (List ℕ) → Option (List ℕ) �
 Answers input out out' (Ok None) = IfSome input (λ bytes. (text : List ℕ) × Yields bytes text × Appends out out' text)
 Answers input out out' (Ok (Some b)) = Keeps out out' × IfSome input YieldsNone
 Answers input out out' (Err e) = (Keeps out out' × TellsRefusal input e) ⊎ ((¬ IsRefusal e) × IfSome input (YieldsPart out out'))
+
+-- the text of the graph is out; or a fault stands, and at most a front of the text is out
+abbrev pub ShowsIn : Option (List ℕ) → Option (List ℕ) → Option (List ℕ) → Result (Unit {0}) ProgramFault → Type 0
+ShowsIn input out out' (Ok u) = IfSome input (DrawsAll out out')
+ShowsIn input out out' (Err e) = (Keeps out out' × TellsRefusal input e) ⊎ ((¬ IsRefusal e) × IfSome input (DrawsPart out out'))

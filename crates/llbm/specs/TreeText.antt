@@ -1,12 +1,11 @@
 -- The text of a tree: one line for each entry in path order.
-use Rattle.std.specs.Prelude.{◌≡◌, ℕ, ◌/◌, ◌%◌, List, [], ◌∷◌, ◌++◌, codes, Option, Result, Ok, Err, Bool, true, false}
+use Rattle.std.specs.Prelude.{ℕ, ◌/◌, ◌%◌, List, [], ◌∷◌, ◌++◌, codes, Option, Result, Bool, true, false}
 use Rattle.std.specs.List.{flat_map}
 use Rattle.std.specs.Fmt.{decimal}
 use Rattle.std.specs.FinMap as finite
-use Rattle.std.specs.Io.KnownBytes.{Appends}
 use Rattle.hex.specs.Hex.{encode_lower}
 use Rattle.llb_wire.specs.Answer as answer
-use Rattle.llb_wire.specs.Sink.{PartOut}
+use Rattle.llbm.specs.Output as output
 use Rattle.llb_tree.specs.Tree.{Entry, Dir, File, MetaValue, TreeMap}
 use Rattle.llbm.specs.declared.tree_text.PrintFault.{PrintFault}
 use Rattle.llbm.specs.declared.tree_text.PrintFault.TheVariants.{Memory, Write}
@@ -50,8 +49,5 @@ is_memory Write = false
 abbrev pub Gives : {X Y : Type 0} → (X → Y) → Result X PrintFault → Result Y PrintFault → Type 0
 Gives = answer.Gives is_memory
 
--- the whole text is out; or a front of it, where memory was refused or the writer failed
 abbrev pub Prints : Option (List ℕ) → Option (List ℕ) → Bool → List ℕ → Result (Unit {0}) PrintFault → Type 0
-Prints taken taken' failed' text (Ok u) = Appends taken taken' text
-Prints taken taken' failed' text (Err Memory) = PartOut taken taken' text
-Prints taken taken' failed' text (Err Write) = (failed' ≡ true) × PartOut taken taken' text
+Prints = output.Writes is_memory

@@ -1,12 +1,12 @@
 //! One driver: the chosen events, one after another, on the caller's own thread, until the run is complete.
 
-ghost use Rattle.std.specs.Prelude.{◌≡◌, ◌<◌, ℕ, None, [], length, slice_get, slice_index, suc, IfNone, true};
+ghost use Rattle.std.specs.Prelude.{◌≡◌, ◌<◌, ◌↔◌, ℕ, None, [], length, slice_get, slice_index, suc, IfSome, true};
 ghost use Rattle.std.specs.Bool.{OnTrue, OnFalse};
 ghost use Rattle.llb_model.specs.Table.{Claim, Step, Settle};
 ghost use Rattle.llb_board.specs.Views.{event_of};
 ghost use Rattle.llb_model.specs.Outcome.{outcome};
 ghost use Rattle.llb_model.specs.Run.{chosen, is_complete, claims_of, AreAscending, StandsPlainly};
-ghost use Rattle.llbm.specs.Alone.{Takes, Goes, MadeBy};
+ghost use Rattle.llbm.specs.Alone.{Takes, IsLeft, Goes, TakesMemory, MadeBy};
 
 use llb_board::laws::{chosen_until_complete, complete_is_plain};
 use llb_board::{Board, Event};
@@ -46,6 +46,7 @@ fn steps(board: &mut Board, w: u32) -> bool
 fn settles(board: &mut Board, w: u32) -> bool
     ensures taken { OnTrue result (Takes board.old (Settle w) board.new) }
     ensures kept { OnFalse result (board.new ≡ board.old) }
+    ensures left { OnFalse result (IsLeft board.old (Settle w)) }
 {
     board.settle(w).is_ok()
 }
@@ -54,6 +55,7 @@ fn settles(board: &mut Board, w: u32) -> bool
 fn do_event(board: &mut Board, event: Event) -> bool
     ensures taken { OnTrue result (Takes board.old (event_of event) board.new) }
     ensures kept { OnFalse result (board.new ≡ board.old) }
+    ensures left { OnFalse result (IsLeft board.old (event_of event)) }
 {
     match event {
         Event::Claim(w, v) => claims(board, w, v),
@@ -66,6 +68,7 @@ fn do_event(board: &mut Board, event: Event) -> bool
 fn go_alone(board: &mut Board) -> bool
     ensures goes { Goes board.old board.new }
     ensures ends { OnTrue result (chosen board.new.graph board.new.state ≡ None) }
+    ensures stops { OnFalse result (TakesMemory (chosen board.new.graph board.new.state)) }
     ensures claims { board.old.events ≡ [] → AreAscending (claims_of board.new.events) }
 {
     while let Some(event) = board.chosen() {
@@ -89,11 +92,13 @@ fn made_by_first(count: u64) -> [u64; 64]
     made
 }
 
-/// Does the chosen events until the board is complete; 151 where memory is refused. All events are the first worker's.
+/// Does the chosen events until the board is complete; 151 where memory is refused to a claim or a step. All events are the
+/// first worker's.
 /// On a complete board every vertex stands as its plain outcome.
 pub fn run_alone(board: Board) -> RunEnd
     ensures goes { Goes board result.board }
-    ensures ends { IfNone result.fault (is_complete result.board.graph result.board.state ≡ true) }
+    ensures ends { (result.fault ≡ None) ↔ (is_complete result.board.graph result.board.state ≡ true) }
+    ensures stops { IfSome result.fault (λ _. TakesMemory (chosen result.board.graph result.board.state)) }
     ensures claims { board.events ≡ [] → AreAscending (claims_of result.board.events) }
     ensures plain { result.fault ≡ None → (v : ℕ) → v < length result.board.graph.vertices
         → StandsPlainly (slice_get result.board.state.statuses v) (outcome result.board.graph v) }

@@ -1,11 +1,37 @@
 //! Why the program ends without its answer, and the status that it then ends with. A fault prints what stands behind the
 //! word `fault`, and takes no memory for it.
 
+ghost use Rattle.std.specs.Prelude.{◌≡◌, ◌⊎◌};
+ghost use Rattle.llbm.specs.Running.{IsRefusal};
+
 use crate::alone::RunFault;
 use crate::tree_text::PrintFault;
 use llb_loader::LoadFault;
-use llb_wire::Text;
+use std::alloc::AllocError;
+use std::io::Write;
 use thiserror::Error;
+
+/// Why a text of the program's own is not out.
+#[derive(Clone, Copy, Debug, PartialEq, Eq, Error)]
+pub enum OutputFault {
+    /// 182: the writer failed.
+    #[error("182")]
+    Write,
+    /// 184: memory was refused.
+    #[error("184")]
+    Memory,
+}
+
+impl From<AllocError> for OutputFault {
+    ghost use Rattle.std.specs.Prelude.{◌≡◌};
+    ghost use Rattle.llbm.specs.declared.fault.OutputFault.TheVariants.{Memory};
+
+    ghost from_gives = { λ _ e. e ≡ Memory };
+
+    fn from(_: AllocError) -> OutputFault {
+        OutputFault::Memory
+    }
+}
 
 /// Why the program ends without its answer.
 #[derive(Debug, Drop, Error)]
@@ -25,13 +51,26 @@ pub enum ProgramFault {
     /// 34 and 35: the result's text is not out.
     #[error("{0}")]
     Print(PrintFault),
+    /// 182 and 184: a text of the program's own is not out.
+    #[error("{0}")]
+    Output(OutputFault),
     /// 181: a read failed, or the bound on reads was met.
     #[error("181")]
     Read,
-    /// 183: a word that the program does not know.
-    #[error("183 {0}")]
-    Words(Text),
     /// 184: memory was refused to the program itself.
     #[error("184")]
     Memory,
+}
+
+/// The status for a fault, once its line is out: 2 for a refusal of the definition, else 3.
+pub fn refusal<E: Write>(fault: &ProgramFault, err: &mut E) -> u8
+    ensures { result ≡ 3 ⊎ ((result ≡ 2) × IsRefusal fault.now) }
+{
+    if writeln!(err, "fault {fault}").is_err() {
+        return 3;
+    }
+    match fault {
+        ProgramFault::Refused(_) => 2,
+        _ => 3,
+    }
 }

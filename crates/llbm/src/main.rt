@@ -1,44 +1,71 @@
-//! The program: its words, its readers and writers, and its exit status. What it does stands in `run`.
+//! The program: its words, its readers and writers, and its exit status. What it does stands in `run` and `show`.
 #![tactic(auto)]
+
+ghost use Rattle.llbm.specs.Answer.{Performs};
 
 pub mod alone;
 pub mod bounded;
+pub mod command_line;
 pub mod fault;
+pub mod graph_text;
+mod input;
 pub mod run;
+pub mod show;
 #[cfg(test)]
 mod tests;
 pub mod tree_text;
+pub mod words;
 
-use crate::fault::ProgramFault;
+use crate::command_line::command_of;
+use crate::fault::{ProgramFault, refusal};
 use crate::run::run_over;
-use llb_wire::Text;
+use crate::show::show_over;
+use crate::words::{Command, WordsFault, words_refusal};
 use std::alloc::Global;
-use std::io::{BufWriter, Write};
+use std::io::{BufWriter, ErrorKind, Read, Write};
 use std::process::ExitCode;
 use std::{env, io};
 
-// The first word behind the program's name, which is a refusal.
-fn unknown_word(rt: &HostRuntime, alloc: Global) -> io::Result<Option<Text>> {
-    let mut words = env::args(rt)?.skip(1);
-    Ok(words.next().map(Text::new))
+// The words behind the program's name, which have to be UTF-8.
+fn words_given(rt: &HostRuntime) -> Result<Vec<String>, WordsFault<'static>> {
+    let words = match env::args(rt) {
+        Ok(words) => words,
+        Err(error) if error.kind() == ErrorKind::OutOfMemory => return Err(WordsFault::Memory),
+        Err(_) => return Err(WordsFault::Words(None)),
+    };
+    Ok(words.skip(1).collect(rt.alloc())?)
 }
 
-// A word is refused with its line and status 2.
-fn refused<E: Write>(word: Text, err: &mut E) -> u8 {
-    let fault = ProgramFault::Words(word);
-    if writeln!(err, "fault {fault}").is_err() {
-        return 3;
+// Does what the command says.
+fn perform<R: Read, W: Write, E: Write>(
+    alloc: Global,
+    command: Command,
+    input: &mut R,
+    out: &mut W,
+    err: &mut E,
+) -> u8
+    ensures { Performs command (R.remaining input.old) (W.contents out.old) (W.contents out.new) result }
+{
+    match command {
+        Command::Run => run_over(alloc, input, out, err),
+        Command::Show => show_over(alloc, input, out, err),
     }
-    2
 }
 
-fn main(rt: HostRuntime) -> io::Result<ExitCode> {
+fn main(rt: HostRuntime) -> ExitCode {
     let alloc = rt.alloc();
     let mut err = rt.stderr();
-    if let Some(word) = unknown_word(&rt, alloc)? {
-        return Ok(ExitCode::from(refused(word, &mut err)));
-    }
+    let words = match words_given(&rt) {
+        Ok(words) => words,
+        Err(fault) => return ExitCode::from(words_refusal(&fault, &mut err)),
+    };
+    let line = match command_of(alloc, words.as_slice()) {
+        Ok(line) => line,
+        Err(fault) => return ExitCode::from(words_refusal(&fault, &mut err)),
+    };
     let mut input = rt.reader();
-    let mut out = BufWriter::new(alloc, io::writer(&rt))?;
-    Ok(ExitCode::from(run_over(alloc, &mut input, &mut out, &mut err)))
+    let Ok(mut out) = BufWriter::new(alloc, io::writer(&rt)) else {
+        return ExitCode::from(refusal(&ProgramFault::Memory, &mut err));
+    };
+    ExitCode::from(perform(alloc, line.command, &mut input, &mut out, &mut err))
 }

@@ -1,55 +1,24 @@
 //! From the bytes of a definition to the text of its result: read, load, open a board, do the chosen events, print.
 
-ghost use Rattle.std.specs.Prelude.{◌≡◌, ◌⊎◌, IfOk, IfErr};
+ghost use Rattle.std.specs.Prelude.{◌≡◌, IfOk, IfErr};
 ghost use Rattle.llb_model.specs.Outcome.{output_in};
 ghost use Rattle.llb_model.specs.State.{ending_at};
 ghost use Rattle.llbm.specs.Answer.{Runs};
+ghost use Rattle.llbm.specs.Output.{PrintsOut};
 ghost use Rattle.llbm.specs.TreeText.{tree_text};
-ghost use Rattle.llbm.specs.Running.{passed_on, PrintsOut, Loads, IsFinished, IsRefusal, Shows, Answers};
+ghost use Rattle.llbm.specs.Running.{IsFinished, IsRefusal, Shows, Answers};
 
 use crate::alone::{RunEnd, run_alone};
-use crate::bounded::{ReadFault, read_bounded};
-use crate::fault::ProgramFault;
+use crate::fault::{ProgramFault, refusal};
+use crate::input::loaded;
 use crate::tree_text::{PrintFault, print_tree};
 use llb_board::{Board, Status};
-use llb_loader::{Edge, Graph, LoadFault, load};
-use llb_ops::OpFault;
+use llb_loader::{Edge, Graph};
 use llb_tree::Tree;
 use llb_wire::Over;
 use std::alloc::Global;
 use std::io;
 use std::io::{Read, Write};
-
-const LIMIT: usize = 67_108_864;
-
-const READS: u64 = 134_217_728;
-
-// A refusal by the loader is one of the program; want of memory is not.
-fn passed_on(fault: LoadFault) -> ProgramFault
-    ensures { result ≡ passed_on fault }
-{
-    match fault {
-        LoadFault::Memory => ProgramFault::Loading,
-        _ => ProgramFault::Refused(fault),
-    }
-}
-
-// Reads the definition and loads it.
-fn loaded<R: Read>(alloc: Global, input: &mut R) -> Result<Graph, ProgramFault>
-    ensures { Loads (R.remaining input.old) result }
-{
-    match read_bounded(alloc, input, LIMIT, READS) {
-        Err(ReadFault::TooLong) => Err(ProgramFault::Refused(LoadFault::Definition(
-            OpFault::OverLimit,
-        ))),
-        Err(ReadFault::Read) => Err(ProgramFault::Read),
-        Err(ReadFault::Memory) => Err(ProgramFault::Memory),
-        Ok(bytes) => match load(alloc, &bytes) {
-            Ok(graph) => Ok(graph),
-            Err(fault) => Err(passed_on(fault)),
-        },
-    }
-}
 
 // Runs the graph to its end.
 fn finished(alloc: Global, graph: Graph) -> Result<Board, ProgramFault>
@@ -122,19 +91,6 @@ fn failures<E: Write>(board: &Board, err: &mut E) -> io::Result<()> {
         }
     }
     Ok(())
-}
-
-// The status for a fault, once its line is out.
-fn refusal<E: Write>(fault: &ProgramFault, err: &mut E) -> u8
-    ensures { result ≡ 3 ⊎ ((result ≡ 2) × IsRefusal fault.now) }
-{
-    if writeln!(err, "fault {fault}").is_err() {
-        return 3;
-    }
-    match fault {
-        ProgramFault::Refused(_) => 2,
-        _ => 3,
-    }
 }
 
 /// Reads a definition from `input`, runs it with one worker, and writes the text of its result to `out`; refusals and

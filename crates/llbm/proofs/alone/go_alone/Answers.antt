@@ -1,7 +1,10 @@
 use Rattle.std.proofs.Common.{sym, subst}
 use Rattle.llb_model.proofs.Alone.{Ascends}
+use Rattle.llb_model.specs.Run.{chosen}
+use Rattle.llb_board.specs.Board.{Seen}
 use Rattle.llb_board.specs.Views.{event_of}
-use Rattle.llbm.proofs.Driving.{goes_nil, goes_on, ascends_on}
+use Rattle.llbm.specs.Alone.{TakesMemory}
+use Rattle.llbm.proofs.Driving.{goes_nil, goes_on, ascends_on, left_over}
 use Rattle.llbm.proofs.alone.go_alone.Goals as goal
 
 pub loop-event-init : goal.loop-event-init
@@ -17,3 +20,8 @@ loop-event-preserved c =
       goes_on c.args.board.now b c.do_event.new.board e c.loop-event.invariant.0 taken,
       λ none. ascends_on b c.do_event.new.board e c.is_graph.ensures c.replays.ensures (sym c.in-Some.ensures) taken (c.loop-event.invariant.1 none),
     )
+
+pub returns-then-not-do_event-clause-stops : goal.returns-then-not-do_event-clause-stops
+returns-then-not-do_event-clause-stops c =
+    let b = c.loop-event.board in
+    subst (λ (x : Seen). TakesMemory (chosen x.graph x.state)) (sym c.if-not-do_event.ensures.kept) (left_over b (event_of c.in-Some.event) c.is_graph.ensures (sym c.in-Some.ensures) c.if-not-do_event.ensures.left)

@@ -3,7 +3,7 @@ use Rattle.std.specs.Prelude.{IfSome}
 use Rattle.llbm.specs.Answer.{IsRefused}
 use Rattle.llbm.specs.Running.{IsRefusal}
 use Rattle.llbm.proofs.Answering.{some_map, refuses_long, tells, too_long, all_read}
-use Rattle.llbm.proofs.run.loaded.Goals as goal
+use Rattle.llbm.proofs.input.loaded.Goals as goal
 
 pub returns-in-Err-TooLong : goal.returns-in-Err-TooLong
 returns-in-Err-TooLong g c = λ _. some_map (λ xs. 67108864 < length xs) IsRefused (g.R.Read.remaining c.args.input.now) refuses_long

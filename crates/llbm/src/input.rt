@@ -1,0 +1,42 @@
+//! The definition that is read, and its graph.
+
+ghost use Rattle.std.specs.Prelude.{◌≡◌};
+ghost use Rattle.llbm.specs.Running.{passed_on, Loads};
+
+use crate::bounded::{ReadFault, read_bounded};
+use crate::fault::ProgramFault;
+use llb_loader::{Graph, LoadFault, load};
+use llb_ops::OpFault;
+use std::alloc::Global;
+use std::io::Read;
+
+const LIMIT: usize = 67_108_864;
+
+const READS: u64 = 134_217_728;
+
+// A refusal by the loader is one of the program; want of memory is not.
+fn passed_on(fault: LoadFault) -> ProgramFault
+    ensures { result ≡ passed_on fault }
+{
+    match fault {
+        LoadFault::Memory => ProgramFault::Loading,
+        _ => ProgramFault::Refused(fault),
+    }
+}
+
+// Reads the definition and loads it.
+pub(crate) fn loaded<R: Read>(alloc: Global, input: &mut R) -> Result<Graph, ProgramFault>
+    ensures { Loads (R.remaining input.old) result }
+{
+    match read_bounded(alloc, input, LIMIT, READS) {
+        Err(ReadFault::TooLong) => Err(ProgramFault::Refused(LoadFault::Definition(
+            OpFault::OverLimit,
+        ))),
+        Err(ReadFault::Read) => Err(ProgramFault::Read),
+        Err(ReadFault::Memory) => Err(ProgramFault::Memory),
+        Ok(bytes) => match load(alloc, &bytes) {
+            Ok(graph) => Ok(graph),
+            Err(fault) => Err(passed_on(fault)),
+        },
+    }
+}

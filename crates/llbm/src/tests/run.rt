@@ -1,0 +1,186 @@
+//! `run`: the worked examples, refusals, and devices that fail.
+
+use super::definitions::*;
+use super::devices::{Narrow, Ran, Slow};
+use crate::run::run_over;
+use std::alloc::Global;
+use std::test::Fail;
+
+const TREE: &str = "d 0755 0 0 /\nf 0644 0 0 6869 /a\n";
+
+fn run_on(alloc: Global, bytes: &[u8]) -> Ran {
+    let mut input = bytes;
+    let mut out = Vec::new(alloc);
+    let mut err = Vec::new(alloc);
+    let status = run_over(alloc, &mut input, &mut out, &mut err);
+    Ran { status, out, err }
+}
+
+// Whether a definition, given in hexadecimal digits, has this answer.
+fn answers(
+    alloc: Global,
+    definition: &str,
+    status: u8,
+    out: &str,
+    err: &str,
+) -> Result<bool, Fail> {
+    let bytes = hex::decode(alloc, definition)?;
+    let ran = run_on(alloc, &bytes);
+    Ok(ran.is(status, out, err))
+}
+
+#[test]
+fn the_bytes_of_a_mkfile_action_become_the_printed_tree(rt: HostRuntime) -> Result<(), Fail> {
+    assert!(rt; answers(rt.alloc(), FIRST_RUN, 0, TREE, "")?);
+    Ok(())
+}
+
+#[test]
+fn a_missing_parent_fails_the_vertex(rt: HostRuntime) -> Result<(), Fail> {
+    let failed = "failed 0 action 0 fault 21\n";
+    assert!(rt; answers(rt.alloc(), MISSING_PARENT, 1, "", failed)?);
+    Ok(())
+}
+
+#[test]
+fn the_order_of_entries_is_free(rt: HostRuntime) -> Result<(), Fail> {
+    let tree = "d 0755 0 0 /\nf 0644 0 0 6869 /a\nd 0755 0 0 /d\n";
+    assert!(rt; answers(rt.alloc(), OUT_OF_ORDER, 0, tree, "")?);
+    assert!(rt; answers(rt.alloc(), IN_ORDER, 0, tree, "")?);
+    Ok(())
+}
+
+#[test]
+fn fewer_than_two_rows_are_too_few(rt: HostRuntime) -> Result<(), Fail> {
+    let alloc = rt.alloc();
+    assert!(rt; answers(alloc, "", 2, "", "fault 83\n")?);
+    assert!(rt; answers(alloc, ONE_ENTRY, 2, "", "fault 83\n")?);
+    assert!(rt; answers(alloc, ONE_ENTRY_TWICE, 2, "", "fault 83\n")?);
+    Ok(())
+}
+
+#[test]
+fn an_index_of_no_output_is_refused(rt: HostRuntime) -> Result<(), Fail> {
+    let alloc = rt.alloc();
+    assert!(rt; answers(alloc, INDEX_ONE, 2, "", "fault 90 1 0\n")?);
+    assert!(rt; answers(alloc, INDEX_BELOW, 2, "", "fault 90 1 0\n")?);
+    Ok(())
+}
+
+#[test]
+fn an_op_that_is_not_read_yet_is_refused_where_it_is_reached(rt: HostRuntime) -> Result<(), Fail> {
+    let alloc = rt.alloc();
+    assert!(rt; answers(alloc, DIFF_REACHED, 2, "", "fault 88 0 NotYet\n")?);
+    assert!(rt; answers(alloc, DIFF_UNREACHED, 0, TREE, "")?);
+    Ok(())
+}
+
+#[test]
+fn a_digest_that_names_nothing_is_refused(rt: HostRuntime) -> Result<(), Fail> {
+    let alloc = rt.alloc();
+    assert!(rt; answers(alloc, UNKNOWN_DIGEST, 2, "", "fault 86 1 0\n")?);
+    assert!(rt; answers(alloc, NO_RESULT, 2, "", "fault 85\n")?);
+    Ok(())
+}
+
+#[test]
+fn rules_and_unreadable_entries_are_refused(rt: HostRuntime) -> Result<(), Fail> {
+    let alloc = rt.alloc();
+    assert!(rt; answers(alloc, FIELD_ZERO, 2, "", "fault 82 0 3\n")?);
+    assert!(rt; answers(alloc, NO_ACTIONS, 2, "", "fault 89 0 NoActions\n")?);
+    assert!(rt; answers(alloc, PAST_THE_INPUTS, 2, "", "fault 89 0 ActionInput\n")?);
+    assert!(rt; answers(alloc, "0a", 2, "", "fault 81 1\n")?);
+    Ok(())
+}
+
+fn slowly(alloc: Global, room: usize) -> Result<Ran, Fail> {
+    let bytes = hex::decode(alloc, FIRST_RUN)?;
+    let mut input = Slow {
+        bytes: &bytes,
+        room,
+    };
+    let mut out = Vec::new(alloc);
+    let mut err = Vec::new(alloc);
+    let status = run_over(alloc, &mut input, &mut out, &mut err);
+    Ok(Ran { status, out, err })
+}
+
+#[test]
+fn a_reader_of_one_byte_a_read_is_read_to_its_end(rt: HostRuntime) -> Result<(), Fail> {
+    let ran = slowly(rt.alloc(), 200)?;
+    assert_eq!(rt; ran.status, 0);
+    assert_eq!(rt; ran.out.as_slice(), TREE.as_bytes());
+    Ok(())
+}
+
+#[test]
+fn a_reader_that_fails_at_its_kth_read_gives_no_text(rt: HostRuntime) -> Result<(), Fail> {
+    for room in [0, 1, 52, 128, 129] {
+        let ran = slowly(rt.alloc(), room)?;
+        assert_eq!(rt; ran.status, 3);
+        assert!(rt; ran.out.is_empty());
+        assert_eq!(rt; ran.err.as_slice(), b"fault 181\n".as_slice());
+    }
+    Ok(())
+}
+
+fn narrowly(alloc: Global, room: usize) -> Result<Ran, Fail> {
+    let bytes = hex::decode(alloc, FIRST_RUN)?;
+    let mut input = bytes.as_slice();
+    let mut out = Narrow::new(alloc, room);
+    let mut err = Vec::new(alloc);
+    let status = run_over(alloc, &mut input, &mut out, &mut err);
+    let Narrow { held, .. } = out;
+    Ok(Ran {
+        status,
+        out: held,
+        err,
+    })
+}
+
+#[test]
+fn a_writer_that_fails_at_its_kth_write_gets_a_front(rt: HostRuntime) -> Result<(), Fail> {
+    for room in [0, 1, 12, 13, 31] {
+        let ran = narrowly(rt.alloc(), room)?;
+        assert_eq!(rt; ran.status, 3);
+        assert_eq!(rt; ran.out.len(), room);
+        assert!(rt; TREE.as_bytes().starts_with(&ran.out));
+        assert_eq!(rt; ran.err.as_slice(), b"fault 35\n".as_slice());
+    }
+    let whole = narrowly(rt.alloc(), 32)?;
+    assert_eq!(rt; whole.status, 0);
+    assert_eq!(rt; whole.out.as_slice(), TREE.as_bytes());
+    Ok(())
+}
+
+#[test]
+fn a_writer_that_fails_at_its_end_is_a_failed_write(rt: HostRuntime) -> Result<(), Fail> {
+    let alloc = rt.alloc();
+    let bytes = hex::decode(alloc, FIRST_RUN)?;
+    let mut out = Narrow::new(alloc, 100);
+    out.flushes = false;
+    let mut err = Vec::new(alloc);
+    assert_eq!(rt;
+        run_over(alloc, &mut bytes.as_slice(), &mut out, &mut err),
+        3
+    );
+    assert_eq!(rt; out.held.as_slice(), TREE.as_bytes());
+    assert_eq!(rt; err.as_slice(), b"fault 35\n".as_slice());
+    Ok(())
+}
+
+#[test]
+fn an_error_line_that_is_not_out_is_a_failed_write(rt: HostRuntime) -> Result<(), Fail> {
+    let alloc = rt.alloc();
+    for definition in ["0a", MISSING_PARENT] {
+        let bytes = hex::decode(alloc, definition)?;
+        let mut out = Vec::new(alloc);
+        let mut err = Narrow::new(alloc, 5);
+        assert_eq!(rt;
+            run_over(alloc, &mut bytes.as_slice(), &mut out, &mut err),
+            3
+        );
+        assert!(rt; out.is_empty());
+    }
+    Ok(())
+}

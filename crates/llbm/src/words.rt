@@ -1,0 +1,82 @@
+//! What the words of the command line say, or why they say nothing.
+
+ghost use Rattle.std.specs.Prelude.{Some};
+ghost use Rattle.llbm.specs.CommandLine.{words_text, TellsWords};
+
+use llb_wire::Many;
+use std::alloc::AllocError;
+use std::fmt;
+use std::io::Write;
+
+/// What the program is to do.
+#[derive(Clone, Copy, Debug, PartialEq, Eq)]
+pub enum Command {
+    /// To run a definition and print the tree of its result.
+    Run,
+    /// To print the graph of a definition.
+    Show,
+}
+
+/// The tree text of a local source: its name, and the file in which the text lies.
+#[derive(Clone, Copy, Debug)]
+pub struct Local<'a> {
+    pub name: &'a str,
+    pub file: &'a str,
+}
+
+/// What the words say.
+#[derive(Debug, Drop)]
+pub struct Line<'a> {
+    pub command: Command,
+    /// 1 where the command takes no number.
+    pub workers: u32,
+    /// The file of the definition, where the command takes one.
+    pub file: Option<&'a str>,
+    /// The local sources, in the order of the words.
+    pub locals: Many<Local<'a>>,
+}
+
+/// Why words say nothing. A fault prints what stands behind the word `fault`.
+#[derive(Clone, Copy, Debug)]
+pub enum WordsFault<'a> {
+    /// 183: that word is refused, or none by itself.
+    Words(Option<&'a str>),
+    /// 184: memory was refused.
+    Memory,
+}
+
+impl fmt::Display for WordsFault<'_> {
+    ghost output = { λ e. Some (words_text e) };
+
+    fn fmt<W: fmt::Write>(&self, f: &mut fmt::Formatter<W>) -> fmt::Result {
+        match self {
+            WordsFault::Words(Some(word)) => write!(f, "183 {word}"),
+            WordsFault::Words(None) => write!(f, "183"),
+            WordsFault::Memory => write!(f, "184"),
+        }
+    }
+}
+
+impl From<AllocError> for WordsFault<'_> {
+    ghost use Rattle.std.specs.Prelude.{◌≡◌};
+    ghost use Rattle.llbm.specs.declared.words.WordsFault.TheVariants.{Memory};
+
+    ghost from_gives = { λ _ e. e ≡ Memory };
+
+    fn from(_: AllocError) -> Self {
+        WordsFault::Memory
+    }
+}
+
+/// The status for words that say nothing, once their line is out: 2 for the words, 3 for want of memory.
+pub fn words_refusal<E: Write>(fault: &WordsFault<'_>, err: &mut E) -> u8
+    ensures { TellsWords (E.contents err.old) (E.contents err.new) fault.now result }
+{
+    if writeln!(err, "fault {fault}").is_err() {
+        return 3;
+    }
+    match fault {
+        WordsFault::Words(_) => 2,
+        WordsFault::Memory => 3,
+    }
+}
