@@ -68,9 +68,9 @@ fn an_index_of_no_output_is_refused(rt: HostRuntime) -> Result<(), Fail> {
 }
 
 #[test]
-fn an_op_that_is_not_read_yet_is_refused_where_it_is_reached(rt: HostRuntime) -> Result<(), Fail> {
+fn a_diff_op_is_refused_where_it_is_reached(rt: HostRuntime) -> Result<(), Fail> {
     let alloc = rt.alloc();
-    assert!(rt; answers(alloc, DIFF_REACHED, 2, "", "fault 88 0 NotYet\n")?);
+    assert!(rt; answers(alloc, DIFF_REACHED, 2, "", "fault 88 0 DiffOp\n")?);
     assert!(rt; answers(alloc, DIFF_UNREACHED, 0, TREE, "")?);
     Ok(())
 }
