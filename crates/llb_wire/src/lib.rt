@@ -22,6 +22,3 @@ pub use reading::{next_record, varint};
 pub use sink::{Failed, Over, Sink, write_all};
 pub use text::Text;
 pub use writing::{write_record, write_varint};
-
-#[cfg(test)]
-mod tests;
