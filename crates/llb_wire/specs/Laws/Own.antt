@@ -1,23 +1,16 @@
 -- A record is read from its own bytes alone, whatever follows them.
-use Rattle.std.proofs.Common.{◌≡◌, ℕ, zero, suc, ◌+◌, ◌-◌, ◌*◌, ◌/◌, ◌%◌, ◌<◌, ◌≤◌, Bool, true, false, cond, ltb, List, [], ◌∷◌, ◌++◌, length, take, drop, Result, Ok, Err, ◌⊎◌, inl, inr, refl, sym, ap, subst, ◌∙◌, arith}
+use Rattle.std.proofs.Common.{◌≡◌, ℕ, zero, suc, ◌+◌, ◌-◌, ◌/◌, ◌%◌, ◌<◌, ◌≤◌, false, cond, ltb, List, [], ◌∷◌, ◌++◌, length, take, drop, Result, Ok, Err, inl, inr, refl, ap, subst, ◌∙◌, arith}
 use Rattle.std.specs.Int.{Width, w32, w64, byte_len, from_le_bytes}
 use Rattle.std.proofs.lemmas.Bool.{ltb-false, le-ltb}
 use Rattle.std.proofs.lemmas.List.{length-append, length-take, length-drop, drop-append-le, drop-take}
 use Rattle.llb_wire.specs.declared.fault.WireFault.{WireFault}
-use Rattle.llb_wire.specs.declared.fault.WireFault.TheVariants.{Truncated, LongVarint}
+use Rattle.llb_wire.specs.declared.fault.WireFault.TheVariants.{Truncated}
 use Rattle.llb_wire.specs.declared.field.Wire.{Wire}
 use Rattle.llb_wire.specs.declared.field.Wire.TheVariants as wire
 use Rattle.llb_wire.specs.declared.field.Field.{Field}
-use Rattle.llb_wire.specs.Answer.{◌>>=◌}
+use Rattle.llb_wire.specs.Answer.{◌>>=◌, bind_ok, guard_ok}
 use Rattle.llb_wire.specs.Reading.{varint_from, varint_at, number_of, wire_of, fixed_at, as_field, payload_at, field_at}
-
-pub bind_ok : {A B : Type 0} (r : Result A WireFault) (f : A → Result B WireFault) (y : B) → (r >>= f) ≡ Ok y → (x : A) × (r ≡ Ok x) × (f x ≡ Ok y)
-bind_ok (Ok x) f y e = (x, refl, e)
-bind_ok (Err d) f y e = absurd cc
-
-pub guard_ok : {A : Type 0} (b : Bool) (d : WireFault) (x y : A) → cond b (Err d) (Ok x) ≡ Ok y → (b ≡ false) × (x ≡ y)
-guard_ok true d x y e = absurd cc
-guard_ok false d x y e = (refl, cc)
+use Rattle.llb_wire.specs.Laws.Varints.{short_or, varint_len}
 
 abbrev is_ok_of : {A : Type 0} → A → Result A WireFault
 is_ok_of x = Ok x
@@ -30,26 +23,6 @@ ok_is e = cc
 -- a pair, as one name
 abbrev pair : ℕ → ℕ → ℕ × ℕ
 pair a b = (a, b)
-
-long_is : (b v n : ℕ) (test : Bool) → cond {A = Result (ℕ × ℕ) WireFault} test (Err LongVarint) (Ok (b, 1)) ≡ Ok (v, n) → n ≡ 1
-long_is b v n true e = absurd cc
-long_is b v n false e = let h : pair b 1 ≡ pair v n = cc in sym (ap (λ (x : ℕ × ℕ). x.1) h)
-
-pub short_or : (b v n : ℕ) (more : Result (ℕ × ℕ) WireFault) (test : Bool) → cond {A = Result (ℕ × ℕ) WireFault} test (Ok (b, 1)) (more >>= λ m. Ok (b - 128 + 128 * m.0, suc m.1)) ≡ Ok (v, n)
-    → ((test ≡ true) × (n ≡ 1)) ⊎ ((test ≡ false) × ((m : ℕ × ℕ) × (more ≡ Ok m) × (b - 128 + 128 * m.0 ≡ v) × (suc m.1 ≡ n)))
-short_or b v n more true e = let h : pair b 1 ≡ pair v n = cc in inl (refl, sym (ap (λ (x : ℕ × ℕ). x.1) h))
-short_or b v n (Ok m) false e = let h : pair (b - 128 + 128 * m.0) (suc m.1) ≡ pair v n = cc in inr (refl, (m, refl, ap (λ (x : ℕ × ℕ). x.0) h, ap (λ (x : ℕ × ℕ). x.1) h))
-short_or b v n (Err d) false e = absurd cc
-
-pub varint_len : (more : ℕ) (bytes : List ℕ) (v n : ℕ) → varint_from more bytes ≡ Ok (v, n) → (0 < n) × (n ≤ length bytes)
-unfolding varint_from
-varint_len more [] v n e = absurd cc
-varint_len zero (b ∷ bytes) v n e = let one = long_is b v n (ltb 1 b) e in (omega (arith, one), omega (arith, one))
-varint_len (suc more) (b ∷ bytes) v n e =
-    elim (short_or b v n (varint_from more bytes) (ltb b 128) e) [
-      | inl s ↦ (omega (arith, s.1), omega (arith, s.1))
-      | inr l ↦ (omega (arith, l.1.3), omega (arith, l.1.3, varint_len more bytes l.1.0.0 l.1.0.1 l.1.1))
-    ]
 
 pub varint_prefix : (more : ℕ) (bytes : List ℕ) (v n k : ℕ) (rest : List ℕ) → varint_from more bytes ≡ Ok (v, n) → n ≤ k → varint_from more (take k bytes ++ rest) ≡ Ok (v, n)
 unfolding varint_from
@@ -97,7 +70,7 @@ take_front (suc n) (suc j) (y ∷ ys) rest le inside = ap (λ xs. y ∷ xs) (tak
 
 pub fixed_local : (w : Width) (bytes : List ℕ) (at : ℕ) (x : ℕ × ℕ) → at ≤ length bytes → fixed_at w bytes at ≡ Ok x → Local (fixed_at w) bytes at x
 fixed_local w bytes at x le e =
-    let g = guard_ok (ltb (length (drop at bytes)) (byte_len w)) Truncated (from_le_bytes w (take (byte_len w) (drop at bytes)), at + byte_len w) x e in
+    let g = guard_ok {F = WireFault} (ltb (length (drop at bytes)) (byte_len w)) Truncated (from_le_bytes w (take (byte_len w) (drop at bytes)), at + byte_len w) x e in
     let long : byte_len w ≤ length (drop at bytes) = ltb-false _ _ g.0 in
     let stop : at + byte_len w ≡ x.1 = ap (λ (y : ℕ × ℕ). y.1) g.1 in
     record {
