@@ -20,6 +20,3 @@ pub use file::{Action, ActionKind, ChownOpt, CopyFile, FileOp, MkDir, MkFile, Rm
 pub use merge::{MergeInput, MergeOp};
 pub use op::{Input, Kind, Op, op_is_read_again, read_op, write_op};
 pub use source::{Attribute, Attributes, SourceOp};
-
-#[cfg(test)]
-mod tests;
