@@ -13,7 +13,6 @@ pub mod FieldOf
 pub mod Numbers
 pub mod Sorts
 pub mod Choices
-pub mod Copying
 pub mod Settled
 pub mod ExecTrips
 pub mod MergeTrips

@@ -80,6 +80,10 @@ texts_fit shape rs = list_all (text_fits shape) rs
 unfoldable pub parts : Shape → List ℕ → Result (List Record) OpFault
 parts shape bytes = records_from shape 0 bytes >>= λ rs. if texts_fit shape rs then Ok rs else Err NotUtf8
 
+-- a message is what it is of its records
+unfoldable pub message_of : {A : Type 0} → Shape → (List Record → Result A OpFault) → List ℕ → Result A OpFault
+message_of shape read bytes = parts shape bytes >>= read
+
 -- ---- what a field is of its records
 
 -- the records of one field, in order

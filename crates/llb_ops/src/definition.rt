@@ -16,7 +16,7 @@ use std::alloc::Global;
 use std::marker::Model;
 
 /// The entries of a definition, in order. Contracts see the list of their bytes.
-#[derive(Debug, Drop)]
+#[derive(Drop)]
 pub struct Entries {
     entries: Vec<Bytes>,
 }

@@ -9,7 +9,7 @@ ghost use Rattle.llb_ops.specs.Records.{view, views, form_of, wire_fits, records
 
 use crate::fault::OpFault;
 use crate::shape::{FIELD_LIMIT, Form, Named};
-use llb_wire::{Bytes, Field, Many, Text, Wire, next_record};
+use llb_wire::{Bytes, Field, Many, Memory, Text, Wire, next_record};
 use std::alloc::Global;
 use std::str::{from_utf8, from_utf8_unchecked};
 
@@ -185,11 +185,10 @@ fn last_payload<'a>(records: &[Record<'a>], number: u32) -> &'a [u8]
     }
 }
 
-pub fn last_bytes(alloc: Global, records: &[Record<'_>], number: u32) -> Result<Bytes, OpFault>
-    ensures { Gives (λ b. b) result (Ok (payload_of (all_of number (views records.now)))) }
+pub fn last_bytes(alloc: Global, records: &[Record<'_>], number: u32) -> Result<Bytes, Memory>
+    ensures { IfOk result (λ b. b ≡ payload_of (all_of number (views records.now))) }
 {
-    let bytes = Bytes::from_slice(alloc, last_payload(records, number))?;
-    Ok(bytes)
+    Bytes::from_slice(alloc, last_payload(records, number))
 }
 
 /// A text, which was found to be UTF-8 when the records were read.
@@ -198,14 +197,13 @@ pub fn last_text(
     shape: &[Named],
     records: &[Record<'_>],
     number: u32,
-) -> Result<Text, OpFault>
+) -> Result<Text, Memory>
     requires named { form_of shape.now number ≡ Some form.Text }
     requires texts { texts_fit shape.now (views records.now) ≡ true }
-    ensures { Gives (λ t. t) result (Ok (payload_of (all_of number (views records.now)))) }
+    ensures { IfOk result (λ t. t ≡ payload_of (all_of number (views records.now))) }
 {
     let payload = last_payload(records, number);
-    let text = Text::from_str(alloc, unsafe { from_utf8_unchecked(payload) })?;
-    Ok(text)
+    Text::from_str(alloc, unsafe { from_utf8_unchecked(payload) })
 }
 
 /// The texts of a field that is repeated, in order.
@@ -214,10 +212,10 @@ pub fn each_text(
     shape: &[Named],
     records: &[Record<'_>],
     number: u32,
-) -> Result<Many<Text>, OpFault>
+) -> Result<Many<Text>, Memory>
     requires named { form_of shape.now number ≡ Some form.Text }
     requires texts { texts_fit shape.now (views records.now) ≡ true }
-    ensures { Gives (λ ts. ts) result (Ok (payloads (all_of number (views records.now)))) }
+    ensures { IfOk result (λ ts. ts ≡ payloads (all_of number (views records.now))) }
 {
     let mut items = Vec::new(alloc);
     for record in records {
@@ -230,8 +228,8 @@ pub fn each_text(
 }
 
 /// The payloads of a field, one behind the other.
-pub fn joined(alloc: Global, records: &[Record<'_>], number: u32) -> Result<Vec<u8>, OpFault>
-    ensures { Gives (λ v. v.items) result (Ok (joined_of (all_of number (views records.now)))) }
+pub fn joined(alloc: Global, records: &[Record<'_>], number: u32) -> Result<Vec<u8>, Memory>
+    ensures { IfOk result (λ v. v.items ≡ joined_of (all_of number (views records.now))) }
 {
     let mut out = Vec::new(alloc);
     for record in records {
@@ -243,12 +241,8 @@ pub fn joined(alloc: Global, records: &[Record<'_>], number: u32) -> Result<Vec<
 }
 
 /// The byte strings of a field that is repeated, in order.
-pub fn each_bytes(
-    alloc: Global,
-    records: &[Record<'_>],
-    number: u32,
-) -> Result<Many<Bytes>, OpFault>
-    ensures { Gives (λ bs. bs) result (Ok (payloads (all_of number (views records.now)))) }
+pub fn each_bytes(alloc: Global, records: &[Record<'_>], number: u32) -> Result<Many<Bytes>, Memory>
+    ensures { IfOk result (λ bs. bs ≡ payloads (all_of number (views records.now))) }
 {
     let mut items = Vec::new(alloc);
     for record in records {
@@ -319,8 +313,8 @@ fn is_unnamed(shape: &[Named], part: &Record<'_>) -> bool
 }
 
 /// The fields that the message doesn't name, as they stand.
-pub fn unnamed(alloc: Global, shape: &[Named], records: &[Record<'_>]) -> Result<Bytes, OpFault>
-    ensures { Gives (λ b. b) result (Ok (unnamed_of shape.now (views records.now))) }
+pub fn unnamed(alloc: Global, shape: &[Named], records: &[Record<'_>]) -> Result<Bytes, Memory>
+    ensures { IfOk result (λ b. b ≡ unnamed_of shape.now (views records.now)) }
 {
     let mut out = Vec::new(alloc);
     for record in records {
