@@ -1,6 +1,5 @@
 -- An execution that was read is read again of its canonical bytes.
-use Rattle.std.proofs.Common.{◌≡◌, ℕ, ℤ, Bool, List, Option, refl}
-use Rattle.llb_ops.specs.declared.fault.OpFault.{OpFault}
+use Rattle.std.proofs.Common.{ℕ, ℤ, Bool, List, Option, refl}
 use Rattle.llb_ops.specs.declared.exec.ExecOp.{ExecOp}
 use Rattle.llb_ops.specs.declared.exec.Meta.{Meta}
 use Rattle.llb_ops.specs.declared.exec.Mount.{Mount}

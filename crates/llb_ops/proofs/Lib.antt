@@ -18,4 +18,5 @@ pub mod ExecTrips
 pub mod MergeTrips
 pub mod SourceTrips
 pub mod Trips
+pub mod Within
 pub mod DefinitionTrips

@@ -1,15 +1,13 @@
 -- A merge that was read is read again of its canonical bytes.
-use Rattle.std.proofs.Common.{◌≡◌, ℕ, ℤ, Bool, List, Option, refl}
-use Rattle.llb_ops.specs.declared.fault.OpFault.{OpFault}
+use Rattle.std.proofs.Common.{ℕ, ℤ, List, refl}
 use Rattle.llb_ops.specs.declared.merge.MergeOp.{MergeOp}
 use Rattle.llb_ops.specs.declared.merge.MergeInput.{MergeInput}
-use Rattle.llb_ops.specs.Records.{int64, int32, flag, message_of}
+use Rattle.llb_ops.specs.Records.{int64, message_of}
 use Rattle.llb_ops.specs.Messages.{merge_input_shape, merge_input_of, merge_op_shape, merge_op_of, merge_input_in, merge_op_in}
-use Rattle.llb_ops.specs.Writing.{bit, merge_input_bytes, merge_op_bytes}
-use Rattle.llb_ops.proofs.Texts.{empty_utf8}
-use Rattle.llb_ops.proofs.Numbers.{from_signed, int64_recodes, int32_recodes, flag_recodes}
+use Rattle.llb_ops.specs.Writing.{merge_input_bytes, merge_op_bytes}
+use Rattle.llb_ops.proofs.Numbers.{from_signed, int64_recodes}
 use Rattle.llb_ops.proofs.FieldOf.{FieldOf, Returns, end, both, returns_by}
-use Rattle.llb_ops.proofs.Sorts.{numeric, string, strings, message, messages}
+use Rattle.llb_ops.proofs.Sorts.{numeric, messages}
 
 abbrev merge_input_fields : FieldOf merge_input_shape MergeInput (ℤ × Unit {0})
 merge_input_fields =

@@ -1,5 +1,5 @@
 -- A source that was read is read again of its canonical bytes.
-use Rattle.std.proofs.Common.{◌≡◌, ℕ, ◌≤◌, Bool, true, false, List, [], ◌∷◌, length, map, refl, sym, ap, subst, ◌∙◌, Result, Ok, Err, arith}
+use Rattle.std.proofs.Common.{◌≡◌, ℕ, ◌≤◌, true, List, [], ◌∷◌, length, map, refl, ap, subst, ◌∙◌, Result, Ok, Err, arith}
 use Rattle.std.specs.Prelude.{nat_le}
 use Rattle.std.specs.List.{AllByRecursion}
 use Rattle.std.proofs.lemmas.Bool.{leb-true, le-leb}
@@ -11,7 +11,7 @@ use Rattle.llb_ops.specs.declared.source.SourceOp.{SourceOp}
 use Rattle.llb_ops.specs.declared.source.AttributeEntry.{AttributeEntry}
 use Rattle.llb_ops.specs.Attributes.{Held, entry_of, settled}
 use Rattle.llb_ops.specs.Limits.{field_limit}
-use Rattle.llb_ops.specs.Records.{Shape, each, message_of}
+use Rattle.llb_ops.specs.Records.{each, message_of}
 use Rattle.llb_ops.specs.Messages.{attribute_entry_shape, attribute_entry_of, source_op_shape, source_op_of, attribute_entry_in, source_op_in}
 use Rattle.llb_ops.specs.Writing.{attribute_entry_bytes, source_op_bytes, messages_field}
 use Rattle.llb_ops.proofs.Kept.{bind_ok}

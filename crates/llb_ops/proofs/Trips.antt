@@ -190,7 +190,7 @@ action_own (action.MkFile m) = refl
 action_own (action.MkDir m) = refl
 action_own (action.Rm m) = refl
 
-abbrev ActionRead : ActionKind → Type 0
+abbrev pub ActionRead : ActionKind → Type 0
 ActionRead (action.Copy m) = IsRead copy_file_of m
 ActionRead (action.MkFile m) = IsRead mk_file_of m
 ActionRead (action.MkDir m) = IsRead mk_dir_of m
@@ -209,7 +209,7 @@ action_cases false true b6 bytes a e = of_message ActionRead mk_file_of (λ m. a
 action_cases false false true bytes a e = of_message ActionRead mk_dir_of (λ m. action.MkDir m) bytes a e (λ m h. (bytes, h))
 action_cases false false false bytes a e = of_message ActionRead rm_of (λ m. action.Rm m) bytes a e (λ m h. (bytes, h))
 
-action_from : (n : ℕ) (xs : List Record) (a : ActionKind) → action_kind_of n xs ≡ Ok a → ActionRead a
+pub action_from : (n : ℕ) (xs : List Record) (a : ActionKind) → action_kind_of n xs ≡ Ok a → ActionRead a
 action_from n xs a e = action_cases (n == 4) (n == 5) (n == 6) (joined xs) a e
 
 action_written : (a : ActionKind) → IsWritten action_shape (action_record a)
@@ -277,7 +277,7 @@ kind_own (Build bytes) = refl
 kind_own (Merge m) = refl
 kind_own (Diff bytes) = refl
 
-abbrev KindRead : Kind → Type 0
+abbrev pub KindRead : Kind → Type 0
 KindRead (Exec m) = IsRead exec_op_of m
 KindRead (Source m) = IsRead source_op_of m
 KindRead (File m) = IsRead file_op_of m
@@ -294,7 +294,7 @@ kind_cases false false false true b6 bytes a e = subst KindRead (ok_is (Build by
 kind_cases false false false false true bytes a e = of_message KindRead merge_op_of (λ m. Merge m) bytes a e (λ m h. (bytes, h))
 kind_cases false false false false false bytes a e = subst KindRead (ok_is (Diff bytes) a e) tt
 
-kind_from : (n : ℕ) (xs : List Record) (a : Kind) → kind_of n xs ≡ Ok a → KindRead a
+pub kind_from : (n : ℕ) (xs : List Record) (a : Kind) → kind_of n xs ≡ Ok a → KindRead a
 kind_from n xs a e = kind_cases (n == 2) (n == 3) (n == 4) (n == 5) (n == 6) (joined xs) a e
 
 kind_written : (a : Kind) → IsWritten op_shape (kind_record a)

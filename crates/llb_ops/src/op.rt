@@ -1,9 +1,10 @@
 //! An op and its inputs, as `ops.proto` of BuildKit names them, read from their bytes and written to them.
 
-ghost use Rattle.std.specs.Prelude.{◌≡◌, Ok};
+ghost use Rattle.std.specs.Prelude.{◌≡◌, Ok, IfOk};
 ghost use Rattle.llb_ops.specs.Faults.{Gives};
 ghost use Rattle.llb_ops.specs.Messages.{op_of};
 ghost use Rattle.llb_ops.specs.Writing.{op_bytes};
+ghost use Rattle.llb_ops.specs.Within.{IsWithinLimits};
 ghost use Rattle.llb_ops.specs.Laws.{IsReadAgain};
 
 use crate::exec::ExecOp;
@@ -181,7 +182,8 @@ impl Message for Op {
 /// times. `Memory` (14) where memory is refused.
 #[tactic(auto, unfolding(crate::specs::Messages::op_of))]
 pub fn read_op(alloc: Global, bytes: &[u8]) -> Result<Op, OpFault>
-    ensures { Gives (λ op. op) result (op_of bytes.now) }
+    ensures gives { Gives (λ op. op) result (op_of bytes.now) }
+    ensures within { IfOk result IsWithinLimits }
 {
     if bytes.len() > ENTRY_LIMIT {
         return Err(OpFault::OverLimit);

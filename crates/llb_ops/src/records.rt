@@ -5,7 +5,7 @@ ghost use Rattle.std.specs.Str.{IsUtf8, is_utf8};
 ghost use Rattle.llb_wire.specs.Records.{record_of};
 ghost use Rattle.llb_ops.specs.Faults.{Gives};
 ghost use Rattle.llb_ops.specs.declared.shape.Form.TheVariants as form;
-ghost use Rattle.llb_ops.specs.Records.{view, views, form_of, wire_fits, records_from, texts_fit, text_fits, parts as parts_of, all as all_of, last_of, number as number_of, payload as payload_of, payloads, uint32, int32, int64, flag, joined as joined_of, unnamed as unnamed_of, chosen as chosen_of, since as since_of, is_member as is_member_of, is_other as is_other_of, member as member_of, within_limits as within_limits_of};
+ghost use Rattle.llb_ops.specs.Records.{view, views, form_of, wire_fits, records_from, Starts, texts_fit, text_fits, parts as parts_of, all as all_of, last_of, number as number_of, payload as payload_of, payloads, uint32, int32, int64, flag, joined as joined_of, unnamed as unnamed_of, chosen as chosen_of, since as since_of, is_member as is_member_of, is_other as is_other_of, member as member_of, within_limits as within_limits_of};
 
 use crate::fault::OpFault;
 use crate::shape::{FIELD_LIMIT, Form, Named};
@@ -23,6 +23,13 @@ pub struct Record<'a> {
     pub text: &'a [u8],
 }
 
+/// The record at the front of some bytes, and the bytes after it.
+#[derive(Clone, Copy)]
+pub struct Front<'a> {
+    pub record: Record<'a>,
+    pub after: &'a [u8],
+}
+
 /// The form of the field of that number, where the message names it.
 fn form(shape: &[Named], number: u32) -> Option<Form>
     ensures { result ≡ form_of shape.now number }
@@ -31,7 +38,7 @@ fn form(shape: &[Named], number: u32) -> Option<Form>
 }
 
 /// The record has the wire type of its field, where the message names it.
-pub fn fits(shape: &[Named], field: &Field) -> bool
+fn fits(shape: &[Named], field: &Field) -> bool
     ensures { result ≡ wire_fits (form_of shape.now field.now.number) field.now.wire }
 {
     match (form(shape, field.number), field.wire) {
@@ -43,12 +50,11 @@ pub fn fits(shape: &[Named], field: &Field) -> bool
     }
 }
 
-/// The record at the front, and the bytes after it.
-pub fn take_record<'a>(bytes: &'a [u8], field: &Field) -> (Record<'a>, &'a [u8])
+fn front_of<'a>(bytes: &'a [u8], field: &Field) -> Front<'a>
     requires ordered { field.now.start ≤ field.now.«end» }
     requires inside { field.now.«end» ≤ length bytes.now }
-    ensures record { view result.0 ≡ record_of bytes.now field.now }
-    ensures after { result.1.now ≡ drop field.now.«end» bytes.now }
+    ensures record { view result.record ≡ record_of bytes.now field.now }
+    ensures after { result.after.now ≡ drop field.now.«end» bytes.now }
 {
     let (text, after) = bytes.split_at(field.end);
     let (_, payload) = text.split_at(field.start);
@@ -59,7 +65,21 @@ pub fn take_record<'a>(bytes: &'a [u8], field: &Field) -> (Record<'a>, &'a [u8])
         payload,
         text,
     };
-    (record, after)
+    Front { record, after }
+}
+
+/// The record at the front of a message's bytes, and the bytes after it: `None` at the end. A field that the message
+/// names has its wire type.
+pub fn next_part<'a>(shape: &[Named], bytes: &'a [u8]) -> Result<Option<Front<'a>>, OpFault>
+    ensures { Starts shape.now bytes.now result }
+{
+    let Some(field) = next_record(bytes, 0)? else {
+        return Ok(None);
+    };
+    if !fits(shape, &field) {
+        return Err(OpFault::WrongWireType);
+    }
+    Ok(Some(front_of(bytes, &field)))
 }
 
 /// The records of a message from left to right.
@@ -72,13 +92,9 @@ pub fn split<'a>(
 {
     let mut records = Vec::new(alloc);
     let mut rest = bytes;
-    while let Some(field) = next_record(rest, 0)? {
-        if !fits(shape, &field) {
-            return Err(OpFault::WrongWireType);
-        }
-        let (record, after) = take_record(rest, &field);
-        records.push(record)?;
-        rest = after;
+    while let Some(front) = next_part(shape, rest)? {
+        records.push(front.record)?;
+        rest = front.after;
     }
     Ok(records)
 }
