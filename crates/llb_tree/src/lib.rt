@@ -12,6 +12,3 @@ pub use fault::TreeFault;
 pub use meta::Meta;
 pub use path::{Name, Path};
 pub use tree::{Entry, Tree};
-
-#[cfg(test)]
-mod tests;

@@ -7,6 +7,7 @@ mod bytes;
 mod duplicate;
 mod fault;
 mod field;
+mod laws;
 mod many;
 mod reading;
 mod sink;
@@ -17,11 +18,9 @@ pub use bytes::Bytes;
 pub use duplicate::Duplicate;
 pub use fault::{Memory, WireFault};
 pub use field::{Field, Wire};
+pub use laws::{spells_one_list, walk_meets_what_is_spelled};
 pub use many::Many;
 pub use reading::{next_record, varint};
 pub use sink::{Failed, Over, Sink, write_all};
 pub use text::Text;
 pub use writing::{write_record, write_varint};
-
-#[cfg(test)]
-mod tests;
