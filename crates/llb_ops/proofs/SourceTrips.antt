@@ -4,7 +4,7 @@ use Rattle.std.specs.Prelude.{nat_le}
 use Rattle.std.specs.List.{AllByRecursion}
 use Rattle.std.proofs.lemmas.Bool.{leb-true, le-leb}
 use Rattle.std.proofs.lemmas.List.{length-map}
-use Rattle.llb_wire.specs.Answer.{◌>>=◌}
+use Rattle.llb_wire.specs.Answer.{◌>>=◌, bind_ok}
 use Rattle.llb_wire.specs.Records.{Record}
 use Rattle.llb_ops.specs.declared.fault.OpFault.{OpFault}
 use Rattle.llb_ops.specs.declared.source.SourceOp.{SourceOp}
@@ -14,7 +14,6 @@ use Rattle.llb_ops.specs.Limits.{field_limit}
 use Rattle.llb_ops.specs.Records.{each, message_of}
 use Rattle.llb_ops.specs.Messages.{attribute_entry_shape, attribute_entry_of, source_op_shape, source_op_of, attribute_entry_in, source_op_in}
 use Rattle.llb_ops.specs.Writing.{attribute_entry_bytes, source_op_bytes, messages_field}
-use Rattle.llb_ops.proofs.Kept.{bind_ok}
 use Rattle.llb_ops.proofs.Texts.{empty_utf8}
 use Rattle.llb_ops.proofs.FieldOf.{IsShort, FieldOf, Returns, end, both, returns_by, ok_is}
 use Rattle.llb_ops.proofs.Settled.{settled_apart, settles_again, settled_hold, settled_length}

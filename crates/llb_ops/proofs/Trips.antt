@@ -3,7 +3,7 @@ use Rattle.std.proofs.Common.{◌≡◌, ℕ, ℤ, ◌<◌, ◌^◌, Bool, true,
 use Rattle.std.specs.Bool.{◌==◌}
 use Rattle.std.proofs.lemmas.Bool.{le-ltb}
 use Rattle.std.proofs.lemmas.List.{append-nil}
-use Rattle.llb_wire.specs.Answer.{◌>>=◌}
+use Rattle.llb_wire.specs.Answer.{◌>>=◌, bind_ok}
 use Rattle.llb_wire.specs.Records.{Record}
 use Rattle.llb_ops.specs.declared.fault.OpFault.{OpFault}
 use Rattle.llb_ops.specs.declared.fault.OpFault.TheVariants.{OverLimit}
@@ -29,7 +29,6 @@ use Rattle.llb_ops.specs.Limits.{entry_limit}
 use Rattle.llb_ops.specs.Laws.{IsReadAgain}
 use Rattle.llb_ops.specs.Writing.{bit, input_bytes, user_bytes, user_opt_bytes, chown_opt_bytes, mk_file_bytes, mk_dir_bytes, copy_file_bytes, rm_bytes, exec_op_bytes, source_op_bytes, merge_op_bytes, action_kind_bytes, action_bytes, file_op_bytes, kind_bytes, op_bytes, set_bytes, set_number}
 use Rattle.llb_ops.proofs.Again.{number_part, bytes_part}
-use Rattle.llb_ops.proofs.Kept.{bind_ok}
 use Rattle.llb_ops.proofs.Texts.{empty_utf8}
 use Rattle.llb_ops.proofs.Numbers.{from_signed, int64_recodes, int32_recodes, flag_recodes}
 use Rattle.llb_ops.proofs.FieldOf.{IsShort, IsWritten, FieldOf, Returns, end, both, returns_by, ok_is}

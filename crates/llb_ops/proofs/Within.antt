@@ -5,7 +5,7 @@ use Rattle.std.specs.List.{AllByRecursion}
 use Rattle.std.proofs.lemmas.Bool.{leb-true, ltb-false}
 use Rattle.std.proofs.lemmas.List.{length-map}
 use Rattle.std.proofs.lemmas.List.Elements.{All-from_recursion}
-use Rattle.llb_wire.specs.Answer.{◌>>=◌}
+use Rattle.llb_wire.specs.Answer.{◌>>=◌, bind_ok}
 use Rattle.llb_wire.specs.Records.{Record}
 use Rattle.llb_ops.specs.declared.fault.OpFault.{OpFault}
 use Rattle.llb_ops.specs.declared.fault.OpFault.TheVariants.{OverLimit}
@@ -28,7 +28,7 @@ use Rattle.llb_ops.specs.Messages.{chown_opt_of, copy_file_of, copy_file_in, cop
 use Rattle.llb_ops.specs.Definition.{definition_of, are_short}
 use Rattle.llb_ops.specs.Faults.{Gives}
 use Rattle.llb_ops.specs.Within.{IsFew, IsMetaWithin, IsMetaOptWithin, IsExecWithin, IsCopyWithin, IsActionWithin, IsFileWithin, IsKindWithin, IsWithinLimits, AreWithinLimits}
-use Rattle.llb_ops.proofs.Kept.{bind_ok, guard_ended}
+use Rattle.llb_ops.proofs.Kept.{guard_ended}
 use Rattle.llb_ops.proofs.FieldOf.{and_both, ok_is}
 use Rattle.llb_ops.proofs.Picks.{All-map}
 use Rattle.llb_ops.proofs.Settled.{settled_length}
