@@ -9,7 +9,7 @@ use Rattle.llb_wire.specs.declared.field.Field.{Field}
 use Rattle.llb_wire.specs.Reading.{varint_at, number_of, wire_of, field_at, payload_at}
 use Rattle.llb_wire.specs.Spelling.{varint_text, code_of, record_text}
 use Rattle.llb_wire.specs.Records.{Record, record_of}
-use Rattle.llb_wire.proofs.Spellings.{varint_again, shortest_some}
+use Rattle.llb_wire.specs.Laws.Varints.{varint_again, shortest_some}
 use Rattle.llb_wire.specs.Answer.{◌>>=◌}
 use Rattle.llb_ops.specs.Records.{Shape, form_of, wire_fits, records_from}
 use Rattle.llb_ops.proofs.Split.{parts_skip, drop_pred}

@@ -1,5 +1,5 @@
 -- The entries of a definition in bytes are read again of their canonical bytes, which are no longer.
-use Rattle.std.proofs.Common.{◌≡◌, ℕ, zero, suc, ◌+◌, ◌-◌, ◌/◌, ◌%◌, ◌<◌, ◌≤◌, ◌^◌, Bool, true, false, cond, eqb, List, [], ◌∷◌, ◌++◌, length, take, drop, Result, Ok, Err, refl, sym, ap, subst, ◌∙◌, arith}
+use Rattle.std.proofs.Common.{◌≡◌, ℕ, zero, suc, ◌+◌, ◌-◌, ◌/◌, ◌%◌, ◌<◌, ◌≤◌, ◌^◌, Bool, true, false, cond, eqb, List, [], ◌∷◌, length, take, drop, Result, Ok, Err, refl, sym, ap, subst, ◌∙◌, arith}
 use Rattle.std.specs.Prelude.{nat_lt}
 use Rattle.std.specs.List.{AllByRecursion}
 use Rattle.std.proofs.lemmas.Bool.{ltb-false, eqb-true}
@@ -9,24 +9,25 @@ use Rattle.llb_wire.specs.declared.fault.WireFault.TheVariants.{Truncated}
 use Rattle.llb_wire.specs.declared.field.Wire.{Wire}
 use Rattle.llb_wire.specs.declared.field.Wire.TheVariants as wire
 use Rattle.llb_wire.specs.declared.field.Field.{Field}
-use Rattle.llb_wire.specs.Answer.{◌>>=◌}
+use Rattle.llb_wire.specs.Answer.{◌>>=◌, bind_ok}
 use Rattle.llb_wire.specs.Reading.{varint_from, varint_at, number_of, wire_of, fixed_at, as_field, payload_at, field_at}
 use Rattle.llb_wire.specs.Spelling.{shortest, varint_text, Spells, AreBytes}
 use Rattle.llb_wire.specs.Records.{Record, record_of}
-use Rattle.llb_wire.proofs.Grammar.{spells_found}
-use Rattle.llb_wire.proofs.Prefix.{bind_ok as wire_ok, guard_ok, field_local}
-use Rattle.llb_wire.proofs.Spellings.{least_spelling}
+use Rattle.llb_wire.specs.Laws.Varints.{spells_found}
+use Rattle.llb_wire.specs.Answer.{bind_ok as wire_ok, guard_ok}
+use Rattle.llb_wire.specs.Laws.Own.{field_local}
+use Rattle.llb_wire.specs.Laws.Varints.{least_spelling}
 use Rattle.llb_ops.specs.declared.fault.OpFault.{OpFault}
 use Rattle.llb_ops.specs.declared.fault.OpFault.TheVariants.{WrongWireType}
 use Rattle.llb_ops.specs.Limits.{definition_limit}
 use Rattle.llb_ops.specs.Laws.{AreReadAgain}
 use Rattle.llb_ops.specs.Records.{form_of, wire_fits, from_wire, first_record, records_from, all, payloads}
 use Rattle.llb_ops.specs.Writing.{set_bytes, each_field}
-use Rattle.llb_ops.specs.Definition.{definition_shape, definition_of, entries_in, entries_fit, definition_bytes}
-use Rattle.std.specs.Int.{Width, w32, w64}
-use Rattle.llb_ops.proofs.Again.{FitsShape, parts_again, spelled}
-use Rattle.llb_ops.proofs.Kept.{bind_ok, guard_ended}
-use Rattle.llb_ops.proofs.FieldOf.{IsShort, IsWritten, IsGood, all_short, ok_is}
+use Rattle.llb_ops.specs.Definition.{definition_shape, entries_in, entries_fit, definition_bytes}
+use Rattle.std.specs.Int.{w32, w64}
+use Rattle.llb_ops.proofs.Again.{FitsShape, parts_again}
+use Rattle.llb_ops.proofs.Kept.{guard_ended}
+use Rattle.llb_ops.proofs.FieldOf.{IsShort, all_short, ok_is}
 use Rattle.llb_ops.proofs.Sorts.{bytes_written, some_strings, strings_own, strings_spelled, strings_read, same_number}
 use Rattle.llb_ops.proofs.Admission.{by_entries, is_short, are_in, still_fit}
 

@@ -6,16 +6,12 @@ use Rattle.llb_wire.specs.declared.fault.WireFault.{WireFault}
 use Rattle.llb_wire.specs.declared.field.Field.{Field}
 use Rattle.llb_wire.specs.Reading.{field_at}
 use Rattle.llb_wire.specs.Records.{Record, record_of}
-use Rattle.llb_wire.proofs.Prefix.{field_local}
+use Rattle.llb_wire.specs.Laws.Own.{field_local}
 use Rattle.llb_ops.specs.declared.fault.OpFault.{OpFault}
 use Rattle.llb_ops.specs.declared.fault.OpFault.TheVariants.{WrongWireType}
-use Rattle.llb_wire.specs.Answer.{◌>>=◌}
+use Rattle.llb_wire.specs.Answer.{◌>>=◌, bind_ok}
 use Rattle.llb_ops.specs.Records.{Shape, from_wire, first_record, form_of, wire_fits, records_from}
 use Rattle.llb_ops.proofs.Again.{IsPart, FitsShape}
-
-pub bind_ok : {A B : Type 0} (r : Result A OpFault) (f : A → Result B OpFault) (y : B) → (r >>= f) ≡ Ok y → (x : A) × (r ≡ Ok x) × (f x ≡ Ok y)
-bind_ok (Ok x) f y e = (x, refl, e)
-bind_ok (Err d) f y e = absurd cc
 
 wire_ok : {A : Type 0} (r : Result A WireFault) (x : A) → from_wire r ≡ Ok x → r ≡ Ok x
 wire_ok (Ok y) x e = let h : y ≡ x = cc in ap (λ z. Ok z) h

@@ -13,10 +13,10 @@ pub mod FieldOf
 pub mod Numbers
 pub mod Sorts
 pub mod Choices
-pub mod Copying
 pub mod Settled
 pub mod ExecTrips
 pub mod MergeTrips
 pub mod SourceTrips
 pub mod Trips
+pub mod Within
 pub mod DefinitionTrips
