@@ -93,7 +93,7 @@ fn link_named(
     ensures graph { IfOk result (λ g. GraphOf rows.now ops.items g) }
     ensures refused { IfErr result (λ e. is_memory e ≡ false → Refused rows.now ops.items e) }
 {
-    let Some(order) = number(alloc, links, start)? else {
+    let Some(order) = number(alloc, links, start, seen)? else {
         return Err(LoadFault::Cycle);
     };
     check_features(&ops, seen)?;

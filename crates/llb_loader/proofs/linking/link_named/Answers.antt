@@ -12,7 +12,7 @@ use Rattle.llb_loader.specs.Rules.{output_count, MeetsEach, rules}
 use Rattle.llb_loader.specs.Linking.{Plan, plan, op_at, links_in, ReachedRow, IsOrdered, IsTaken, IsValid, IsWhole}
 use Rattle.llb_loader.specs.Checks.{RefusesFeature, RefusesRule, RefusesIndex, FitsAll, asked_of}
 use Rattle.llb_loader.proofs.Plans.{in_range}
-use Rattle.llb_loader.proofs.Refusals.{started_below, refuses_feature, refuses_rule, refuses_index, asked_linked, indexes_fit}
+use Rattle.llb_loader.proofs.Refusals.{refuses_feature, refuses_rule, refuses_index, asked_linked, indexes_fit}
 use Rattle.llb_loader.proofs.linking.link_named.Goals as goal
 
 links_len : (rows : List (Vec ℕ)) (p : Plan) → lists rows ≡ links_in p → length rows ≡ length p.ops
@@ -47,14 +47,6 @@ pub number-requires-clause-rows : goal.number-requires-clause-rows
 number-requires-clause-rows c =
     let p = plan c.args.rows.now c.args.ops.items c.args.terminal c.args.start in
     links_below c.args.links.now p (length c.args.links.now) c.requires.links (let e = links_len c.args.links.now p c.requires.links in let l = c.requires.ops in omega (arith, e, l))
-
-pub number-requires-clause-start : goal.number-requires-clause-start
-number-requires-clause-start c =
-    let p = plan c.args.rows.now c.args.ops.items c.args.terminal c.args.start in
-    let h = started_below p c.requires.named.started in
-    let e = links_len c.args.links.now p c.requires.links in
-    let l = c.requires.ops in
-    omega (arith, h, e, l)
 
 pub returns-in_err-check_features-clause-refused : goal.returns-in_err-check_features-clause-refused
 returns-in_err-check_features-clause-refused c =
