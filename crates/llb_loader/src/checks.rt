@@ -74,13 +74,11 @@ pub(crate) fn check_features(ops: &[Op], seen: &[bool]) -> Result<(), LoadFault>
     ensures refused { IfErr result (RefusesFeature ops.now (IsMarked seen.now)) }
 {
     for k in 0..ops.len() {
-        if !seen[k] {
-            continue;
+        if seen[k] {
+            if let Some(feature) = first_feature(&ops[k]) {
+                return Err(LoadFault::Unsupported(k as u32, feature));
+            }
         }
-        let Some(feature) = first_feature(&ops[k]) else {
-            continue;
-        };
-        return Err(LoadFault::Unsupported(k as u32, feature));
     }
     Ok(())
 }
