@@ -1,6 +1,9 @@
 pub mod Lists
+pub mod ByNumber
+pub mod Parts
+pub mod Events
+pub mod Runs
 pub mod Outcomes
-pub mod Sound
-pub mod Blocked
-pub mod Complete
-pub mod Alone
+pub mod Consistent
+pub mod Rooms
+pub mod Made

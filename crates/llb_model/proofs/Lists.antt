@@ -1,7 +1,17 @@
 -- What stands at a place of a list that is written, repeated or made longer.
-use Rattle.std.proofs.Common.{◌≡◌, ◌≢◌, ℕ, zero, suc, ◌<◌, ◌≤◌, Bool, true, false, ◌||◌, List, [], ◌∷◌, ◌++◌, length, take, Some, None, ◌⊎◌, inl, inr, refl, sym, ap, ◌∙◌, arith}
+use Rattle.std.proofs.Common.{◌≡◌, ◌≢◌, ℕ, zero, suc, ◌<◌, ◌≤◌, Bool, true, false, ◌||◌, List, [], ◌∷◌, ◌++◌, length, take, Option, Some, None, ◌⊎◌, inl, inr, refl, sym, ap, ◌∙◌, arith}
 use Rattle.std.specs.Prelude.{slice_get, slice_set, replicate}
 use Rattle.std.specs.List.{list_any}
+use Rattle.std.proofs.lemmas.Bool.{cases_eq}
+
+abbrev pub some_of : {A : Type 0} → A → Option A
+some_of x = Some x
+
+pub inside : {A : Type 0} {x y : A} → some_of x ≡ some_of y → x ≡ y
+inside e = cc
+
+pub eq_or : (a b : ℕ) → (a ≡ b) ⊎ (a ≢ b)
+eq_or a b = elim (cases_eq a b) [ inl h ↦ inl h | inr h ↦ inr h ]
 
 -- what is found after a write: the new item at its place, else what was there
 pub got_set : {A : Type 0} (xs : List A) (i : ℕ) (y : A) (j : ℕ) (z : A) → slice_get (slice_set xs i y) j ≡ Some z → ((j ≡ i) × (z ≡ y)) ⊎ ((j ≢ i) × (slice_get xs j ≡ Some z))
@@ -67,11 +77,6 @@ get_take [] (suc n) j lt = refl
 get_take (x ∷ xs) zero j lt = absurd (omega arith)
 get_take (x ∷ xs) (suc n) zero lt = refl
 get_take (x ∷ xs) (suc n) (suc j) lt = get_take xs n j (omega arith)
-
-pub get_front : {A : Type 0} (xs ys : List A) (j : ℕ) → j < length xs → slice_get (xs ++ ys) j ≡ slice_get xs j
-get_front [] ys j lt = absurd (omega arith)
-get_front (x ∷ xs) ys zero lt = refl
-get_front (x ∷ xs) ys (suc j) lt = get_front xs ys j (omega arith)
 
 -- a fact of some item, and of each
 abbrev pub Some_of : {A : Type 0} → (A → Type 0) → List A → Type 0
