@@ -7,3 +7,4 @@ pub mod Outcomes
 pub mod Consistent
 pub mod Rooms
 pub mod Made
+pub mod Plain
