@@ -8,3 +8,6 @@ pub mod Consistent
 pub mod Rooms
 pub mod Made
 pub mod Plain
+pub mod Stopped
+pub mod Ready
+pub mod Complete

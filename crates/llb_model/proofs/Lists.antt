@@ -1,5 +1,5 @@
 -- What stands at a place of a list that is written, repeated or made longer.
-use Rattle.std.proofs.Common.{◌≡◌, ◌≢◌, ℕ, zero, suc, ◌<◌, ◌≤◌, Bool, true, false, ◌||◌, List, [], ◌∷◌, ◌++◌, length, take, Option, Some, None, ◌⊎◌, inl, inr, refl, sym, ap, ◌∙◌, arith}
+use Rattle.std.proofs.Common.{◌≡◌, ◌≢◌, ℕ, zero, suc, ◌<◌, ◌≤◌, Bool, true, false, ◌||◌, ◌&&◌, List, [], ◌∷◌, ◌++◌, length, take, Option, Some, None, ◌⊎◌, inl, inr, refl, sym, ap, ◌∙◌, arith}
 use Rattle.std.specs.Prelude.{slice_get, slice_set, replicate}
 use Rattle.std.specs.List.{list_any}
 use Rattle.std.proofs.lemmas.Bool.{cases_eq}
@@ -87,13 +87,17 @@ abbrev pub Each_of : {A : Type 0} → (A → Type 0) → List A → Type 0
 Each_of P [] = Unit {0}
 Each_of P (x ∷ xs) = P x × Each_of P xs
 
-or_true : (a b : Bool) → (a || b) ≡ true → (a ≡ true) ⊎ (b ≡ true)
+pub or_true : (a b : Bool) → (a || b) ≡ true → (a ≡ true) ⊎ ((a ≡ false) × (b ≡ true))
 or_true true b e = inl refl
-or_true false b e = inr e
+or_true false b e = inr (refl, e)
+
+pub and_true : (a b : Bool) → (a && b) ≡ true → (a ≡ true) × (b ≡ true)
+and_true true b e = (refl, e)
+and_true false b e = absurd cc
 
 pub any_true : {A : Type 0} (p : A → Bool) (xs : List A) → list_any p xs ≡ true → Some_of (λ x. p x ≡ true) xs
 any_true p [] e = absurd cc
-any_true p (x ∷ xs) e = elim (or_true (p x) (list_any p xs) e) [ inl h ↦ inl h | inr h ↦ inr (any_true p xs h) ]
+any_true p (x ∷ xs) e = elim (or_true (p x) (list_any p xs) e) [ inl h ↦ inl h | inr h ↦ inr (any_true p xs h.1) ]
 
 pub true_any : {A : Type 0} (p : A → Bool) (xs : List A) → Some_of (λ x. p x ≡ true) xs → list_any p xs ≡ true
 true_any p [] h = absurd h

@@ -13,7 +13,7 @@ use Rattle.llb_model.specs.Program.{Build, Program, View, Files, program_of, sta
 use Rattle.llb_model.specs.Outcome.{Ending, Done, Failed, Outcome, Ended, Blocked, ended, ending, output_in, both, all_there, inputs_from, outcome_on, ending_in, next_outcome, outcomes, outcome, has_cache, next_plain, is_plain}
 use Rattle.llb_model.specs.ByNumber.{by_number}
 use Rattle.llb_model.specs.State.{is_done}
-use Rattle.llb_model.proofs.Lists.{some_of, inside, get_take, Each_of, Some_of, some_with, get_within, got_within}
+use Rattle.llb_model.proofs.Lists.{some_of, inside, and_true, get_take, Each_of, Some_of, some_with, get_within, got_within}
 use Rattle.llb_model.proofs.ByNumber.{by_number_is}
 
 -- ---- inputs
@@ -138,10 +138,6 @@ module _ (b : Build) (graph : IsGraph b.graph) where
       lower (e ∷ edges) each = (ap ending_in (get_take (outcomes b) k e.vertex each.0.lower), lower edges each.1)
 
   -- ---- plain vertices
-
-  and_true : (x y : Bool) → (x && y) ≡ true → (x ≡ true) × (y ≡ true)
-  and_true true y e = (refl, e)
-  and_true false y e = absurd cc
 
   -- the vertices that a plain one's edges lead to are plain
   pub plain_inputs : (k : ℕ) (v : Vertex) → slice_get b.graph.vertices k ≡ Some v → is_plain b k ≡ true → Each_of (λ (e : Edge). is_plain b e.vertex ≡ true) v.inputs
