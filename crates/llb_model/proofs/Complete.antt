@@ -84,7 +84,7 @@ least_some test v (suc n) k e = go (test v) refl e (λ e. least_some test (v + 1
 
 module _ (b : Build) (graph : IsGraph b.graph) (s : State) (here : IsConsistent b s) where
   -- whether a vertex is over, by its status
-  over_by : (k : ℕ) (o : Option Status) → slice_get s.statuses k ≡ o → is_over b s k ≡ (is_settled o || (is_waiting o && is_stopped b s.statuses k))
+  pub over_by : (k : ℕ) (o : Option Status) → slice_get s.statuses k ≡ o → is_over b s k ≡ (is_settled o || (is_waiting o && is_stopped b s.statuses k))
   over_by k o is = ap (λ o. is_settled o || (is_waiting o && is_stopped b s.statuses k)) is
 
   -- an input of a vertex that is over below, and has no tree, is stopped

@@ -1,12 +1,12 @@
 -- Every state that events lead to is consistent.
-use Rattle.std.proofs.Common.{◌≡◌, ◌≢◌, ℕ, Bool, true, false, List, [], ◌∷◌, length, Option, Some, None, is_some, ◌⊎◌, inl, inr, refl, sym, ap, subst, ◌∙◌, arith}
+use Rattle.std.proofs.Common.{◌≡◌, ◌≢◌, ℕ, true, false, List, [], ◌∷◌, length, Option, Some, None, is_some, inl, inr, refl, sym, ap, subst, ◌∙◌, arith}
 use Rattle.std.specs.Prelude.{slice_get, slice_set, replicate}
 use Rattle.llb_loader.specs.declared.graph.Edge.{Edge}
 use Rattle.llb_loader.specs.declared.graph.Vertex.{Vertex}
 use Rattle.llb_tree.specs.Tree.{TreeMap}
 use Rattle.llb_model.specs.Program.{Build, Work, Left, Start, begin, program_at, step_on}
 use Rattle.llb_model.specs.Outcome.{Ending, Done, inputs_from}
-use Rattle.llb_model.specs.State.{Status, Waiting, Running, Settled, Execution, At, Idle, Runs, State, Opening, opening, ending_of, ending_at, is_waiting, program_in, work_of, is_finished, ending_from}
+use Rattle.llb_model.specs.State.{Status, Waiting, Running, Settled, Execution, Idle, Runs, State, Opening, opening, ending_of, ending_at, is_waiting, program_in, work_of, ending_from}
 use Rattle.llb_model.specs.Table.{Event, Claim, Step, Settle, Reply, execution_on, after_claim, with_step, after_step, after_settle, table}
 use Rattle.llb_model.specs.Run.{run}
 use Rattle.llb_model.specs.Consistent.{IsConsistent}
@@ -22,10 +22,10 @@ opening_consistent b o = record {
   working = λ w x there. absurd (let h : Runs x ≡ Idle = got_replicate o.workers Idle w (Runs x) there in cc);
   outputs = λ v x trees there done. absurd (let h : Settled (Done trees) ≡ Waiting = got_replicate (length b.graph.vertices) Waiting v (Settled (Done trees)) done in cc);
   inputs = λ v x there stays. absurd (
-    let status = get_within (replicate (length b.graph.vertices) Waiting) v (omega (arith, length_replicate (length b.graph.vertices) Waiting, got_within b.graph.vertices v x there)) in
-    let waits : status.0 ≡ Waiting = got_replicate (length b.graph.vertices) Waiting v status.0 status.1 in
-    cc (ap is_waiting status.1 ∙ ap (λ t. is_waiting (Some t)) waits, stays)
-  );
+      let status = get_within (replicate (length b.graph.vertices) Waiting) v (omega (arith, length_replicate (length b.graph.vertices) Waiting, got_within b.graph.vertices v x there)) in
+      let waits : status.0 ≡ Waiting = got_replicate (length b.graph.vertices) Waiting v status.0 status.1 in
+      cc (ap is_waiting status.1 ∙ ap (λ t. is_waiting (Some t)) waits, stays)
+      );
 }
 
 -- the inputs are still there when something ends

@@ -7,11 +7,9 @@ use Rattle.llb_tree.specs.Tree.{TreeMap}
 use Rattle.llb_model.specs.Program.{Build, MicroStep, Start, start_with, begin, step_on}
 use Rattle.llb_model.specs.Outcome.{inputs_from}
 use Rattle.llb_model.specs.State.{Status, Waiting, Running, Settled, Execution, At, Idle, Runs, State, ending_at, start_from, ready, program_in, work_of, is_finished, next_step, ending_from}
-use Rattle.llb_model.specs.ClaimCause.{ClaimCause}
-use Rattle.llb_model.specs.StepCause.{StepCause}
 use Rattle.llb_model.specs.SettleCause.{SettleCause, NotFinished}
-use Rattle.llb_model.specs.Table.{Event, Claim, Step, Settle, Reply, or_not_ready, claim_start, claim_with, claimed, step_by, step_with, stepped, settle_with, settled, table}
-use Rattle.llb_model.proofs.Lists.{some_of, inside}
+use Rattle.llb_model.specs.Table.{Claim, Step, Settle, Reply, or_not_ready, claim_start, claim_with, claimed, step_by, step_with, stepped, settle_with, settled, table}
+use Rattle.llb_model.proofs.Lists.{inside}
 
 -- the state after an event, and its reply
 abbrev pub Answer : Type 0

@@ -11,3 +11,4 @@ pub mod Plain
 pub mod Stopped
 pub mod Ready
 pub mod Complete
+pub mod Alone

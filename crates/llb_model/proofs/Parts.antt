@@ -2,7 +2,6 @@
 use Rattle.std.proofs.Common.{◌≡◌, ℕ, zero, suc, ◌+◌, ◌-◌, ◌<◌, ◌≤◌, Bool, true, false, ◌||◌, List, length, Option, Some, None, is_some, inl, inr, refl, sym, ap, ◌∙◌, cond, add-zero, add-suc, arith}
 use Rattle.std.specs.Prelude.{slice_get, nat_le, Result, Ok, Err}
 use Rattle.std.proofs.lemmas.Bool.{leb-true, leb-false, cases_lt}
-use Rattle.llb_tree.specs.Tree.{TreeMap}
 use Rattle.llb_model.specs.declared.fault.VertexFault.{VertexFault}
 use Rattle.llb_model.specs.Program.{MicroStep, Act, View, Work, Left, micro_step, with_own, tried, act_on, step_on, unless_faulted, go_on, part, whole}
 use Rattle.llb_model.specs.State.{Execution, is_finished, next_step}

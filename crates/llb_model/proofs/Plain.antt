@@ -1,10 +1,10 @@
 -- Whatever events were granted: where no cache is at or before a vertex, it stands by its plain outcome.
-use Rattle.std.proofs.Common.{◌≡◌, ℕ, suc, ◌+◌, ◌<◌, true, List, [], ◌∷◌, length, Option, Some, None, is_some, inl, inr, refl, sym, ap, subst, ◌∙◌, arith}
+use Rattle.std.proofs.Common.{◌≡◌, ℕ, suc, ◌+◌, true, List, [], ◌∷◌, length, Option, Some, None, inl, inr, refl, sym, ap, subst, ◌∙◌, arith}
 use Rattle.std.specs.Prelude.{slice_get}
 use Rattle.llb_loader.specs.Graph.{IsGraph}
 use Rattle.llb_tree.specs.Tree.{TreeMap}
 use Rattle.llb_model.specs.declared.fault.VertexFault.{VertexFault}
-use Rattle.llb_model.specs.Program.{Build, Program, View, Left, Start, program_of, program_at, start_with, begin, step_on, unless_faulted, go_on, part}
+use Rattle.llb_model.specs.Program.{Build, Program, Left, Start, program_of, program_at, start_with, begin, step_on, unless_faulted, go_on, part}
 use Rattle.llb_model.specs.Outcome.{Ending, Ended, ending, ending_in, outcome_on, outcome, is_plain}
 use Rattle.llb_model.specs.State.{Status, Waiting, Running, Settled, Execution, Idle, Runs, State, Opening, opening, ending_of, ending_at, program_in, work_of, is_finished, ending_from}
 use Rattle.llb_model.specs.Table.{Event, Claim, Step, Settle, Reply, execution_on, after_claim, with_step, after_step, table}
@@ -15,7 +15,7 @@ use Rattle.llb_model.proofs.Lists.{some_of, inside, got_set, got_replicate, got_
 use Rattle.llb_model.proofs.Parts.{is_over_at, finished_whole, IsNextStep, next_step_is, step_keeps}
 use Rattle.llb_model.proofs.Events.{Answer, IsReady, IsStep, IsSettle, claim_is, step_is, settle_is}
 use Rattle.llb_model.proofs.Runs.{run_keeps}
-use Rattle.llb_model.proofs.Outcomes.{inputs_mono, plain, plain_is, outcome_is, plain_inputs, all_plain}
+use Rattle.llb_model.proofs.Outcomes.{inputs_mono, plain, outcome_is, plain_inputs, all_plain}
 
 pub opening_plain : (b : Build) (o : Opening) → StandsByOutcomes b (opening b o)
 opening_plain b o = record {
