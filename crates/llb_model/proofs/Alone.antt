@@ -2,7 +2,8 @@
 use Rattle.std.proofs.Common.{◌≡◌, ◌≢◌, ℕ, zero, suc, ◌+◌, ◌<◌, Bool, true, false, ◌||◌, ◌&&◌, cond, List, [], ◌∷◌, ◌++◌, length, Option, Some, None, is_some, option_map, ◌⊎◌, inl, inr, refl, sym, ap, subst, ◌∙◌, arith}
 use Rattle.std.specs.Prelude.{slice_get, slice_set}
 use Rattle.std.specs.List.{list_any}
-use Rattle.std.proofs.lemmas.Bool.{cases_lt}
+use Rattle.std.proofs.lemmas.Bool.{cases_lt, or_cases}
+use Rattle.std.proofs.Math.Bool.{or-true}
 use Rattle.std.proofs.lemmas.List.{append-nil}
 use Rattle.llb_loader.specs.Graph.{LeadsBelow, IsGraph}
 use Rattle.llb_loader.specs.declared.graph.Edge.{Edge}
@@ -12,13 +13,13 @@ use Rattle.llb_model.specs.State.{Status, Waiting, Running, Settled, Execution, 
 use Rattle.llb_model.specs.Table.{Event, Claim, Step, Settle, Reply, claim_with, step_by, settle_with, after_claim, after_settle, table}
 use Rattle.llb_model.specs.Run.{next_of, least, next_claim, or_else, chosen, is_settled, claims_of, AllAbove, AreAscending}
 use Rattle.llb_model.specs.Consistent.{IsConsistent}
-use Rattle.llb_model.proofs.Lists.{inside, eq_or, get_set_same, get_set_other, get_within, Each_of, or_true, any_true, true_any, some_as}
+use Rattle.llb_model.proofs.Lists.{inside, eq_or, get_set_same, get_set_other, get_within, Each_of, any_true, true_any, some_as}
 use Rattle.llb_model.proofs.Parts.{unfinished_some}
 use Rattle.llb_model.proofs.Events.{Answer, claim_is, step_is, settle_is, ready_is, ready_as, claim_granted, step_granted, settle_granted}
 use Rattle.llb_model.proofs.Outcomes.{each_below}
 use Rattle.llb_model.proofs.Stopped.{is_stopped, stopped_is, stopped_there, ready_not_stopped}
 use Rattle.llb_model.proofs.Ready.{ready_waits}
-use Rattle.llb_model.proofs.Complete.{is_over, over_by, least_some, IsLeast, progress, over_not_ready}
+use Rattle.llb_model.proofs.Complete.{is_over, nothing_runs, over_by, least_some, IsLeast, progress, over_not_ready}
 
 -- ---- the chosen event
 
@@ -34,13 +35,8 @@ pub record IsChosenClaim (b : Build) (s : State) (v : ℕ) : Type 0 where
   pub idle : (u : ℕ) (x : Execution) → slice_get s.workers u ≢ Some (Runs x)
   pub least : IsLeast (is_ready b s.statuses) 0 (length b.graph.vertices) v
 
-none_runs : (b : Build) (ws : List At) (w : ℕ) → next_of b w ws ≡ None → (u : ℕ) (x : Execution) → slice_get ws u ≢ Some (Runs x)
-none_runs b [] w e u x there = cc
-none_runs b (Idle ∷ ws) w e zero x there = cc
-none_runs b (Idle ∷ ws) w e (suc u) x there = none_runs b ws (w + 1) e u x there
-none_runs b (Runs y ∷ ws) w e u x there = cc
-
-next_is : (b : Build) (ws : List At) (w : ℕ) (e : Event) → next_of b w ws ≡ Some e → (u : ℕ) × (x : Execution) × (slice_get ws u ≡ Some (Runs x)) × (e ≡ cond (is_finished (program_in b x).steps x) (Settle (w + u)) (Step (w + u)))
+next_is : (b : Build) (ws : List At) (w : ℕ) (e : Event) → next_of b w ws ≡ Some e
+    → (u : ℕ) × (x : Execution) × (slice_get ws u ≡ Some (Runs x)) × (e ≡ cond (is_finished (program_in b x).steps x) (Settle (w + u)) (Step (w + u)))
 next_is b [] w e is = absurd cc
 next_is b (Idle ∷ ws) w e is =
     let n = next_is b ws (w + 1) e is in
@@ -61,7 +57,7 @@ chosen_is b s e is = by_next (next_of b 0 s.workers) refl is
         inl (record { worker = n.0; execution = n.1; there = n.2; is = n.3 ∙ ap (λ k. cond (is_finished (program_in b n.1).steps n.1) (Settle k) (Step k)) (omega arith) })
     by_next None next is =
         let c = chosen_claim (least (is_ready b s.statuses) 0 (length b.graph.vertices)) e is in
-        inr (c.0, c.2, record { idle = none_runs b s.workers 0 next; least = least_some (is_ready b s.statuses) 0 (length b.graph.vertices) c.0 c.1 })
+        inr (c.0, c.2, record { idle = nothing_runs b s.workers 0 next; least = least_some (is_ready b s.statuses) 0 (length b.graph.vertices) c.0 c.1 })
 
 -- ---- what is chosen is granted
 
@@ -120,20 +116,16 @@ module _ (b : Build) (graph : IsGraph b.graph) where
   stops_more before later more zero k lt stop = absurd (omega arith)
   stops_more before later more (suc n) k lt stop =
       let v = get_within b.graph.vertices k (stopped_there b graph before k stop) in
-      stopped_is b graph later k v.0 v.1 ∙ cases v.0 (each_below b.graph graph k v.0 v.1) (λ j below. stops_more before later more n j (omega arith)) (or_true (is_failed (ending_at before k)) (list_any (λ (e : Edge). is_stopped b before e.vertex) v.0.inputs) (sym (stopped_is b graph before k v.0 v.1) ∙ stop))
+      stopped_is b graph later k v.0 v.1 ∙ cases v.0 (each_below b.graph graph k v.0 v.1) (λ j below. stops_more before later more n j (omega arith)) (or_cases (is_failed (ending_at before k)) (list_any (λ (e : Edge). is_stopped b before e.vertex) v.0.inputs) (sym (stopped_is b graph before k v.0 v.1) ∙ stop))
     where
-      or_last : (a : Bool) → (a || true) ≡ true
-      or_last true = refl
-      or_last false = refl
-
       cases : (v : Vertex) → Each_of (LeadsBelow b.graph.vertices k) v.inputs → ((j : ℕ) → j < k → is_stopped b before j ≡ true → is_stopped b later j ≡ true)
-          → (is_failed (ending_at before k) ≡ true) ⊎ ((is_failed (ending_at before k) ≡ false) × (list_any (λ (e : Edge). is_stopped b before e.vertex) v.inputs ≡ true))
+          → (is_failed (ending_at before k) ≡ true) ⊎ (list_any (λ (e : Edge). is_stopped b before e.vertex) v.inputs ≡ true)
           → (is_failed (ending_at later k) || list_any (λ (e : Edge). is_stopped b later e.vertex) v.inputs) ≡ true
       cases v each below (inl h) = ap (λ t. t || list_any (λ (e : Edge). is_stopped b later e.vertex) v.inputs) (more k h)
       cases v each below (inr h) =
           let stops = some_as (λ (e : Edge). is_stopped b before e.vertex ≡ true) (LeadsBelow b.graph.vertices k) (λ (e : Edge). is_stopped b later e.vertex ≡ true) v.inputs
-          (any_true (λ (e : Edge). is_stopped b before e.vertex) v.inputs h.1) each (λ e stop leads. below e.vertex leads.lower stop) in
-          ap (λ t. is_failed (ending_at later k) || t) (true_any (λ (e : Edge). is_stopped b later e.vertex) v.inputs stops) ∙ or_last (is_failed (ending_at later k))
+          (any_true (λ (e : Edge). is_stopped b before e.vertex) v.inputs h) each (λ e stop leads. below e.vertex leads.lower stop) in
+          ap (λ t. is_failed (ending_at later k) || t) (true_any (λ (e : Edge). is_stopped b later e.vertex) v.inputs stops) ∙ or-true (is_failed (ending_at later k))
 
   -- a vertex keeps its status, or is not one that waits and stays stopped
   record Keeps (s t : State) : Type 0 where
@@ -156,7 +148,8 @@ module _ (b : Build) (graph : IsGraph b.graph) where
           ap (λ o. is_settled o || (is_waiting o && is_stopped b t.statuses k)) (same ∙ is) ∙ stops_more s.statuses t.statuses keeps.failures (suc k) k (omega arith) e
 
   -- a status that is written where nothing was over
-  written : (s : State) (v : ℕ) (old new : Status) → slice_get s.statuses v ≡ Some old → is_failed (ending_of (Some old)) ≡ false → is_over b s v ≡ false → is_waiting (Some new) ≡ false → (ws : List At) → Keeps s (record { statuses = slice_set s.statuses v new; workers = ws })
+  written : (s : State) (v : ℕ) (old new : Status) → slice_get s.statuses v ≡ Some old → is_failed (ending_of (Some old)) ≡ false → is_over b s v ≡ false
+      → is_waiting (Some new) ≡ false → (ws : List At) → Keeps s (record { statuses = slice_set s.statuses v new; workers = ws })
   written s v old new there unfailed open_ working ws = record {
     failures = λ j failed. elim (eq_or j v) [
       | inl h ↦ absurd (cc (sym (ap (λ o. is_failed (ending_of o)) (ap (slice_get s.statuses) h ∙ there)) ∙ failed, unfailed))

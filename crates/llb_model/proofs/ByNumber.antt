@@ -2,8 +2,9 @@
 use Rattle.std.proofs.Common.{◌≡◌, ℕ, zero, suc, ◌+◌, List, [], ◌∷◌, ◌++◌, length, take, Some, sym, ap, subst, ◌∙◌, add-zero, append_assoc, arith}
 use Rattle.std.specs.Prelude.{slice_get}
 use Rattle.std.proofs.lemmas.List.{append-nil, length-append}
+use Rattle.std.proofs.Math.Seq.{take-append_seam}
 use Rattle.llb_model.specs.ByNumber.{by_number}
-use Rattle.llb_model.proofs.Lists.{some_of, get_middle, take_middle}
+use Rattle.llb_model.proofs.Lists.{some_of, get_middle}
 
 module _ {A B : Type 0} (next : List B → A → B) where
   grows : (before : List B) (xs : List A) → (more : List B) × (by_number next before xs ≡ before ++ more)
@@ -18,7 +19,7 @@ module _ {A B : Type 0} (next : List B → A → B) where
   next_here : (before more items : List B) (x : A) → items ≡ before ++ (next before x ∷ more) → Next items (length before) x
   unfolding Next
   next_here before more items x e =
-      let front : take (length before) items ≡ before = ap (take (length before)) e ∙ take_middle before (next before x ∷ more) in
+      let front : take (length before) items ≡ before = ap (take (length before)) e ∙ take-append_seam before (next before x ∷ more) in
       ap (λ ys. slice_get ys (length before)) e ∙ get_middle before (next before x) more ∙ ap (λ ys. some_of (next ys x)) (sym front)
 
   next_at : (before : List B) (xs : List A) (k : ℕ) (x : A) → slice_get xs k ≡ Some x → Next (by_number next before xs) (length before + k) x

@@ -80,6 +80,13 @@ least_some test v (suc n) k e = go (test v) refl e (λ e. least_some test (v + 1
           below = λ j low lt. elim (cases_eq v j) [ inl h ↦ ap test (sym h) ∙ here | inr h ↦ r.below j (omega arith) lt ];
         }
 
+-- no worker runs where none has a next event
+pub nothing_runs : (b : Build) (ws : List At) (w : ℕ) → next_of b w ws ≡ None → (u : ℕ) (x : Execution) → slice_get ws u ≢ Some (Runs x)
+nothing_runs b [] w e u x there = cc
+nothing_runs b (Idle ∷ ws) w e zero x there = cc
+nothing_runs b (Idle ∷ ws) w e (suc u) x there = nothing_runs b ws (w + 1) e u x there
+nothing_runs b (Runs y ∷ ws) w e u x there = cc
+
 -- ---- progress
 
 module _ (b : Build) (graph : IsGraph b.graph) (s : State) (here : IsConsistent b s) where
@@ -88,14 +95,16 @@ module _ (b : Build) (graph : IsGraph b.graph) (s : State) (here : IsConsistent 
   over_by k o is = ap (λ o. is_settled o || (is_waiting o && is_stopped b s.statuses k)) is
 
   -- an input of a vertex that is over below, and has no tree, is stopped
-  input_stopped : (k : ℕ) → k ≤ length b.graph.vertices → ((j : ℕ) → j < k → is_over b s j ≡ true) → (e : Edge) → output_in (ending_at s.statuses e.vertex) e.index ≡ None → LeadsBelow b.graph.vertices k e → is_stopped b s.statuses e.vertex ≡ true
+  input_stopped : (k : ℕ) → k ≤ length b.graph.vertices → ((j : ℕ) → j < k → is_over b s j ≡ true) → (e : Edge) → output_in (ending_at s.statuses e.vertex) e.index ≡ None
+      → LeadsBelow b.graph.vertices k e → is_stopped b s.statuses e.vertex ≡ true
   input_stopped k fits below e none leads =
       let low = leads.lower in
       let v = get_within b.graph.vertices e.vertex (omega (arith, low, fits)) in
       let undone : is_done (ending_at s.statuses e.vertex) ≡ false = sym (edge_there b.graph (ending_at s.statuses) (done_count b graph s here) k fits e leads) ∙ ap is_some none in
       by_status v.0 v.1 (slice_get s.statuses e.vertex) refl (below e.vertex low) undone
     where
-      by_status : (v : Vertex) → slice_get b.graph.vertices e.vertex ≡ Some v → (o : Option Status) → slice_get s.statuses e.vertex ≡ o → is_over b s e.vertex ≡ true → is_done (ending_at s.statuses e.vertex) ≡ false → is_stopped b s.statuses e.vertex ≡ true
+      by_status : (v : Vertex) → slice_get b.graph.vertices e.vertex ≡ Some v → (o : Option Status) → slice_get s.statuses e.vertex ≡ o → is_over b s e.vertex ≡ true
+          → is_done (ending_at s.statuses e.vertex) ≡ false → is_stopped b s.statuses e.vertex ≡ true
       by_status v there None is over undone = absurd (cc (over_by e.vertex None is, over))
       by_status v there (Some Waiting) is over undone = sym (over_by e.vertex (Some Waiting) is) ∙ over
       by_status v there (Some (Running w)) is over undone = absurd (cc (over_by e.vertex (Some (Running w)) is, over))
@@ -103,7 +112,8 @@ module _ (b : Build) (graph : IsGraph b.graph) (s : State) (here : IsConsistent 
           stopped_is b graph s.statuses e.vertex v there ∙ ap (λ o. is_failed (ending_of o) || list_any (λ (d : Edge). is_stopped b s.statuses d.vertex) v.inputs) is
       by_status v there (Some (Settled (Done trees))) is over undone = absurd (cc (ap (λ o. is_done (ending_of o)) is, undone))
 
-  pub progress : (n : ℕ) → n ≤ length b.graph.vertices → ((k w : ℕ) → k < n → slice_get s.statuses k ≢ Some (Running w)) → ((k : ℕ) → k < n → is_ready b s.statuses k ≡ false) → (k : ℕ) → k < n → is_over b s k ≡ true
+  pub progress : (n : ℕ) → n ≤ length b.graph.vertices → ((k w : ℕ) → k < n → slice_get s.statuses k ≢ Some (Running w)) → ((k : ℕ) → k < n → is_ready b s.statuses k ≡ false)
+      → (k : ℕ) → k < n → is_over b s k ≡ true
   progress zero fits none_runs none_ready k lt = absurd (omega arith)
   progress (suc n) fits none_runs none_ready k lt =
       this k lt (λ j below. progress n (omega arith) (λ i w lt. none_runs i w (omega arith)) (λ i lt. none_ready i (omega arith)) j (omega arith))
@@ -121,7 +131,8 @@ module _ (b : Build) (graph : IsGraph b.graph) (s : State) (here : IsConsistent 
               over_by k (Some Waiting) is ∙ stopped_is b graph s.statuses k v there ∙ ap (λ o. is_failed (ending_of o) || list_any (λ (e : Edge). is_stopped b s.statuses e.vertex) v.inputs) is
               ∙ true_any (λ (e : Edge). is_stopped b s.statuses e.vertex) v.inputs stops
 
-          by_inputs : (v : Vertex) → slice_get b.graph.vertices k ≡ Some v → slice_get s.statuses k ≡ Some Waiting → (o : Option (List TreeMap)) → inputs_from (ending_at s.statuses) v.inputs ≡ o → is_over b s k ≡ true
+          by_inputs : (v : Vertex) → slice_get b.graph.vertices k ≡ Some v → slice_get s.statuses k ≡ Some Waiting → (o : Option (List TreeMap))
+              → inputs_from (ending_at s.statuses) v.inputs ≡ o → is_over b s k ≡ true
           by_inputs v there is None has = waits v there is has
           by_inputs v there is (Some trees) has =
               let ready : is_ready b s.statuses k ≡ true = ready_by_inputs b s.statuses k v there ∙ ap (λ o. is_waiting o && is_some (inputs_from (ending_at s.statuses) v.inputs)) is ∙ ap is_some has in
@@ -148,12 +159,6 @@ module _ (b : Build) (graph : IsGraph b.graph) (s : State) (here : IsConsistent 
 
   -- ---- the chosen event
 
-  none_runs : (ws : List At) (w : ℕ) → next_of b w ws ≡ None → (u : ℕ) (x : Execution) → slice_get ws u ≢ Some (Runs x)
-  none_runs [] w e u x there = cc
-  none_runs (Idle ∷ ws) w e zero x there = cc
-  none_runs (Idle ∷ ws) w e (suc u) x there = none_runs ws (w + 1) e u x there
-  none_runs (Runs y ∷ ws) w e u x there = cc
-
   all_idle : (ws : List At) (w : ℕ) → ((u : ℕ) (x : Execution) → slice_get ws u ≢ Some (Runs x)) → next_of b w ws ≡ None
   all_idle [] w none = refl
   all_idle (Idle ∷ ws) w none = all_idle ws (w + 1) (λ u x. none (suc u) x)
@@ -170,7 +175,7 @@ module _ (b : Build) (graph : IsGraph b.graph) (s : State) (here : IsConsistent 
   pub none_is_complete : chosen b s ≡ None → is_complete b s ≡ true
   none_is_complete e =
       let o = or_none (next_of b 0 s.workers) (next_claim b s) e in
-      let idle = none_runs s.workers 0 o.0 in
+      let idle = nothing_runs b s.workers 0 o.0 in
       let ready = least_none (is_ready b s.statuses) 0 (length b.graph.vertices) (map_none (least (is_ready b s.statuses) 0 (length b.graph.vertices)) o.1) in
       true_each (is_over b s) 0 (length b.graph.vertices)
       (λ k low high. progress (length b.graph.vertices) (omega arith) (λ j w lt runs. let x = here.running j w runs in idle w x.0 x.1) (λ j lt. ready j (omega arith) (omega arith)) k (omega arith))
@@ -185,7 +190,8 @@ module _ (b : Build) (graph : IsGraph b.graph) (s : State) (here : IsConsistent 
 
 -- ---- complete runs
 
-pub complete_plain : (b : Build) → IsGraph b.graph → (s : State) → IsConsistent b s → StandsByOutcomes b s → is_complete b s ≡ true → (k : ℕ) → k < length b.graph.vertices → StandsPlainly (slice_get s.statuses k) (outcome b k)
+pub complete_plain : (b : Build) → IsGraph b.graph → (s : State) → IsConsistent b s → StandsByOutcomes b s → is_complete b s ≡ true → (k : ℕ) → k < length b.graph.vertices
+    → StandsPlainly (slice_get s.statuses k) (outcome b k)
 complete_plain b graph s here stands complete k lt =
     let status = get_within s.statuses k (omega (arith, here.count)) in
     subst (λ o. StandsPlainly o (outcome b k)) (sym status.1) (by_status status.0 status.1)

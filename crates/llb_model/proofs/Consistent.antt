@@ -1,6 +1,7 @@
 -- Every state that events lead to is consistent.
 use Rattle.std.proofs.Common.{◌≡◌, ◌≢◌, ℕ, true, false, List, [], ◌∷◌, length, Option, Some, None, is_some, inl, inr, refl, sym, ap, subst, ◌∙◌, arith}
 use Rattle.std.specs.Prelude.{slice_get, slice_set, replicate}
+use Rattle.std.proofs.lemmas.List.{length-replicate}
 use Rattle.llb_loader.specs.declared.graph.Edge.{Edge}
 use Rattle.llb_loader.specs.declared.graph.Vertex.{Vertex}
 use Rattle.llb_tree.specs.Tree.{TreeMap}
@@ -10,19 +11,19 @@ use Rattle.llb_model.specs.State.{Status, Waiting, Running, Settled, Execution, 
 use Rattle.llb_model.specs.Table.{Event, Claim, Step, Settle, Reply, execution_on, after_claim, with_step, after_step, after_settle, table}
 use Rattle.llb_model.specs.Run.{run}
 use Rattle.llb_model.specs.Consistent.{IsConsistent}
-use Rattle.llb_model.proofs.Lists.{some_of, inside, eq_or, got_set, get_set_same, get_set_other, length_set, got_replicate, length_replicate, Each_of, get_within, got_within}
+use Rattle.llb_model.proofs.Lists.{some_of, inside, eq_or, got_set, get_set_same, get_set_other, length_set, got_replicate, Each_of, get_within, got_within}
 use Rattle.llb_model.proofs.Events.{Answer, IsReady, claim_is, step_is, settle_is}
 use Rattle.llb_model.proofs.Runs.{run_keeps}
 use Rattle.llb_model.proofs.Outcomes.{inputs_mono, ended_count}
 
 pub opening_consistent : (b : Build) (o : Opening) → IsConsistent b (opening b o)
 opening_consistent b o = record {
-  count = length_replicate (length b.graph.vertices) Waiting;
+  count = length-replicate (length b.graph.vertices) Waiting;
   running = λ v w there. absurd (let h : Running w ≡ Waiting = got_replicate (length b.graph.vertices) Waiting v (Running w) there in cc);
   working = λ w x there. absurd (let h : Runs x ≡ Idle = got_replicate o.workers Idle w (Runs x) there in cc);
   outputs = λ v x trees there done. absurd (let h : Settled (Done trees) ≡ Waiting = got_replicate (length b.graph.vertices) Waiting v (Settled (Done trees)) done in cc);
   inputs = λ v x there stays. absurd (
-      let status = get_within (replicate (length b.graph.vertices) Waiting) v (omega (arith, length_replicate (length b.graph.vertices) Waiting, got_within b.graph.vertices v x there)) in
+      let status = get_within (replicate (length b.graph.vertices) Waiting) v (omega (arith, length-replicate (length b.graph.vertices) Waiting, got_within b.graph.vertices v x there)) in
       let waits : status.0 ≡ Waiting = got_replicate (length b.graph.vertices) Waiting v status.0 status.1 in
       cc (ap is_waiting status.1 ∙ ap (λ t. is_waiting (Some t)) waits, stays)
       );
@@ -42,7 +43,8 @@ some_mono f g more edges some = by_inputs (inputs_from f edges) refl some
 
 module _ (b : Build) (s : State) (here : IsConsistent b s) where
   -- where a vertex that has not ended gets another status
-  ends_stay : (v : ℕ) (old new : Status) → slice_get s.statuses v ≡ Some old → ending_of (Some old) ≡ None → (j : ℕ) (e : Ending) → ending_at s.statuses j ≡ Some e → ending_at (slice_set s.statuses v new) j ≡ Some e
+  ends_stay : (v : ℕ) (old new : Status) → slice_get s.statuses v ≡ Some old → ending_of (Some old) ≡ None → (j : ℕ) (e : Ending) → ending_at s.statuses j ≡ Some e
+      → ending_at (slice_set s.statuses v new) j ≡ Some e
   ends_stay v old new there unended j e is = elim (eq_or j v) [
     | inl h ↦ absurd (let none : ending_at s.statuses j ≡ None = ap (ending_at s.statuses) h ∙ ap ending_of there ∙ unended in cc)
     | inr h ↦ ap ending_of (get_set_other s.statuses v new j h) ∙ is
@@ -50,7 +52,8 @@ module _ (b : Build) (s : State) (here : IsConsistent b s) where
 
   inputs_stay : (v : ℕ) (old new : Status) → slice_get s.statuses v ≡ Some old → ending_of (Some old) ≡ None
       → ((x : Vertex) → slice_get b.graph.vertices v ≡ Some x → is_some (inputs_from (ending_at s.statuses) x.inputs) ≡ true)
-      → (k : ℕ) (x : Vertex) → slice_get b.graph.vertices k ≡ Some x → is_waiting (slice_get (slice_set s.statuses v new) k) ≡ false → is_some (inputs_from (ending_at (slice_set s.statuses v new)) x.inputs) ≡ true
+      → (k : ℕ) (x : Vertex) → slice_get b.graph.vertices k ≡ Some x → is_waiting (slice_get (slice_set s.statuses v new) k) ≡ false
+      → is_some (inputs_from (ending_at (slice_set s.statuses v new)) x.inputs) ≡ true
   inputs_stay v old new there unended own k x at moved = some_mono (ending_at s.statuses) (ending_at (slice_set s.statuses v new)) (ends_stay v old new there unended) x.inputs (elim (eq_or k v) [
     | inl h ↦ own x (ap (slice_get b.graph.vertices) (sym h) ∙ at)
     | inr h ↦ here.inputs k x at (sym (ap is_waiting (get_set_other s.statuses v new k h)) ∙ moved)

@@ -1,5 +1,5 @@
 -- What an event that is granted does, and where one is granted.
-use Rattle.std.proofs.Common.{◌≡◌, ℕ, Bool, true, false, List, [], Option, Some, None, option_map, refl, sym, ap, subst, ◌∙◌, cond}
+use Rattle.std.proofs.Common.{◌≡◌, ℕ, Bool, true, false, List, [], length, Option, Some, None, option_map, refl, sym, ap, subst, ◌∙◌, cond}
 use Rattle.std.specs.Prelude.{slice_get, Result, Ok, Err}
 use Rattle.std.specs.Result.{result_ok}
 use Rattle.llb_loader.specs.declared.graph.Vertex.{Vertex}
@@ -8,8 +8,8 @@ use Rattle.llb_model.specs.Program.{Build, MicroStep, Start, start_with, begin, 
 use Rattle.llb_model.specs.Outcome.{inputs_from}
 use Rattle.llb_model.specs.State.{Status, Waiting, Running, Settled, Execution, At, Idle, Runs, State, ending_at, start_from, ready, program_in, work_of, is_finished, next_step, ending_from}
 use Rattle.llb_model.specs.SettleCause.{SettleCause, NotFinished}
-use Rattle.llb_model.specs.Table.{Claim, Step, Settle, Reply, or_not_ready, claim_start, claim_with, claimed, step_by, step_with, stepped, settle_with, settled, table}
-use Rattle.llb_model.proofs.Lists.{inside}
+use Rattle.llb_model.specs.Table.{Event, Claim, Step, Settle, Reply, or_not_ready, claim_start, claim_with, claimed, execution_on, with_step, step_by, step_with, stepped, settle_with, settled, table}
+use Rattle.llb_model.proofs.Lists.{inside, length_set}
 
 -- the state after an event, and its reply
 abbrev pub Answer : Type 0
@@ -119,6 +119,14 @@ settle_is b s w a e = by_worker (slice_get s.workers w) refl (granted_ok (settle
     by_worker None is e = absurd cc
     by_worker (Some Idle) is e = absurd cc
     by_worker (Some (Runs x)) is e = by_test x is (is_finished (program_in b x).steps x) refl e
+
+-- as many workers as before
+pub workers_stay : (b : Build) (s : State) (e : Event) (a : Answer) → table b s e ≡ Some a → length a.0.workers ≡ length s.workers
+workers_stay b s (Claim w v) a given = let c = claim_is b s w v a given in ap (λ (t : Answer). length t.0.workers) c.gives ∙ length_set s.workers w (Runs (execution_on v (begin b c.start [])))
+workers_stay b s (Step w) a given =
+    let c = step_is b s w a given in
+    ap (λ (t : Answer). length t.0.workers) c.gives ∙ length_set s.workers w (Runs (with_step c.x (step_on c.x.done (Some c.step) (work_of s c.x))))
+workers_stay b s (Settle w) a given = let c = settle_is b s w a given in ap (λ (t : Answer). length t.0.workers) c.gives ∙ length_set s.workers w Idle
 
 -- ---- where it is granted
 

@@ -1,7 +1,9 @@
 -- The trees of inputs; and the outcome of a vertex is that of its program on the outcomes of its inputs.
-use Rattle.std.proofs.Common.{◌≡◌, ℕ, zero, suc, ◌+◌, ◌<◌, ◌≤◌, Bool, true, false, not, ◌&&◌, List, [], ◌∷◌, length, take, Option, Some, None, is_some, unwrap_or, inl, inr, refl, sym, ap, subst, ◌∙◌, arith}
+use Rattle.std.proofs.Common.{◌≡◌, ℕ, zero, suc, ◌<◌, ◌≤◌, Bool, true, false, not, ◌&&◌, List, [], ◌∷◌, length, take, Option, Some, None, is_some, unwrap_or, inl, inr, refl, sym, ap, subst, ◌∙◌, arith}
 use Rattle.std.specs.Prelude.{slice_get, map}
-use Rattle.std.specs.List.{All, list_all, range_with_len}
+use Rattle.std.specs.List.{All, list_all}
+use Rattle.std.proofs.lemmas.Bool.{and_parts}
+use Rattle.std.proofs.lemmas.List.FromFn.{length-map-range_with_len}
 use Rattle.std.proofs.lemmas.List.Elements.{All-head, All-tail}
 use Rattle.std.proofs.lemmas.Option.{get_or_from_slice_get}
 use Rattle.llb_loader.specs.Graph.{Numbered, LeadsBelow, IsGraph}
@@ -13,7 +15,7 @@ use Rattle.llb_model.specs.Program.{Build, Program, View, Files, program_of, sta
 use Rattle.llb_model.specs.Outcome.{Ending, Done, Failed, Outcome, Ended, Blocked, ended, ending, output_in, both, all_there, inputs_from, outcome_on, ending_in, next_outcome, outcomes, outcome, has_cache, next_plain, is_plain}
 use Rattle.llb_model.specs.ByNumber.{by_number}
 use Rattle.llb_model.specs.State.{is_done}
-use Rattle.llb_model.proofs.Lists.{some_of, inside, and_true, get_take, Each_of, Some_of, some_with, get_within, got_within}
+use Rattle.llb_model.proofs.Lists.{some_of, inside, get_take, Each_of, Some_of, some_with, get_within, got_within}
 use Rattle.llb_model.proofs.ByNumber.{by_number_is}
 
 -- ---- inputs
@@ -89,7 +91,8 @@ abbrev pub HasOutputs : Numbered → (ℕ → Option Ending) → Type 0
 HasOutputs g f = (j : ℕ) (x : Vertex) (trees : List TreeMap) → slice_get g.vertices j ≡ Some x → f j ≡ Some (Done trees) → length trees ≡ x.outputs
 
 -- then an edge has a tree exactly where its vertex is done
-pub edge_there : (g : Numbered) (f : ℕ → Option Ending) → HasOutputs g f → (k : ℕ) → k ≤ length g.vertices → (e : Edge) → LeadsBelow g.vertices k e → is_some (output_in (f e.vertex) e.index) ≡ is_done (f e.vertex)
+pub edge_there : (g : Numbered) (f : ℕ → Option Ending) → HasOutputs g f → (k : ℕ) → k ≤ length g.vertices → (e : Edge) → LeadsBelow g.vertices k e
+    → is_some (output_in (f e.vertex) e.index) ≡ is_done (f e.vertex)
 edge_there g f counts k fits e leads =
     let x = get_within g.vertices e.vertex (let lt = leads.lower in omega (arith, lt, fits)) in
     by_ending x.0 x.1 (f e.vertex) refl
@@ -141,7 +144,7 @@ module _ (b : Build) (graph : IsGraph b.graph) where
 
   -- the vertices that a plain one's edges lead to are plain
   pub plain_inputs : (k : ℕ) (v : Vertex) → slice_get b.graph.vertices k ≡ Some v → is_plain b k ≡ true → Each_of (λ (e : Edge). is_plain b e.vertex ≡ true) v.inputs
-  plain_inputs k v there is = each v.inputs (each_below b.graph graph k v there) (and_true (not (has_cache v)) (list_all front v.inputs) (sym (ap (λ o. unwrap_or o false) (by_number_is next_plain b.graph.vertices k v there)) ∙ is)).1
+  plain_inputs k v there is = each v.inputs (each_below b.graph graph k v there) (and_parts (not (has_cache v)) (list_all front v.inputs) (sym (ap (λ o. unwrap_or o false) (by_number_is next_plain b.graph.vertices k v there)) ∙ is)).1
     where
       front : Edge → Bool
       front e = unwrap_or (slice_get (take k (by_number next_plain [] b.graph.vertices)) e.vertex) false
@@ -149,7 +152,7 @@ module _ (b : Build) (graph : IsGraph b.graph) where
       each : (edges : List Edge) → Each_of (LeadsBelow b.graph.vertices k) edges → list_all front edges ≡ true → Each_of (λ (e : Edge). is_plain b e.vertex ≡ true) edges
       each [] leads all = tt
       each (e ∷ edges) leads all =
-          let a = and_true (front e) (list_all front edges) all in
+          let a = and_parts (front e) (list_all front edges) all in
           (ap (λ o. unwrap_or o false) (sym (get_take (by_number next_plain [] b.graph.vertices) k e.vertex leads.0.lower)) ∙ a.0, each edges leads.1 a.1)
 
   AllPlain : ℕ → Type 0
@@ -176,17 +179,9 @@ module _ (b : Build) (graph : IsGraph b.graph) where
 
 -- ---- the number of outputs
 
-length_map : {A B : Type 0} (f : A → B) (xs : List A) → length (map f xs) ≡ length xs
-length_map f [] = refl
-length_map f (x ∷ xs) = ap suc (length_map f xs)
-
-length_range : (a n : ℕ) → length (range_with_len a n) ≡ n
-length_range a zero = refl
-length_range a (suc n) = ap suc (length_range (a + 1) n)
-
 outputs_count : (p : Program) (view : View) → length (outputs_of p view) ≡ p.outputs
 unfolding outputs_of
-outputs_count p (Files inputs results) = length_map (λ i. result_for i p.steps results) (range_with_len 0 p.outputs) ∙ length_range 0 p.outputs
+outputs_count p (Files inputs results) = length-map-range_with_len (λ i. result_for i p.steps results) 0 p.outputs
 
 pub ended_count : (p : Program) (view : View) (fault : Option VertexFault) (trees : List TreeMap) → ended p view fault ≡ Done trees → length trees ≡ p.outputs
 ended_count p view None trees e = let same : outputs_of p view ≡ trees = cc in ap length (sym same) ∙ outputs_count p view
@@ -223,7 +218,8 @@ module _ (b : Build) (graph : IsGraph b.graph) where
       by_ending v (Failed f) is = record { vertex = k; fault = f; is = is }
       by_ending v (Done trees) is = let both : is_done (plain b k) ≡ true = ap (λ o. is_done (ending_in o)) is in absurd cc
 
-      by_inputs : (v : Vertex) → slice_get b.graph.vertices k ≡ Some v → (o : Option (List TreeMap)) → inputs_from (plain b) v.inputs ≡ o → ((j : ℕ) → j < k → is_done (plain b j) ≡ false → IsFailure b) → IsFailure b
+      by_inputs : (v : Vertex) → slice_get b.graph.vertices k ≡ Some v → (o : Option (List TreeMap)) → inputs_from (plain b) v.inputs ≡ o
+          → ((j : ℕ) → j < k → is_done (plain b j) ≡ false → IsFailure b) → IsFailure b
       by_inputs v there (Some ts) is below =
           by_ending v (ending (program_of v) (whole (program_of v).steps (begin b (start_with v ts) []))) (outcome_is b graph k v there ∙ ap (λ o. some_of (outcome_on b v o)) is)
       by_inputs v there None is below =

@@ -1,7 +1,7 @@
 -- What the first micro-steps of a program leave, and which one comes next.
 use Rattle.std.proofs.Common.{◌≡◌, ℕ, zero, suc, ◌+◌, ◌-◌, ◌<◌, ◌≤◌, Bool, true, false, ◌||◌, List, length, Option, Some, None, is_some, inl, inr, refl, sym, ap, ◌∙◌, cond, add-zero, add-suc, arith}
 use Rattle.std.specs.Prelude.{slice_get, nat_le, Result, Ok, Err}
-use Rattle.std.proofs.lemmas.Bool.{leb-true, leb-false, cases_lt}
+use Rattle.std.proofs.lemmas.Bool.{leb-true, leb-false, le-leb, cases_lt}
 use Rattle.llb_model.specs.declared.fault.VertexFault.{VertexFault}
 use Rattle.llb_model.specs.Program.{MicroStep, Act, View, Work, Left, micro_step, with_own, tried, act_on, step_on, unless_faulted, go_on, part, whole}
 use Rattle.llb_model.specs.State.{Execution, is_finished, next_step}
@@ -15,10 +15,7 @@ is_over_at steps left k = is_some left.fault || nat_le (length steps) k
 
 past_end : (a : Bool) (n k : ℕ) → n ≤ k → (a || nat_le n k) ≡ true
 past_end true n k le = refl
-past_end false n k le = leb n k le
-  where
-    leb : (n k : ℕ) → n ≤ k → nat_le n k ≡ true
-    leb n k le = grind arith
+past_end false n k le = le-leb n k le
 
 goes_nowhere : (steps : List MicroStep) (k : ℕ) (left : Left) (o : Option VertexFault) → left.fault ≡ o → (is_some o || nat_le (length steps) k) ≡ true → go_on steps k left ≡ left
 goes_nowhere steps k left (Some f) is over = ap (λ o. unless_faulted o left (step_on k (slice_get steps k) left.work)) is

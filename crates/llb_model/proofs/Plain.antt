@@ -1,6 +1,7 @@
 -- Whatever events were granted: where no cache is at or before a vertex, it stands by its plain outcome.
-use Rattle.std.proofs.Common.{◌≡◌, ℕ, suc, ◌+◌, true, List, [], ◌∷◌, length, Option, Some, None, inl, inr, refl, sym, ap, subst, ◌∙◌, arith}
+use Rattle.std.proofs.Common.{◌≡◌, ℕ, suc, ◌+◌, true, List, [], length, Option, Some, None, inl, inr, refl, sym, ap, subst, ◌∙◌, arith}
 use Rattle.std.specs.Prelude.{slice_get}
+use Rattle.std.proofs.lemmas.List.{nil_from_length}
 use Rattle.llb_loader.specs.Graph.{IsGraph}
 use Rattle.llb_tree.specs.Tree.{TreeMap}
 use Rattle.llb_model.specs.declared.fault.VertexFault.{VertexFault}
@@ -61,7 +62,7 @@ module _ (b : Build) (graph : IsGraph b.graph) (s : State) (stands : StandsByOut
         ∙ ap (λ (o : Option VertexFault). unless_faulted o (left_of s c.x) (step_on c.x.done (slice_get (program_of old.vertex).steps c.x.done) (work_of s c.x))) next.clean
         ∙ ap (λ (p : Program). step_on c.x.done (slice_get p.steps c.x.done) (work_of s c.x)) (sym (ap program_at old.there))
         ∙ ap (λ m. step_on c.x.done m (work_of s c.x)) next.there
-        ∙ ap (left_with left) (empty left.work.trees (step_keeps c.x.done (Some c.step) (work_of s c.x)));
+        ∙ ap (left_with left) (nil_from_length left.work.trees (step_keeps c.x.done (Some c.step) (work_of s c.x)));
   }
     where
       old : IsUnderWay b s c.x
@@ -78,10 +79,6 @@ module _ (b : Build) (graph : IsGraph b.graph) (s : State) (stands : StandsByOut
 
       add_one : (n : ℕ) → n + 1 ≡ suc n
       add_one n = omega arith
-
-      empty : (ts : List TreeMap) → length ts ≡ 0 → ts ≡ []
-      empty [] e = refl
-      empty (t ∷ ts) e = absurd (omega (arith, e))
 
   ends : (w : ℕ) (a : Answer) (c : IsSettle b s w a) → is_plain b c.x.vertex ≡ true → outcome b c.x.vertex ≡ Some (Ended (ending_from (program_in b c.x) c.x))
   ends w a c is =
@@ -140,5 +137,6 @@ pub run_plain : (b : Build) → IsGraph b.graph → (s t : State) (es : List Eve
 run_plain b graph = run_keeps b (StandsByOutcomes b) (event_plain b graph)
 
 -- no vertex has a cache yet, so each that is settled has its plain outcome
-pub settled_plain : (b : Build) → IsGraph b.graph → (s : State) → IsConsistent b s → StandsByOutcomes b s → (v : ℕ) (e : Ending) → slice_get s.statuses v ≡ Some (Settled e) → outcome b v ≡ Some (Ended e)
+pub settled_plain : (b : Build) → IsGraph b.graph → (s : State) → IsConsistent b s → StandsByOutcomes b s → (v : ℕ) (e : Ending) → slice_get s.statuses v ≡ Some (Settled e)
+    → outcome b v ≡ Some (Ended e)
 settled_plain b graph s here stands v e is = stands.settled v e (all_plain b graph v (omega (arith, got_within s.statuses v (Settled e) is, here.count))) is

@@ -19,7 +19,8 @@ some_start : (v : Vertex) (o : Option (List TreeMap)) → is_some (option_map (s
 some_start v None = refl
 some_start v (Some trees) = refl
 
-pub ready_by_inputs : (b : Build) (statuses : List Status) (v : ℕ) (x : Vertex) → slice_get b.graph.vertices v ≡ Some x → is_ready b statuses v ≡ (is_waiting (slice_get statuses v) && is_some (inputs_from (ending_at statuses) x.inputs))
+pub ready_by_inputs : (b : Build) (statuses : List Status) (v : ℕ) (x : Vertex) → slice_get b.graph.vertices v ≡ Some x
+    → is_ready b statuses v ≡ (is_waiting (slice_get statuses v) && is_some (inputs_from (ending_at statuses) x.inputs))
 ready_by_inputs b statuses v x there = ap (λ o. is_some (start_from statuses (slice_get statuses v) o)) there ∙ by_status (slice_get statuses v)
   where
     by_status : (o : Option Status) → is_some (start_from statuses o (Some x)) ≡ (is_waiting o && is_some (inputs_from (ending_at statuses) x.inputs))

@@ -49,7 +49,8 @@ run_on b s t u xs ys rs qs first later =
     run_append b s xs ys ∙ ap (λ o. joined o (λ v. run b v ys)) first ∙ ap (option_map {U = State × List Reply} (λ (v : State × List Reply). (v.0, rs ++ v.1))) later
 
 -- an event more
-pub run_more : (b : Build) (s t u : State) (es : List Event) (rs : List Reply) (e : Event) (r : Reply) → run b s es ≡ Some (t, rs) → table b t e ≡ Some (u, r) → run b s (es ++ e ∷ []) ≡ Some (u, rs ++ r ∷ [])
+pub run_more : (b : Build) (s t u : State) (es : List Event) (rs : List Reply) (e : Event) (r : Reply) → run b s es ≡ Some (t, rs) → table b t e ≡ Some (u, r)
+    → run b s (es ++ e ∷ []) ≡ Some (u, rs ++ r ∷ [])
 run_more b s t u es rs e r first granted = run_on b s t u es (e ∷ []) rs (r ∷ []) first (run_one b t u e r granted)
 
 -- ---- induction over runs
@@ -69,7 +70,8 @@ pub run_first : (b : Build) (s : State) (e : Event) (es : List Event) (t : State
 unfolding run
 run_first b s e es t rs given = go (table b s e) refl given
   where
-    deeper : (a : Answer) → table b s e ≡ Some a → (o : Ran) → run b a.0 es ≡ o → option_map {U = State × List Reply} (λ (p : State × List Reply). (p.0, a.1 ∷ p.1)) o ≡ Some (t, rs) → IsFirstOf b s e es t rs
+    deeper : (a : Answer) → table b s e ≡ Some a → (o : Ran) → run b a.0 es ≡ o
+        → option_map {U = State × List Reply} (λ (p : State × List Reply). (p.0, a.1 ∷ p.1)) o ≡ Some (t, rs) → IsFirstOf b s e es t rs
     deeper a is None goes h = absurd cc
     deeper a is (Some p) goes h =
         let same : ◌≡◌ {A = State × List Reply} (p.0, a.1 ∷ p.1) (t, rs) = inside h in

@@ -3,6 +3,8 @@ use Rattle.std.proofs.Common.{◌≡◌, ℕ, zero, suc, ◌<◌, Bool, true, fa
 use Rattle.std.specs.Prelude.{slice_get}
 use Rattle.std.specs.List.{list_any, list_all}
 use Rattle.std.proofs.lemmas.List.{length-take-le}
+use Rattle.std.proofs.lemmas.Bool.{and_parts, or_cases}
+use Rattle.std.proofs.Math.Bool.{and-false}
 use Rattle.llb_loader.specs.Graph.{LeadsBelow, IsGraph}
 use Rattle.llb_loader.specs.declared.graph.Edge.{Edge}
 use Rattle.llb_loader.specs.declared.graph.Vertex.{Vertex}
@@ -13,7 +15,7 @@ use Rattle.llb_model.specs.Outcome.{Ending, Done, Failed, Blocked, output_in, in
 use Rattle.llb_model.specs.State.{Status, Waiting, Running, Settled, State, ending_of, ending_at, ready, is_ready, is_waiting, is_done, is_failed, next_stopped, stopped, is_blocked}
 use Rattle.llb_model.specs.Consistent.{IsConsistent}
 use Rattle.llb_model.specs.Plain.{StandsByOutcomes}
-use Rattle.llb_model.proofs.Lists.{some_of, get_take, get_within, got_within, Each_of, and_true, or_true, any_true, some_as}
+use Rattle.llb_model.proofs.Lists.{some_of, get_take, get_within, got_within, Each_of, any_true, some_as}
 use Rattle.llb_model.proofs.ByNumber.{by_number_is, by_number_length}
 use Rattle.llb_model.proofs.Events.{ready_is}
 use Rattle.llb_model.proofs.Outcomes.{inputs_none, each_below, HasOutputs, inputs_there, plain, outcome_is, plain_inputs}
@@ -25,21 +27,24 @@ use Rattle.llb_model.proofs.Plain.{ending_settled, ending_plain}
 abbrev pub is_stopped : Build → List Status → ℕ → Bool
 is_stopped b statuses k = unwrap_or (slice_get (stopped b statuses) k) false
 
-pub stopped_next : (b : Build) (statuses : List Status) (k : ℕ) (v : Vertex) → slice_get b.graph.vertices k ≡ Some v → slice_get (stopped b statuses) k ≡ Some (next_stopped statuses (take k (stopped b statuses)) v)
+pub stopped_next : (b : Build) (statuses : List Status) (k : ℕ) (v : Vertex) → slice_get b.graph.vertices k ≡ Some v
+    → slice_get (stopped b statuses) k ≡ Some (next_stopped statuses (take k (stopped b statuses)) v)
 stopped_next b statuses k v there = by_number_is (next_stopped statuses) b.graph.vertices k v there
 
 pub stopped_length : (b : Build) (statuses : List Status) → length (stopped b statuses) ≡ length b.graph.vertices
 stopped_length b statuses = by_number_length (next_stopped statuses) b.graph.vertices
 
 module _ (b : Build) (graph : IsGraph b.graph) (statuses : List Status) where
-  pub stopped_is : (k : ℕ) (v : Vertex) → slice_get b.graph.vertices k ≡ Some v → is_stopped b statuses k ≡ (is_failed (ending_at statuses k) || list_any (λ (e : Edge). is_stopped b statuses e.vertex) v.inputs)
+  pub stopped_is : (k : ℕ) (v : Vertex) → slice_get b.graph.vertices k ≡ Some v
+      → is_stopped b statuses k ≡ (is_failed (ending_at statuses k) || list_any (λ (e : Edge). is_stopped b statuses e.vertex) v.inputs)
   stopped_is k v there =
       let fits : length (take k (stopped b statuses)) ≡ k = length-take-le k (stopped b statuses) (omega (arith, stopped_length b statuses, got_within b.graph.vertices k v there)) in
       ap (λ o. unwrap_or o false) (stopped_next b statuses k v there)
       ∙ ap (λ n. is_failed (ending_at statuses n) || list_any (λ (e : Edge). unwrap_or (slice_get (take k (stopped b statuses)) e.vertex) false) v.inputs) fits
       ∙ ap (λ t. is_failed (ending_at statuses k) || t) (lower v.inputs (each_below b.graph graph k v there))
     where
-      lower : (edges : List Edge) → Each_of (LeadsBelow b.graph.vertices k) edges → list_any (λ (e : Edge). unwrap_or (slice_get (take k (stopped b statuses)) e.vertex) false) edges ≡ list_any (λ (e : Edge). is_stopped b statuses e.vertex) edges
+      lower : (edges : List Edge) → Each_of (LeadsBelow b.graph.vertices k) edges
+          → list_any (λ (e : Edge). unwrap_or (slice_get (take k (stopped b statuses)) e.vertex) false) edges ≡ list_any (λ (e : Edge). is_stopped b statuses e.vertex) edges
       lower [] each = refl
       lower (e ∷ edges) each = λ i. unwrap_or (get_take (stopped b statuses) k e.vertex each.0.lower i) false || lower edges each.1 i
 
@@ -90,11 +95,12 @@ module _ (b : Build) (graph : IsGraph b.graph) (s : State) (here : IsConsistent 
           → ((j : ℕ) → j < k → is_done (ending_at s.statuses j) ≡ true → is_stopped b s.statuses j ≡ false) → list_any (λ (e : Edge). is_stopped b s.statuses e.vertex) edges ≡ false
       none [] leads all clear = refl
       none (e ∷ edges) leads all clear =
-          let a = and_true (is_done (ending_at s.statuses e.vertex)) (list_all (λ (e : Edge). is_done (ending_at s.statuses e.vertex)) edges) all in
+          let a = and_parts (is_done (ending_at s.statuses e.vertex)) (list_all (λ (e : Edge). is_done (ending_at s.statuses e.vertex)) edges) all in
           ap (λ t. t || list_any (λ (e : Edge). is_stopped b s.statuses e.vertex) edges) (clear e.vertex leads.0.lower a.0) ∙ none edges leads.1 a.1 clear
 
   -- a vertex that has not failed, with all its inputs
-  pub there_not_stopped : (k : ℕ) (v : Vertex) → slice_get b.graph.vertices k ≡ Some v → is_some (inputs_from (ending_at s.statuses) v.inputs) ≡ true → is_failed (ending_at s.statuses k) ≡ false → is_stopped b s.statuses k ≡ false
+  pub there_not_stopped : (k : ℕ) (v : Vertex) → slice_get b.graph.vertices k ≡ Some v → is_some (inputs_from (ending_at s.statuses) v.inputs) ≡ true
+      → is_failed (ending_at s.statuses k) ≡ false → is_stopped b s.statuses k ≡ false
   unfolding AreClear
   there_not_stopped k v there some own = clear_below (suc k) k v (omega arith) there some own
 
@@ -125,10 +131,6 @@ module _ (b : Build) (graph : IsGraph b.graph) (s : State) (here : IsConsistent 
   pub stops_by : (k : ℕ) → is_stopped b s.statuses k ≡ (is_failed (ending_at s.statuses k) || is_blocked b s.statuses k)
   stops_by k = by_cases (is_failed (ending_at s.statuses k)) refl (is_stopped b s.statuses k) refl
     where
-      none_and : (t : Bool) → false ≡ (t && false)
-      none_and true = refl
-      none_and false = refl
-
       by_cases : (f : Bool) → is_failed (ending_at s.statuses k) ≡ f → (t : Bool) → is_stopped b s.statuses k ≡ t → t ≡ (f || (is_waiting (slice_get s.statuses k) && t))
       by_cases true own true stop = refl
       by_cases true own false stop =
@@ -137,14 +139,15 @@ module _ (b : Build) (graph : IsGraph b.graph) (s : State) (here : IsConsistent 
           let yes : is_stopped b s.statuses k ≡ true = stopped_is b graph s.statuses k v.0 v.1 ∙ ap (λ t. t || list_any (λ (e : Edge). is_stopped b s.statuses e.vertex) v.0.inputs) own in
           absurd (cc (yes, stop))
       by_cases false own true stop = ap (λ t. t && true) (sym (stopped_waits k stop own))
-      by_cases false own false stop = none_and (is_waiting (slice_get s.statuses k))
+      by_cases false own false stop = sym (and-false (is_waiting (slice_get s.statuses k)))
 
   -- a vertex is blocked exactly where it waits, and an input of it has failed or is blocked
   pub blocked_is : (k : ℕ) (v : Vertex) → slice_get b.graph.vertices k ≡ Some v
       → is_blocked b s.statuses k ≡ (is_waiting (slice_get s.statuses k) && list_any (λ (e : Edge). is_failed (ending_at s.statuses e.vertex) || is_blocked b s.statuses e.vertex) v.inputs)
   blocked_is k v there = by_status (slice_get s.statuses k) refl
     where
-      each_same : (edges : List Edge) → list_any (λ (e : Edge). is_stopped b s.statuses e.vertex) edges ≡ list_any (λ (e : Edge). is_failed (ending_at s.statuses e.vertex) || is_blocked b s.statuses e.vertex) edges
+      each_same : (edges : List Edge)
+          → list_any (λ (e : Edge). is_stopped b s.statuses e.vertex) edges ≡ list_any (λ (e : Edge). is_failed (ending_at s.statuses e.vertex) || is_blocked b s.statuses e.vertex) edges
       each_same [] = refl
       each_same (e ∷ edges) = λ i. stops_by e.vertex i || each_same edges i
 
@@ -167,7 +170,8 @@ module _ (b : Build) (graph : IsGraph b.graph) (s : State) (stands : StandsByOut
   IsLowerStop k e = (e.vertex < k) × (is_stopped b s.statuses e.vertex ≡ true)
 
   -- behind a stopped input the plain outcome is Blocked
-  behind : (k : ℕ) (v : Vertex) → slice_get b.graph.vertices k ≡ Some v → is_plain b k ≡ true → NoTrees k → list_any (λ (e : Edge). is_stopped b s.statuses e.vertex) v.inputs ≡ true → outcome b k ≡ Some Blocked
+  behind : (k : ℕ) (v : Vertex) → slice_get b.graph.vertices k ≡ Some v → is_plain b k ≡ true → NoTrees k
+      → list_any (λ (e : Edge). is_stopped b s.statuses e.vertex) v.inputs ≡ true → outcome b k ≡ Some Blocked
   unfolding NoTrees
   behind k v there is below any =
       let stops = some_as (λ (e : Edge). is_stopped b s.statuses e.vertex ≡ true) (LeadsBelow b.graph.vertices k) (IsLowerStop k) v.inputs (any_true (λ (e : Edge). is_stopped b s.statuses e.vertex) v.inputs any) (each_below b.graph graph k v there) (λ e stop leads. (leads.lower, stop)) in
@@ -180,18 +184,18 @@ module _ (b : Build) (graph : IsGraph b.graph) (s : State) (stands : StandsByOut
   no_trees zero k lt is stop i = absurd (omega arith)
   no_trees (suc n) k lt is stop i =
       let v = get_within b.graph.vertices k (stopped_there b graph s.statuses k stop) in
-      elim (or_true (is_failed (ending_at s.statuses k)) (list_any (λ (e : Edge). is_stopped b s.statuses e.vertex) v.0.inputs) (sym (stopped_is b graph s.statuses k v.0 v.1) ∙ stop)) [
+      elim (or_cases (is_failed (ending_at s.statuses k)) (list_any (λ (e : Edge). is_stopped b s.statuses e.vertex) v.0.inputs) (sym (stopped_is b graph s.statuses k v.0 v.1) ∙ stop)) [
         | inl h ↦
             let f = failed_is (ending_at s.statuses k) h in
             ap (λ o. output_in o i) (ending_plain b graph s stands k (Failed f.0) is f.1)
-        | inr h ↦ ap (λ o. output_in (ending_in o) i) (behind k v.0 v.1 is (λ j low. no_trees n j (omega arith)) h.1)
+        | inr h ↦ ap (λ o. output_in (ending_in o) i) (behind k v.0 v.1 is (λ j low. no_trees n j (omega arith)) h)
       ]
 
   -- a stopped vertex that has not failed itself has the plain outcome Blocked
   pub stopped_blocked : (k : ℕ) → is_plain b k ≡ true → is_stopped b s.statuses k ≡ true → is_failed (ending_at s.statuses k) ≡ false → outcome b k ≡ Some Blocked
   stopped_blocked k is stop own =
       let v = get_within b.graph.vertices k (stopped_there b graph s.statuses k stop) in
-      elim (or_true (is_failed (ending_at s.statuses k)) (list_any (λ (e : Edge). is_stopped b s.statuses e.vertex) v.0.inputs) (sym (stopped_is b graph s.statuses k v.0 v.1) ∙ stop)) [
+      elim (or_cases (is_failed (ending_at s.statuses k)) (list_any (λ (e : Edge). is_stopped b s.statuses e.vertex) v.0.inputs) (sym (stopped_is b graph s.statuses k v.0 v.1) ∙ stop)) [
         | inl h ↦ absurd (cc (h, own))
-        | inr h ↦ behind k v.0 v.1 is (no_trees k) h.1
+        | inr h ↦ behind k v.0 v.1 is (no_trees k) h
       ]
