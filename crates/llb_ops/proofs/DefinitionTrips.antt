@@ -9,14 +9,12 @@ use Rattle.llb_wire.specs.declared.fault.WireFault.TheVariants.{Truncated}
 use Rattle.llb_wire.specs.declared.field.Wire.{Wire}
 use Rattle.llb_wire.specs.declared.field.Wire.TheVariants as wire
 use Rattle.llb_wire.specs.declared.field.Field.{Field}
-use Rattle.llb_wire.specs.Answer.{◌>>=◌, bind_ok}
+use Rattle.llb_wire.specs.Answer.{◌>>=◌, bind_ok, guard_ok}
 use Rattle.llb_wire.specs.Reading.{varint_from, varint_at, number_of, wire_of, fixed_at, as_field, payload_at, field_at}
 use Rattle.llb_wire.specs.Spelling.{shortest, varint_text, Spells, AreBytes}
 use Rattle.llb_wire.specs.Records.{Record, record_of}
-use Rattle.llb_wire.specs.Laws.Varints.{spells_found}
-use Rattle.llb_wire.specs.Answer.{bind_ok as wire_ok, guard_ok}
 use Rattle.llb_wire.specs.Laws.Own.{field_local}
-use Rattle.llb_wire.specs.Laws.Varints.{least_spelling}
+use Rattle.llb_wire.specs.Laws.Varints.{spells_found, least_spelling}
 use Rattle.llb_ops.specs.declared.fault.OpFault.{OpFault}
 use Rattle.llb_ops.specs.declared.fault.OpFault.TheVariants.{WrongWireType}
 use Rattle.llb_ops.specs.Limits.{definition_limit}
@@ -35,7 +33,7 @@ use Rattle.llb_ops.proofs.Admission.{by_entries, is_short, are_in, still_fit}
 
 spelled_at : (bytes : List ℕ) (at : ℕ) (x : ℕ × ℕ) → varint_at bytes at ≡ Ok x → Spells (take (x.1 - at) (drop at bytes)) x.0
 spelled_at bytes at x e =
-    let v = wire_ok (varint_from 9 (drop at bytes)) (λ v. Ok (v.0, at + v.1)) x e in
+    let v = bind_ok (varint_from 9 (drop at bytes)) (λ v. Ok (v.0, at + v.1)) x e in
     let width : at + v.0.1 - at ≡ v.0.1 = omega arith in
     let spells : Spells (take (at + v.0.1 - at) (drop at bytes)) v.0.0 = subst (λ (n : ℕ). Spells (take n (drop at bytes)) v.0.0) (sym width) (spells_found 9 (drop at bytes) v.0.0 v.0.1 v.1).0 in
     subst (λ (y : ℕ × ℕ). Spells (take (y.1 - at) (drop at bytes)) y.0) (pair_is (v.0.0, at + v.0.1) x v.2) spells where
@@ -77,11 +75,11 @@ field_is f g e = cc
 
 wire_kept : (n : ℕ) (w : Wire) (bytes : List ℕ) (at : ℕ) (f : Field) → payload_at n w bytes at ≡ Ok f → f.wire ≡ w
 unfolding payload_at
-wire_kept n wire.Varint bytes at f e = let x = wire_ok (varint_at bytes at) (λ v. Ok (as_field n wire.Varint at v)) f e in ap (λ (g : Field). g.wire) (sym (field_is _ f x.2))
-wire_kept n wire.I64 bytes at f e = let x = wire_ok (fixed_at w64 bytes at) (λ v. Ok (as_field n wire.I64 at v)) f e in ap (λ (g : Field). g.wire) (sym (field_is _ f x.2))
-wire_kept n wire.I32 bytes at f e = let x = wire_ok (fixed_at w32 bytes at) (λ v. Ok (as_field n wire.I32 at v)) f e in ap (λ (g : Field). g.wire) (sym (field_is _ f x.2))
+wire_kept n wire.Varint bytes at f e = let x = bind_ok (varint_at bytes at) (λ v. Ok (as_field n wire.Varint at v)) f e in ap (λ (g : Field). g.wire) (sym (field_is _ f x.2))
+wire_kept n wire.I64 bytes at f e = let x = bind_ok (fixed_at w64 bytes at) (λ v. Ok (as_field n wire.I64 at v)) f e in ap (λ (g : Field). g.wire) (sym (field_is _ f x.2))
+wire_kept n wire.I32 bytes at f e = let x = bind_ok (fixed_at w32 bytes at) (λ v. Ok (as_field n wire.I32 at v)) f e in ap (λ (g : Field). g.wire) (sym (field_is _ f x.2))
 wire_kept n wire.Len bytes at f e =
-    let x = wire_ok (varint_at bytes at) (λ len. cond (nat_lt (length bytes - len.1) len.0) (Err Truncated) (Ok (as_field n wire.Len len.1 (len.0, len.1 + len.0)))) f e in
+    let x = bind_ok (varint_at bytes at) (λ len. cond (nat_lt (length bytes - len.1) len.0) (Err Truncated) (Ok (as_field n wire.Len len.1 (len.0, len.1 + len.0)))) f e in
     let g = guard_ok (nat_lt (length bytes - x.0.1) x.0.0) Truncated (as_field n wire.Len x.0.1 (x.0.0, x.0.1 + x.0.0)) f x.2 in
     ap (λ (h : Field). h.wire) (sym g.1)
 
@@ -94,7 +92,7 @@ pub record LenPayload (at : ℕ) (f : Field) : Type 0 where
 len_payload : (n : ℕ) (bytes : List ℕ) (at : ℕ) (f : Field) → AreBytes bytes → payload_at n wire.Len bytes at ≡ Ok f → LenPayload at f
 unfolding payload_at
 len_payload n bytes at f are e =
-    let x = wire_ok (varint_at bytes at) (λ len. cond (nat_lt (length bytes - len.1) len.0) (Err Truncated) (Ok (as_field n wire.Len len.1 (len.0, len.1 + len.0)))) f e in
+    let x = bind_ok (varint_at bytes at) (λ len. cond (nat_lt (length bytes - len.1) len.0) (Err Truncated) (Ok (as_field n wire.Len len.1 (len.0, len.1 + len.0)))) f e in
     let g = guard_ok (nat_lt (length bytes - x.0.1) x.0.0) Truncated (as_field n wire.Len x.0.1 (x.0.0, x.0.1 + x.0.0)) f x.2 in
     subst (LenPayload at) g.1 (record { ends = refl; size = no_shorter bytes at x.0 are x.1; some = some_byte bytes at x.0 x.1 })
 
@@ -102,9 +100,9 @@ len_payload n bytes at f are e =
 len_record : (bytes : List ℕ) (f : Field) → AreBytes bytes → field_at bytes 0 ≡ Ok f → f.wire ≡ wire.Len → (f.«end» ≡ f.start + f.value) × (1 + length (varint_text f.value) + f.value ≤ f.«end»)
 unfolding field_at
 len_record bytes f are e is =
-    let tag = wire_ok (varint_at bytes 0) (λ tag. number_of (tag.0 / 8) >>= λ number. (wire_of (tag.0 % 8) >>= λ w. payload_at number w bytes tag.1)) f e in
-    let number = wire_ok (number_of (tag.0.0 / 8)) (λ number. wire_of (tag.0.0 % 8) >>= λ w. payload_at number w bytes tag.0.1) f tag.2 in
-    let w = wire_ok (wire_of (tag.0.0 % 8)) (λ w. payload_at number.0 w bytes tag.0.1) f number.2 in
+    let tag = bind_ok (varint_at bytes 0) (λ tag. number_of (tag.0 / 8) >>= λ number. (wire_of (tag.0 % 8) >>= λ w. payload_at number w bytes tag.1)) f e in
+    let number = bind_ok (number_of (tag.0.0 / 8)) (λ number. wire_of (tag.0.0 % 8) >>= λ w. payload_at number w bytes tag.0.1) f tag.2 in
+    let w = bind_ok (wire_of (tag.0.0 % 8)) (λ w. payload_at number.0 w bytes tag.0.1) f number.2 in
     let len : w.0 ≡ wire.Len = sym (wire_kept number.0 w.0 bytes tag.0.1 f w.2) ∙ is in
     let p = len_payload number.0 bytes tag.0.1 f are (subst (λ (x : Wire). payload_at number.0 x bytes tag.0.1 ≡ Ok f) len w.2) in
     (p.ends, omega (arith, p.ends, p.size, p.some, some_byte bytes 0 tag.0 tag.1))
