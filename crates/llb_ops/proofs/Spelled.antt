@@ -1,12 +1,12 @@
 -- The records that are read are those that the bytes spell by the grammar.
-use Rattle.std.proofs.Common.{◌≡◌, ℕ, zero, suc, ◌+◌, ◌-◌, ◌*◌, ◌<◌, ◌≤◌, Bool, true, false, cond, ltb, List, [], ◌∷◌, ◌++◌, length, drop, Result, Ok, Err, refl, sym, ap, subst, ◌∙◌, arith}
+use Rattle.std.proofs.Common.{◌≡◌, ℕ, zero, suc, ◌+◌, ◌-◌, ◌<◌, ◌≤◌, Bool, true, false, cond, ltb, List, [], ◌∷◌, ◌++◌, length, drop, Result, Ok, Err, refl, sym, ap, subst, ◌∙◌, arith}
 use Rattle.std.specs.List.{AllByRecursion, flat_map}
 use Rattle.std.proofs.lemmas.Bool.{le-ltb}
 use Rattle.std.proofs.lemmas.List.{length-append, drop_at}
 use Rattle.llb_wire.specs.declared.field.Field.{Field}
 use Rattle.llb_wire.specs.Answer.{◌>>=◌, bind_ok}
 use Rattle.llb_wire.specs.Reading.{field_at}
-use Rattle.llb_wire.specs.Spelling.{code_of, Spells, AreBytes}
+use Rattle.llb_wire.specs.Spelling.{AreBytes}
 use Rattle.llb_wire.specs.Records.{Record, record_of, placed, IsRecord, SpellRecords}
 use Rattle.llb_wire.specs.Laws.Records.{record_found, record_read, record_kept, spelled_none, spelled_next}
 use Rattle.llb_ops.specs.declared.fault.OpFault.{OpFault}
@@ -17,6 +17,7 @@ use Rattle.llb_ops.specs.Records.{Shape, first_record, from_wire, form_of, wire_
 use Rattle.llb_ops.specs.Messages.{op_shape, op_in, op_message_of, op_of}
 use Rattle.llb_ops.specs.Laws.{IsReadOfRecords}
 use Rattle.llb_ops.proofs.Split.{parts_skip, drop_pred}
+use Rattle.llb_ops.proofs.Again.{some_text}
 use Rattle.llb_ops.proofs.Kept.{wire_ok, guard_ended, ok_list}
 
 -- ---- what is read is spelled
@@ -24,7 +25,7 @@ use Rattle.llb_ops.proofs.Kept.{wire_ok, guard_ended, ok_list}
 nothing_spelled : (rs : List Record) → ◌≡◌ {A = Result (List Record) OpFault} (Ok []) (Ok rs) → SpellRecords [] rs
 nothing_spelled rs e = let h : [] ≡ rs = cc in subst (λ (xs : List Record). SpellRecords [] xs) h spelled_none
 
-records_found : (shape : Shape) (skip : ℕ) (bytes : List ℕ) (rs : List Record) → AreBytes bytes → records_from shape skip bytes ≡ Ok rs → SpellRecords (drop skip bytes) rs
+pub records_found : (shape : Shape) (skip : ℕ) (bytes : List ℕ) (rs : List Record) → AreBytes bytes → records_from shape skip bytes ≡ Ok rs → SpellRecords (drop skip bytes) rs
 unfolding records_from
 records_found shape zero [] rs are e = nothing_spelled rs e
 records_found shape (suc skip) [] rs are e = nothing_spelled rs e
@@ -53,13 +54,6 @@ parts_found shape bytes rs are e =
 -- the records of a message, but for their texts
 abbrev typed : Shape → List Record → Result (List Record) OpFault
 typed shape rs = cond (wires_fit shape rs) (Ok rs) (Err WrongWireType)
-
-some_bytes : (bytes : List ℕ) (n : ℕ) → Spells bytes n → 0 < length bytes
-some_bytes [] n h = absurd h
-some_bytes (b ∷ bytes) n h = omega arith
-
-some_text : (r : Record) → IsRecord r → 0 < length r.text
-some_text r h = omega (arith, ap length h.text, length-append h.tag h.behind, some_bytes h.tag (8 * r.number + code_of r.wire) h.tagged.spells)
 
 more_typed : (r : Record) (rs : List Record) (b : Bool) → (cond {A = Result (List Record) OpFault} b (Ok rs) (Err WrongWireType) >>= λ xs. Ok (r ∷ xs)) ≡ cond b (Ok (r ∷ rs)) (Err WrongWireType)
 more_typed r rs true = refl
