@@ -13,14 +13,14 @@ use Rattle.llb_wire.specs.Answer.{◌>>=◌, bind_ok}
 use Rattle.llb_ops.specs.Records.{Shape, from_wire, first_record, form_of, wire_fits, records_from}
 use Rattle.llb_ops.proofs.Again.{IsPart, FitsShape}
 
-wire_ok : {A : Type 0} (r : Result A WireFault) (x : A) → from_wire r ≡ Ok x → r ≡ Ok x
+pub wire_ok : {A : Type 0} (r : Result A WireFault) (x : A) → from_wire r ≡ Ok x → r ≡ Ok x
 wire_ok (Ok y) x e = let h : y ≡ x = cc in ap (λ z. Ok z) h
 wire_ok (Err d) x e = absurd cc
 
-abbrev ok_of : List Record → Result (List Record) OpFault
+abbrev pub ok_of : List Record → Result (List Record) OpFault
 ok_of xs = Ok xs
 
-ok_list : (xs ys : List Record) → ok_of xs ≡ ok_of ys → xs ≡ ys
+pub ok_list : (xs ys : List Record) → ok_of xs ≡ ok_of ys → xs ≡ ys
 ok_list xs ys e = cc
 
 pub guard_ended : {A : Type 0} (b : Bool) (d : OpFault) (x y : A) → cond b (Ok x) (Err d) ≡ Ok y → (b ≡ true) × (x ≡ y)

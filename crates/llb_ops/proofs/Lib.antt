@@ -19,4 +19,5 @@ pub mod MergeTrips
 pub mod SourceTrips
 pub mod Trips
 pub mod Within
+pub mod Spelled
 pub mod DefinitionTrips

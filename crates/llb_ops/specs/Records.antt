@@ -92,6 +92,16 @@ texts_fit shape rs = list_all (text_fits shape) rs
 unfoldable pub parts : Shape → List ℕ → Result (List Record) OpFault
 parts shape bytes = records_from shape 0 bytes >>= λ rs. if texts_fit shape rs then Ok rs else Err NotUtf8
 
+-- ---- the records that bytes spell
+
+-- each field that the message names has its wire type
+abbrev pub wires_fit : Shape → List Record → Bool
+wires_fit shape rs = list_all (λ r. wire_fits (form_of shape r.number) r.wire) rs
+
+-- records as those of a message
+abbrev pub fitting : Shape → List Record → Result (List Record) OpFault
+fitting shape rs = if wires_fit shape rs then (if texts_fit shape rs then Ok rs else Err NotUtf8) else Err WrongWireType
+
 -- a message is what it is of its records
 unfoldable pub message_of : {A : Type 0} → Shape → (List Record → Result A OpFault) → List ℕ → Result A OpFault
 message_of shape read bytes = parts shape bytes >>= read

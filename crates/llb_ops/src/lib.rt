@@ -23,5 +23,5 @@ pub use file::{
 };
 pub use llb_wire::{Bytes, Text};
 pub use merge::{MergeInput, MergeOp};
-pub use op::{Input, Kind, Op, op_is_read_again, read_op, write_op};
+pub use op::{Input, Kind, Op, op_is_read_again, op_is_read_of_records, read_op, write_op};
 pub use source::{Attribute, Attributes, SourceOp};

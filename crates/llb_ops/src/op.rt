@@ -5,7 +5,7 @@ ghost use Rattle.llb_ops.specs.Faults.{Gives};
 ghost use Rattle.llb_ops.specs.Messages.{op_of};
 ghost use Rattle.llb_ops.specs.Writing.{op_bytes};
 ghost use Rattle.llb_ops.specs.Within.{IsWithinLimits};
-ghost use Rattle.llb_ops.specs.Laws.{IsReadAgain};
+ghost use Rattle.llb_ops.specs.Laws.{IsReadAgain, IsReadOfRecords};
 
 use crate::exec::ExecOp;
 use crate::fault::OpFault;
@@ -197,6 +197,14 @@ pub fn write_op(alloc: Global, op: &Op) -> Result<Bytes, OpFault>
 {
     let bytes = op.write(alloc)?;
     Ok(Bytes::new(bytes))
+}
+
+/// The records of a message are those that its bytes spell by the grammar of the wire, whatever the
+/// message names; and an op is read of the records that its entry spells, and of nothing else.
+pub fn op_is_read_of_records(bytes: &[u8])
+    ensures { IsReadOfRecords bytes.now }
+{
+    let _ = bytes;
 }
 
 /// What was read as an op is read as that op again of its canonical bytes, where these are within
