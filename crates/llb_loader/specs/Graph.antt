@@ -2,6 +2,7 @@
 use Rattle.std.specs.Prelude.{◌≡◌, ℕ, ◌<◌, ◌≤◌, pos, true, false, List, length, map, slice_index_or, None}
 use Rattle.std.specs.List.{All, HoldsAt}
 use Rattle.llb_ops.specs.declared.op.Input.{Input}
+use Rattle.llb_ops.specs.Within.{IsWithinLimits}
 use Rattle.llb_loader.specs.declared.graph.Edge.{Edge}
 use Rattle.llb_loader.specs.declared.graph.Vertex.{Vertex}
 use Rattle.llb_loader.specs.Rows.{Reached}
@@ -31,8 +32,9 @@ pub record HasInputs (vertices : List Vertex) (v : Vertex) : Type 0 where
   pub len : length v.inputs ≡ length v.op.inputs
   pub each : (i : ℕ) (input : Input) (e : Edge) → i < length v.inputs → StandsFor vertices (slice_index_or v.op.inputs i input) (slice_index_or v.inputs i e)
 
--- a vertex by itself: its op is taken and meets the rules, and its counts are those of the op
+-- a vertex by itself: its op is within the limits, is taken and meets the rules, and its counts are those of the op
 pub record IsVertex (v : Vertex) : Type 0 where
+  pub within : IsWithinLimits v.op
   pub featureless : feature_of v.op ≡ None
   pub valid : MeetsEach v.op rules
   pub steps : v.steps ≡ step_count v.op

@@ -2,10 +2,10 @@
 
 ghost use Rattle.std.specs.Prelude.{◌≡◌, ◌<◌, ◌≤◌, ◌↔◌, ℕ, true, false, length, slice_index_or, IfOk, IfErr};
 ghost use Rattle.std.specs.List.{All};
+ghost use Rattle.llb_ops.specs.Within.{IsWithinLimits};
 ghost use Rattle.llb_loader.specs.Faults.{is_memory};
 ghost use Rattle.llb_loader.specs.Rows.{lists};
 ghost use Rattle.llb_loader.specs.Naming.{IsIndex, IsTerminal, terminal_in};
-ghost use Rattle.llb_loader.specs.Checks.{IsWithin};
 ghost use Rattle.llb_loader.specs.Linking.{IsApart, IsNamed, IsWhole, ReachedRow, links_in, plan, IsPlanOf, Refused, GraphOf};
 ghost use Rattle.llb_loader.specs.Link.{IsGraphOf, IsRefusalOf};
 
@@ -52,7 +52,7 @@ fn link_read(
 ) -> Result<Graph, LoadFault>
     requires few { length rows.now ≤ 65_536 }
     requires ops { length ops.items ≡ length rows.now }
-    requires within { All IsWithin ops.items }
+    requires within { All IsWithinLimits ops.items }
     requires index { IsIndex rows.now index.now }
     requires apart { IsApart rows.now }
     requires terminal { IsTerminal rows.now terminal }
@@ -86,7 +86,7 @@ fn link_named(
 ) -> Result<Graph, LoadFault>
     requires few { length rows.now ≤ 65_536 }
     requires ops { length ops.items ≡ length rows.now }
-    requires within { All IsWithin ops.items }
+    requires within { All IsWithinLimits ops.items }
     requires links { lists links.now ≡ links_in (plan rows.now ops.items terminal start) }
     requires planned { IsPlanOf rows.now ops.items (plan rows.now ops.items terminal start) }
     requires named { IsNamed (plan rows.now ops.items terminal start) }
@@ -117,7 +117,7 @@ fn link_whole(
 ) -> Result<Graph, LoadFault>
     requires few { length rows.now ≤ 65_536 }
     requires ops { length ops.items ≡ length rows.now }
-    requires within { All IsWithin ops.items }
+    requires within { All IsWithinLimits ops.items }
     requires links { lists links.now ≡ links_in (plan rows.now ops.items terminal start) }
     requires planned { IsPlanOf rows.now ops.items (plan rows.now ops.items terminal start) }
     requires whole { IsWhole (plan rows.now ops.items terminal start) order.now }
