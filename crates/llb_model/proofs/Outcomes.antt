@@ -144,7 +144,9 @@ module _ (b : Build) (graph : IsGraph b.graph) where
 
   -- the vertices that a plain one's edges lead to are plain
   pub plain_inputs : (k : ℕ) (v : Vertex) → slice_get b.graph.vertices k ≡ Some v → is_plain b k ≡ true → Each_of (λ (e : Edge). is_plain b e.vertex ≡ true) v.inputs
-  plain_inputs k v there is = each v.inputs (each_below b.graph graph k v there) (and_parts (not (has_cache v)) (list_all front v.inputs) (sym (ap (λ o. unwrap_or o false) (by_number_is next_plain b.graph.vertices k v there)) ∙ is)).1
+  plain_inputs k v there is =
+      each v.inputs (each_below b.graph graph k v there)
+      (and_parts (not (has_cache v)) (list_all front v.inputs) (sym (ap (λ o. unwrap_or o false) (by_number_is next_plain b.graph.vertices k v there)) ∙ is)).1
     where
       front : Edge → Bool
       front e = unwrap_or (slice_get (take k (by_number next_plain [] b.graph.vertices)) e.vertex) false
@@ -163,7 +165,8 @@ module _ (b : Build) (graph : IsGraph b.graph) where
   plain_below zero k lt fits = absurd (omega arith)
   plain_below (suc n) k lt fits =
       let v = get_within b.graph.vertices k fits in
-      ap (λ o. unwrap_or o false) (by_number_is next_plain b.graph.vertices k v.0 v.1) ∙ all v.0.inputs (each_below b.graph graph k v.0 v.1) (λ j low. plain_below n j (omega arith) (omega arith))
+      ap (λ o. unwrap_or o false) (by_number_is next_plain b.graph.vertices k v.0 v.1)
+      ∙ all v.0.inputs (each_below b.graph graph k v.0 v.1) (λ j low. plain_below n j (omega arith) (omega arith))
     where
       all : (edges : List Edge) → Each_of (LeadsBelow b.graph.vertices k) edges → ((j : ℕ) → j < k → is_plain b j ≡ true)
           → list_all (λ (e : Edge). unwrap_or (slice_get (take k (by_number next_plain [] b.graph.vertices)) e.vertex) false) edges ≡ true
@@ -223,7 +226,8 @@ module _ (b : Build) (graph : IsGraph b.graph) where
       by_inputs v there (Some ts) is below =
           by_ending v (ending (program_of v) (whole (program_of v).steps (begin b (start_with v ts) []))) (outcome_is b graph k v there ∙ ap (λ o. some_of (outcome_on b v o)) is)
       by_inputs v there None is below =
-          some_with (λ (e : Edge). output_in (plain b e.vertex) e.index ≡ None) (LeadsBelow b.graph.vertices k) (IsFailure b) v.inputs (none_in_inputs (plain b) v.inputs is) (each_below b.graph graph k v there)
+          some_with (λ (e : Edge). output_in (plain b e.vertex) e.index ≡ None) (LeadsBelow b.graph.vertices k) (IsFailure b) v.inputs
+          (none_in_inputs (plain b) v.inputs is) (each_below b.graph graph k v there)
           (λ e none leads. below e.vertex leads.lower (sym (edge_there b.graph (plain b) (plain_count b graph) k (omega (arith, fits)) e leads) ∙ ap is_some none))
 
   pub some_failed : (k : ℕ) → k < length b.graph.vertices → is_done (plain b k) ≡ false → IsFailure b
@@ -233,4 +237,5 @@ module _ (b : Build) (graph : IsGraph b.graph) where
   -- the output that the graph names as its result is no tree only where a vertex fails
   pub result_failed : output_in (plain b b.graph.result.vertex) b.graph.result.index ≡ None → IsFailure b
   result_failed none =
-      some_failed b.graph.result.vertex graph.result.lower (sym (edge_there b.graph (plain b) (plain_count b graph) (length b.graph.vertices) (omega arith) b.graph.result graph.result) ∙ ap is_some none)
+      some_failed b.graph.result.vertex graph.result.lower
+      (sym (edge_there b.graph (plain b) (plain_count b graph) (length b.graph.vertices) (omega arith) b.graph.result graph.result) ∙ ap is_some none)
