@@ -201,14 +201,16 @@ plain_count b graph k v trees there is = outcome_count b v (inputs_from (plain b
 
 -- ---- where a vertex is not done, one has failed
 
-pub record IsFailure (b : Build) : Type 0 where
+-- a vertex at or before one fails
+pub record FailsBy (b : Build) (k : ℕ) : Type 0 where
   pub vertex : ℕ
+  pub before : vertex ≤ k
   pub fault : VertexFault
-  pub is : outcome b vertex ≡ Some (Ended (Failed fault))
+  pub failed : outcome b vertex ≡ Some (Ended (Failed fault))
 
 module _ (b : Build) (graph : IsGraph b.graph) where
   FailsBelow : ℕ → Type 0
-  FailsBelow n = (k : ℕ) → k < n → k < length b.graph.vertices → is_done (plain b k) ≡ false → IsFailure b
+  FailsBelow n = (k : ℕ) → k < n → k < length b.graph.vertices → is_done (plain b k) ≡ false → FailsBy b k
 
   fails_below : (n : ℕ) → FailsBelow n
   unfolding FailsBelow
@@ -217,25 +219,26 @@ module _ (b : Build) (graph : IsGraph b.graph) where
       let v = get_within b.graph.vertices k fits in
       by_inputs v.0 v.1 (inputs_from (plain b) v.0.inputs) refl (λ j low. fails_below n j (omega arith) (omega arith))
     where
-      by_ending : (v : Vertex) (e : Ending) → outcome b k ≡ Some (Ended e) → IsFailure b
-      by_ending v (Failed f) is = record { vertex = k; fault = f; is = is }
-      by_ending v (Done trees) is = let both : is_done (plain b k) ≡ true = ap (λ o. is_done (ending_in o)) is in absurd cc
+      by_ending : (e : Ending) → outcome b k ≡ Some (Ended e) → FailsBy b k
+      by_ending (Failed f) is = record { vertex = k; before = omega arith; fault = f; failed = is }
+      by_ending (Done trees) is = let done : is_done (plain b k) ≡ true = ap (λ o. is_done (ending_in o)) is in absurd cc
 
       by_inputs : (v : Vertex) → slice_get b.graph.vertices k ≡ Some v → (o : Option (List TreeMap)) → inputs_from (plain b) v.inputs ≡ o
-          → ((j : ℕ) → j < k → is_done (plain b j) ≡ false → IsFailure b) → IsFailure b
+          → ((j : ℕ) → j < k → is_done (plain b j) ≡ false → FailsBy b j) → FailsBy b k
       by_inputs v there (Some ts) is below =
-          by_ending v (ending (program_of v) (whole (program_of v).steps (begin b (start_with v ts) []))) (outcome_is b graph k v there ∙ ap (λ o. some_of (outcome_on b v o)) is)
+          by_ending (ending (program_of v) (whole (program_of v).steps (begin b (start_with v ts) []))) (outcome_is b graph k v there ∙ ap (λ o. some_of (outcome_on b v o)) is)
       by_inputs v there None is below =
-          some_with (λ (e : Edge). output_in (plain b e.vertex) e.index ≡ None) (LeadsBelow b.graph.vertices k) (IsFailure b) v.inputs
-          (none_in_inputs (plain b) v.inputs is) (each_below b.graph graph k v there)
-          (λ e none leads. below e.vertex leads.lower (sym (edge_there b.graph (plain b) (plain_count b graph) k (omega (arith, fits)) e leads) ∙ ap is_some none))
+          some_with (λ (e : Edge). output_in (plain b e.vertex) e.index ≡ None) (LeadsBelow b.graph.vertices k) (FailsBy b k) v.inputs
+          (none_in_inputs (plain b) v.inputs is) (each_below b.graph graph k v there) (λ e none leads.
+          let f = below e.vertex leads.lower (sym (edge_there b.graph (plain b) (plain_count b graph) k (omega (arith, fits)) e leads) ∙ ap is_some none) in
+          record { vertex = f.vertex; before = omega (arith, f.before, leads.lower); fault = f.fault; failed = f.failed })
 
-  pub some_failed : (k : ℕ) → k < length b.graph.vertices → is_done (plain b k) ≡ false → IsFailure b
+  pub some_failed : (k : ℕ) → k < length b.graph.vertices → is_done (plain b k) ≡ false → FailsBy b k
   unfolding FailsBelow
   some_failed k fits undone = fails_below (suc k) k (omega arith) fits undone
 
   -- the output that the graph names as its result is no tree only where a vertex fails
-  pub result_failed : output_in (plain b b.graph.result.vertex) b.graph.result.index ≡ None → IsFailure b
+  pub result_failed : output_in (plain b b.graph.result.vertex) b.graph.result.index ≡ None → FailsBy b b.graph.result.vertex
   result_failed none =
       some_failed b.graph.result.vertex graph.result.lower
       (sym (edge_there b.graph (plain b) (plain_count b graph) (length b.graph.vertices) (omega arith) b.graph.result graph.result) ∙ ap is_some none)
