@@ -12,7 +12,7 @@ use Rattle.llb_loader.specs.declared.graph.Vertex.{Vertex}
 use Rattle.llb_tree.specs.Tree.{TreeMap}
 use Rattle.llb_model.specs.declared.fault.VertexFault.{VertexFault}
 use Rattle.llb_model.specs.Program.{Build, Program, View, Files, program_of, start_with, begin, whole, result_for, outputs_of}
-use Rattle.llb_model.specs.Outcome.{Ending, Done, Failed, Outcome, Ended, Blocked, ended, ending, output_in, both, all_there, inputs_from, outcome_on, ending_in, next_outcome, outcomes, outcome, has_cache, next_plain, is_plain}
+use Rattle.llb_model.specs.Outcome.{Ending, Done, Failed, Ended, ended, ending, output_in, both, all_there, inputs_from, outcome_on, ending_in, next_outcome, outcomes, outcome, has_cache, next_plain, is_plain}
 use Rattle.llb_model.specs.ByNumber.{by_number}
 use Rattle.llb_model.specs.State.{is_done}
 use Rattle.llb_model.proofs.Lists.{some_of, inside, get_take, Each_of, Some_of, some_with, get_within, got_within}
@@ -123,11 +123,6 @@ inputs_there g f counts k fits (e ∷ edges) each =
 -- how each vertex ends, by the plain outcomes
 abbrev pub plain : Build → ℕ → Option Ending
 plain b k = ending_in (outcome b k)
-
-pub plain_is : (o : Option Outcome) (e : Ending) → ending_in o ≡ Some e → o ≡ Some (Ended e)
-plain_is None e h = absurd cc
-plain_is (Some Blocked) e h = absurd cc
-plain_is (Some (Ended x)) e h = ap (λ y. some_of (Ended y)) (inside h)
 
 module _ (b : Build) (graph : IsGraph b.graph) where
   -- the outcome of a vertex is its whole program on what its inputs end with
