@@ -3,13 +3,13 @@ use Rattle.std.proofs.Common.{◌≡◌, ℕ, suc, ◌+◌, ◌-◌, ◌<◌, �
 use Rattle.std.specs.Prelude.{Bool, true, false, ◌||◌, ◌&&◌, Some, None, slice_get, if◌then◌else◌}
 use Rattle.std.proofs.lemmas.List.{drop_all}
 use Rattle.std.proofs.lemmas.Option.{slice_get_within, get_or_from_slice_get}
-use Rattle.llb_loader.specs.Graph.{Numbered}
+use Rattle.llb_model.specs.Program.{Build}
 use Rattle.llb_model.specs.State.{Status, At, Idle, Runs, Execution, is_blocked, is_finished, program_in}
 use Rattle.llb_model.specs.Table.{Step, Settle}
 use Rattle.llb_model.specs.Run.{least, each, next_of, is_settled}
 
-abbrev pub is_over : Numbered → List Status → ℕ → Bool
-is_over g statuses v = is_settled (slice_get statuses v) || is_blocked g statuses v
+abbrev pub is_over : Build → List Status → ℕ → Bool
+is_over b statuses v = is_settled (slice_get statuses v) || is_blocked b statuses v
 
 -- one number more
 less : (n v : ℕ) → v < n → n - v ≡ suc (n - (v + 1))
@@ -37,14 +37,14 @@ pub each_later : (p : ℕ → Bool) (n v : ℕ) → each p v (n - v) ≡ each p 
 each_later p n v here low is = ap (λ b. b && each p (v + 1) (n - (v + 1))) (sym is) ∙ sym (each_next p n v low) ∙ here
 
 -- the workers that are left begin with this one
-next_drop : (g : Numbered) (ws : List At) (w : ℕ) (a : At) → slice_get ws w ≡ Some a → next_of g w (drop w ws) ≡ next_of g w (a ∷ drop (w + 1) ws)
-next_drop g ws w a at = ap (next_of g w) (drop-cons ws w a (slice_get_within ws w a at) ∙ (λ i. get_or_from_slice_get ws w a a at i ∷ drop (sym (add-one w) i) ws))
+next_drop : (b : Build) (ws : List At) (w : ℕ) (a : At) → slice_get ws w ≡ Some a → next_of b w (drop w ws) ≡ next_of b w (a ∷ drop (w + 1) ws)
+next_drop b ws w a at = ap (next_of b w) (drop-cons ws w a (slice_get_within ws w a at) ∙ (λ i. get_or_from_slice_get ws w a a at i ∷ drop (sym (add-one w) i) ws))
 
-pub next_idle : (g : Numbered) (ws : List At) (w : ℕ) → next_of g w (drop w ws) ≡ next_of g 0 ws → slice_get ws w ≡ Some Idle → next_of g (w + 1) (drop (w + 1) ws) ≡ next_of g 0 ws
-next_idle g ws w here at = sym (next_drop g ws w Idle at) ∙ here
+pub next_idle : (b : Build) (ws : List At) (w : ℕ) → next_of b w (drop w ws) ≡ next_of b 0 ws → slice_get ws w ≡ Some Idle → next_of b (w + 1) (drop (w + 1) ws) ≡ next_of b 0 ws
+next_idle b ws w here at = sym (next_drop b ws w Idle at) ∙ here
 
-pub next_runs : (g : Numbered) (ws : List At) (w : ℕ) (x : Execution) → next_of g w (drop w ws) ≡ next_of g 0 ws → slice_get ws w ≡ Some (Runs x) → next_of g 0 ws ≡ Some (if is_finished (program_in g x).steps x then Settle w else Step w)
-next_runs g ws w x here at = sym here ∙ next_drop g ws w (Runs x) at
+pub next_runs : (b : Build) (ws : List At) (w : ℕ) (x : Execution) → next_of b w (drop w ws) ≡ next_of b 0 ws → slice_get ws w ≡ Some (Runs x) → next_of b 0 ws ≡ Some (if is_finished (program_in b x).steps x then Settle w else Step w)
+next_runs b ws w x here at = sym here ∙ next_drop b ws w (Runs x) at
 
-pub next_none : (g : Numbered) (ws : List At) (w : ℕ) → next_of g w (drop w ws) ≡ next_of g 0 ws → length ws ≤ w → next_of g 0 ws ≡ None
-next_none g ws w here past = sym here ∙ ap (next_of g w) (drop_all w ws past)
+pub next_none : (b : Build) (ws : List At) (w : ℕ) → next_of b w (drop w ws) ≡ next_of b 0 ws → length ws ≤ w → next_of b 0 ws ≡ None
+next_none b ws w here past = sym here ∙ ap (next_of b w) (drop_all w ws past)

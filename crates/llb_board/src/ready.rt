@@ -4,9 +4,10 @@
 ghost use Rattle.std.specs.Prelude.{◌≡◌, ◌<◌, ◌^◌, [], map, length, option_map, is_some, slice_get, Some, None, false, unwrap_or};
 ghost use Rattle.std.specs.List.{list_any};
 ghost use Rattle.llb_loader.specs.Rules.{actions_of};
+ghost use Rattle.llb_model.specs.ByNumber.{by_number};
 ghost use Rattle.llb_model.specs.Program.{Act, program_at};
 ghost use Rattle.llb_model.specs.Outcome.{inputs_from, output_in};
-ghost use Rattle.llb_model.specs.State.{ending_at, is_failed, stopped_from, next_stopped, view_from};
+ghost use Rattle.llb_model.specs.State.{ending_at, is_failed, next_stopped, start_from};
 ghost use Rattle.llb_board.specs.Views.{status_of};
 ghost use Rattle.llb_board.specs.Rules.{GivesClaim, or_not_ready};
 ghost use Rattle.llb_loader.specs.declared.graph.Edge as edge;
@@ -44,7 +45,7 @@ pub(crate) fn are_there(stands: &[Stand], inputs: &[Edge]) -> bool
 
 /// Whether a vertex waits and all its inputs are there.
 pub(crate) fn is_ready(stands: &[Stand], v: u32, vertex: &Vertex) -> bool
-    ensures { result ≡ is_some (view_from (map status_of stands.now) (slice_get (map status_of stands.now) v) (Some vertex.now)) }
+    ensures { result ≡ is_some (start_from (map status_of stands.now) (slice_get (map status_of stands.now) v) (Some vertex.now)) }
 {
     match stands.get(v as usize) {
         Some(Stand::Waiting) => are_there(stands, vertex.inputs.as_slice()),
@@ -95,7 +96,7 @@ fn actions_of(vertex: &Vertex) -> &[Action]
 /// Marks each vertex that has failed, or is behind one that has.
 pub(crate) fn mark_stopped(halted: &mut [bool], stands: &[Stand], vertices: &[Vertex])
     requires { length halted.old ≡ length vertices.now }
-    ensures { halted.new ≡ stopped_from (map status_of stands.now) [] vertices.now }
+    ensures { halted.new ≡ by_number (next_stopped (map status_of stands.now)) [] vertices.now }
 {
     for v in 0..vertices.len() {
         halted[v] = is_stopped(&halted[..v], stands, v, &vertices[v]);

@@ -1,13 +1,11 @@
 -- A run by chosen events: each is granted, and its claims ascend.
 use Rattle.std.proofs.Common.{◌≡◌, ◌≢◌, ℕ, zero, suc, ◌+◌, ◌<◌, Bool, true, false, ◌||◌, ◌&&◌, cond, List, [], ◌∷◌, ◌++◌, length, Option, Some, None, is_some, option_map, ◌⊎◌, inl, inr, refl, sym, ap, subst, ◌∙◌, arith}
 use Rattle.std.specs.Prelude.{slice_get, slice_set}
-use Rattle.std.specs.List.{list_any}
-use Rattle.std.proofs.lemmas.Bool.{cases_lt, or_cases}
+use Rattle.std.proofs.lemmas.Bool.{cases_order}
 use Rattle.std.proofs.Math.Bool.{or-true}
 use Rattle.std.proofs.lemmas.List.{append-nil}
 use Rattle.llb_loader.specs.Graph.{LeadsBelow, IsGraph}
 use Rattle.llb_loader.specs.declared.graph.Edge.{Edge}
-use Rattle.llb_loader.specs.declared.graph.Vertex.{Vertex}
 use Rattle.llb_model.specs.Program.{Build, Start, begin, step_on}
 use Rattle.llb_model.specs.State.{Status, Waiting, Running, Settled, Execution, At, Idle, Runs, State, ending_of, ending_at, ready, is_ready, is_waiting, is_failed, program_in, work_of, is_finished, ending_from}
 use Rattle.llb_model.specs.Table.{Event, Claim, Step, Settle, Reply, claim_with, step_by, settle_with, after_claim, after_settle, table}
@@ -17,7 +15,7 @@ use Rattle.llb_model.proofs.Lists.{inside, eq_or, get_set_same, get_set_other, g
 use Rattle.llb_model.proofs.Parts.{unfinished_some}
 use Rattle.llb_model.proofs.Events.{Answer, claim_is, step_is, settle_is, ready_is, ready_as, claim_granted, step_granted, settle_granted}
 use Rattle.llb_model.proofs.Outcomes.{each_below}
-use Rattle.llb_model.proofs.Stopped.{is_stopped, stopped_is, stopped_there, ready_not_stopped}
+use Rattle.llb_model.proofs.Stopped.{is_stopped, stopped_is, stopped_there, any_stopped, stopped_cases, ready_not_stopped}
 use Rattle.llb_model.proofs.Ready.{ready_waits}
 use Rattle.llb_model.proofs.Complete.{is_over, nothing_runs, over_by, least_some, IsLeast, progress, over_not_ready}
 
@@ -73,10 +71,13 @@ next_granted : (b : Build) (s : State) (e : Event) → IsNextOf b s e → IsGran
 next_granted b s e n = subst (IsGranted b s) (sym n.is) (by_test (is_finished (program_in b n.execution).steps n.execution) refl)
   where
     by_test : (t : Bool) → is_finished (program_in b n.execution).steps n.execution ≡ t → IsGranted b s (cond t (Settle n.worker) (Step n.worker))
-    by_test true fin = granted_with b s (Settle n.worker) (settle_with s n.worker n.execution.vertex (ending_from (program_in b n.execution) n.execution)) (settle_granted b s n.worker n.execution n.there fin)
+    by_test true fin =
+        granted_with b s (Settle n.worker) (settle_with s n.worker n.execution.vertex (ending_from (program_in b n.execution) n.execution))
+        (settle_granted b s n.worker n.execution n.there fin)
     by_test false fin =
         let m = unfinished_some (program_in b n.execution).steps n.execution fin in
-        granted_with b s (Step n.worker) (step_by s n.worker n.execution m.0 (step_on n.execution.done (Some m.0) (work_of s n.execution))) (step_granted b s n.worker n.execution m.0 n.there m.1)
+        granted_with b s (Step n.worker) (step_by s n.worker n.execution m.0 (step_on n.execution.done (Some m.0) (work_of s n.execution)))
+        (step_granted b s n.worker n.execution m.0 n.there m.1)
 
 first_claim : (b : Build) (s : State) (v : ℕ) (a : At) → slice_get s.workers 0 ≡ Some a → IsChosenClaim b s v → IsGranted b s (Claim 0 v)
 first_claim b s v (Runs x) there c = absurd (c.idle 0 x there)
@@ -115,17 +116,15 @@ module _ (b : Build) (graph : IsGraph b.graph) where
   unfolding StopsMore
   stops_more before later more zero k lt stop = absurd (omega arith)
   stops_more before later more (suc n) k lt stop =
-      let v = get_within b.graph.vertices k (stopped_there b graph before k stop) in
-      stopped_is b graph later k v.0 v.1 ∙ cases v.0 (each_below b.graph graph k v.0 v.1) (λ j below. stops_more before later more n j (omega arith)) (or_cases (is_failed (ending_at before k)) (list_any (λ (e : Edge). is_stopped b before e.vertex) v.0.inputs) (sym (stopped_is b graph before k v.0 v.1) ∙ stop))
-    where
-      cases : (v : Vertex) → Each_of (LeadsBelow b.graph.vertices k) v.inputs → ((j : ℕ) → j < k → is_stopped b before j ≡ true → is_stopped b later j ≡ true)
-          → (is_failed (ending_at before k) ≡ true) ⊎ (list_any (λ (e : Edge). is_stopped b before e.vertex) v.inputs ≡ true)
-          → (is_failed (ending_at later k) || list_any (λ (e : Edge). is_stopped b later e.vertex) v.inputs) ≡ true
-      cases v each below (inl h) = ap (λ t. t || list_any (λ (e : Edge). is_stopped b later e.vertex) v.inputs) (more k h)
-      cases v each below (inr h) =
-          let stops = some_as (λ (e : Edge). is_stopped b before e.vertex ≡ true) (LeadsBelow b.graph.vertices k) (λ (e : Edge). is_stopped b later e.vertex ≡ true) v.inputs
-          (any_true (λ (e : Edge). is_stopped b before e.vertex) v.inputs h) each (λ e stop leads. below e.vertex leads.lower stop) in
-          ap (λ t. is_failed (ending_at later k) || t) (true_any (λ (e : Edge). is_stopped b later e.vertex) v.inputs stops) ∙ or-true (is_failed (ending_at later k))
+      let v = get_within b.graph.vertices k (stopped_there b before k stop) in
+      stopped_is b graph later k v.0 v.1 ∙ elim (stopped_cases b graph before k v.0 v.1 stop) [
+        | inl h ↦ ap (λ t. t || any_stopped b later v.0.inputs) (more k h)
+        | inr h ↦
+            let stops = some_as (λ (e : Edge). is_stopped b before e.vertex ≡ true) (LeadsBelow b.graph.vertices k) (λ (e : Edge). is_stopped b later e.vertex ≡ true) v.0.inputs
+            (any_true (λ (e : Edge). is_stopped b before e.vertex) v.0.inputs h) (each_below b.graph graph k v.0 v.1)
+            (λ e stop leads. stops_more before later more n e.vertex (let low = leads.lower in omega (arith, low)) stop) in
+            ap (λ t. is_failed (ending_at later k) || t) (true_any (λ (e : Edge). is_stopped b later e.vertex) v.0.inputs stops) ∙ or-true (is_failed (ending_at later k))
+      ]
 
   -- a vertex keeps its status, or is not one that waits and stays stopped
   record Keeps (s t : State) : Type 0 where
@@ -166,7 +165,8 @@ module _ (b : Build) (graph : IsGraph b.graph) where
   kept s (Claim w v) a here given =
       let c = claim_is b s w v a given in
       let clear = ready_not_stopped b graph s here v (ap is_some (ready_as b s.statuses v c.start c.begins)) in
-      subst (λ (t : Answer). Keeps s t.0) (sym c.gives) (written s v Waiting (Running w) c.begins.waits refl (over_by b graph s here v (Some Waiting) c.begins.waits ∙ clear) refl (after_claim s w v (begin b c.start [])).workers)
+      let unover = over_by b graph s here v (Some Waiting) c.begins.waits ∙ clear in
+      subst (λ (t : Answer). Keeps s t.0) (sym c.gives) (written s v Waiting (Running w) c.begins.waits refl unover refl (after_claim s w v (begin b c.start [])).workers)
   kept s (Step w) a here given =
       let c = step_is b s w a given in
       subst (λ (t : Answer). Keeps s t.0) (sym c.gives) (record { failures = λ j failed. failed; over = λ k over. refl; claimed_stay = λ k stays. stays })
@@ -174,7 +174,8 @@ module _ (b : Build) (graph : IsGraph b.graph) where
       let c = settle_is b s w a given in
       let own = here.working w c.x c.there in
       let end = ending_from (program_in b c.x) c.x in
-      subst (λ (t : Answer). Keeps s t.0) (sym c.gives) (written s c.x.vertex (Running w) (Settled end) own refl (over_by b graph s here c.x.vertex (Some (Running w)) own) refl (after_settle s w c.x.vertex end).workers)
+      let unover = over_by b graph s here c.x.vertex (Some (Running w)) own in
+      subst (λ (t : Answer). Keeps s t.0) (sym c.gives) (written s c.x.vertex (Running w) (Settled end) own refl unover refl (after_settle s w c.x.vertex end).workers)
 
   -- ---- claims ascend
 
@@ -206,9 +207,11 @@ module _ (b : Build) (graph : IsGraph b.graph) where
 
   all_below : (s : State) → IsConsistent b s → (v : ℕ) → is_ready b s.statuses v ≡ true → (us : List ℕ) → Each_of (IsPast b s) us → Each_of (λ u. u < v) us
   all_below s here v is [] past = tt
-  all_below s here v is (u ∷ us) past =
-      (elim (cases_lt u v) [ inl lt ↦ lt | inr le ↦ elim (eq_or u v) [ inl same ↦ absurd (waits same) | inr apart ↦ absurd (cc (over_not_ready b graph s here v (past.0.below v (omega arith)), is)) ] ], all_below s here v is us past.1)
+  all_below s here v is (u ∷ us) past = (elim (cases_order u v) [ inl same ↦ absurd (waits same) | inr h ↦ elim h [ inl lt ↦ lt | inr gt ↦ absurd (over gt) ] ], all_below s here v is us past.1)
     where
+      over : v < u → ⊥
+      over gt = cc (over_not_ready b graph s here v (past.0.below v gt), is)
+
       waits : u ≡ v → ⊥
       waits same =
           let w : is_waiting (slice_get s.statuses u) ≡ true = ap (λ n. is_waiting (slice_get s.statuses n)) same ∙ ap is_waiting (ready_waits b s.statuses v is) in

@@ -2,7 +2,6 @@
 -- complete; and then every vertex stands as its plain outcome tells.
 use Rattle.std.proofs.Common.{◌≡◌, ◌≢◌, ℕ, zero, suc, ◌+◌, ◌<◌, ◌≤◌, Bool, true, false, ◌||◌, ◌&&◌, cond, List, [], ◌∷◌, length, Option, Some, None, is_some, option_map, ◌⊎◌, inl, inr, refl, sym, ap, subst, ◌∙◌, arith}
 use Rattle.std.specs.Prelude.{slice_get}
-use Rattle.std.specs.List.{list_any}
 use Rattle.std.proofs.lemmas.Bool.{cases_eq}
 use Rattle.llb_loader.specs.Graph.{LeadsBelow, IsGraph}
 use Rattle.llb_loader.specs.declared.graph.Edge.{Edge}
@@ -18,7 +17,7 @@ use Rattle.llb_model.specs.Plain.{StandsByOutcomes}
 use Rattle.llb_model.proofs.Lists.{get_within, got_within, true_any, some_as}
 use Rattle.llb_model.proofs.Outcomes.{none_in_inputs, each_below, edge_there, all_plain}
 use Rattle.llb_model.proofs.Plain.{settled_plain}
-use Rattle.llb_model.proofs.Stopped.{is_stopped, stopped_is, done_count, ready_not_stopped, stopped_blocked}
+use Rattle.llb_model.proofs.Stopped.{is_stopped, stopped_is, any_stopped, done_count, ready_not_stopped, stopped_blocked}
 use Rattle.llb_model.proofs.Ready.{ready_by_inputs, ready_waits}
 
 -- a vertex that needs nothing more: it is settled, or blocked
@@ -109,7 +108,7 @@ module _ (b : Build) (graph : IsGraph b.graph) (s : State) (here : IsConsistent 
       by_status v there (Some Waiting) is over undone = sym (over_by e.vertex (Some Waiting) is) ∙ over
       by_status v there (Some (Running w)) is over undone = absurd (cc (over_by e.vertex (Some (Running w)) is, over))
       by_status v there (Some (Settled (Failed f))) is over undone =
-          stopped_is b graph s.statuses e.vertex v there ∙ ap (λ o. is_failed (ending_of o) || list_any (λ (d : Edge). is_stopped b s.statuses d.vertex) v.inputs) is
+          stopped_is b graph s.statuses e.vertex v there ∙ ap (λ o. is_failed (ending_of o) || any_stopped b s.statuses v.inputs) is
       by_status v there (Some (Settled (Done trees))) is over undone = absurd (cc (ap (λ o. is_done (ending_of o)) is, undone))
 
   pub progress : (n : ℕ) → n ≤ length b.graph.vertices → ((k w : ℕ) → k < n → slice_get s.statuses k ≢ Some (Running w)) → ((k : ℕ) → k < n → is_ready b s.statuses k ≡ false)
@@ -126,16 +125,18 @@ module _ (b : Build) (graph : IsGraph b.graph) (s : State) (here : IsConsistent 
         where
           waits : (v : Vertex) → slice_get b.graph.vertices k ≡ Some v → slice_get s.statuses k ≡ Some Waiting → inputs_from (ending_at s.statuses) v.inputs ≡ None → is_over b s k ≡ true
           waits v there is none =
-              let stops = some_as (λ (e : Edge). output_in (ending_at s.statuses e.vertex) e.index ≡ None) (LeadsBelow b.graph.vertices k) (λ (e : Edge). is_stopped b s.statuses e.vertex ≡ true) v.inputs
+              let stops =
+              some_as (λ (e : Edge). output_in (ending_at s.statuses e.vertex) e.index ≡ None) (LeadsBelow b.graph.vertices k) (λ (e : Edge). is_stopped b s.statuses e.vertex ≡ true) v.inputs
               (none_in_inputs (ending_at s.statuses) v.inputs none) (each_below b.graph graph k v there) (input_stopped k (omega arith) below) in
-              over_by k (Some Waiting) is ∙ stopped_is b graph s.statuses k v there ∙ ap (λ o. is_failed (ending_of o) || list_any (λ (e : Edge). is_stopped b s.statuses e.vertex) v.inputs) is
+              over_by k (Some Waiting) is ∙ stopped_is b graph s.statuses k v there ∙ ap (λ o. is_failed (ending_of o) || any_stopped b s.statuses v.inputs) is
               ∙ true_any (λ (e : Edge). is_stopped b s.statuses e.vertex) v.inputs stops
 
           by_inputs : (v : Vertex) → slice_get b.graph.vertices k ≡ Some v → slice_get s.statuses k ≡ Some Waiting → (o : Option (List TreeMap))
               → inputs_from (ending_at s.statuses) v.inputs ≡ o → is_over b s k ≡ true
           by_inputs v there is None has = waits v there is has
           by_inputs v there is (Some trees) has =
-              let ready : is_ready b s.statuses k ≡ true = ready_by_inputs b s.statuses k v there ∙ ap (λ o. is_waiting o && is_some (inputs_from (ending_at s.statuses) v.inputs)) is ∙ ap is_some has in
+              let ready : is_ready b s.statuses k ≡ true =
+              ready_by_inputs b s.statuses k v there ∙ ap (λ o. is_waiting o && is_some (inputs_from (ending_at s.statuses) v.inputs)) is ∙ ap is_some has in
               absurd (cc (ready, none_ready k lt))
 
           by_status : (v : Vertex) → slice_get b.graph.vertices k ≡ Some v → (x : Status) → slice_get s.statuses k ≡ Some x → is_over b s k ≡ true
@@ -178,7 +179,8 @@ module _ (b : Build) (graph : IsGraph b.graph) (s : State) (here : IsConsistent 
       let idle = nothing_runs b s.workers 0 o.0 in
       let ready = least_none (is_ready b s.statuses) 0 (length b.graph.vertices) (map_none (least (is_ready b s.statuses) 0 (length b.graph.vertices)) o.1) in
       true_each (is_over b s) 0 (length b.graph.vertices)
-      (λ k low high. progress (length b.graph.vertices) (omega arith) (λ j w lt runs. let x = here.running j w runs in idle w x.0 x.1) (λ j lt. ready j (omega arith) (omega arith)) k (omega arith))
+      (λ k low high. progress (length b.graph.vertices) (omega arith) (λ j w lt runs. let x = here.running j w runs in idle w x.0 x.1)
+      (λ j lt. ready j (omega arith) (omega arith)) k (omega arith))
 
   pub complete_is_none : is_complete b s ≡ true → chosen b s ≡ None
   complete_is_none e =

@@ -1,5 +1,5 @@
 -- Every state that events lead to is consistent.
-use Rattle.std.proofs.Common.{◌≡◌, ◌≢◌, ℕ, true, false, List, [], ◌∷◌, length, Option, Some, None, is_some, inl, inr, refl, sym, ap, subst, ◌∙◌, arith}
+use Rattle.std.proofs.Common.{◌≡◌, ◌≢◌, ℕ, true, false, List, [], length, Option, Some, None, is_some, inl, inr, refl, sym, ap, subst, ◌∙◌, arith}
 use Rattle.std.specs.Prelude.{slice_get, slice_set, replicate}
 use Rattle.std.proofs.lemmas.List.{length-replicate}
 use Rattle.llb_loader.specs.declared.graph.Edge.{Edge}
@@ -11,7 +11,7 @@ use Rattle.llb_model.specs.State.{Status, Waiting, Running, Settled, Execution, 
 use Rattle.llb_model.specs.Table.{Event, Claim, Step, Settle, Reply, execution_on, after_claim, with_step, after_step, after_settle, table}
 use Rattle.llb_model.specs.Run.{run}
 use Rattle.llb_model.specs.Consistent.{IsConsistent}
-use Rattle.llb_model.proofs.Lists.{some_of, inside, eq_or, got_set, get_set_same, get_set_other, length_set, got_replicate, Each_of, get_within, got_within}
+use Rattle.llb_model.proofs.Lists.{some_of, inside, eq_or, got_set, get_set_same, get_set_other, length_set, got_replicate, each_unit, get_within, got_within}
 use Rattle.llb_model.proofs.Events.{Answer, IsReady, claim_is, step_is, settle_is}
 use Rattle.llb_model.proofs.Runs.{run_keeps}
 use Rattle.llb_model.proofs.Outcomes.{inputs_mono, ended_count}
@@ -33,13 +33,9 @@ opening_consistent b o = record {
 some_mono : (f g : ℕ → Option Ending) → ((j : ℕ) (e : Ending) → f j ≡ Some e → g j ≡ Some e) → (edges : List Edge) → is_some (inputs_from f edges) ≡ true → is_some (inputs_from g edges) ≡ true
 some_mono f g more edges some = by_inputs (inputs_from f edges) refl some
   where
-    all : (edges : List Edge) → Each_of (λ (e : Edge). Unit {0}) edges
-    all [] = tt
-    all (e ∷ edges) = (tt, all edges)
-
     by_inputs : (o : Option (List TreeMap)) → inputs_from f edges ≡ o → is_some o ≡ true → is_some (inputs_from g edges) ≡ true
     by_inputs None is some = absurd cc
-    by_inputs (Some trees) is some = ap is_some (inputs_mono (λ j. Unit {0}) f g (λ j x u. more j x) edges (all edges) trees is)
+    by_inputs (Some trees) is some = ap is_some (inputs_mono (λ j. Unit {0}) f g (λ j x u. more j x) edges (each_unit edges) trees is)
 
 module _ (b : Build) (s : State) (here : IsConsistent b s) where
   -- where a vertex that has not ended gets another status
@@ -73,12 +69,14 @@ module _ (b : Build) (s : State) (here : IsConsistent b s) where
     working = λ u x there. elim (got_set s.workers w (Runs z) u (Runs x) there) [
       | inl h ↦
           let same : z ≡ x = cc (h.1) in
-          ap (λ (y : Execution). slice_get (slice_set s.statuses v (Running w)) y.vertex) (sym same) ∙ get_set_same s.statuses v (Running w) Waiting ready.waits ∙ ap (λ n. some_of (Running n)) (sym h.0)
+          ap (λ (y : Execution). slice_get (slice_set s.statuses v (Running w)) y.vertex) (sym same)
+          ∙ get_set_same s.statuses v (Running w) Waiting ready.waits ∙ ap (λ n. some_of (Running n)) (sym h.0)
       | inr h ↦ get_set_other s.statuses v (Running w) x.vertex (other u x (here.working u x h.1)) ∙ here.working u x h.1
     ];
     outputs = λ k x trees there done. elim (got_set s.statuses v (Running w) k (Settled (Done trees)) done) [ inl h ↦ absurd (cc (h.1)) | inr h ↦ here.outputs k x trees there h.1 ];
     inputs = inputs_stay v Waiting (Running w) ready.waits refl
-        (λ x there. let same : start.vertex ≡ x = inside (sym ready.there ∙ there) in ap (λ (y : Vertex). is_some (inputs_from (ending_at s.statuses) y.inputs)) (sym same) ∙ ap is_some ready.inputs);
+        (λ x there. let same : start.vertex ≡ x = inside (sym ready.there ∙ there) in
+        ap (λ (y : Vertex). is_some (inputs_from (ending_at s.statuses) y.inputs)) (sym same) ∙ ap is_some ready.inputs);
   }
     where
       z : Execution

@@ -69,6 +69,14 @@ abbrev pub Each_of : {A : Type 0} → (A → Type 0) → List A → Type 0
 Each_of P [] = Unit {0}
 Each_of P (x ∷ xs) = P x × Each_of P xs
 
+pub each_unit : {A : Type 0} (xs : List A) → Each_of (λ x. Unit {0}) xs
+each_unit [] = tt
+each_unit (x ∷ xs) = (tt, each_unit xs)
+
+pub each_both : {A : Type 0} (P Q : A → Type 0) (xs : List A) → Each_of P xs → Each_of Q xs → Each_of (λ x. P x × Q x) xs
+each_both P Q [] p q = tt
+each_both P Q (x ∷ xs) p q = ((p.0, q.0), each_both P Q xs p.1 q.1)
+
 pub any_true : {A : Type 0} (p : A → Bool) (xs : List A) → list_any p xs ≡ true → Some_of (λ x. p x ≡ true) xs
 any_true p [] e = absurd cc
 any_true p (x ∷ xs) e = elim (or_cases (p x) (list_any p xs) e) [ inl h ↦ inl h | inr h ↦ inr (any_true p xs h) ]

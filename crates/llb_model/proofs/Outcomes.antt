@@ -12,7 +12,7 @@ use Rattle.llb_loader.specs.declared.graph.Vertex.{Vertex}
 use Rattle.llb_tree.specs.Tree.{TreeMap}
 use Rattle.llb_model.specs.declared.fault.VertexFault.{VertexFault}
 use Rattle.llb_model.specs.Program.{Build, Program, View, Files, program_of, start_with, begin, whole, result_for, outputs_of}
-use Rattle.llb_model.specs.Outcome.{Ending, Done, Failed, Outcome, Ended, Blocked, ended, ending, output_in, both, all_there, inputs_from, outcome_on, ending_in, next_outcome, outcomes, outcome, has_cache, next_plain, is_plain}
+use Rattle.llb_model.specs.Outcome.{Ending, Done, Failed, Ended, ended, ending, output_in, both, all_there, inputs_from, outcome_on, ending_in, next_outcome, outcomes, outcome, has_cache, next_plain, is_plain}
 use Rattle.llb_model.specs.ByNumber.{by_number}
 use Rattle.llb_model.specs.State.{is_done}
 use Rattle.llb_model.proofs.Lists.{some_of, inside, get_take, Each_of, Some_of, some_with, get_within, got_within}
@@ -124,11 +124,6 @@ inputs_there g f counts k fits (e ∷ edges) each =
 abbrev pub plain : Build → ℕ → Option Ending
 plain b k = ending_in (outcome b k)
 
-pub plain_is : (o : Option Outcome) (e : Ending) → ending_in o ≡ Some e → o ≡ Some (Ended e)
-plain_is None e h = absurd cc
-plain_is (Some Blocked) e h = absurd cc
-plain_is (Some (Ended x)) e h = ap (λ y. some_of (Ended y)) (inside h)
-
 module _ (b : Build) (graph : IsGraph b.graph) where
   -- the outcome of a vertex is its whole program on what its inputs end with
   pub outcome_is : (k : ℕ) (v : Vertex) → slice_get b.graph.vertices k ≡ Some v → outcome b k ≡ Some (outcome_on b v (inputs_from (plain b) v.inputs))
@@ -144,7 +139,9 @@ module _ (b : Build) (graph : IsGraph b.graph) where
 
   -- the vertices that a plain one's edges lead to are plain
   pub plain_inputs : (k : ℕ) (v : Vertex) → slice_get b.graph.vertices k ≡ Some v → is_plain b k ≡ true → Each_of (λ (e : Edge). is_plain b e.vertex ≡ true) v.inputs
-  plain_inputs k v there is = each v.inputs (each_below b.graph graph k v there) (and_parts (not (has_cache v)) (list_all front v.inputs) (sym (ap (λ o. unwrap_or o false) (by_number_is next_plain b.graph.vertices k v there)) ∙ is)).1
+  plain_inputs k v there is =
+      each v.inputs (each_below b.graph graph k v there)
+      (and_parts (not (has_cache v)) (list_all front v.inputs) (sym (ap (λ o. unwrap_or o false) (by_number_is next_plain b.graph.vertices k v there)) ∙ is)).1
     where
       front : Edge → Bool
       front e = unwrap_or (slice_get (take k (by_number next_plain [] b.graph.vertices)) e.vertex) false
@@ -163,7 +160,8 @@ module _ (b : Build) (graph : IsGraph b.graph) where
   plain_below zero k lt fits = absurd (omega arith)
   plain_below (suc n) k lt fits =
       let v = get_within b.graph.vertices k fits in
-      ap (λ o. unwrap_or o false) (by_number_is next_plain b.graph.vertices k v.0 v.1) ∙ all v.0.inputs (each_below b.graph graph k v.0 v.1) (λ j low. plain_below n j (omega arith) (omega arith))
+      ap (λ o. unwrap_or o false) (by_number_is next_plain b.graph.vertices k v.0 v.1)
+      ∙ all v.0.inputs (each_below b.graph graph k v.0 v.1) (λ j low. plain_below n j (omega arith) (omega arith))
     where
       all : (edges : List Edge) → Each_of (LeadsBelow b.graph.vertices k) edges → ((j : ℕ) → j < k → is_plain b j ≡ true)
           → list_all (λ (e : Edge). unwrap_or (slice_get (take k (by_number next_plain [] b.graph.vertices)) e.vertex) false) edges ≡ true
@@ -198,14 +196,16 @@ plain_count b graph k v trees there is = outcome_count b v (inputs_from (plain b
 
 -- ---- where a vertex is not done, one has failed
 
-pub record IsFailure (b : Build) : Type 0 where
+-- a vertex at or before one fails
+pub record FailsBy (b : Build) (k : ℕ) : Type 0 where
   pub vertex : ℕ
+  pub before : vertex ≤ k
   pub fault : VertexFault
-  pub is : outcome b vertex ≡ Some (Ended (Failed fault))
+  pub failed : outcome b vertex ≡ Some (Ended (Failed fault))
 
 module _ (b : Build) (graph : IsGraph b.graph) where
   FailsBelow : ℕ → Type 0
-  FailsBelow n = (k : ℕ) → k < n → k < length b.graph.vertices → is_done (plain b k) ≡ false → IsFailure b
+  FailsBelow n = (k : ℕ) → k < n → k < length b.graph.vertices → is_done (plain b k) ≡ false → FailsBy b k
 
   fails_below : (n : ℕ) → FailsBelow n
   unfolding FailsBelow
@@ -214,23 +214,26 @@ module _ (b : Build) (graph : IsGraph b.graph) where
       let v = get_within b.graph.vertices k fits in
       by_inputs v.0 v.1 (inputs_from (plain b) v.0.inputs) refl (λ j low. fails_below n j (omega arith) (omega arith))
     where
-      by_ending : (v : Vertex) (e : Ending) → outcome b k ≡ Some (Ended e) → IsFailure b
-      by_ending v (Failed f) is = record { vertex = k; fault = f; is = is }
-      by_ending v (Done trees) is = let both : is_done (plain b k) ≡ true = ap (λ o. is_done (ending_in o)) is in absurd cc
+      by_ending : (e : Ending) → outcome b k ≡ Some (Ended e) → FailsBy b k
+      by_ending (Failed f) is = record { vertex = k; before = omega arith; fault = f; failed = is }
+      by_ending (Done trees) is = let done : is_done (plain b k) ≡ true = ap (λ o. is_done (ending_in o)) is in absurd cc
 
       by_inputs : (v : Vertex) → slice_get b.graph.vertices k ≡ Some v → (o : Option (List TreeMap)) → inputs_from (plain b) v.inputs ≡ o
-          → ((j : ℕ) → j < k → is_done (plain b j) ≡ false → IsFailure b) → IsFailure b
+          → ((j : ℕ) → j < k → is_done (plain b j) ≡ false → FailsBy b j) → FailsBy b k
       by_inputs v there (Some ts) is below =
-          by_ending v (ending (program_of v) (whole (program_of v).steps (begin b (start_with v ts) []))) (outcome_is b graph k v there ∙ ap (λ o. some_of (outcome_on b v o)) is)
+          by_ending (ending (program_of v) (whole (program_of v).steps (begin b (start_with v ts) []))) (outcome_is b graph k v there ∙ ap (λ o. some_of (outcome_on b v o)) is)
       by_inputs v there None is below =
-          some_with (λ (e : Edge). output_in (plain b e.vertex) e.index ≡ None) (LeadsBelow b.graph.vertices k) (IsFailure b) v.inputs (none_in_inputs (plain b) v.inputs is) (each_below b.graph graph k v there)
-          (λ e none leads. below e.vertex leads.lower (sym (edge_there b.graph (plain b) (plain_count b graph) k (omega (arith, fits)) e leads) ∙ ap is_some none))
+          some_with (λ (e : Edge). output_in (plain b e.vertex) e.index ≡ None) (LeadsBelow b.graph.vertices k) (FailsBy b k) v.inputs
+          (none_in_inputs (plain b) v.inputs is) (each_below b.graph graph k v there) (λ e none leads.
+          let f = below e.vertex leads.lower (sym (edge_there b.graph (plain b) (plain_count b graph) k (omega (arith, fits)) e leads) ∙ ap is_some none) in
+          record { vertex = f.vertex; before = omega (arith, f.before, leads.lower); fault = f.fault; failed = f.failed })
 
-  pub some_failed : (k : ℕ) → k < length b.graph.vertices → is_done (plain b k) ≡ false → IsFailure b
+  pub some_failed : (k : ℕ) → k < length b.graph.vertices → is_done (plain b k) ≡ false → FailsBy b k
   unfolding FailsBelow
   some_failed k fits undone = fails_below (suc k) k (omega arith) fits undone
 
   -- the output that the graph names as its result is no tree only where a vertex fails
-  pub result_failed : output_in (plain b b.graph.result.vertex) b.graph.result.index ≡ None → IsFailure b
+  pub result_failed : output_in (plain b b.graph.result.vertex) b.graph.result.index ≡ None → FailsBy b b.graph.result.vertex
   result_failed none =
-      some_failed b.graph.result.vertex graph.result.lower (sym (edge_there b.graph (plain b) (plain_count b graph) (length b.graph.vertices) (omega arith) b.graph.result graph.result) ∙ ap is_some none)
+      some_failed b.graph.result.vertex graph.result.lower
+      (sym (edge_there b.graph (plain b) (plain_count b graph) (length b.graph.vertices) (omega arith) b.graph.result graph.result) ∙ ap is_some none)

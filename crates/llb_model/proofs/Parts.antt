@@ -45,7 +45,7 @@ finished_whole steps work k over = elim (cases_lt k (length steps)) [
       ap (part steps work) (sym sum) ∙ stays steps work k over (length steps - k)
   | inr le ↦
       let sum : length steps + (k - length steps) ≡ k = omega arith in
-      let past : is_over_at steps (part steps work (length steps)) (length steps) ≡ true = past_end (is_some (part steps work (length steps)).fault) (length steps) (length steps) (omega arith) in
+      let past : is_over_at steps (whole steps work) (length steps) ≡ true = past_end (is_some (whole steps work).fault) (length steps) (length steps) (omega arith) in
       sym (stays steps work (length steps) past (k - length steps)) ∙ ap (part steps work) sum
 ]
 

@@ -12,24 +12,25 @@ Ran = Option (State × List Reply)
 
 -- ---- a run, and another from where it ended
 
+-- replies in front
+abbrev pub behind : List Reply → Ran → Ran
+behind rs o = option_map {U = State × List Reply} (λ (t : State × List Reply). (t.0, rs ++ t.1)) o
+
 abbrev pub joined : Ran → (State → Ran) → Ran
 joined None more = None
-joined (Some (s, rs)) more = option_map {U = State × List Reply} (λ (t : State × List Reply). (t.0, rs ++ t.1)) (more s)
+joined (Some (s, rs)) more = behind rs (more s)
 
-nothing_before : (o : Ran) → o ≡ option_map {U = State × List Reply} (λ (t : State × List Reply). (t.0, [] ++ t.1)) o
-nothing_before None = refl
-nothing_before (Some (s, rs)) = refl
+behind_none : (o : Ran) → o ≡ behind [] o
+behind_none None = refl
+behind_none (Some (s, rs)) = refl
 
-reply_first : (r : Reply) (rs : List Reply) (o : Ran)
-    → option_map {U = State × List Reply} (λ (t : State × List Reply). (t.0, r ∷ t.1)) (option_map {U = State × List Reply} (λ (t : State × List Reply). (t.0, rs ++ t.1)) o)
-    ≡ option_map {U = State × List Reply} (λ (t : State × List Reply). (t.0, (r ∷ rs) ++ t.1)) o
-reply_first r rs None = refl
-reply_first r rs (Some (s, qs)) = refl
+behind_one : (r : Reply) (rs : List Reply) (o : Ran) → behind (r ∷ []) (behind rs o) ≡ behind (r ∷ rs) o
+behind_one r rs None = refl
+behind_one r rs (Some (s, qs)) = refl
 
-first_joined : (r : Reply) (o : Ran) (more : State → Ran)
-    → option_map {U = State × List Reply} (λ (t : State × List Reply). (t.0, r ∷ t.1)) (joined o more) ≡ joined (option_map {U = State × List Reply} (λ (t : State × List Reply). (t.0, r ∷ t.1)) o) more
+first_joined : (r : Reply) (o : Ran) (more : State → Ran) → behind (r ∷ []) (joined o more) ≡ joined (behind (r ∷ []) o) more
 first_joined r None more = refl
-first_joined r (Some (s, rs)) more = reply_first r rs (more s)
+first_joined r (Some (s, rs)) more = behind_one r rs (more s)
 
 after_joined : (o : Option Answer) (go more : State → Ran) → after o (λ t. joined (go t) more) ≡ joined (after o go) more
 after_joined None go more = refl
@@ -37,7 +38,7 @@ after_joined (Some (s, r)) go more = first_joined r (go s) more
 
 pub run_append : (b : Build) (s : State) (xs ys : List Event) → run b s (xs ++ ys) ≡ joined (run b s xs) (λ t. run b t ys)
 unfolding run
-run_append b s [] ys = nothing_before (run b s ys)
+run_append b s [] ys = behind_none (run b s ys)
 run_append b s (x ∷ xs) ys = (λ i. after (table b s x) (λ t. run_append b t xs ys i)) ∙ after_joined (table b s x) (λ t. run b t xs) (λ t. run b t ys)
 
 pub run_one : (b : Build) (s t : State) (e : Event) (r : Reply) → table b s e ≡ Some (t, r) → run b s (e ∷ []) ≡ Some (t, r ∷ [])
@@ -46,7 +47,7 @@ run_one b s t e r granted = ap (λ o. after o (λ t. run b t [])) granted
 
 pub run_on : (b : Build) (s t u : State) (xs ys : List Event) (rs qs : List Reply) → run b s xs ≡ Some (t, rs) → run b t ys ≡ Some (u, qs) → run b s (xs ++ ys) ≡ Some (u, rs ++ qs)
 run_on b s t u xs ys rs qs first later =
-    run_append b s xs ys ∙ ap (λ o. joined o (λ v. run b v ys)) first ∙ ap (option_map {U = State × List Reply} (λ (v : State × List Reply). (v.0, rs ++ v.1))) later
+    run_append b s xs ys ∙ ap (λ o. joined o (λ v. run b v ys)) first ∙ ap (behind rs) later
 
 -- an event more
 pub run_more : (b : Build) (s t u : State) (es : List Event) (rs : List Reply) (e : Event) (r : Reply) → run b s es ≡ Some (t, rs) → table b t e ≡ Some (u, r)
