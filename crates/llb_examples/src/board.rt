@@ -1,0 +1,275 @@
+//! The board of one worker. A story is a list of calls with their answers, printed: a fault by its number.
+
+use llb_board::{At, Board, Event, OpenFault, Settled, Status, Stepped};
+use llb_loader::{Graph, load};
+use std::alloc::{AllocError, Global};
+use std::test::Fail;
+
+// A file `/a` on nothing, and a directory `/d` on it.
+const IN_A_ROW: &str =
+    "0a322230122e08ffffffffffffffffff0110ffffffffffffffffff012a160a022f6110a4031a02686928ffffffffffffffffff010a6e0a490a477368613235363a653030643635353937383935373930663764633236646266373234613431316264383363386531353838316162336565613138656137353039353738326461622221121f10ffffffffffffffffff0132120a022f6410ed0328ffffffffffffffffff010a4b0a490a477368613235363a31633261313035373763613536643138306634646130366332653034396536366135373138646262323839363038366161383838306330646361333031353266";
+
+// Files `/a` and `/b`, each on nothing, and a directory `/d` on the second, with both as inputs.
+const THREE_VERTICES: &str =
+    "0a322230122e08ffffffffffffffffff0110ffffffffffffffffff012a160a022f6110a4031a02686928ffffffffffffffffff010a322230122e08ffffffffffffffffff0110ffffffffffffffffff012a160a022f6210a4031a02686f28ffffffffffffffffff010abb010a490a477368613235363a653030643635353937383935373930663764633236646266373234613431316264383363386531353838316162336565613138656137353039353738326461620a490a477368613235363a3836306337653466373861613637323230386161376663396236623732396663623165383766356561633761303636366535346639636261393439386137303822231221080110ffffffffffffffffff0132120a022f6410ed0328ffffffffffffffffff010a4b0a490a477368613235363a30626565663566333033633535616538623937663338303161643763633037383762346131346561323430643335386230623437656238363065383264363665";
+
+// A file below a directory that is missing, and a directory on it.
+const FAILED_INPUT: &str =
+    "0a342232123008ffffffffffffffffff0110ffffffffffffffffff012a180a042f782f6110a4031a02686928ffffffffffffffffff010a6e0a490a477368613235363a383261346362613239343637313632636634393731373531653861343334613033313234663562313766643564353435663765333262393237636338646231652221121f10ffffffffffffffffff0132120a022f6410ed0328ffffffffffffffffff010a4b0a490a477368613235363a64653132323861363838646165653062313636383731643036353837313364373131656665333336656666626433386639336166313234373033336566643631";
+
+#[derive(Clone, Copy)]
+enum Call {
+    Claim(u32, u32),
+    Step(u32),
+    Settle(u32),
+    Vertex(u32),
+    Worker(u32),
+    Output(u32, u32),
+    Chosen,
+    Complete,
+    Events,
+}
+
+fn event_text(alloc: Global, event: Event) -> Result<String, AllocError> {
+    match event {
+        Event::Claim(w, v) => format!(in alloc; "claim {w} {v}"),
+        Event::Step(w) => format!(in alloc; "step {w}"),
+        Event::Settle(w) => format!(in alloc; "settle {w}"),
+    }
+}
+
+fn status_text(alloc: Global, status: Option<Status>) -> Result<String, AllocError> {
+    let word = match status {
+        None => "none",
+        Some(Status::Waiting) => "waiting",
+        Some(Status::Ready) => "ready",
+        Some(Status::Blocked) => "blocked",
+        Some(Status::Done) => "done",
+        Some(Status::Running(w)) => return format!(in alloc; "running {w}"),
+        Some(Status::Failed(fault)) => return format!(in alloc; "failed {fault}"),
+    };
+    String::from_str(alloc, word)
+}
+
+fn worker_text(alloc: Global, at: Option<At>) -> Result<String, AllocError> {
+    match at {
+        None => String::from_str(alloc, "none"),
+        Some(At::Idle) => String::from_str(alloc, "idle"),
+        Some(At::Runs(v, done, finished)) => format!(in alloc; "runs {v}, {done} done, {finished}"),
+    }
+}
+
+fn claim(alloc: Global, board: &mut Board, w: u32, v: u32) -> Result<String, AllocError> {
+    match board.claim(w, v) {
+        Ok(job) => {
+            let (worker, vertex, done) = (job.worker, job.vertex, job.done);
+            format!(in alloc; "worker {worker}, vertex {vertex}, {done} done")
+        }
+        Err(fault) => fault.to_string(alloc),
+    }
+}
+
+fn step(alloc: Global, board: &mut Board, w: u32) -> Result<String, AllocError> {
+    match board.step(w) {
+        Ok(Stepped::Acted(a)) => format!(in alloc; "acted {a}"),
+        Ok(Stepped::Fault(fault)) => format!(in alloc; "fault: {fault}"),
+        Err(fault) => fault.to_string(alloc),
+    }
+}
+
+fn settle(alloc: Global, board: &mut Board, w: u32) -> Result<String, AllocError> {
+    match board.settle(w) {
+        Ok(Settled::Done(v)) => format!(in alloc; "{v} done"),
+        Ok(Settled::Failed(v)) => format!(in alloc; "{v} failed"),
+        Err(fault) => fault.to_string(alloc),
+    }
+}
+
+fn chosen(alloc: Global, board: &Board) -> Result<String, AllocError> {
+    match board.chosen() {
+        Some(event) => event_text(alloc, event),
+        None => String::from_str(alloc, "none"),
+    }
+}
+
+fn output(alloc: Global, board: &Board, v: u32, i: u32) -> Result<String, AllocError> {
+    match board.output(v, i) {
+        Some(tree) => tree.len().to_string(alloc),
+        None => String::from_str(alloc, "none"),
+    }
+}
+
+fn events(alloc: Global, board: &Board) -> Result<String, AllocError> {
+    let mut text = String::new(alloc);
+    for event in board.events() {
+        text.push_str(event_text(alloc, *event)?.as_str())?;
+        text.push_str("|")?;
+    }
+    Ok(text)
+}
+
+fn answer(alloc: Global, board: &mut Board, call: Call) -> Result<String, AllocError> {
+    match call {
+        Call::Claim(w, v) => claim(alloc, board, w, v),
+        Call::Step(w) => step(alloc, board, w),
+        Call::Settle(w) => settle(alloc, board, w),
+        Call::Vertex(v) => status_text(alloc, board.status(v)),
+        Call::Worker(w) => worker_text(alloc, board.worker(w)),
+        Call::Output(v, i) => output(alloc, board, v, i),
+        Call::Chosen => chosen(alloc, board),
+        Call::Complete => board.is_complete().to_string(alloc),
+        Call::Events => events(alloc, board),
+    }
+}
+
+fn graph_of(alloc: Global, definition: &str) -> Result<Graph, Fail> {
+    let bytes = hex::decode(alloc, definition)?;
+    Ok(load(alloc, &bytes)?)
+}
+
+// The number of the first call of a story that has another answer on a new board.
+fn astray(alloc: Global, definition: &str, story: &[(Call, &str)]) -> Result<Option<usize>, Fail> {
+    let graph = graph_of(alloc, definition)?;
+    let mut board = Board::open(alloc, graph, 1)?;
+    for (k, (call, wanted)) in story.iter().enumerate() {
+        let told = answer(alloc, &mut board, *call)?;
+        if told.as_str() != *wanted {
+            return Ok(Some(k));
+        }
+    }
+    Ok(None)
+}
+
+#[test]
+fn an_idle_worker_is_refused_by_the_first_cause(rt: HostRuntime) -> Result<(), Fail> {
+    let story = [
+        (Call::Claim(5, 9), "131"),
+        (Call::Claim(0, 9), "133"),
+        (Call::Claim(0, 2), "134"),
+        (Call::Step(1), "131"),
+        (Call::Step(0), "136"),
+        (Call::Settle(1), "131"),
+        (Call::Settle(0), "136"),
+        (Call::Events, ""),
+    ];
+    assert_eq!(rt; astray(rt.alloc(), THREE_VERTICES, &story)?, None);
+    Ok(())
+}
+
+#[test]
+fn a_running_worker_is_refused_by_the_first_cause(rt: HostRuntime) -> Result<(), Fail> {
+    let story = [
+        (Call::Claim(0, 0), "worker 0, vertex 0, 0 done"),
+        (Call::Claim(0, 1), "132"),
+        (Call::Claim(0, 9), "132"),
+        (Call::Settle(0), "138"),
+        (Call::Step(0), "acted 0"),
+        (Call::Step(0), "137"),
+        (Call::Settle(0), "0 done"),
+        (Call::Claim(0, 0), "134"),
+        (Call::Claim(0, 2), "134"),
+        (Call::Events, "claim 0 0|step 0|settle 0|"),
+    ];
+    assert_eq!(rt; astray(rt.alloc(), THREE_VERTICES, &story)?, None);
+    Ok(())
+}
+
+#[test]
+fn a_vertex_is_seen_to_wait_run_and_be_done(rt: HostRuntime) -> Result<(), Fail> {
+    let story = [
+        (Call::Vertex(0), "ready"),
+        (Call::Vertex(1), "waiting"),
+        (Call::Vertex(2), "none"),
+        (Call::Worker(0), "idle"),
+        (Call::Worker(1), "none"),
+        (Call::Claim(0, 0), "worker 0, vertex 0, 0 done"),
+        (Call::Vertex(0), "running 0"),
+        (Call::Worker(0), "runs 0, 0 done, false"),
+        (Call::Step(0), "acted 0"),
+        (Call::Worker(0), "runs 0, 1 done, true"),
+        (Call::Output(0, 0), "none"),
+        (Call::Settle(0), "0 done"),
+        (Call::Vertex(0), "done"),
+        (Call::Vertex(1), "ready"),
+        (Call::Output(0, 0), "2"),
+        (Call::Output(0, 1), "none"),
+    ];
+    assert_eq!(rt; astray(rt.alloc(), IN_A_ROW, &story)?, None);
+    Ok(())
+}
+
+#[test]
+fn the_chosen_events_lead_to_a_complete_board(rt: HostRuntime) -> Result<(), Fail> {
+    let story = [
+        (Call::Complete, "false"),
+        (Call::Chosen, "claim 0 0"),
+        (Call::Claim(0, 0), "worker 0, vertex 0, 0 done"),
+        (Call::Chosen, "step 0"),
+        (Call::Step(0), "acted 0"),
+        (Call::Chosen, "settle 0"),
+        (Call::Settle(0), "0 done"),
+        (Call::Complete, "false"),
+        (Call::Chosen, "claim 0 1"),
+        (Call::Claim(0, 1), "worker 0, vertex 1, 0 done"),
+        (Call::Chosen, "step 0"),
+        (Call::Step(0), "acted 0"),
+        (Call::Chosen, "settle 0"),
+        (Call::Settle(0), "1 done"),
+        (Call::Chosen, "none"),
+        (Call::Complete, "true"),
+        (Call::Output(1, 0), "3"),
+        (
+            Call::Events,
+            "claim 0 0|step 0|settle 0|claim 0 1|step 0|settle 0|",
+        ),
+    ];
+    assert_eq!(rt; astray(rt.alloc(), IN_A_ROW, &story)?, None);
+    Ok(())
+}
+
+#[test]
+fn a_failed_vertex_blocks_what_stands_on_it(rt: HostRuntime) -> Result<(), Fail> {
+    let story = [
+        (Call::Claim(0, 0), "worker 0, vertex 0, 0 done"),
+        (Call::Step(0), "fault: action 0 fault 21"),
+        (Call::Worker(0), "runs 0, 1 done, true"),
+        (Call::Settle(0), "0 failed"),
+        (Call::Vertex(0), "failed action 0 fault 21"),
+        (Call::Vertex(1), "blocked"),
+        (Call::Claim(0, 1), "134"),
+        (Call::Output(0, 0), "none"),
+        (Call::Complete, "true"),
+        (Call::Chosen, "none"),
+    ];
+    assert_eq!(rt; astray(rt.alloc(), FAILED_INPUT, &story)?, None);
+    Ok(())
+}
+
+// The graph that comes back where the number of workers is refused.
+fn refused(rt: &HostRuntime, graph: Graph, workers: u32) -> Option<Graph> {
+    match Board::open(rt.alloc(), graph, workers) {
+        Err(OpenFault::Workers(back)) => Some(back),
+        _ => None,
+    }
+}
+
+#[test]
+fn a_number_of_workers_other_than_one_gives_the_graph_back(rt: HostRuntime) -> Result<(), Fail> {
+    let mut graph = graph_of(rt.alloc(), THREE_VERTICES)?;
+    for workers in [0, 2, 65] {
+        graph = refused(&rt, graph, workers).ok_or("opened")?;
+        assert_eq!(rt; graph.vertices().len(), 3);
+    }
+    let board = Board::open(rt.alloc(), graph, 1)?;
+    assert_eq!(rt; board.into_parts().vertices().len(), 3);
+    Ok(())
+}
+
+#[test]
+fn a_refused_opening_prints_its_number(rt: HostRuntime) -> Result<(), Fail> {
+    let workers = OpenFault::Workers(graph_of(rt.alloc(), IN_A_ROW)?);
+    assert_eq!(rt; workers.to_string(rt.alloc())?.as_str(), "122");
+    let memory = OpenFault::Memory(graph_of(rt.alloc(), IN_A_ROW)?);
+    assert_eq!(rt; memory.to_string(rt.alloc())?.as_str(), "123");
+    Ok(())
+}

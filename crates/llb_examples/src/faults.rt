@@ -1,0 +1,162 @@
+//! What faults print: what stands behind the word `fault` in a refusal.
+
+use llb_board::{ClaimFault, SettleFault, StepFault};
+use llb_loader::{Feature, LoadFault, Rule};
+use llb_model::VertexFault;
+use llb_ops::OpFault;
+use llb_tree::TreeFault;
+use llb_wire::{Memory, WireFault};
+use std::alloc::{AllocError, Global};
+use std::fmt::Display;
+
+// What faults print, each in a line.
+fn printed<T: Display>(alloc: Global, faults: &[T]) -> Result<String, AllocError> {
+    let mut text = String::new(alloc);
+    for fault in faults {
+        let line = fault.to_string(alloc)?;
+        text.push_str(line.as_str())?;
+        text.push_str("\n")?;
+    }
+    Ok(text)
+}
+
+fn print<T: Display>(alloc: Global, faults: &[T], wanted: &str) -> bool {
+    match printed(alloc, faults) {
+        Ok(text) => text.as_str() == wanted,
+        Err(_) => false,
+    }
+}
+
+#[test]
+fn faults_of_records_and_messages(rt: HostRuntime) {
+    let alloc = rt.alloc();
+    let wire = [
+        WireFault::Truncated,
+        WireFault::LongVarint,
+        WireFault::BadField,
+        WireFault::BadWireType,
+    ];
+    assert!(rt; print(alloc, &wire, "1\n2\n3\n4\n") && print(alloc, &[Memory], "5\n"));
+    let ops = [
+        OpFault::Wire(WireFault::BadField),
+        OpFault::WrongWireType,
+        OpFault::NotUtf8,
+        OpFault::OverLimit,
+        OpFault::Memory,
+    ];
+    assert!(rt; print(alloc, &ops, "3\n11\n12\n13\n14\n"));
+}
+
+#[test]
+fn faults_of_trees_and_vertices(rt: HostRuntime) {
+    let alloc = rt.alloc();
+    let tree = [
+        TreeFault::NotFound,
+        TreeFault::NotDir,
+        TreeFault::IsDir,
+        TreeFault::Conflict,
+        TreeFault::Root,
+        TreeFault::BadName,
+        TreeFault::Memory,
+    ];
+    assert!(rt; print(alloc, &tree, "21\n22\n23\n24\n25\n26\n27\n"));
+    let vertices = [VertexFault::Action(3, 21), VertexFault::Exit(0, 1)];
+    assert!(rt; print(alloc, &vertices, "action 3 fault 21\ncommand 0 status 1\n"));
+}
+
+#[test]
+fn faults_of_calls_on_a_board(rt: HostRuntime) {
+    let alloc = rt.alloc();
+    let claims = [
+        ClaimFault::NoWorker,
+        ClaimFault::Busy,
+        ClaimFault::NoVertex,
+        ClaimFault::NotReady,
+        ClaimFault::Memory,
+    ];
+    assert!(rt; print(alloc, &claims, "131\n132\n133\n134\n141\n"));
+    let steps = [
+        StepFault::NoWorker,
+        StepFault::NotRunning,
+        StepFault::NothingLeft,
+        StepFault::Memory,
+    ];
+    assert!(rt; print(alloc, &steps, "131\n136\n137\n141\n"));
+    let settles = [
+        SettleFault::NoWorker,
+        SettleFault::NotRunning,
+        SettleFault::NotFinished,
+    ];
+    assert!(rt; print(alloc, &settles, "131\n136\n138\n"));
+}
+
+#[test]
+fn refusals_of_a_definition(rt: HostRuntime) {
+    let faults = [
+        LoadFault::Definition(OpFault::OverLimit),
+        LoadFault::Entry(4, OpFault::NotUtf8),
+        LoadFault::TooFew,
+        LoadFault::Collision(1),
+        LoadFault::NoResult,
+        LoadFault::UnknownDigest(1, 0),
+        LoadFault::Cycle,
+        LoadFault::Unsupported(0, Feature::NotYet),
+        LoadFault::Invalid(0, Rule::NoActions),
+        LoadFault::BadIndex(1, 0),
+        LoadFault::Memory,
+    ];
+    let wanted =
+        "81 13\n82 4 12\n83\n84 1\n85\n86 1 0\n87\n88 0 NotYet\n89 0 NoActions\n90 1 0\n91\n";
+    assert!(rt; print(rt.alloc(), &faults, wanted));
+}
+
+#[test]
+fn features_by_their_names(rt: HostRuntime) {
+    let features = [
+        LoadFault::Unsupported(0, Feature::NotYet),
+        LoadFault::Unsupported(1, Feature::DiffOp),
+        LoadFault::Unsupported(2, Feature::BuildOp),
+        LoadFault::Unsupported(3, Feature::Source),
+        LoadFault::Unsupported(4, Feature::SecretMount),
+        LoadFault::Unsupported(5, Feature::SshMount),
+        LoadFault::Unsupported(6, Feature::SecretEnv),
+        LoadFault::Unsupported(7, Feature::Action),
+        LoadFault::Unsupported(8, Feature::Unpack),
+        LoadFault::Unsupported(9, Feature::Patterns),
+        LoadFault::Unsupported(10, Feature::OwnerByName),
+        LoadFault::Unsupported(11, Feature::CopyField),
+    ];
+    let wanted = "88 0 NotYet\n88 1 DiffOp\n88 2 BuildOp\n88 3 Source\n88 4 SecretMount\n\
+        88 5 SshMount\n88 6 SecretEnv\n88 7 Action\n88 8 Unpack\n88 9 Patterns\n\
+        88 10 OwnerByName\n88 11 CopyField\n";
+    assert!(rt; print(rt.alloc(), &features, wanted));
+}
+
+#[test]
+fn rules_by_their_names(rt: HostRuntime) {
+    let rules = [
+        LoadFault::Invalid(0, Rule::NoKind),
+        LoadFault::Invalid(1, Rule::LocalName),
+        LoadFault::Invalid(2, Rule::NoActions),
+        LoadFault::Invalid(3, Rule::ActionInput),
+        LoadFault::Invalid(4, Rule::ActionOutput),
+        LoadFault::Invalid(5, Rule::NoMeta),
+        LoadFault::Invalid(6, Rule::NoArgs),
+        LoadFault::Invalid(7, Rule::NoMounts),
+        LoadFault::Invalid(8, Rule::NoRoot),
+        LoadFault::Invalid(9, Rule::BadPath),
+        LoadFault::Invalid(10, Rule::SameDest),
+        LoadFault::Invalid(11, Rule::MountKind),
+        LoadFault::Invalid(12, Rule::MountInput),
+        LoadFault::Invalid(13, Rule::MountOutput),
+        LoadFault::Invalid(14, Rule::NoCacheOpt),
+        LoadFault::Invalid(15, Rule::Sharing),
+        LoadFault::Invalid(16, Rule::CacheTwice),
+        LoadFault::Invalid(17, Rule::MergeInput),
+    ];
+    let wanted = "89 0 NoKind\n89 1 LocalName\n89 2 NoActions\n89 3 ActionInput\n\
+        89 4 ActionOutput\n89 5 NoMeta\n89 6 NoArgs\n89 7 NoMounts\n89 8 NoRoot\n89 9 BadPath\n\
+        89 10 SameDest\n89 11 MountKind\n89 12 MountInput\n89 13 MountOutput\n89 14 NoCacheOpt\n\
+        89 15 Sharing\n89 16 CacheTwice\n89 17 MergeInput\n";
+    assert!(rt; print(rt.alloc(), &rules, wanted));
+}

@@ -1,0 +1,16 @@
+//! Worked examples of each library, and each public call once: tests, and nothing else. The values are written out
+//! from the rules by hand.
+#![tactic(auto)]
+
+#[cfg(test)]
+mod board;
+#[cfg(test)]
+mod faults;
+#[cfg(test)]
+mod loader;
+#[cfg(test)]
+mod ops;
+#[cfg(test)]
+mod tree;
+#[cfg(test)]
+mod wire;

@@ -1,0 +1,353 @@
+//! Definitions, and rows under digest texts of any kind. The answer is told in a line of text: the refusal as it is
+//! printed, or the vertices and the result.
+
+use llb_loader::{Graph, LoadFault, Row, link, load};
+use llb_wire::{Bytes, Memory, Text, write_varint};
+use std::alloc::{AllocError, Global};
+use std::test::Fail;
+
+// An entry: the digest text of its row, its inputs, and what stands behind them.
+#[derive(Clone, Copy)]
+struct Given<'a> {
+    digest: &'a str,
+    inputs: &'a [Input<'a>],
+    rest: &'a [u8],
+}
+
+// The digest text of an input, and what stands behind it: the index.
+type Input<'a> = (&'a str, &'a [u8]);
+
+const INDEX_ONE: &[u8] = b"\x10\x01";
+
+const INDEX_BELOW: &[u8] = b"\x10\xFF\xFF\xFF\xFF\xFF\xFF\xFF\xFF\xFF\x01";
+
+// A file `/a` of mode 0644 with the content `hi`, made on the empty tree.
+const MAKES_A: &[u8] = b"\x22\x30\x12\x2E\x08\xFF\xFF\xFF\xFF\xFF\xFF\xFF\xFF\xFF\x01\x10\
+    \xFF\xFF\xFF\xFF\xFF\xFF\xFF\xFF\xFF\x01\x2A\x16\x0A\x02/a\x10\xA4\x03\x1A\x02hi\x28\
+    \xFF\xFF\xFF\xFF\xFF\xFF\xFF\xFF\xFF\x01";
+
+const A: &str = "sha256:e00d65597895790f7dc26dbf724a411bd83c8e15881ab3eea18ea75095782dab";
+
+// A directory `/d` of mode 0755 on input 0.
+const MAKES_D: &[u8] =
+    b"\x22\x16\x12\x14\x10\xFF\xFF\xFF\xFF\xFF\xFF\xFF\xFF\xFF\x01\x32\x07\x0A\x02/d\x10\xED\x03";
+
+// The digest text of that op on the one before.
+const D_ON_A: &str = "sha256:4e29c5a52e728ace467fe0f424ab75841f037219d981e0548d8c26cf79e8c206";
+
+const DIFF: &[u8] = b"\x3A\x00";
+
+const DIFF_DIGEST: &str = "sha256:7648eb81c4e9fef7b51879c6fcd6fb4b8863eea0cb2a978c508711dc52c80041";
+
+// A merge of input 0.
+const MERGE: &[u8] = b"\x32\x02\x0A\x00";
+
+// Puts the bytes of a message under field 1, behind their length.
+fn put_message(field: &mut Vec<u8>, bytes: &[u8]) -> Result<(), Memory> {
+    field.push(0x0A)?;
+    write_varint(bytes.len() as u64, field)?;
+    field.extend_from_slice(bytes)?;
+    Ok(())
+}
+
+fn input_of(alloc: Global, digest: &str, index: &[u8]) -> Result<Vec<u8>, Memory> {
+    let mut input = Vec::new(alloc);
+    put_message(&mut input, digest.as_bytes())?;
+    input.extend_from_slice(index)?;
+    Ok(input)
+}
+
+fn entry_of(alloc: Global, given: &Given<'_>) -> Result<Vec<u8>, Memory> {
+    let mut entry = Vec::new(alloc);
+    for (digest, index) in given.inputs {
+        let input = input_of(alloc, digest, index)?;
+        put_message(&mut entry, &input)?;
+    }
+    entry.extend_from_slice(given.rest)?;
+    Ok(entry)
+}
+
+fn definition_of(alloc: Global, given: &[Given<'_>]) -> Result<Vec<u8>, Memory> {
+    let mut definition = Vec::new(alloc);
+    for one in given {
+        let entry = entry_of(alloc, one)?;
+        put_message(&mut definition, &entry)?;
+    }
+    Ok(definition)
+}
+
+fn rows_of(alloc: Global, given: &[Given<'_>]) -> Result<Vec<Row>, Memory> {
+    let mut rows = Vec::new(alloc);
+    for one in given {
+        rows.push(Row {
+            digest: Text::from_str(alloc, one.digest)?,
+            bytes: Bytes::new(entry_of(alloc, one)?),
+        })?;
+    }
+    Ok(rows)
+}
+
+// The vertices with the counts of their steps and outputs and their inputs, and the result.
+fn graph_text(alloc: Global, graph: &Graph) -> Result<String, AllocError> {
+    let mut text = String::new(alloc);
+    for vertex in graph.vertices() {
+        let digest = vertex.digest.as_str();
+        let (steps, outputs) = (vertex.steps, vertex.outputs);
+        let line = format!(in alloc; "{digest} {steps} {outputs}")?;
+        text.push_str(line.as_str())?;
+        for edge in vertex.inputs.as_slice() {
+            let (vertex, index) = (edge.vertex, edge.index);
+            text.push_str(format!(in alloc; " {vertex}.{index}")?.as_str())?;
+        }
+        text.push_str(", ")?;
+    }
+    let result = graph.result();
+    let (vertex, index) = (result.vertex, result.index);
+    text.push_str(format!(in alloc; "{vertex}.{index}")?.as_str())?;
+    Ok(text)
+}
+
+fn told(alloc: Global, answer: Result<Graph, LoadFault>) -> Result<String, AllocError> {
+    match answer {
+        Ok(graph) => {
+            graph.is_graph();
+            graph_text(alloc, &graph)
+        }
+        Err(fault) => fault.to_string(alloc),
+    }
+}
+
+fn loaded_bytes(alloc: Global, definition: &[u8]) -> Result<String, Memory> {
+    Ok(told(alloc, load(alloc, definition))?)
+}
+
+fn loaded(alloc: Global, given: &[Given<'_>]) -> Result<String, Memory> {
+    let definition = definition_of(alloc, given)?;
+    loaded_bytes(alloc, &definition)
+}
+
+fn linked(alloc: Global, given: &[Given<'_>]) -> Result<String, Memory> {
+    let rows = rows_of(alloc, given)?;
+    if rows.len() > 65_536 {
+        return Err(Memory);
+    }
+    Ok(told(alloc, link(alloc, &rows))?)
+}
+
+fn is(answer: Result<String, Memory>, wanted: &str) -> bool {
+    match answer {
+        Ok(text) => text.as_str() == wanted,
+        Err(_) => false,
+    }
+}
+
+// An entry under no digest text.
+fn entry<'a>(inputs: &'a [Input<'a>], rest: &'a [u8]) -> Given<'a> {
+    row("", inputs, rest)
+}
+
+fn row<'a>(digest: &'a str, inputs: &'a [Input<'a>], rest: &'a [u8]) -> Given<'a> {
+    Given {
+        digest,
+        inputs,
+        rest,
+    }
+}
+
+#[test]
+fn fewer_than_two_distinct_entries_are_too_few(rt: HostRuntime) {
+    let alloc = rt.alloc();
+    assert!(rt; is(loaded(alloc, &[]), "83"));
+    assert!(rt; is(loaded(alloc, &[entry(&[], MAKES_A)]), "83"));
+    assert!(rt;
+        is(
+            loaded(alloc, &[entry(&[], MAKES_A), entry(&[], MAKES_A)]),
+            "83"
+        )
+    );
+}
+
+#[test]
+fn definitions_are_graphs(rt: HostRuntime) {
+    let alloc = rt.alloc();
+    let one = "sha256:e00d65597895790f7dc26dbf724a411bd83c8e15881ab3eea18ea75095782dab 1 1, 0.0";
+    let makes_a = entry(&[], MAKES_A);
+    let d_on_a = entry(&[(A, b"")], MAKES_D);
+    assert!(rt; is(loaded(alloc, &[makes_a, entry(&[(A, b"")], b"")]), one));
+    let rows = [entry(&[], DIFF), makes_a, entry(&[(A, b"")], b"")];
+    assert!(rt;
+        is(loaded(alloc, &rows), one),
+        "a diff op that is not reached"
+    );
+    let two = "sha256:e00d65597895790f7dc26dbf724a411bd83c8e15881ab3eea18ea75095782dab 1 1, \
+        sha256:4e29c5a52e728ace467fe0f424ab75841f037219d981e0548d8c26cf79e8c206 1 1 0.0, 1.0";
+    let names_d = entry(&[(D_ON_A, b"")], b"");
+    assert!(rt; is(loaded(alloc, &[d_on_a, makes_a, names_d]), two));
+    assert!(rt;
+        is(loaded(alloc, &[makes_a, d_on_a, names_d]), two),
+        "the order is free"
+    );
+}
+
+#[test]
+fn definitions_are_refused(rt: HostRuntime) {
+    let alloc = rt.alloc();
+    let makes_a = entry(&[], MAKES_A);
+    let past = entry(&[(A, INDEX_ONE)], b"");
+    assert!(rt; is(loaded(alloc, &[makes_a, past]), "90 1 0"));
+    let below = entry(&[(A, INDEX_BELOW)], b"");
+    assert!(rt; is(loaded(alloc, &[makes_a, below]), "90 1 0"));
+    let rows = [entry(&[], DIFF), entry(&[(DIFF_DIGEST, b"")], b"")];
+    assert!(rt; is(loaded(alloc, &rows), "88 0 DiffOp"));
+    assert!(rt; is(loaded_bytes(alloc, &[0x08]), "81 1"));
+}
+
+#[test]
+fn inputs_name_rows_without_a_cycle(rt: HostRuntime) {
+    let alloc = rt.alloc();
+    let names_a = row("T", &[("A", b"")], b"");
+    let a_on_b = row("A", &[("B", b"")], MERGE);
+    let b_on_a = row("B", &[("A", b"")], MERGE);
+    assert!(rt; is(linked(alloc, &[a_on_b, b_on_a, names_a]), "87"));
+    let b_on_c = row("B", &[("C", b"")], MERGE);
+    assert!(rt; is(linked(alloc, &[a_on_b, b_on_c, names_a]), "86 1 0"));
+    let a_on_terminal = row("A", &[("T", b"")], MAKES_D);
+    assert!(rt; is(linked(alloc, &[a_on_terminal, names_a]), "86 0 0"));
+    let b = row("B", &[], DIFF);
+    let empty_on_b = row("A", &[("B", b"")], b"");
+    let first = linked(alloc, &[empty_on_b, b, names_a]);
+    assert!(rt;
+        is(first, "88 1 DiffOp"),
+        "a later row's feature comes before a broken rule"
+    );
+}
+
+#[test]
+fn rows_that_are_dropped_are_counted(rt: HostRuntime) {
+    let alloc = rt.alloc();
+    let makes_a = row("A", &[], MAKES_A);
+    let past = row("T", &[("A", INDEX_ONE)], b"");
+    assert!(rt; is(linked(alloc, &[past, makes_a, makes_a, past]), "90 0 0"));
+    let d_on_c = row("B", &[("C", b"")], MAKES_D);
+    let names_b = row("T", &[("B", b"")], b"");
+    assert!(rt;
+        is(
+            linked(alloc, &[makes_a, makes_a, d_on_c, names_b]),
+            "86 2 0"
+        )
+    );
+}
+
+#[test]
+fn collisions_and_rows_that_are_not_read_come_first(rt: HostRuntime) {
+    let alloc = rt.alloc();
+    let makes_a = row("A", &[], MAKES_A);
+    let diff = row("A", &[], DIFF);
+    let names_a = row("T", &[("A", b"")], b"");
+    assert!(rt; is(linked(alloc, &[makes_a, diff, names_a]), "84 1"));
+    assert!(rt;
+        is(
+            linked(alloc, &[makes_a, diff, row("B", &[], b"\0")]),
+            "82 2 3"
+        )
+    );
+    assert!(rt; is(linked(alloc, &[makes_a, row("B", &[], DIFF)]), "85"));
+}
+
+#[test]
+fn a_cycle_that_is_not_reached_is_no_fault(rt: HostRuntime) {
+    let rows = [
+        row("B", &[("C", b"")], MERGE),
+        row("A", &[], MAKES_A),
+        row("C", &[("B", b"")], MERGE),
+        row("T", &[("A", b"")], b""),
+    ];
+    assert!(rt; is(linked(rt.alloc(), &rows), "A 1 1, 0.0"));
+}
+
+#[test]
+fn an_op_is_refused_by_its_feature_or_its_rule(rt: HostRuntime) {
+    let ops: [(&[u8], &str); 13] = [
+        (b"\x12\x00", "88 0 NotYet"),
+        (b"\x1A\x00", "88 0 NotYet"),
+        (b"\x32\x00", "88 0 NotYet"),
+        (b"\x22\x04\x12\x02\x22\x00", "88 0 NotYet"),
+        // A removal behind an action without a member.
+        (b"\x22\x06\x12\x00\x12\x02\x3A\x00", "88 0 NotYet"),
+        (DIFF, "88 0 DiffOp"),
+        (b"\x2A\x00", "88 0 BuildOp"),
+        (b"\x22\x02\x12\x00", "88 0 Action"),
+        (
+            b"\x22\x16\x12\x14\x08\xFF\xFF\xFF\xFF\xFF\xFF\xFF\xFF\xFF\x01\x2A\x07\x22\x05\x0A\x03\x0A\x01a",
+            "88 0 OwnerByName",
+        ),
+        (b"\x52\x00", "89 0 NoKind"),
+        (b"\x22\x00", "89 0 NoActions"),
+        (b"\x22\x04\x12\x02\x2A\x00", "89 0 ActionInput"),
+        (
+            b"\x22\x11\x12\x0F\x08\xFF\xFF\xFF\xFF\xFF\xFF\xFF\xFF\xFF\x01\x18\x01\x2A\x00",
+            "89 0 ActionOutput",
+        ),
+    ];
+    for (op, wanted) in ops {
+        let rows = [row("A", &[], op), row("T", &[("A", b"")], b"")];
+        assert!(rt; is(linked(rt.alloc(), &rows), wanted), "{wanted}: {op:?}");
+    }
+}
+
+// The op of a chain at a place: it stands on the next one, if there is one.
+fn chain_op(alloc: Global, at: u32, count: u32) -> Result<Vec<u8>, Memory> {
+    let mut entry = Vec::new(alloc);
+    let next = u64::from(at) + 1;
+    if next == u64::from(count) {
+        entry.extend_from_slice(MAKES_A)?;
+    } else {
+        let next = next.to_string(alloc)?;
+        put_message(&mut entry, &input_of(alloc, &next, b"")?)?;
+        entry.extend_from_slice(MAKES_D)?;
+    }
+    Ok(entry)
+}
+
+fn push_row(rows: &mut Vec<Row>, digest: String, entry: Vec<u8>) -> Result<(), Memory> {
+    rows.push(Row {
+        digest: Text::new(digest),
+        bytes: Bytes::new(entry),
+    })?;
+    Ok(())
+}
+
+// A chain of ops, and the terminal on the first.
+fn chain(alloc: Global, count: u32) -> Result<Vec<Row>, Memory> {
+    let mut rows = Vec::new(alloc);
+    for at in 0..count {
+        let entry = chain_op(alloc, at, count)?;
+        push_row(&mut rows, at.to_string(alloc)?, entry)?;
+    }
+    let terminal = entry_of(alloc, &row("T", &[("0", b"")], b""))?;
+    push_row(&mut rows, String::from_str(alloc, "T")?, terminal)?;
+    Ok(rows)
+}
+
+// How many vertices there are, the digest text of the first, and the result.
+fn is_chain(graph: &Graph, count: usize, first: &str, last: u32) -> bool {
+    match graph.vertices().first() {
+        Some(vertex) => {
+            let counted = graph.vertices().len() == count && graph.result().vertex == last;
+            counted && vertex.digest.as_str() == first && graph.result().index == 0
+        }
+        None => false,
+    }
+}
+
+#[test]
+fn a_long_chain_is_numbered_from_its_end(rt: HostRuntime) -> Result<(), Fail> {
+    let rows = chain(rt.alloc(), 4_000)?;
+    assert!(rt; rows.len() <= 65_536);
+    let numbered = match link(rt.alloc(), &rows) {
+        Ok(graph) => is_chain(&graph, 4_000, "3999", 3_999),
+        Err(_) => false,
+    };
+    assert!(rt; numbered);
+    Ok(())
+}

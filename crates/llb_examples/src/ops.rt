@@ -1,0 +1,347 @@
+//! Entries and definitions. What an op is, its canonical bytes show; and of each message once its fields.
+
+use llb_ops::{
+    Action, ActionKind, Entries, ExecOp, FileOp, Kind, Mount, Op, OpFault, SourceOp,
+    definition_is_read_again, op_is_read_again, read_definition, read_op, write_definition,
+    write_op,
+};
+use llb_wire::{Bytes, Memory, WireFault};
+use std::alloc::Global;
+use std::test::Fail;
+
+// A file `/a` of mode 0644 with the content `hi`, made on the empty tree.
+const MAKES_A: &[u8] = b"\x22\x30\x12\x2E\x08\xFF\xFF\xFF\xFF\xFF\xFF\xFF\xFF\xFF\x01\x10\
+    \xFF\xFF\xFF\xFF\xFF\xFF\xFF\xFF\xFF\x01\x2A\x16\x0A\x02/a\x10\xA4\x03\x1A\x02hi\x28\
+    \xFF\xFF\xFF\xFF\xFF\xFF\xFF\xFF\xFF\x01";
+
+// The entry that names the first output of that one.
+const NAMES_A: &[u8] = b"\x0A\x49\x0A\x47\
+    sha256:e00d65597895790f7dc26dbf724a411bd83c8e15881ab3eea18ea75095782dab";
+
+const DIGEST_OF_A: &str = "sha256:e00d65597895790f7dc26dbf724a411bd83c8e15881ab3eea18ea75095782dab";
+
+// The definition of both.
+const BOTH: &[u8] = b"\x0A\x32\
+    \x22\x30\x12\x2E\x08\xFF\xFF\xFF\xFF\xFF\xFF\xFF\xFF\xFF\x01\x10\
+    \xFF\xFF\xFF\xFF\xFF\xFF\xFF\xFF\xFF\x01\x2A\x16\x0A\x02/a\x10\xA4\x03\x1A\x02hi\x28\
+    \xFF\xFF\xFF\xFF\xFF\xFF\xFF\xFF\xFF\x01\
+    \x0A\x4B\x0A\x49\x0A\x47\
+    sha256:e00d65597895790f7dc26dbf724a411bd83c8e15881ab3eea18ea75095782dab";
+
+// The source `local://a` with the attributes k, j and again k, which has a field without a name.
+const SOURCE: &[u8] =
+    b"\x1A\x25\x0A\x09local://a\x12\x06\x0A\x01k\x12\x01v\x12\x06\x0A\x01j\x12\x01w\
+    \x12\x08\x0A\x01k\x12\x01x\x18\x07";
+
+// The same with an attribute a key: the later value at the place of the first.
+const SETTLED_SOURCE: &[u8] =
+    b"\x1A\x1D\x0A\x09local://a\x12\x08\x0A\x01k\x12\x01x\x18\x07\x12\x06\x0A\x01j\x12\x01w";
+
+// An execution with one mount that has all of its fields, and two that it keeps.
+const MOUNT: &[u8] = b"\x12\x25\x12\x23\x08\x01\x12\x02/s\x1A\x02/d\x20\x02\x28\x01\x30\x03\
+    \x9A\x01\x02\x08\x05\xA2\x01\x05\x0A\x01k\x10\x02\xAA\x01\x00\xB2\x01\x00";
+
+// A copy of `/f` to `/d/` with mode and timestamp -1 and a field 14.
+const COPY: &[u8] = b"\x22\x27\x12\x25\x10\x01\x22\x21\x0A\x02/f\x12\x03/d/\x20\
+    \xFF\xFF\xFF\xFF\xFF\xFF\xFF\xFF\xFF\x01\x58\xFF\xFF\xFF\xFF\xFF\xFF\xFF\xFF\xFF\x01\x70\x01";
+
+// `/bin/sh -c true` with one variable and a root mount, in `/`, on the entry above; behind it a platform and constraints.
+const RUNS_TRUE: &[u8] = b"\x0A\x49\x0A\x47\
+    sha256:e00d65597895790f7dc26dbf724a411bd83c8e15881ab3eea18ea75095782dab\
+    \x12\x28\x0A\x21\x0A\x07/bin/sh\x0A\x02-c\x0A\x04true\x12\x09PATH=/bin\x1A\x01/\x12\x03\x1A\x01/\
+    \x52\x0E\x0A\x05amd64\x12\x05linux\x5A\x00";
+
+fn written(alloc: Global, op: Op) -> Result<Bytes, OpFault> {
+    op_is_read_again(&op);
+    write_op(alloc, &op)
+}
+
+// What reading and then writing makes of an entry.
+fn rewritten(alloc: Global, entry: &[u8]) -> Result<Bytes, OpFault> {
+    match read_op(alloc, entry) {
+        Ok(op) => written(alloc, op),
+        Err(fault) => Err(fault),
+    }
+}
+
+fn answers(alloc: Global, entry: &[u8], wanted: Result<&[u8], OpFault>) -> bool {
+    match (rewritten(alloc, entry), wanted) {
+        (Ok(bytes), Ok(canonical)) => bytes.as_slice() == canonical,
+        (Err(fault), Err(refusal)) => fault == refusal,
+        _ => false,
+    }
+}
+
+#[test]
+fn canonical_entries_are_written_byte_for_byte(rt: HostRuntime) {
+    let rows = [MAKES_A, NAMES_A, SETTLED_SOURCE, MOUNT, COPY, RUNS_TRUE];
+    for entry in rows {
+        assert!(rt; answers(rt.alloc(), entry, Ok(entry)), "{entry:?}");
+    }
+}
+
+#[test]
+fn other_entries_are_written_in_their_canonical_bytes(rt: HostRuntime) {
+    let rows: [(&[u8], &[u8]); 12] = [
+        // The last index of an input holds, in any spelling.
+        (b"\x0A\x04\x10\x01\x10\x02", b"\x0A\x02\x10\x02"),
+        (b"\x0A\x04\x10\x82\x80\x00", b"\x0A\x02\x10\x02"),
+        // A message that is split is joined, also inside a record.
+        (b"\x22\x01\x12\x22\x01\x00", b"\x22\x02\x12\x00"),
+        (
+            b"\x22\x0C\x12\x0A\x2A\x08\x22\x02\x0A\x00\x22\x02\x12\x00",
+            b"\x22\x0A\x12\x08\x2A\x06\x22\x04\x0A\x00\x12\x00",
+        ),
+        // The last member holds, with what stands behind the others.
+        (
+            b"\x22\x02\x12\x00\x3A\x00\x22\x02\x12\x00",
+            b"\x22\x02\x12\x00",
+        ),
+        (b"\x22\x01\xFF\x3A\x01a\x3A\x01b", b"\x3A\x02ab"),
+        (
+            b"\x22\x0C\x12\x0A\x32\x08\x22\x06\x0A\x04\x0A\x00\x10\x00",
+            b"\x22\x0A\x12\x08\x32\x06\x22\x04\x0A\x02\x10\x00",
+        ),
+        // A merge in two payloads is joined where nothing clears it.
+        (
+            b"\x32\x02\x0A\x00\x32\x0D\x0A\x0B\x08\xFF\xFF\xFF\xFF\xFF\xFF\xFF\xFF\xFF\x01",
+            b"\x32\x0F\x0A\x00\x0A\x0B\x08\xFF\xFF\xFF\xFF\xFF\xFF\xFF\xFF\xFF\x01",
+        ),
+        (
+            b"\x32\x02\x0A\x00\x3A\x00\x32\x0D\x0A\x0B\x08\xFF\xFF\xFF\xFF\xFF\xFF\xFF\xFF\xFF\x01",
+            b"\x32\x0D\x0A\x0B\x08\xFF\xFF\xFF\xFF\xFF\xFF\xFF\xFF\xFF\x01",
+        ),
+        // Fields without a name are kept behind the others.
+        (
+            b"\x52\x01a\x0A\x02\x10\x02\x5A\x00",
+            b"\x0A\x02\x10\x02\x52\x01a\x5A\x00",
+        ),
+        (SOURCE, SETTLED_SOURCE),
+        (b"", b""),
+    ];
+    for (entry, canonical) in rows {
+        assert!(rt; answers(rt.alloc(), entry, Ok(canonical)), "{entry:?}");
+    }
+}
+
+#[test]
+fn the_first_fault_is_answered(rt: HostRuntime) {
+    let rows: [(&[u8], OpFault); 5] = [
+        (b"\x08\x00", OpFault::WrongWireType),
+        (b"\x08\x00\x80", OpFault::WrongWireType),
+        (b"\x0A\x03\x0A\x01\xFF", OpFault::NotUtf8),
+        (
+            b"\x0A\x04\x0A\x01\xFF\x80",
+            OpFault::Wire(WireFault::Truncated),
+        ),
+        (b"\x22\x01\x80\x0A\x02\x08\x00", OpFault::WrongWireType),
+    ];
+    for (entry, fault) in rows {
+        assert!(rt; answers(rt.alloc(), entry, Err(fault)), "{entry:?}");
+    }
+}
+
+// An entry of this many empty inputs.
+fn inputs(alloc: Global, count: u32) -> Result<Vec<u8>, Memory> {
+    let mut entry = Vec::new(alloc);
+    for _ in 0..count {
+        entry.extend_from_slice(&[0x0A, 0x00])?;
+    }
+    Ok(entry)
+}
+
+#[test]
+fn a_field_is_repeated_1024_times_at_most(rt: HostRuntime) -> Result<(), Fail> {
+    let alloc = rt.alloc();
+    let most = inputs(alloc, 1024)?;
+    assert!(rt; answers(alloc, &most, Ok(&most)));
+    let more = inputs(alloc, 1025)?;
+    assert!(rt; answers(alloc, &more, Err(OpFault::OverLimit)));
+    Ok(())
+}
+
+fn makes_a(action: &Action) -> bool {
+    let numbers = (action.input, action.secondary_input, action.output) == (-1, -1, 0);
+    match &action.kind {
+        Some(ActionKind::MkFile(made)) => {
+            let told = (made.mode, made.timestamp) == (420, -1) && made.owner.is_none();
+            let texts = made.path.as_str() == "/a" && made.body.as_slice() == b"hi".as_slice();
+            numbers && told && texts
+        }
+        _ => false,
+    }
+}
+
+fn copies_f(action: &Action) -> bool {
+    let numbers = (action.input, action.secondary_input, action.output) == (0, 1, 0);
+    match &action.kind {
+        Some(ActionKind::Copy(copy)) => {
+            let told = (copy.mode, copy.timestamp) == (-1, -1);
+            let texts = copy.src.as_str() == "/f" && copy.dest.as_str() == "/d/";
+            numbers && told && texts && copy.extra.as_slice() == [0x70, 0x01].as_slice()
+        }
+        _ => false,
+    }
+}
+
+// A file op of a single action in words.
+fn file_told(file: &FileOp) -> &'static str {
+    match file.actions.as_slice() {
+        [action] if makes_a(action) => "makes /a",
+        [action] if copies_f(action) => "copies /f",
+        _ => "another file op",
+    }
+}
+
+// The second owner of a file op in words.
+fn copy_told(file: &FileOp) -> &'static str {
+    match file.copy() {
+        Ok(copied) => file_told(&copied),
+        Err(_) => "no memory",
+    }
+}
+
+fn source_told(source: &SourceOp) -> &'static str {
+    if source.identifier.as_str() == "local://a" && source.attrs.as_map().len() == 2 {
+        "local://a"
+    } else {
+        "another source"
+    }
+}
+
+fn is_whole(mount: &Mount) -> bool {
+    let numbers = (mount.input, mount.output, mount.mount_type) == (1, 2, 3) && mount.readonly;
+    let texts = mount.selector.as_str() == "/s" && mount.dest.as_str() == "/d";
+    let tmpfs = matches!(&mount.tmpfs_opt, Some(opt) if opt.size == 5);
+    let cache = matches!(&mount.cache_opt, Some(opt) if opt.sharing == 2);
+    numbers && texts && tmpfs && cache && mount.extra.as_slice().len() == 6
+}
+
+fn exec_told(exec: &ExecOp) -> &'static str {
+    match exec.mounts.as_slice() {
+        [mount] if is_whole(mount) => "mounts",
+        [_] if exec.meta.is_some() => "runs",
+        _ => "another exec",
+    }
+}
+
+fn input_told(op: &Op) -> &'static str {
+    match op.inputs.as_slice() {
+        [] => "nothing",
+        [input] if input.index == 0 && input.digest.as_str() == DIGEST_OF_A => "/a",
+        _ => "other inputs",
+    }
+}
+
+// An op in words: what it does, what on, and how many bytes it keeps.
+fn told(op: &Op) -> (&'static str, &'static str, usize) {
+    let does = match &op.kind {
+        Some(Kind::File(file)) => file_told(file),
+        Some(Kind::Source(source)) => source_told(source),
+        Some(Kind::Exec(exec)) => exec_told(exec),
+        Some(_) => "another op",
+        None => "nothing",
+    };
+    (does, input_told(op), op.extra.as_slice().len())
+}
+
+fn seen(alloc: Global, entry: &[u8]) -> Option<(&'static str, &'static str, usize)> {
+    match read_op(alloc, entry) {
+        Ok(op) => Some(told(&op)),
+        Err(_) => None,
+    }
+}
+
+#[test]
+fn messages_are_read_field_by_field(rt: HostRuntime) {
+    let rows = [
+        (MAKES_A, "makes /a", "nothing", 0),
+        (NAMES_A, "nothing", "/a", 0),
+        (SOURCE, "local://a", "nothing", 0),
+        (MOUNT, "mounts", "nothing", 0),
+        (COPY, "copies /f", "nothing", 0),
+        (RUNS_TRUE, "runs", "/a", 18),
+    ];
+    for (entry, does, on, kept) in rows {
+        assert!(rt;
+            seen(rt.alloc(), entry) == Some((does, on, kept)),
+            "{entry:?}"
+        );
+    }
+}
+
+// What the second owner of an entry's file op does.
+fn copy_seen(alloc: Global, entry: &[u8]) -> &'static str {
+    match read_op(alloc, entry) {
+        Ok(op) => match &op.kind {
+            Some(Kind::File(file)) => copy_told(file),
+            _ => "no file op",
+        },
+        Err(_) => "no op",
+    }
+}
+
+#[test]
+fn a_file_op_has_an_equal_second_owner(rt: HostRuntime) {
+    for (entry, does) in [(MAKES_A, "makes /a"), (COPY, "copies /f")] {
+        assert!(rt; copy_seen(rt.alloc(), entry) == does, "{entry:?}");
+    }
+}
+
+fn entries_written(alloc: Global, entries: Entries) -> Result<Bytes, OpFault> {
+    definition_is_read_again(&entries);
+    write_definition(alloc, &entries)
+}
+
+// What reading and then writing makes of a definition.
+fn definition_rewritten(alloc: Global, definition: &[u8]) -> Result<Bytes, OpFault> {
+    match read_definition(alloc, definition) {
+        Ok(entries) => entries_written(alloc, entries),
+        Err(fault) => Err(fault),
+    }
+}
+
+fn definition_answers(alloc: Global, definition: &[u8], wanted: Result<&[u8], OpFault>) -> bool {
+    match (definition_rewritten(alloc, definition), wanted) {
+        (Ok(bytes), Ok(canonical)) => bytes.as_slice() == canonical,
+        (Err(fault), Err(refusal)) => fault == refusal,
+        _ => false,
+    }
+}
+
+#[test]
+fn a_definition_keeps_its_entries_and_skips_other_fields(rt: HostRuntime) {
+    let rows: [(&[u8], Result<&[u8], OpFault>); 4] = [
+        (BOTH, Ok(BOTH)),
+        (b"\x12\x01\xFF\x20\x07\x0A\x00", Ok(b"\x0A\x00")),
+        (b"\x10\x00", Err(OpFault::WrongWireType)),
+        (b"\x0A\x01", Err(OpFault::Wire(WireFault::Truncated))),
+    ];
+    for (definition, wanted) in rows {
+        assert!(rt;
+            definition_answers(rt.alloc(), definition, wanted),
+            "{definition:?}"
+        );
+    }
+}
+
+// The entry at a place of a definition.
+fn is_entry(entries: &Entries, at: usize, wanted: &[u8]) -> bool {
+    match entries.as_slice().get(at) {
+        Some(entry) => entry.as_slice() == wanted,
+        None => false,
+    }
+}
+
+fn are_both(entries: &Entries) -> bool {
+    entries.len() == 2 && is_entry(entries, 0, MAKES_A) && is_entry(entries, 1, NAMES_A)
+}
+
+#[test]
+fn a_definition_is_its_two_entries(rt: HostRuntime) {
+    let both = match read_definition(rt.alloc(), BOTH) {
+        Ok(entries) => are_both(&entries),
+        Err(_) => false,
+    };
+    assert!(rt; both && BOTH.len() == 129);
+}
