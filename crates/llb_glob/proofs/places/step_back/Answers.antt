@@ -1,0 +1,10 @@
+use Rattle.std.proofs.Common.{◌∷◌, subst, sym}
+use Rattle.llb_glob.specs.Places.{AreStarts}
+use Rattle.llb_glob.proofs.Moves.{run_starts, one_starts}
+use Rattle.llb_glob.proofs.places.step_back.Goals as goal
+
+pub returns-in-Run : goal.returns-in-Run
+returns-in-Run c = λ rest starts. subst (λ item. AreStarts (item ∷ rest) c.args.name.now c.widen.new.places) (sym c.in-Run.is) (run_starts rest c.args.name.now c.args.places.now c.widen.new.places starts c.widen.ensures)
+
+pub returns-in-One : goal.returns-in-One
+returns-in-One c = λ rest starts. subst (λ item. AreStarts (item ∷ rest) c.args.name.now c.narrow.new.places) (sym c.in-One.is) (one_starts rest c.args.name.now c.args.places.now c.narrow.new.places starts c.in-One.letter c.narrow.ensures.before c.narrow.ensures.«end»)
