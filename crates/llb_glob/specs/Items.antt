@@ -20,8 +20,7 @@ cut false c = if c == 92 then Ok None else (if c == 91 then Err BadPattern else 
 
 -- what characters spell, behind a `\` or not
 abbrev pub items_from : Bool → List ℕ → Result (List Item) PatternFault
-items_from true [] = Err BadPattern
-items_from false [] = Ok []
+items_from quoted [] = if quoted then Err BadPattern else Ok []
 items_from quoted (c ∷ cs) = cut quoted c >>= λ said. items_from (is_none said) cs >>= λ items. Ok (option_to_list said ++ items)
 
 abbrev pub items_of : List ℕ → Result (List Item) PatternFault

@@ -3,3 +3,4 @@ pub mod Items
 pub mod Matching
 pub mod Places
 pub mod Pattern
+pub mod Walk

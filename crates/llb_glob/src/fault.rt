@@ -37,3 +37,17 @@ impl<T: Drop> From<AllocFailed<T>> for PatternFault {
         PatternFault::Memory
     }
 }
+
+impl From<TreeFault> for PatternFault {
+    ghost use Rattle.std.specs.Prelude.{◌≡◌};
+    ghost use Rattle.llb_glob.specs.Faults.{renamed};
+
+    ghost from_gives = { λ t e. e ≡ renamed t };
+
+    fn from(fault: TreeFault) -> PatternFault {
+        match fault {
+            TreeFault::Memory => PatternFault::Memory,
+            _ => PatternFault::BadPattern,
+        }
+    }
+}

@@ -5,7 +5,10 @@
 mod fault;
 mod item;
 mod letters;
+mod part;
+mod pattern;
 mod places;
 
 pub use fault::PatternFault;
 pub use item::{Item, Letter};
+pub use pattern::Pattern;
