@@ -1,5 +1,5 @@
 -- A text that is looked through part by part: where it leads, and how many of the names are parts of a pattern.
-use Rattle.std.proofs.Common.{◌≡◌, ℕ, suc, ◌+◌, ◌-◌, ◌<◌, ◌≤◌, ◌==◌, Bool, true, false, cond, if◌then◌else◌, ◌||◌, nat_lt, zero, List, [], ◌∷◌, ◌++◌, length, take, drop, get_or, min, Result, Ok, Err, is_ok, refl, sym, ap, ◌∙◌, subst, inl, inr, eq-eqb, ne_eqb, arith}
+use Rattle.std.proofs.Common.{◌≡◌, ℕ, suc, ◌+◌, ◌-◌, ◌<◌, ◌==◌, Bool, true, false, cond, if◌then◌else◌, ◌||◌, nat_lt, zero, List, [], ◌∷◌, ◌++◌, length, take, drop, get_or, min, Result, Ok, Err, is_ok, refl, sym, ap, ◌∙◌, inl, inr, eq-eqb, ne_eqb, arith}
 use Rattle.std.specs.List.{prefix_len}
 use Rattle.std.specs.Str.{chars}
 use Rattle.std.proofs.lemmas.Bool.{cases_eq, false≢true}
@@ -10,10 +10,9 @@ use Rattle.llb_tree.specs.declared.fault.TreeFault.{TreeFault}
 use Rattle.llb_tree.specs.declared.fault.TreeFault.TheVariants.{BadName}
 use Rattle.llb_tree.specs.Path.{enter, follow, name_of, below, is_dot, is_dots, is_name}
 use Rattle.llb_glob.specs.declared.fault.PatternFault.{PatternFault}
-use Rattle.llb_glob.specs.declared.fault.PatternFault.TheVariants.{BadPattern}
 use Rattle.llb_glob.specs.declared.item.Item.{Item}
 use Rattle.llb_glob.specs.declared.pattern.Walk.{Walk}
-use Rattle.llb_glob.specs.Items.{items_of, items_from, cut}
+use Rattle.llb_glob.specs.Items.{items_of}
 use Rattle.llb_glob.specs.Pattern.{each_cut, cut_path}
 use Rattle.llb_glob.specs.Walk.{Stands, Enters, is_part}
 use Rattle.llb_glob.proofs.Cutting.{at_drop}
@@ -82,12 +81,13 @@ module _ (path : List (List ℕ)) (part : List ℕ) (sound : ℕ) (is : sound �
   pub sound_stays : (sound ≡ length path → is_part part ≡ false) → sound ≡ prefix_len is_part (path ++ part ∷ [])
   sound_stays part_is_not =
       elim (cases_eq sound (length path)) [
-        inl all ↦
-          let first : prefix_len is_part (path ++ part ∷ []) ≡ length path + 0 = prefix_len-append is_part path (part ∷ []) ∙ (λ i. cond (eq-eqb (prefix_len is_part path) (length path) (sym is ∙ all) i) (length path + cond (part_is_not all i) (1 + 0) 0) (prefix_len is_part path)) in
-          omega arith
-      | inr some ↦
-          let first : prefix_len is_part (path ++ part ∷ []) ≡ prefix_len is_part path = prefix_len-append is_part path (part ∷ []) ∙ ap (λ b. cond b (length path + prefix_len is_part (part ∷ [])) (prefix_len is_part path)) (ne_eqb (prefix_len is_part path) (length path) (λ same. some (is ∙ same))) in
-          is ∙ sym first ]
+        | inl all ↦
+            let first : prefix_len is_part (path ++ part ∷ []) ≡ length path + 0 = prefix_len-append is_part path (part ∷ []) ∙ (λ i. cond (eq-eqb (prefix_len is_part path) (length path) (sym is ∙ all) i) (length path + cond (part_is_not all i) (1 + 0) 0) (prefix_len is_part path)) in
+            omega arith
+        | inr some ↦
+            let first : prefix_len is_part (path ++ part ∷ []) ≡ prefix_len is_part path = prefix_len-append is_part path (part ∷ []) ∙ ap (λ b. cond b (length path + prefix_len is_part (part ∷ [])) (prefix_len is_part path)) (ne_eqb (prefix_len is_part path) (length path) (λ same. some (is ∙ same))) in
+            is ∙ sym first
+      ]
 
 -- all are where as many as there are
 pub all_parts : (names : List (List ℕ)) → (prefix_len is_part names == length names) ≡ is_ok (each_cut names)

@@ -10,5 +10,4 @@ mod pattern;
 mod places;
 
 pub use fault::PatternFault;
-pub use item::{Item, Letter};
 pub use pattern::Pattern;

@@ -1,7 +1,6 @@
-use Rattle.std.proofs.Common.{◌≡◌, Bool, true, false, not, cond, List, [], Err, Ok, Result, is_ok, ap, sym, ◌∙◌, refl}
+use Rattle.std.proofs.Common.{◌≡◌, Bool, true, false, not, cond, List, [], Err, Ok, is_ok, ap, sym, ◌∙◌, refl}
 use Rattle.llb_glob.specs.Items.{items_of}
 use Rattle.llb_glob.proofs.Cutting.{is_more, is_stopped, cut_ends}
-use Rattle.llb_glob.specs.declared.fault.PatternFault.{PatternFault}
 use Rattle.llb_glob.specs.declared.fault.PatternFault.TheVariants.{BadPattern}
 use Rattle.llb_glob.specs.declared.item.Item.{Item}
 use Rattle.llb_glob.proofs.part.is_part.Goals as goal

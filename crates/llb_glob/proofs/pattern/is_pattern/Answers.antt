@@ -1,10 +1,9 @@
-use Rattle.std.proofs.Common.{◌≡◌, ◌+◌, ◌==◌, ℕ, [], length, drop, get_or, true, false, is_ok, Result, Ok, Err, refl, sym, ap, ◌∙◌, subst, lit<}
+use Rattle.std.proofs.Common.{ℕ, [], length, drop, true, false, refl, sym, ap, ◌∙◌, subst, lit<}
 use Rattle.std.proofs.lemmas.Iterator.Splits.{YieldsList-from_str_split}
 use Rattle.std.proofs.lemmas.Iterator.Consumers.{YieldsList-turn, YieldsList-end}
 use Rattle.std.proofs.lemmas.List.{length_push}
 use Rattle.std.specs.Str.Iter.{split_text, split_has_more, split_pattern}
 use Rattle.llb_tree.specs.Path.{enter, parts_of, path_of}
-use Rattle.llb_glob.specs.Pattern.{cut_path}
 use Rattle.llb_glob.specs.Walk.{Enters}
 use Rattle.llb_glob.proofs.Following.{Leads, leads_more, leads_nowhere, leads_to, refused}
 use Rattle.llb_glob.proofs.pattern.is_pattern.Goals as goal

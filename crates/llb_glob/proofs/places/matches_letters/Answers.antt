@@ -1,4 +1,4 @@
-use Rattle.std.proofs.Common.{subst, sym, set, replicate, length, drop, ◌≡◌, false, true, lit<, arith, ◌<◌}
+use Rattle.std.proofs.Common.{subst, sym, set, replicate, length, drop, ◌≡◌, false, true, arith, ◌<◌}
 use Rattle.std.proofs.Math.Seq.{drop-length}
 use Rattle.llb_glob.specs.Places.{AreStarts}
 use Rattle.llb_glob.proofs.Moves.{first_starts, starts_back}

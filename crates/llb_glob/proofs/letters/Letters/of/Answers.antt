@@ -28,10 +28,11 @@ pub loop-letter-preserved : goal.loop-letter-preserved
 loop-letter-preserved c =
     let t = turn c in
     let inv = c.loop-letter.invariant in
-    let within : c.loop-letter.count < 255 = omega (arith, t.0, few_chars c.args.text.now c.utf8.text) in
-    ( length-set c.loop-letter.room c.loop-letter.count c.in-Some.letter ∙ inv.0
-    , ap (λ n. n + 1) inv.1 ∙ sym (length_push c.loop-letter.yielded c.in-Some.letter)
-    , one_more c.loop-letter.room (chars c.args.text.now) c.loop-letter.count c.in-Some.letter (omega arith) (omega (arith, t.0)) (subst (λ n. c.in-Some.letter ≡ get_or (chars c.args.text.now) n c.in-Some.letter) (sym inv.1) t.1) inv.2)
+    let within : c.loop-letter.count < 255 = omega (arith, t.0, few_chars c.args.text.now c.utf8.text) in (
+      length-set c.loop-letter.room c.loop-letter.count c.in-Some.letter ∙ inv.0,
+      ap (λ n. n + 1) inv.1 ∙ sym (length_push c.loop-letter.yielded c.in-Some.letter),
+      one_more c.loop-letter.room (chars c.args.text.now) c.loop-letter.count c.in-Some.letter (omega arith) (omega (arith, t.0)) (subst (λ n. c.in-Some.letter ≡ get_or (chars c.args.text.now) n c.in-Some.letter) (sym inv.1) t.1) inv.2,
+    )
 
 pub returns : goal.returns
 returns c =

@@ -1,4 +1,4 @@
-use Rattle.std.proofs.Common.{◌≡◌, ◌∷◌, ◌++◌, ◌+◌, ◌≤◌, [], length, Ok, ap, sym, ◌∙◌, subst, drop, append-nil}
+use Rattle.std.proofs.Common.{◌+◌, ◌≤◌, length, Ok, ap, sym, ◌∙◌, subst, drop, append-nil}
 use Rattle.std.specs.Str.{chars}
 use Rattle.std.proofs.lemmas.Result.{err_from_is_err_and}
 use Rattle.std.proofs.lemmas.List.{drop_all}
@@ -23,8 +23,8 @@ pub returns-in_err-part : goal.returns-in_err-part
 returns-in_err-part c =
     let p = err_from_is_err_and c.from_residual.result c.from_residual.ensures.1 in
     rw (p.1, p.2) (λ known.
-      ap each_cut (sym c.names-name-items.ensures.all)
-      ∙ part_stops c.names-name-items.result.now c.loop-name.name-index c.name-item.result c.loop-name-test.true c.name-item.is c.in_err-part.field-0.0 (ap (λ name. items_of (chars name)) (sym c.as_str.ensures.value) ∙ c.in_err-part.ensures known) c.loop-name.parts.items _ c.loop-name.invariant)
+    ap each_cut (sym c.names-name-items.ensures.all)
+    ∙ part_stops c.names-name-items.result.now c.loop-name.name-index c.name-item.result c.loop-name-test.true c.name-item.is c.in_err-part.field-0.0 (ap (λ name. items_of (chars name)) (sym c.as_str.ensures.value) ∙ c.in_err-part.ensures known) c.loop-name.parts.items _ c.loop-name.invariant)
 
 pub returns : goal.returns
 returns c =

@@ -1,9 +1,9 @@
-use Rattle.std.proofs.Common.{◌≡◌, ◌≤◌, ◌+◌, ◌-◌, ◌++◌, ◌∷◌, ◌==◌, [], ℕ, List, true, false, length, take, nat_eq, nat_lt, subst, sym, ◌∙◌, ap, arith}
+use Rattle.std.proofs.Common.{◌≡◌, ◌+◌, ◌-◌, ◌++◌, ◌∷◌, ◌==◌, [], ℕ, List, true, false, length, take, nat_eq, nat_lt, subst, sym, ◌∙◌, ap, arith}
 use Rattle.std.proofs.lemmas.Bool.{lt-ltb}
 use Rattle.std.proofs.lemmas.List.{length-take, length_push}
 use Rattle.std.specs.Cmp.Lexicographic.{pointwise}
 use Rattle.std.specs.List.{prefix_len}
-use Rattle.llb_tree.specs.Path.{is_dot, is_dots, is_name, enter}
+use Rattle.llb_tree.specs.Path.{is_dot, is_dots, is_name}
 use Rattle.llb_glob.specs.declared.pattern.Walk.{Walk}
 use Rattle.llb_glob.specs.Walk.{Stands, Enters, is_part}
 use Rattle.llb_glob.proofs.Names.{short_name}
@@ -39,9 +39,14 @@ returns c = λ path stands.
     let At : Walk → Type 0 = λ walk. Stands down (record { depth = walk.depth + 1; sound = walk.sound }) in
     let stays = sound_stays path part c.args.self.now.sound stands.sound in
     let stood : At c.if-self.self =
-      elim c.if-self.branch [
-        then-self+then-is_part w ↦ subst At (sym w.self-is) (record { depth = deep; sound = sound_more path part c.args.self.now.sound stands.sound (w.if-self.true ∙ stands.depth) (sym w.is_part.ensures ∙ w.if-is_part.true) })
-      | else-self w ↦ subst At (sym w.self-is) (record { depth = deep; sound = elim w.else-self.branch [
-          else-self-via-then-self+else-is_part w' ↦ stays (λ _. sym w'.is_part.ensures ∙ w'.if-is_part.false)
-        | else-self-via-else-self w' ↦ stays (λ all. absurd (w'.if-self.false (all ∙ sym stands.depth))) ] }) ] in
+    elim c.if-self.branch [
+      | then-self+then-is_part w ↦ subst At (sym w.self-is) (record { depth = deep; sound = sound_more path part c.args.self.now.sound stands.sound (w.if-self.true ∙ stands.depth) (sym w.is_part.ensures ∙ w.if-is_part.true) })
+      | else-self w ↦ subst At (sym w.self-is) (record {
+        depth = deep;
+        sound = elim w.else-self.branch [
+          | else-self-via-then-self+else-is_part w' ↦ stays (λ _. sym w'.is_part.ensures ∙ w'.if-is_part.false)
+          | else-self-via-else-self w' ↦ stays (λ all. absurd (w'.if-self.false (all ∙ sym stands.depth)))
+        ];
+      })
+    ] in
     subst (λ entered. Enters entered true (record { depth = c.if-self.self.depth + 1; sound = c.if-self.self.sound })) (sym (goes_down path part some dot dots name room)) stood
