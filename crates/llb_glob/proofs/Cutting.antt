@@ -47,9 +47,15 @@ module _ (quoted : Bool) (letters : List ℕ) (i c : ℕ) (inside : i < length l
 
   module _ (said : Option Item) (says : cut quoted c ≡ Ok said) (next : Bool) (none : is_some said ≡ not next) where
     letter_says : items_from quoted (drop i letters) ≡ behind (option_to_list said) (items_from next (drop (i + 1) letters))
-    letter_says = at_letter ∙ ap (λ r. r >>= λ s. behind (option_to_list s) (items_from (is_none s) (drop (i + 1) letters))) says ∙ ap (λ q. behind (option_to_list said) (items_from q (drop (i + 1) letters))) (is_none_from said next none)
+    letter_says =
+        at_letter
+        ∙ ap (λ r. r >>= λ s. behind (option_to_list s) (items_from (is_none s) (drop (i + 1) letters))) says
+        ∙ ap (λ q. behind (option_to_list said) (items_from q (drop (i + 1) letters))) (is_none_from said next none)
 
-    pub cut_more : (before : List Item) (r : Result (List Item) PatternFault) → behind before (items_from quoted (drop i letters)) ≡ r → behind (before ++ option_to_list said) (items_from next (drop (i + 1) letters)) ≡ r
+    pub cut_more :
+        (before : List Item) (r : Result (List Item) PatternFault)
+        → behind before (items_from quoted (drop i letters)) ≡ r
+        → behind (before ++ option_to_list said) (items_from next (drop (i + 1) letters)) ≡ r
     cut_more before r so_far = sym (behind_both before (option_to_list said) _) ∙ ap (behind before) (sym letter_says) ∙ so_far
 
     pub is_more : (r : Bool) → is_ok (items_from quoted (drop i letters)) ≡ r → is_ok (items_from next (drop (i + 1) letters)) ≡ r
@@ -59,7 +65,10 @@ module _ (quoted : Bool) (letters : List ℕ) (i c : ℕ) (inside : i < length l
     letter_stops : items_from quoted (drop i letters) ≡ Err e
     letter_stops = at_letter ∙ ap (λ r. r >>= λ s. behind (option_to_list s) (items_from (is_none s) (drop (i + 1) letters))) says
 
-    pub cut_stops : (before : List Item) (r : Result (List Item) PatternFault) → behind before (items_from quoted (drop i letters)) ≡ r → r ≡ Err e
+    pub cut_stops :
+        (before : List Item) (r : Result (List Item) PatternFault)
+        → behind before (items_from quoted (drop i letters)) ≡ r
+        → r ≡ Err e
     cut_stops before r so_far = sym so_far ∙ ap (behind before) letter_stops
 
     pub is_stopped : (r : Bool) → is_ok (items_from quoted (drop i letters)) ≡ r → false ≡ r
@@ -72,13 +81,27 @@ cut_ends quoted letters i past = ap (items_from quoted) (drop_all i letters past
 -- ---- a pattern
 
 module _ (names : List (List ℕ)) (i : ℕ) (name : List ℕ) (inside : i < length names) (is : name ≡ get_or names i name) where
+  -- the name at hand decides
   at_name : each_cut (drop i names) ≡ (items_of (chars name) >>= λ part. behind (part ∷ []) (each_cut (drop (i + 1) names)))
   at_name =
       let here : drop i names ≡ name ∷ drop (i + 1) names = at_drop names i name inside is in
       ap each_cut here
 
-  pub part_more : (part : List Item) → items_of (chars name) ≡ Ok part → (before : List (List Item)) (r : Result (List (List Item)) PatternFault) → behind before (each_cut (drop i names)) ≡ r → behind (before ++ part ∷ []) (each_cut (drop (i + 1) names)) ≡ r
-  part_more part says before r so_far = sym (behind_both before (part ∷ []) _) ∙ ap (behind before) (sym (at_name ∙ ap (λ r. r >>= λ part. behind (part ∷ []) (each_cut (drop (i + 1) names))) says)) ∙ so_far
+  name_says : (r : Result (List Item) PatternFault) → items_of (chars name) ≡ r → each_cut (drop i names) ≡ (r >>= λ part. behind (part ∷ []) (each_cut (drop (i + 1) names)))
+  name_says r says = at_name ∙ ap (λ r. r >>= λ part. behind (part ∷ []) (each_cut (drop (i + 1) names))) says
 
-  pub part_stops : (e : PatternFault) → items_of (chars name) ≡ Err e → (before : List (List Item)) (r : Result (List (List Item)) PatternFault) → behind before (each_cut (drop i names)) ≡ r → r ≡ Err e
-  part_stops e says before r so_far = sym so_far ∙ ap (behind before) (at_name ∙ ap (λ r. r >>= λ part. behind (part ∷ []) (each_cut (drop (i + 1) names))) says)
+  pub part_more :
+      (part : List Item)
+      → items_of (chars name) ≡ Ok part
+      → (before : List (List Item)) (r : Result (List (List Item)) PatternFault)
+      → behind before (each_cut (drop i names)) ≡ r
+      → behind (before ++ part ∷ []) (each_cut (drop (i + 1) names)) ≡ r
+  part_more part says before r so_far = sym (behind_both before (part ∷ []) _) ∙ ap (behind before) (sym (name_says (Ok part) says)) ∙ so_far
+
+  pub part_stops :
+      (e : PatternFault)
+      → items_of (chars name) ≡ Err e
+      → (before : List (List Item)) (r : Result (List (List Item)) PatternFault)
+      → behind before (each_cut (drop i names)) ≡ r
+      → r ≡ Err e
+  part_stops e says before r so_far = sym so_far ∙ ap (behind before) (name_says (Err e) says)

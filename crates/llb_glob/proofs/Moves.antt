@@ -25,7 +25,9 @@ pub record IsNarrowed (letter : Letter) (name : List ℕ) (old new : List Bool) 
 
 module _ (items : List Item) (name : List ℕ) (old new : List Bool) (starts : AreStarts items name old) where
   -- a run before the items
-  pub run_starts : ((i : ℕ) → i ≤ length name → (get_or new i false ≡ true) ↔ Reaches old (length name) i) → AreStarts (Run ∷ items) name new
+  pub run_starts :
+      ((i : ℕ) → i ≤ length name → (get_or new i false ≡ true) ↔ Reaches old (length name) i)
+      → AreStarts (Run ∷ items) name new
   run_starts moved = record {
     at = λ i within. (
       (λ in_new.
@@ -49,7 +51,11 @@ module _ (items : List Item) (name : List ℕ) (old new : List Bool) (starts : A
           ]
 
   -- one character of these before the items
-  pub one_starts : (letter : Letter) → ((i : ℕ) → i < length name → (get_or new i false ≡ true) ↔ (Takes letter (get_or name i 0) × (get_or old (i + 1) false ≡ true))) → get_or new (length name) false ≡ false → AreStarts (One letter ∷ items) name new
+  pub one_starts :
+      (letter : Letter)
+      → ((i : ℕ) → i < length name → (get_or new i false ≡ true) ↔ (Takes letter (get_or name i 0) × (get_or old (i + 1) false ≡ true)))
+      → get_or new (length name) false ≡ false
+      → AreStarts (One letter ∷ items) name new
   one_starts letter moved ended = record {
     at = λ i within.
         elim (cases_lt i (length name)) [
@@ -67,7 +73,11 @@ module _ (items : List Item) (name : List ℕ) (old new : List Bool) (starts : A
   }
 
 -- no item is left: the rest of the name is empty at its end alone
-pub end_starts : (name : List ℕ) (places : List Bool) → ((i : ℕ) → i < length name → get_or places i false ≡ false) → get_or places (length name) false ≡ true → AreStarts [] name places
+pub end_starts :
+    (name : List ℕ) (places : List Bool)
+    → ((i : ℕ) → i < length name → get_or places i false ≡ false)
+    → get_or places (length name) false ≡ true
+    → AreStarts [] name places
 end_starts name places before ended = record {
   at = λ i within.
       elim (cases_lt i (length name)) [
@@ -91,7 +101,13 @@ first_starts name n fits =
     (get_or-set_same (replicate n false) (length name) true false (rw length-replicate fits))
 
 -- one more item in front of the items that are left
-pub starts_back : (items : List Item) (k : ℕ) (d : Item) (name : List ℕ) (old new : List Bool) → 0 < k → k ≤ length items → ((rest : List Item) → AreStarts rest name old → AreStarts (get_or items (k - 1) d ∷ rest) name new) → AreStarts (drop k items) name old → AreStarts (drop (k - 1) items) name new
+pub starts_back :
+    (items : List Item) (k : ℕ) (d : Item) (name : List ℕ) (old new : List Bool)
+    → 0 < k
+    → k ≤ length items
+    → ((rest : List Item) → AreStarts rest name old → AreStarts (get_or items (k - 1) d ∷ rest) name new)
+    → AreStarts (drop k items) name old
+    → AreStarts (drop (k - 1) items) name new
 starts_back items k d name old new some within moved starts =
     let here : drop (k - 1) items ≡ get_or items (k - 1) d ∷ drop (suc (k - 1)) items = drop-cons items (k - 1) d (omega arith) in
     let behind : suc (k - 1) ≡ k = omega arith in

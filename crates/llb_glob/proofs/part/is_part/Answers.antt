@@ -10,16 +10,24 @@ is_ok-end true = refl
 is_ok-end false = refl
 
 pub loop-letter-preserved : goal.loop-letter-preserved
-loop-letter-preserved c = is_more c.loop-letter.quoted c.as_slice-letter-items.result.now c.loop-letter.letter-index c.letter-item.result c.loop-letter-test.true c.letter-item.is c.in-Ok.said (sym c.cut.ensures ∙ c.in-Ok.is) c.is_none-quoted.result c.is_none-quoted.ensures _ c.loop-letter.invariant
+loop-letter-preserved c =
+    let letters = c.as_slice-letter-items.result.now in
+    let says = sym c.cut.ensures ∙ c.in-Ok.is in
+    is_more c.loop-letter.quoted letters c.loop-letter.letter-index c.letter-item.result c.loop-letter-test.true c.letter-item.is
+    c.in-Ok.said says c.is_none-quoted.result c.is_none-quoted.ensures (is_ok (items_of letters)) c.loop-letter.invariant
 
 pub returns-in-Err : goal.returns-in-Err
 returns-in-Err c =
-    is_stopped c.loop-letter.quoted c.as_slice-letter-items.result.now c.loop-letter.letter-index c.letter-item.result c.loop-letter-test.true c.letter-item.is c.in-Err.field-0 (sym c.cut.ensures ∙ c.in-Err.is) _ c.loop-letter.invariant
+    let letters = c.as_slice-letter-items.result.now in
+    let says = sym c.cut.ensures ∙ c.in-Err.is in
+    is_stopped c.loop-letter.quoted letters c.loop-letter.letter-index c.letter-item.result c.loop-letter-test.true c.letter-item.is
+    c.in-Err.field-0 says (is_ok (items_of letters)) c.loop-letter.invariant
     ∙ ap (λ letters. is_ok (items_of letters)) (c.as_slice-letter-items.ensures.all ∙ c.of-letters.ensures)
 
 pub returns : goal.returns
 returns c =
+    let letters = c.as_slice-letter-items.result.now in
     sym (is_ok-end c.loop-letter.quoted)
-    ∙ ap is_ok (sym (cut_ends c.loop-letter.quoted c.as_slice-letter-items.result.now c.loop-letter.letter-index c.loop-letter-test.false))
+    ∙ ap is_ok (sym (cut_ends c.loop-letter.quoted letters c.loop-letter.letter-index c.loop-letter-test.false))
     ∙ c.loop-letter.invariant
     ∙ ap (λ letters. is_ok (items_of letters)) (c.as_slice-letter-items.ensures.all ∙ c.of-letters.ensures)

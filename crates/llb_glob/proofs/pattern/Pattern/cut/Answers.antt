@@ -16,15 +16,22 @@ read-requires c = subst (λ name. length name ≤ 255) (sym c.as_str.ensures.val
 
 pub loop-name-preserved : goal.loop-name-preserved
 loop-name-preserved c =
-    let more = part_more c.names-name-items.result.now c.loop-name.name-index c.name-item.result c.loop-name-test.true c.name-item.is c.in_ok-part.part (ap (λ name. items_of (chars name)) (sym c.as_str.ensures.value) ∙ c.in_ok-part.ensures) c.loop-name.parts.items (each_cut c.names-name-items.result.now) c.loop-name.invariant in
-    ap (λ parts. behind parts (each_cut (drop (c.loop-name.name-index + 1) c.names-name-items.result.now))) c.in_ok-push.ensures.items ∙ more
+    let names = c.names-name-items.result.now in
+    let says = ap (λ name. items_of (chars name)) (sym c.as_str.ensures.value) ∙ c.in_ok-part.ensures in
+    let more =
+    part_more names c.loop-name.name-index c.name-item.result c.loop-name-test.true c.name-item.is
+    c.in_ok-part.part says c.loop-name.parts.items (each_cut names) c.loop-name.invariant in
+    ap (λ parts. behind parts (each_cut (drop (c.loop-name.name-index + 1) names))) c.in_ok-push.ensures.items ∙ more
 
 pub returns-in_err-part : goal.returns-in_err-part
 returns-in_err-part c =
+    let names = c.names-name-items.result.now in
     let p = err_from_is_err_and c.from_residual.result c.from_residual.ensures.1 in
     rw (p.1, p.2) (λ known.
+    let says = ap (λ name. items_of (chars name)) (sym c.as_str.ensures.value) ∙ c.in_err-part.ensures known in
     ap each_cut (sym c.names-name-items.ensures.all)
-    ∙ part_stops c.names-name-items.result.now c.loop-name.name-index c.name-item.result c.loop-name-test.true c.name-item.is c.in_err-part.field-0.0 (ap (λ name. items_of (chars name)) (sym c.as_str.ensures.value) ∙ c.in_err-part.ensures known) c.loop-name.parts.items _ c.loop-name.invariant)
+    ∙ part_stops names c.loop-name.name-index c.name-item.result c.loop-name-test.true c.name-item.is
+    c.in_err-part.field-0.0 says c.loop-name.parts.items (each_cut names) c.loop-name.invariant)
 
 pub returns : goal.returns
 returns c =
