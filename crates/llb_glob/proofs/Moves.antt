@@ -7,26 +7,22 @@ use Rattle.llb_glob.specs.declared.item.Item.{Item}
 use Rattle.llb_glob.specs.declared.item.Item.TheVariants.{Run, One}
 use Rattle.llb_glob.specs.declared.item.Letter.{Letter}
 use Rattle.llb_glob.specs.Matching.{Takes, MatchesName}
-use Rattle.llb_glob.specs.Places.{AreStarts}
-
--- a place of the set stands here or further right
-abbrev pub Reaches : List Bool → ℕ → ℕ → Type 0
-Reaches places last i = (j : ℕ) × (i ≤ j) × (j ≤ last) × (get_or places j false ≡ true)
+use Rattle.llb_glob.specs.Places.{IsIn, Reaches, AreStarts}
 
 -- from a place on, each place from where one of the old set can be reached is in the new; before it nothing has changed
 pub record IsWidened (old new : List Bool) (start last : ℕ) : Type 0 where
-  pub done : (i : ℕ) → start ≤ i → i ≤ last → (get_or new i false ≡ true) ↔ Reaches old last i
+  pub done : (i : ℕ) → start ≤ i → i ≤ last → IsIn new i ↔ Reaches old last i
   pub rest : (i : ℕ) → i < start → get_or new i false ≡ get_or old i false
 
 -- before a place, each place from where one of the old set is reached by one character is in the new; from it on nothing has changed
 pub record IsNarrowed (letter : Letter) (name : List ℕ) (old new : List Bool) (upto : ℕ) : Type 0 where
-  pub done : (i : ℕ) → i < upto → (get_or new i false ≡ true) ↔ (Takes letter (get_or name i 0) × (get_or old (i + 1) false ≡ true))
+  pub done : (i : ℕ) → i < upto → IsIn new i ↔ (Takes letter (get_or name i 0) × IsIn old (i + 1))
   pub rest : (i : ℕ) → upto ≤ i → get_or new i false ≡ get_or old i false
 
 module _ (items : List Item) (name : List ℕ) (old new : List Bool) (starts : AreStarts items name old) where
   -- a run before the items
   pub run_starts :
-      ((i : ℕ) → i ≤ length name → (get_or new i false ≡ true) ↔ Reaches old (length name) i)
+      ((i : ℕ) → i ≤ length name → IsIn new i ↔ Reaches old (length name) i)
       → AreStarts (Run ∷ items) name new
   run_starts moved = record {
     at = λ i within. (
@@ -53,8 +49,8 @@ module _ (items : List Item) (name : List ℕ) (old new : List Bool) (starts : A
   -- one character of these before the items
   pub one_starts :
       (letter : Letter)
-      → ((i : ℕ) → i < length name → (get_or new i false ≡ true) ↔ (Takes letter (get_or name i 0) × (get_or old (i + 1) false ≡ true)))
-      → get_or new (length name) false ≡ false
+      → ((i : ℕ) → i < length name → IsIn new i ↔ (Takes letter (get_or name i 0) × IsIn old (i + 1)))
+      → (IsIn new (length name) → ⊥)
       → AreStarts (One letter ∷ items) name new
   one_starts letter moved ended = record {
     at = λ i within.
@@ -62,43 +58,46 @@ module _ (items : List Item) (name : List ℕ) (old new : List Bool) (starts : A
           | inl before ↦
               let here : drop i name ≡ get_or name i 0 ∷ drop (i + 1) name = rw add-one (drop-cons name i 0 before) in
               let behind = starts.at (i + 1) (omega arith) in
-              subst (λ rest. (get_or new i false ≡ true) ↔ MatchesName (One letter ∷ items) rest) (sym here)
+              subst (λ rest. IsIn new i ↔ MatchesName (One letter ∷ items) rest) (sym here)
               ((λ in_new. let m = (moved i before).0 in_new in (m.0, behind.0 m.1)), (λ m. (moved i before).1 (m.0, behind.1 m.1)))
           | inr past ↦
               let ends : drop i name ≡ [] = drop_all i name past in
-              let absent : get_or new i false ≡ false = let same : i ≡ length name = omega arith in ap (λ n. get_or new n false) same ∙ ended in
-              subst (λ rest. (get_or new i false ≡ true) ↔ MatchesName (One letter ∷ items) rest) (sym ends)
-              ((λ in_new. false≢true (sym absent ∙ in_new)), (λ none. absurd none))
+              let same : i ≡ length name = omega arith in
+              subst (λ rest. IsIn new i ↔ MatchesName (One letter ∷ items) rest) (sym ends)
+              ((λ in_new. ended (subst (IsIn new) same in_new)), (λ none. absurd none))
         ];
   }
 
 -- no item is left: the rest of the name is empty at its end alone
 pub end_starts :
     (name : List ℕ) (places : List Bool)
-    → ((i : ℕ) → i < length name → get_or places i false ≡ false)
-    → get_or places (length name) false ≡ true
+    → ((i : ℕ) → i < length name → IsIn places i → ⊥)
+    → IsIn places (length name)
     → AreStarts [] name places
-end_starts name places before ended = record {
+end_starts name places before there = record {
   at = λ i within.
       elim (cases_lt i (length name)) [
         | inl inside ↦
             let here : drop i name ≡ get_or name i 0 ∷ drop (suc i) name = drop-cons name i 0 inside in
-            subst (λ rest. (get_or places i false ≡ true) ↔ MatchesName [] rest) (sym here)
-            ((λ in_set. false≢true (sym (before i inside) ∙ in_set)), (λ none. absurd none))
+            subst (λ rest. IsIn places i ↔ MatchesName [] rest) (sym here)
+            ((λ in_set. before i inside in_set), (λ none. absurd none))
         | inr past ↦
             let ends : drop i name ≡ [] = drop_all i name past in
             let same : i ≡ length name = omega arith in
-            subst (λ rest. (get_or places i false ≡ true) ↔ MatchesName [] rest) (sym ends)
-            ((λ in_set. tt), (λ _. ap (λ n. get_or places n false) same ∙ ended))
+            subst (λ rest. IsIn places i ↔ MatchesName [] rest) (sym ends)
+            ((λ in_set. tt), (λ _. subst (IsIn places) (sym same) there))
       ];
 }
 
 -- before the first item the end of the name is the only place
 pub first_starts : (name : List ℕ) (n : ℕ) → length name < n → AreStarts [] name (set (replicate n false) (length name) true)
 first_starts name n fits =
-    end_starts name (set (replicate n false) (length name) true)
-    (λ i inside. get_or-set_other (replicate n false) (length name) i true false (omega arith) ∙ get_or-replicate n i false false (omega arith))
-    (get_or-set_same (replicate n false) (length name) true false (rw length-replicate fits))
+    let none = replicate n false in
+    let outside : (i : ℕ) → i < length name → get_or (set none (length name) true) i false ≡ false =
+      λ i inside. get_or-set_other none (length name) i true false (omega arith) ∙ get_or-replicate n i false false (omega arith) in
+    end_starts name (set none (length name) true)
+    (λ i inside in_set. false≢true (sym (outside i inside) ∙ in_set))
+    (get_or-set_same none (length name) true false (rw length-replicate fits))
 
 -- one more item in front of the items that are left
 pub starts_back :

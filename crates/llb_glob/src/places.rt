@@ -2,9 +2,9 @@
 //! of the name from where the items taken so far match the rest of it: a flag for each place, on the stack.
 //! A name has at most 255 characters, so its places are 0 to 255. An item moves the set by one pass over the name.
 
-ghost use Rattle.std.specs.Prelude.{◌≡◌, ◌↔◌, ℕ, ◌+◌, ◌<◌, ◌≤◌, true, false, List, ◌∷◌, length, IsTrue, slice_index, slice_index_or};
+ghost use Rattle.std.specs.Prelude.{◌↔◌, ℕ, ◌+◌, ◌<◌, ◌≤◌, List, ◌∷◌, length, IsTrue, slice_index};
 ghost use Rattle.llb_glob.specs.Matching.{Takes, MatchesName};
-ghost use Rattle.llb_glob.specs.Places.{AreStarts};
+ghost use Rattle.llb_glob.specs.Places.{IsIn, Reaches, AreStarts};
 
 use crate::item::{Item, Letter};
 
@@ -35,7 +35,7 @@ fn step_back(item: &Item, name: &[char], places: &mut [bool])
 // Each place from where one of the set can be reached by going right.
 fn widen(last: usize, places: &mut [bool])
     requires { last < length places.old }
-    ensures { (i : ℕ) → i ≤ last → (slice_index_or places.new i false ≡ true) ↔ ((j : ℕ) × (i ≤ j) × (j ≤ last) × (slice_index_or places.old j false ≡ true)) }
+    ensures { (i : ℕ) → i ≤ last → IsIn places.new i ↔ Reaches places.old last i }
 {
     for i in (0..last).rev() {
         if places[i + 1] {
@@ -47,8 +47,9 @@ fn widen(last: usize, places: &mut [bool])
 // Each place from where one of the set is reached by one character of these.
 fn narrow(letter: &Letter, name: &[char], places: &mut [bool])
     requires { length name.now < length places.old }
-    ensures before { (i : ℕ) → i < length name.now → (slice_index_or places.new i false ≡ true) ↔ (Takes letter.now (slice_index name.now i) × (slice_index_or places.old (i + 1) false ≡ true)) }
-    ensures end { slice_index_or places.new (length name.now) false ≡ false }
+    ensures before { (i : ℕ) → i < length name.now
+        → IsIn places.new i ↔ (Takes letter.now (slice_index name.now i) × IsIn places.old (i + 1)) }
+    ensures end { IsIn places.new (length name.now) → ⊥ }
 {
     for i in 0..name.len() {
         places[i] = places[i + 1] && letter.takes(name[i]);
