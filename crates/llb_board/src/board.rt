@@ -21,7 +21,7 @@ use crate::fresh::opening;
 use crate::job::Job;
 use crate::ready::{actions_at, is_marked, is_ready, mark_stopped, output_at};
 use crate::stand::{Desk, Stand};
-use crate::step::{Begun, begin, claimable, is_finished, leave, step_at};
+use crate::step::{Begun, begin, claimable, desk_at, is_finished, leave, step_at};
 use llb_loader::Graph;
 use llb_tree::Tree;
 use std::alloc::Global;
@@ -135,7 +135,7 @@ impl Board {
     pub fn worker(&self, w: u32) -> Option<At>
         ensures { result ≡ worker_look self.now.build self.now.state w }
     {
-        match self.desks.get(w as usize)? {
+        match desk_at(&self.desks, w)? {
             Desk::Idle => Some(At::Idle),
             Desk::Runs(execution) => {
                 let finished = is_finished(execution, actions_at(&self.graph, execution.vertex));

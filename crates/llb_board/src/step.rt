@@ -1,6 +1,6 @@
 //! One worker's execution of a vertex: how it begins, a micro-step of it, and how it ends.
 
-ghost use Rattle.std.specs.Prelude.{◌≡◌, ◌<◌, ◌^◌, [], map, length, replicate, slice_get, slice_set, is_ok, true, Ok, OnErr, OnOk, IfOk, MatchResult};
+ghost use Rattle.std.specs.Prelude.{◌≡◌, ◌<◌, ◌^◌, [], map, option_map, length, replicate, slice_get, slice_set, is_ok, true, Ok, OnErr, OnOk, IfOk, MatchResult};
 ghost use Rattle.llb_tree.specs.Tree.{Gives, empty_tree};
 ghost use Rattle.llb_model.specs.Action.{act};
 ghost use Rattle.llb_model.specs.Program.{Act, base_in, fault_number, outputs_of};
@@ -28,6 +28,13 @@ use llb_wire::Many;
 use std::alloc::Global;
 use std::mem;
 
+/// What a worker does.
+pub(crate) fn desk_at(desks: &[Desk], w: u32) -> Option<&Desk>
+    ensures { option_map (λ d. at_of d.now) result ≡ slice_get (map at_of desks.now) w }
+{
+    desks.get(w as usize)
+}
+
 /// The vertex that a worker may claim, or the first cause of a refusal. No memory.
 pub(crate) fn claimable<'a>(
     graph: &'a Graph,
@@ -40,7 +47,7 @@ pub(crate) fn claimable<'a>(
     ensures first { MatchResult result (λ _. is_ok (claim_start (map status_of stands.now) v (slice_get (map at_of desks.now) w) (slice_get graph.now.vertices v)) ≡ true)
         (λ e. faulted claim_fault (claim_start (map status_of stands.now) v (slice_get (map at_of desks.now) w) (slice_get graph.now.vertices v)) ≡ Err e) }
 {
-    match desks.get(w as usize) {
+    match desk_at(desks, w) {
         None => return Err(ClaimFault::NoWorker),
         Some(Desk::Runs(_)) => return Err(ClaimFault::Busy),
         Some(Desk::Idle) => {}
