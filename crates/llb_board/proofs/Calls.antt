@@ -6,19 +6,18 @@ use Rattle.llb_loader.specs.declared.graph.Vertex.{Vertex}
 use Rattle.llb_tree.specs.Tree.{TreeMap}
 use Rattle.llb_model.specs.Program.{Build, MicroStep, Start, begin}
 use Rattle.llb_model.specs.Outcome.{Ending, inputs_from}
-use Rattle.llb_model.specs.State.{Status, Waiting, Running, Settled, Execution, At, Idle, Runs, State, ending_at, program_in, is_finished, next_step, ending_from}
-use Rattle.llb_model.specs.ClaimCause.{ClaimCause, NoWorker, Busy, NoVertex, NotReady}
+use Rattle.llb_model.specs.State.{Status, Waiting, Running, Settled, Execution, At, Idle, Runs, State, ending_at, program_in, is_finished, next_step}
+use Rattle.llb_model.specs.State.{ending_from}
+use Rattle.llb_model.specs.ClaimCause.{ClaimCause}
 use Rattle.llb_model.specs.StepCause.{StepCause}
 use Rattle.llb_model.specs.SettleCause as no_settle
 use Rattle.llb_model.specs.SettleCause.{SettleCause}
-use Rattle.llb_model.specs.Table.{Event, Claim, Step, Settle, Reply, claim_start, claim_with, claimed, claim_grant, step_with, stepped, step_grant, settle_with, settle_grant, settled, table}
+use Rattle.llb_model.specs.Table.{Claim, Step, Settle, Reply, claim_start, claim_with, claimed, claim_grant, step_with, stepped, step_grant}
+use Rattle.llb_model.specs.Table.{settle_with, settle_grant, settled, table}
 use Rattle.llb_model.proofs.Lists.{inside}
 use Rattle.llb_model.proofs.Events.{Answer, IsClaim, claim_is}
-use Rattle.llb_board.specs.Board.{Seen, recorded}
-use Rattle.llb_board.specs.Rules.{faulted, claim_fault, claim_memory, step_fault, settle_fault, work_on, begun_on, begun, worked, worked_by, left_at}
+use Rattle.llb_board.specs.Rules.{faulted, step_fault, work_on, begun_on, begun, worked, worked_by, left_at}
 use Rattle.llb_board.specs.declared.fault.ClaimFault.{ClaimFault}
-use Rattle.llb_board.specs.declared.fault.ClaimFault.TheVariants as fault
-use Rattle.llb_board.specs.declared.fault.StepFault.{StepFault}
 use Rattle.llb_board.specs.declared.fault.SettleFault.{SettleFault}
 use Rattle.llb_board.specs.declared.fault.SettleFault.TheVariants.{NotFinished}
 
@@ -33,18 +32,6 @@ inside_ok e = cc
 pub granted : {A C F : Type 0} (fault : C → F) (r : Result A C) (a : A) → faulted fault r ≡ Ok a → r ≡ Ok a
 granted fault (Ok x) a e = cc
 granted fault (Err cause) a e = absurd cc
-
-pub refused : {C F : Type 0} (b : Seen) (e : Event) (fault : C → F) (r : Result Answer C) (f : F) → faulted fault r ≡ Err f → recorded b e fault r ≡ Err f
-refused b e fault (Ok a) f is = absurd cc
-refused b e fault (Err cause) f is = cc
-
-pub recorded_ok : {C F : Type 0} (b : Seen) (e : Event) (fault : C → F) (r : Result Answer C) → is_ok r ≡ true → is_ok (recorded b e fault r) ≡ true
-recorded_ok b e fault (Ok a) is = refl
-recorded_ok b e fault (Err cause) is = absurd cc
-
-pub faulted_ok : {A C F : Type 0} (fault : C → F) (r : Result A C) → is_ok (faulted fault r) ≡ true → is_ok r ≡ true
-faulted_ok fault (Ok x) is = refl
-faulted_ok fault (Err cause) is = absurd cc
 
 -- ---- the table, by the grants
 
@@ -89,25 +76,8 @@ can_claim b s w v x ok there = by_start (start_for b s w v) refl ok
 
     by_start : (r : Result Start ClaimCause) → start_for b s w v ≡ r → is_ok r ≡ true → CanClaim b s w v x
     by_start (Err cause) is ok = absurd cc
-    by_start (Ok start) is ok = by_claim start is (claim_is b s w v (claim_with s w v start.vertex (begin b start [])) (ap (λ r. result_ok (claimed b s w v r)) is))
-
-pub claim_refused : (b : Seen) (w v : ℕ) (f : ClaimFault) → faulted claim_fault (start_for b.build b.state w v) ≡ Err f → recorded b (Claim w v) claim_fault (claim_grant b.build b.state w v) ≡ Err f
-claim_refused b w v f = by_start (start_for b.build b.state w v)
-  where
-    by_start : (r : Result Start ClaimCause) → faulted claim_fault r ≡ Err f → recorded b (Claim w v) claim_fault (claimed b.build b.state w v r) ≡ Err f
-    by_start (Ok start) e = absurd cc
-    by_start (Err cause) e = cc
-
-by_fault : (f g : ClaimFault) → claim_memory g ≡ false → g ≡ f → claim_memory f ≡ true → ⊥
-by_fault f g none e is = let same : claim_memory g ≡ true = ap claim_memory e ∙ is in absurd cc
-
--- no cause is want of memory
-pub no_memory : {X : Type 0} (r : Result Start ClaimCause) (f : ClaimFault) → faulted claim_fault r ≡ Err f → claim_memory f ≡ true → X
-no_memory (Ok start) f e is = absurd cc
-no_memory (Err NoWorker) f e is = absurd (by_fault f fault.NoWorker refl (cc) is)
-no_memory (Err Busy) f e is = absurd (by_fault f fault.Busy refl (cc) is)
-no_memory (Err NoVertex) f e is = absurd (by_fault f fault.NoVertex refl (cc) is)
-no_memory (Err NotReady) f e is = absurd (by_fault f fault.NotReady refl (cc) is)
+    by_start (Ok start) is ok =
+        by_claim start is (claim_is b s w v (claim_with s w v start.vertex (begin b start [])) (ap (λ r. result_ok (claimed b s w v r)) is))
 
 -- what a claim that is granted gives: the board's execution at the worker, and the job
 pub begins : (b : Build) (s : State) (w v : ℕ) (x : Vertex) (p : Execution × Reply) → CanClaim b s w v x
@@ -115,18 +85,15 @@ pub begins : (b : Build) (s : State) (w v : ℕ) (x : Vertex) (p : Execution × 
     → claim_grant b s w v ≡ Ok (record s { statuses = slice_set s.statuses v (Running w); workers = slice_set s.workers w (Runs p.0) }, p.1)
 begins b s w v x p can is =
     let starts : ok_of {E = ClaimFault} (begun_on w v x can.trees) ≡ Ok p = ap (begun w v x) (sym can.inputs) ∙ is in
-    can.grants ∙ (λ i. Ok (record s { statuses = slice_set s.statuses v (Running w); workers = slice_set s.workers w (Runs (inside_ok starts i).0) }, (inside_ok starts i).1))
+    can.grants
+    ∙ (λ i. Ok
+    (record s { statuses = slice_set s.statuses v (Running w); workers = slice_set s.workers w (Runs (inside_ok starts i).0) }, (inside_ok starts i).1))
 
-pub begins_at : (b : Build) (s : State) (w v : ℕ) (x : Vertex) (p : Execution × Reply) → CanClaim b s w v x → begun w v x (inputs_from (ending_at s.statuses) x.inputs) ≡ Ok p → p.0.vertex ≡ v
+pub begins_at : (b : Build) (s : State) (w v : ℕ) (x : Vertex) (p : Execution × Reply) → CanClaim b s w v x
+    → begun w v x (inputs_from (ending_at s.statuses) x.inputs) ≡ Ok p → p.0.vertex ≡ v
 begins_at b s w v x p can is =
     let starts : ok_of {E = ClaimFault} (begun_on w v x can.trees) ≡ Ok p = ap (begun w v x) (sym can.inputs) ∙ is in
     sym (ap (λ q. q.0.vertex) (inside_ok starts))
-
-pub begins_none : {X : Type 0} (b : Build) (s : State) (w v : ℕ) (x : Vertex) (f : ClaimFault) → CanClaim b s w v x
-    → begun w v x (inputs_from (ending_at s.statuses) x.inputs) ≡ Err f → X
-begins_none b s w v x f can is =
-    let starts : ok_of {E = ClaimFault} (begun_on w v x can.trees) ≡ Err f = ap (begun w v x) (sym can.inputs) ∙ is in
-    absurd cc
 
 -- ---- a micro-step
 
@@ -147,53 +114,25 @@ step_alone b s w = by_worker (slice_get s.workers w)
     by_worker (Some Idle) = refl
     by_worker (Some (Runs x)) = by_next x (next_step (program_in b x).steps x)
 
-pub steps : (b : Build) (s : State) (w : ℕ) (workers : List At) (r : Reply) → faulted step_fault (step_grant b (record s { statuses = [] }) w) ≡ Ok (record { statuses = []; workers = workers }, r)
+pub steps : (b : Build) (s : State) (w : ℕ) (workers : List At) (r : Reply)
+    → faulted step_fault (step_grant b (record s { statuses = [] }) w) ≡ Ok (record { statuses = []; workers = workers }, r)
     → step_grant b s w ≡ Ok (record s { workers = workers }, r)
-steps b s w workers r is = step_alone b s w ∙ ap (with_statuses s.statuses) (granted step_fault (step_grant b (record s { statuses = [] }) w) (record { statuses = []; workers = workers }, r) is)
-
-pub step_refused : (b : Seen) (w : ℕ) (f : StepFault) → faulted step_fault (step_grant b.build (record b.state { statuses = [] }) w) ≡ Err f → recorded b (Step w) step_fault (step_grant b.build b.state w) ≡ Err f
-step_refused b w f is =
-    ap (recorded b (Step w) step_fault) (step_alone b.build b.state w) ∙ by_grant (step_grant b.build (record b.state { statuses = [] }) w) is
-  where
-    by_grant : (r : Result Answer StepCause) → faulted step_fault r ≡ Err f → recorded b (Step w) step_fault (with_statuses b.state.statuses r) ≡ Err f
-    by_grant (Ok a) is = absurd cc
-    by_grant (Err cause) is = cc
-
-pub step_last : (b : Seen) (w : ℕ) → is_ok (faulted step_fault (step_grant b.build (record b.state { statuses = [] }) w)) ≡ true → is_ok (recorded b (Step w) step_fault (step_grant b.build b.state w)) ≡ true
-step_last b w is =
-    ap (λ r. is_ok (recorded b (Step w) step_fault r)) (step_alone b.build b.state w) ∙ by_grant (step_grant b.build (record b.state { statuses = [] }) w) is
-  where
-    by_grant : (r : Result Answer StepCause) → is_ok (faulted step_fault r) ≡ true → is_ok (recorded b (Step w) step_fault (with_statuses b.state.statuses r)) ≡ true
-    by_grant (Ok a) is = refl
-    by_grant (Err cause) is = absurd cc
+steps b s w workers r is =
+    step_alone b s w
+    ∙ ap (with_statuses s.statuses) (granted step_fault (step_grant b (record s { statuses = [] }) w) (record { statuses = []; workers = workers }, r) is)
 
 -- a micro-step of an execution is that of the worker that runs it
-pub stepped_as : (b : Build) (s : State) (w : ℕ) (x : Execution) (steps : List MicroStep) (p : Execution × Reply) → slice_get s.workers w ≡ Some (Runs x) → steps ≡ (program_in b x).steps
+pub stepped_as : (b : Build) (s : State) (w : ℕ) (x : Execution) (steps : List MicroStep) (p : Execution × Reply)
+    → slice_get s.workers w ≡ Some (Runs x) → steps ≡ (program_in b x).steps
     → worked steps x ≡ Ok p → faulted step_fault (step_grant b s w) ≡ Ok (record s { workers = slice_set s.workers w (Runs p.0) }, p.1)
 stepped_as b s w x steps p there same is =
-    ap (λ o. faulted step_fault (stepped b s w o)) there ∙ ap (λ l. faulted step_fault (step_with s w x (next_step l x))) (sym same) ∙ by_next (next_step steps x) is
+    ap (λ o. faulted step_fault (stepped b s w o)) there ∙ ap (λ l. faulted step_fault (step_with s w x (next_step l x))) (sym same)
+    ∙ by_next (next_step steps x) is
   where
-    by_next : (o : Option MicroStep) → worked_by x o ≡ Ok p → faulted step_fault (step_with s w x o) ≡ Ok (record s { workers = slice_set s.workers w (Runs p.0) }, p.1)
+    by_next : (o : Option MicroStep) → worked_by x o ≡ Ok p
+        → faulted step_fault (step_with s w x o) ≡ Ok (record s { workers = slice_set s.workers w (Runs p.0) }, p.1)
     by_next None is = absurd cc
     by_next (Some m) is = λ i. Ok (record s { workers = slice_set s.workers w (Runs (inside_ok is i).0) }, (inside_ok is i).1)
-
-pub stepped_not : (b : Build) (s : State) (w : ℕ) (x : Execution) (steps : List MicroStep) (f : StepFault) → slice_get s.workers w ≡ Some (Runs x) → steps ≡ (program_in b x).steps
-    → worked steps x ≡ Err f → faulted step_fault (step_grant b s w) ≡ Err f
-stepped_not b s w x steps f there same is =
-    ap (λ o. faulted step_fault (stepped b s w o)) there ∙ ap (λ l. faulted step_fault (step_with s w x (next_step l x))) (sym same) ∙ by_next (next_step steps x) is
-  where
-    by_next : (o : Option MicroStep) → worked_by x o ≡ Err f → faulted step_fault (step_with s w x o) ≡ Err f
-    by_next None is = cc
-    by_next (Some m) is = absurd cc
-
-pub stepped_last : (b : Build) (s : State) (w : ℕ) (x : Execution) (steps : List MicroStep) → slice_get s.workers w ≡ Some (Runs x) → steps ≡ (program_in b x).steps
-    → is_ok (worked steps x) ≡ true → is_ok (faulted step_fault (step_grant b s w)) ≡ true
-stepped_last b s w x steps there same is =
-    ap (λ o. is_ok (faulted step_fault (stepped b s w o))) there ∙ ap (λ l. is_ok (faulted step_fault (step_with s w x (next_step l x)))) (sym same) ∙ by_next (next_step steps x) is
-  where
-    by_next : (o : Option MicroStep) → is_ok (worked_by x o) ≡ true → is_ok (faulted step_fault (step_with s w x o)) ≡ true
-    by_next None is = absurd cc
-    by_next (Some m) is = refl
 
 -- ---- a settle
 
@@ -233,16 +172,3 @@ can_settle b s w v stands is = by_worker (slice_get s.workers w) refl is
     by_worker None there is = absurd cc
     by_worker (Some Idle) there is = absurd cc
     by_worker (Some (Runs x)) there is = by_test x there (is_finished (program_in b x).steps x) refl is
-
-pub settle_refused : (b : Seen) (w : ℕ) (f : SettleFault) → left_at b.build (slice_get b.state.workers w) ≡ Err f → recorded b (Settle w) settle_fault (settle_grant b.build b.state w) ≡ Err f
-settle_refused b w f is = by_worker (slice_get b.state.workers w) is
-  where
-    by_test : (x : Execution) (t : Bool) → left_if b.build x t ≡ Err f
-        → recorded b (Settle w) settle_fault (settled_if b.build b.state w x t) ≡ Err f
-    by_test x true is = absurd cc
-    by_test x false is = cc
-
-    by_worker : (o : Option At) → left_at b.build o ≡ Err f → recorded b (Settle w) settle_fault (settled b.build b.state w o) ≡ Err f
-    by_worker None is = cc
-    by_worker (Some Idle) is = cc
-    by_worker (Some (Runs x)) is = by_test x (is_finished (program_in b.build x).steps x) is

@@ -10,7 +10,8 @@ ghost use Rattle.llb_model.specs.Run.{chosen, is_complete};
 ghost use Rattle.llb_loader.specs.Graph.{IsGraph};
 ghost use Rattle.llb_board.specs.Board.{Seen, Replays};
 ghost use Rattle.llb_wire.specs.Answer.{MemoryLast};
-ghost use Rattle.llb_board.specs.Rules.{open_memory, claim_memory, step_memory, GivesOpen, open_of, graph_in, GivesClaim, claim_of, GivesStep, step_of, GivesSettle, settle_of};
+ghost use Rattle.llb_board.specs.Rules.{open_memory, claim_memory, step_memory, GivesOpen, open_of, graph_in};
+ghost use Rattle.llb_board.specs.Rules.{GivesClaim, claim_of, GivesStep, step_of, GivesSettle, settle_of};
 ghost use Rattle.llb_board.specs.Views.{event_of, claim_reply, step_reply, settle_reply, status_of, look, look_at, worker_look};
 
 use crate::choice::{all_settled, next_claim, next_event};
@@ -21,7 +22,7 @@ use crate::fresh::opening;
 use crate::job::Job;
 use crate::ready::{actions_at, is_marked, is_ready, mark_stopped, output_at};
 use crate::stand::{Desk, Stand};
-use crate::step::{Begun, begin, claimable, is_finished, leave, step_at};
+use crate::step::{Begun, begin, claimable, desk_at, is_finished, leave, step_at};
 use llb_loader::Graph;
 use llb_tree::Tree;
 use std::alloc::Global;
@@ -135,7 +136,7 @@ impl Board {
     pub fn worker(&self, w: u32) -> Option<At>
         ensures { result ≡ worker_look self.now.build self.now.state w }
     {
-        match self.desks.get(w as usize)? {
+        match desk_at(&self.desks, w)? {
             Desk::Idle => Some(At::Idle),
             Desk::Runs(execution) => {
                 let finished = is_finished(execution, actions_at(&self.graph, execution.vertex));

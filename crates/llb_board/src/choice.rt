@@ -7,7 +7,7 @@ ghost use Rattle.llb_model.specs.Run.{next_of, next_claim, is_settled, is_comple
 ghost use Rattle.llb_board.specs.Views.{at_of, event_of, state_of, status_of};
 
 use crate::event::Event;
-use crate::ready::{actions_at, is_marked, is_ready};
+use crate::ready::{actions_at, is_marked, is_ready, stand_at};
 use crate::stand::{Desk, Stand};
 use crate::step::is_finished;
 use llb_loader::Graph;
@@ -59,9 +59,10 @@ pub(crate) fn all_settled(graph: &Graph, stands: &[Stand], halted: &[bool]) -> b
 
 // Whether a vertex is done, failed or blocked.
 fn is_over(stands: &[Stand], halted: &[bool], v: u32) -> bool
-    ensures { result ≡ (is_settled (slice_get (map status_of stands.now) v) || (is_waiting (slice_get (map status_of stands.now) v) && unwrap_or (slice_get halted.now v) false)) }
+    ensures { result ≡ (is_settled (slice_get (map status_of stands.now) v)
+        || (is_waiting (slice_get (map status_of stands.now) v) && unwrap_or (slice_get halted.now v) false)) }
 {
-    match stands.get(v as usize) {
+    match stand_at(stands, v) {
         Some(Stand::Done(_)) => true,
         Some(Stand::Failed(_)) => true,
         Some(Stand::Waiting) => is_marked(halted, v),

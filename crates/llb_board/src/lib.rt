@@ -20,3 +20,4 @@ pub use event::{At, Event, Settled, Status, Stepped};
 pub use events::Events;
 pub use fault::{ClaimFault, Memory, OpenFault, SettleFault, StepFault};
 pub use job::{Job, Program, View};
+pub use llb_wire::{Bytes, Text};

@@ -20,11 +20,18 @@ use llb_tree::Tree;
 use llb_wire::Many;
 use std::alloc::Global;
 
+/// What stands at a vertex.
+pub(crate) fn stand_at(stands: &[Stand], v: u32) -> Option<&Stand>
+    ensures { option_map (λ s. status_of s.now) result ≡ slice_get (map status_of stands.now) v }
+{
+    stands.get(v as usize)
+}
+
 /// An output of a vertex that is done.
 pub(crate) fn output_at(stands: &[Stand], v: u32, i: u32) -> Option<&Tree>
     ensures { option_map (λ t. t.now) result ≡ output_in (ending_at (map status_of stands.now) v) i }
 {
-    match stands.get(v as usize) {
+    match stand_at(stands, v) {
         Some(Stand::Done(outputs)) => outputs.as_slice().get(i as usize),
         _ => None,
     }
@@ -47,7 +54,7 @@ pub(crate) fn are_there(stands: &[Stand], inputs: &[Edge]) -> bool
 pub(crate) fn is_ready(stands: &[Stand], v: u32, vertex: &Vertex) -> bool
     ensures { result ≡ is_some (start_from (map status_of stands.now) (slice_get (map status_of stands.now) v) (Some vertex.now)) }
 {
-    match stands.get(v as usize) {
+    match stand_at(stands, v) {
         Some(Stand::Waiting) => are_there(stands, vertex.inputs.as_slice()),
         _ => false,
     }
@@ -125,17 +132,14 @@ fn is_behind(before: &[bool], inputs: &[Edge]) -> bool
 pub(crate) fn is_marked(before: &[bool], v: u32) -> bool
     ensures { result ≡ unwrap_or (slice_get before.now v) false }
 {
-    match before.get(v as usize) {
-        Some(mark) => *mark,
-        None => false,
-    }
+    before.get(v as usize).copied().unwrap_or(false)
 }
 
 fn has_failed(stands: &[Stand], v: usize) -> bool
     ensures { result ≡ is_failed (ending_at (map status_of stands.now) v) }
 {
     match stands.get(v) {
-        Some(Stand::Failed(_)) => true,
-        _ => false,
+        Some(stand) => stand.has_failed(),
+        None => false,
     }
 }
