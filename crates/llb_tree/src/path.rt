@@ -51,7 +51,7 @@ impl Name {
         is_plain(bytes)
     }
 
-    /// The name that a text is; 26 `BadName` where it is none, 27 `Memory`.
+    /// The name that a text is; 26 `BadName` where it is none, else 27 `Memory`.
     pub fn new(alloc: Global, text: &str) -> Result<Name, TreeFault>
         ensures gives { Gives (λ n. n) result (name_of text.now) }
         ensures last { MemoryLast result (name_of text.now) }
@@ -169,7 +169,7 @@ impl Path {
 
     /// The path that a text reads as, from the root: the text is split at `/`, empty parts and `.` are dropped, and
     /// `..` removes the last name and stops at the root. 26 `BadName` at the first part that is no name or is the
-    /// 129th name, also where a later `..` would remove it; 27 `Memory`.
+    /// 129th name, also where a later `..` would remove it; 27 `Memory` only where the text reads as a path.
     pub fn read(alloc: Global, text: &str) -> Result<Path, TreeFault>
         ensures gives { Gives (λ p. p) result (path_of text.now) }
         ensures last { MemoryLast result (path_of text.now) }
@@ -217,7 +217,7 @@ impl Path {
         self.names.is_empty()
     }
 
-    /// Goes down to a name; 26 `BadName` where it would be the 129th, 27 `Memory`.
+    /// Goes down to a name; 26 `BadName` where it would be the 129th, else 27 `Memory`.
     pub fn push(&mut self, name: Name) -> Result<(), TreeFault>
         ensures gives { Gives (λ _. self.new) result (below self.old name) }
         ensures last { MemoryLast result (below self.old name) }
