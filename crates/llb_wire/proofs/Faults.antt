@@ -1,5 +1,5 @@
 -- A number is found where it is spelled, and each fault stands only where its cause does.
-use Rattle.std.proofs.Common.{◌≡◌, ℕ, zero, suc, ◌+◌, ◌-◌, ◌*◌, ◌<◌, ◌≤◌, Bool, true, false, cond, ltb, List, [], ◌∷◌, length, drop, Result, Ok, Err, ◌⊎◌, inl, inr, refl, sym, ap, arith}
+use Rattle.std.proofs.Common.{◌≡◌, ℕ, zero, suc, ◌+◌, ◌-◌, ◌*◌, ◌≤◌, Bool, true, false, cond, ltb, List, [], ◌∷◌, length, drop, Result, Ok, Err, ◌⊎◌, inl, inr, refl, sym, ap, arith}
 use Rattle.std.proofs.lemmas.Bool.{ltb-false, ltb-true}
 use Rattle.std.specs.Prelude.{IfOk, IfErr}
 use Rattle.llb_wire.specs.declared.fault.WireFault.{WireFault}

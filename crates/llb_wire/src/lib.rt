@@ -4,7 +4,6 @@
 #![tactic(auto)]
 
 mod bytes;
-mod duplicate;
 mod fault;
 mod field;
 mod laws;
@@ -15,7 +14,6 @@ mod text;
 mod writing;
 
 pub use bytes::Bytes;
-pub use duplicate::Duplicate;
 pub use fault::{Memory, WireFault};
 pub use field::{Field, Wire};
 pub use laws::{spells_one_list, walk_meets_what_is_spelled};

@@ -70,7 +70,8 @@ spells_found (suc more) (b ∷ bytes) v n e =
           subst (λ (k : ℕ). Spells (take k (b ∷ bytes)) v × (k ≤ suc (suc more))) l.1.3 (spells_more b v l.1.0.0 (take l.1.0.1 bytes) high (omega (arith, l.1.2, high)) deep.0, omega (arith, deep.1))
     ]
 
-limit_least : (more : ℕ) → 2 ≤ varint_limit more
+-- a number of one bit fits under each limit
+pub limit_least : (more : ℕ) → 2 ≤ varint_limit more
 limit_least zero = omega arith
 limit_least (suc more) = omega (arith, limit_least more)
 

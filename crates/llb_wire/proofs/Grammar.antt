@@ -1,2 +1,0 @@
--- Names that moved to specs/Laws, for who still asks for them here.
-pub use Rattle.llb_wire.specs.Laws.Varints.{spells_found}
