@@ -90,10 +90,6 @@ tally_done t bytes total none so_far =
 abbrev pub behind : List (List ℕ) → Result (List (List ℕ)) OpFault → Result (List (List ℕ)) OpFault
 behind front read = read >>= λ es. Ok (front ++ es)
 
-pub gather_begins : (read : Result (List (List ℕ)) OpFault) → behind [] read ≡ read
-gather_begins (Ok es) = refl
-gather_begins (Err f) = refl
-
 more_gathered : (front : List (List ℕ)) (r : Record) (es : List (List ℕ)) (b : Bool) → eqb r.number 1 ≡ b → front ++ cond b (r.payload ∷ es) es ≡ cond b (front ++ r.payload ∷ []) front ++ es
 more_gathered front r es true e = sym (append_assoc front (r.payload ∷ []) es)
 more_gathered front r es false e = refl

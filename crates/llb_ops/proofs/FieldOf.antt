@@ -77,10 +77,6 @@ ok_of x = Ok x
 pub ok_is : {A : Type 0} (x y : A) → ok_of x ≡ ok_of y → x ≡ y
 ok_is x y e = cc
 
--- what is there is no fault
-pub no_fault : {A : Type 0} (x : A) (e : OpFault) → ok_of x ≡ Err e → ⊥
-no_fault x e h = cc
-
 abbrev pub pair_read : {A B : Type 0} → (List Record → Result A OpFault) → (List Record → Result B OpFault) → List Record → Result (A × B) OpFault
 pair_read f g rs = f rs >>= λ a. (g rs >>= λ b. Ok (a, b))
 

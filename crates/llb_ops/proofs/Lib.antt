@@ -5,6 +5,7 @@ pub mod Admission
 pub mod Each
 pub mod Members
 pub mod Counts
+pub mod Pushed
 pub mod Written
 pub mod Again
 pub mod Kept
