@@ -23,10 +23,12 @@ use Rattle.llbm.specs.TreeText.{tree_text}
 use Rattle.llbm.specs.GraphText.{graph_text}
 use Rattle.llbm.specs.Answer.{result_of, Yields, YieldsNone, IsRefused, YieldsPart, DrawsPart}
 use Rattle.llbm.specs.Answer.{Runs}
-use Rattle.llbm.specs.Running.{passed_on, IsRefusal, IsFinished, Shows, Answers}
+use Rattle.llbm.proofs.Failing.{result_fails}
+use Rattle.llbm.specs.Running.{passed_on, unread_as, IsRefusal, TellsRefusal, IsFinished, Shows, Answers}
 use Rattle.llbm.specs.Bounded.{ReadsAll}
 use Rattle.llbm.specs.declared.bounded.ReadFault.{ReadFault}
-use Rattle.llbm.specs.declared.bounded.ReadFault.TheVariants.{TooLong}
+use Rattle.llbm.specs.declared.bounded.ReadFault.TheVariants.{TooLong, Failed, Unending}
+use Rattle.llbm.specs.declared.bounded.ReadFault.TheVariants as reading
 use Rattle.llbm.specs.declared.tree_text.PrintFault.{PrintFault}
 use Rattle.std.specs.Prelude.{Vec}
 use Rattle.std.specs.Global.{Global}
@@ -39,7 +41,7 @@ some_map P Q None f h = tt
 some_map P Q (Some x) f h = f x h
 
 -- bytes past the limit are refused
-pub refuses_long : (bytes : List ℕ) → 67108864 < length bytes → IsRefused bytes
+refuses_long : (bytes : List ℕ) → 67108864 < length bytes → IsRefused bytes
 unfolding definition_of
 refuses_long bytes long =
     let yes : ltb definition_limit (length bytes) ≡ true = lt-ltb _ _ long in
@@ -76,7 +78,10 @@ module _ (left : Option (List ℕ)) (g : Numbered) (graph : IsGraph g) (b : Seen
   answers_part out out' t is part = some_map (λ bytes. IsGraphIn bytes g) (YieldsPart out out') left (λ bytes loaded. (tree_text t, yields bytes loaded t is, part)) loads
 
   pub answers_none : output_in (ending_at b.state.statuses g.result.vertex) g.result.index ≡ None → IfSome left YieldsNone
-  answers_none none = some_map (λ bytes. IsGraphIn bytes g) YieldsNone left (λ bytes loaded. record { graph = g; loaded = loaded; result = sym (result_is g graph b fin) ∙ none }) loads
+  answers_none none = some_map (λ bytes. IsGraphIn bytes g) YieldsNone left (λ bytes loaded. record { graph = g; loaded = loaded; result = no_tree; fails = result_fails g graph no_tree }) loads
+    where
+      no_tree : result_of g ≡ None
+      no_tree = sym (result_is g graph b fin) ∙ none
 
 -- ---- what the parts answered, where the answer is known
 
@@ -89,17 +94,31 @@ shown_ok b = Ok b
 abbrev answer_ok : {B : Type 0} → Option B → Result (Option B) ProgramFault
 answer_ok o = Ok o
 
-pub too_long : (left left' : Option (List ℕ)) (r : Result (Vec ℕ Global) ReadFault) (e : ReadFault) → r ≡ Err e → e ≡ TooLong → ReadsAll 67108864 left left' r → IfSome left (λ xs. 67108864 < length xs)
+too_long : (left left' : Option (List ℕ)) (r : Result (Vec ℕ Global) ReadFault) (e : ReadFault) → r ≡ Err e → e ≡ TooLong → ReadsAll 67108864 134217728 left left' r → IfSome left (λ xs. 67108864 < length xs)
 too_long left left' r e is same reads =
-    let h : ReadsAll 67108864 left left' (Err TooLong) = subst (ReadsAll 67108864 left left') (is ∙ ap read_err same) reads in h
+    let h : ReadsAll 67108864 134217728 left left' (Err TooLong) = subst (ReadsAll 67108864 134217728 left left') (is ∙ ap read_err same) reads in h
 
-pub all_read : (left left' : Option (List ℕ)) (r : Result (Vec ℕ Global) ReadFault) (bytes : Vec ℕ Global) → r ≡ Ok bytes → ReadsAll 67108864 left left' r → IfSome left (λ xs. bytes.items ≡ xs)
+by_fault : (left left' : Option (List ℕ)) (r : Result (Vec ℕ Global) ReadFault) (e : ReadFault) → r ≡ Err e → ReadsAll 67108864 134217728 left left' r → TellsRefusal left (unread_as e)
+by_fault left left' r TooLong is reads = λ _. some_map (λ xs. 67108864 < length xs) IsRefused left refuses_long (too_long left left' r TooLong is refl reads)
+by_fault left left' r (Failed kind) is reads = λ h. absurd h
+by_fault left left' r (Unending interrupted) is reads = λ h. absurd h
+by_fault left left' r reading.Memory is reads = λ h. absurd h
+
+-- a refusal of what was not read stands
+pub tells_unread : (left left' : Option (List ℕ)) (r : Result (Vec ℕ Global) ReadFault) (e : ReadFault) (p : ProgramFault) → r ≡ Err e → p ≡ unread_as e → ReadsAll 67108864 134217728 left left' r → TellsRefusal left p
+tells_unread left left' r e p is same reads = subst (TellsRefusal left) (sym same) (by_fault left left' r e is reads)
+
+pub all_read : (left left' : Option (List ℕ)) (r : Result (Vec ℕ Global) ReadFault) (bytes : Vec ℕ Global) → r ≡ Ok bytes → ReadsAll 67108864 134217728 left left' r → IfSome left (λ xs. bytes.items ≡ xs)
 all_read left left' r bytes is reads =
-    let h : ReadsAll 67108864 left left' (Ok bytes) = subst (ReadsAll 67108864 left left') is reads in h.1
+    let h : ReadsAll 67108864 134217728 left left' (Ok bytes) = subst (ReadsAll 67108864 134217728 left left') is reads in h.1
 
 pub shows_true : (out out' : Option (List ℕ)) (tree : Option TreeMap) (r : Result Bool ProgramFault) (b : Bool) → r ≡ Ok b → b ≡ true → Shows out out' tree r → (t : TreeMap) × (tree ≡ Some t) × Appends out out' (tree_text t)
 shows_true out out' tree r b is same shows =
     let h : Shows out out' tree (Ok true) = subst (Shows out out' tree) (is ∙ ap shown_ok same) shows in h
+
+pub shows_false : (out out' : Option (List ℕ)) (tree : Option TreeMap) (b : Bool) → b ≡ false → Shows out out' tree (Ok b) → (tree ≡ None) × Keeps out out'
+shows_false out out' tree b same shows =
+    let h : Shows out out' tree (Ok false) = subst (λ x. Shows out out' tree (Ok x)) same shows in h
 
 pub answer_done : {B : Type 0} (left out out' : Option (List ℕ)) (r : Result (Option B) ProgramFault) (o : Option B) → r ≡ Ok o → o ≡ None → Answers left out out' r → IfSome left (λ bytes. (text : List ℕ) × Yields bytes text × Appends out out' text)
 answer_done {B} left out out' r o is same answers =

@@ -19,7 +19,15 @@ use Rattle.llb_board.specs.declared.fault.ClaimFault.{ClaimFault}
 use Rattle.llb_board.specs.declared.fault.StepFault.{StepFault}
 use Rattle.llb_board.specs.declared.fault.SettleFault.{SettleFault}
 use Rattle.llb_board.proofs.Runs.{run_append, run_one, joined}
-use Rattle.llbm.specs.Alone.{Takes, IsLeft, Goes, TakesMemory}
+use Rattle.std.specs.List.{count_by}
+use Rattle.std.proofs.Common.{◌≢◌, ◌<◌, cond, take, get_or, get_or-set_same, get_or-set_other}
+use Rattle.std.proofs.Math.ListN.{set}
+use Rattle.std.proofs.lemmas.Bool.{cases_eq, eq-eqb, ne_eqb}
+use Rattle.std.proofs.lemmas.List.Sums.{count_by_more_yes, count_by_more_no, sum_by-cons}
+use Rattle.std.proofs.lemmas.List.{length-set}
+use Rattle.llb_board.specs.declared.event.Event as event
+use Rattle.llb_board.specs.Views.{event_of}
+use Rattle.llbm.specs.Alone.{Takes, IsLeft, Goes, TakesMemory, worker_of, is_of}
 
 pub sound_of : (b : Seen) → IsGraph b.graph → Replays b → IsSound b.graph b.state
 sound_of b graph here = run_sound b.graph graph (opening b.graph (length b.state.workers)) b.state b.events here.replies (opening_sound b.graph (length b.state.workers)) here.leads
@@ -128,14 +136,49 @@ on_false false P f = f refl
 pub goes_longer : (a b : Seen) → Goes a b → length a.events ≤ length b.events
 goes_longer a b goes = omega (arith, ap length goes.events, length-append a.events goes.more)
 
-pub first_made : (n w : ℕ) → slice_index (n ∷ replicate 63 0) (suc w) ≡ 0
-first_made n w = zeros 63 w
-  where
-    zeros : (k w : ℕ) → slice_index (replicate k 0) w ≡ 0
-    zeros zero w = refl
-    zeros (suc k) zero = refl
-    zeros (suc k) (suc w) = zeros k w
+pub zeros : (k w : ℕ) → slice_index (replicate k 0) w ≡ 0
+zeros zero w = refl
+zeros (suc k) zero = refl
+zeros (suc k) (suc w) = zeros k w
 
 pub length_seen : {A B : Type 0} (f : A → B) (xs : List A) → length (map f xs) ≡ length xs
 length_seen f [] = refl
 length_seen f (x ∷ xs) = ap suc (length_seen f xs)
+
+-- ---- each worker's events
+
+abbrev pub of_worker : ℕ → event.Event → Bool
+of_worker w e = is_of w (event_of e)
+
+-- what is counted of seen events is counted of the events
+pub count_seen : (w : ℕ) (es : List event.Event) → count_by (is_of w) (map event_of es) ≡ count_by (of_worker w) es
+count_seen w [] = refl
+count_seen w (e ∷ es) =
+    sum_by-cons (λ x. cond (is_of w x) 1 0) (event_of e) (map event_of es) ∙ ap (λ n. cond (of_worker w e) 1 0 + n) (count_seen w es) ∙ sym (sum_by-cons (λ x. cond (of_worker w x) 1 0) e es)
+
+-- the counts of so many events
+abbrev pub Counts : List ℕ → List event.Event → ℕ → Type 0
+Counts made es i = (length made ≡ 64) × ((w : ℕ) → w < 64 → slice_index made w ≡ count_by (of_worker w) (take i es))
+
+-- one more event is one more of its worker, and of no other
+module _ (made : List ℕ) (es : List event.Event) (i u : ℕ) (d : event.Event) (fits : i < length es) (is : u ≡ worker_of (event_of (get_or es i d))) (so_far : Counts made es i) where
+  other : (w : ℕ) → w ≢ u → count_by (of_worker w) (take (i + 1) es) ≡ count_by (of_worker w) (take i es)
+  other w apart = count_by_more_no (of_worker w) es i d fits (ne_eqb _ _ (λ e. apart (sym e ∙ sym is)))
+
+  pub not_counted : 64 ≤ u → Counts made es (i + 1)
+  not_counted past = (so_far.0, λ w lt. so_far.1 w lt ∙ sym (other w (λ e. omega (arith, e, past, lt))))
+
+  pub counted : u < 64 → Counts (set made u (slice_index made u + 1)) es (i + 1)
+  counted low = (length-set made u (slice_index made u + 1) ∙ so_far.0, each)
+    where
+      each : (w : ℕ) → w < 64 → slice_index (set made u (slice_index made u + 1)) w ≡ count_by (of_worker w) (take (i + 1) es)
+      each w lt = elim (cases_eq w u) [
+        | inl same ↦
+            let here : slice_index (set made u (slice_index made u + 1)) u ≡ slice_index made u + 1 = get_or-set_same made u (slice_index made u + 1) 0 (omega (arith, so_far.0, low)) in
+            ap (slice_index (set made u (slice_index made u + 1))) same ∙ here ∙ ap (λ n. n + 1) (so_far.1 u low)
+            ∙ sym (count_by_more_yes (of_worker u) es i d fits (eq-eqb _ _ (sym is)))
+            ∙ ap (λ v. count_by (of_worker v) (take (i + 1) es)) (sym same)
+        | inr apart ↦
+            let there : slice_index (set made u (slice_index made u + 1)) w ≡ slice_index made w = get_or-set_other made u w (slice_index made u + 1) 0 apart in
+            there ∙ so_far.1 w lt ∙ sym (other w apart)
+      ]

@@ -1,5 +1,6 @@
 -- What a driver does to a board.
-use Rattle.std.specs.Prelude.{◌≡◌, ℕ, suc, ◌+◌, List, [], ◌∷◌, ◌++◌, length, slice_index, Option, Some, None, ⊤}
+use Rattle.std.specs.Prelude.{◌≡◌, ℕ, ◌<◌, ◌==◌, Bool, List, [], ◌∷◌, ◌++◌, length, drop, slice_index, Option, Some, None, ⊤}
+use Rattle.std.specs.List.{count_by}
 use Rattle.llb_model.specs.Table.{Event, Claim, Step, Settle, Reply, table}
 use Rattle.llb_model.specs.Run.{run}
 use Rattle.llb_board.specs.Board.{Seen}
@@ -19,10 +20,18 @@ pub record Goes (old new : Seen) : Type 0 where
   pub leads : run old.graph old.state more ≡ Some (new.state, replies)
   pub events : new.events ≡ old.events ++ more
 
--- the first worker made all events
-pub record MadeBy (old new : Seen) (made : List ℕ) : Type 0 where
-  pub first : slice_index made 0 + length old.events ≡ length new.events
-  pub others : (w : ℕ) → slice_index made (suc w) ≡ 0
+-- the worker whose event it is
+abbrev pub worker_of : Event → ℕ
+worker_of (Claim w v) = w
+worker_of (Step w) = w
+worker_of (Settle w) = w
+
+abbrev pub is_of : ℕ → Event → Bool
+is_of w e = worker_of e == w
+
+-- of each worker, how many of the events that were added are its own
+abbrev pub MadeBy : Seen → Seen → List ℕ → Type 0
+MadeBy old new made = (w : ℕ) → w < 64 → slice_index made w ≡ count_by (is_of w) (drop (length old.events) new.events)
 
 -- an event whose want of memory may end a run: a settle takes none
 abbrev pub TakesMemory : Option Event → Type 0

@@ -1,12 +1,13 @@
 -- What the program answers to the bytes that it reads.
-use Rattle.std.specs.Prelude.{◌≡◌, ◌⊎◌, ℕ, List, Option, Some, None, IfSome}
+use Rattle.std.specs.Prelude.{◌≡◌, ◌≤◌, ◌⊎◌, ℕ, List, Option, Some, None, IfSome}
 use Rattle.std.specs.Io.KnownBytes.{Appends, Keeps}
 use Rattle.llb_wire.specs.Sink.{PartOut}
 use Rattle.llb_tree.specs.Tree.{TreeMap}
 use Rattle.llb_loader.specs.declared.fault.LoadFault.{LoadFault}
 use Rattle.llb_loader.specs.Graph.{Numbered}
 use Rattle.llb_loader.specs.Load.{IsGraphIn, IsRefusalIn}
-use Rattle.llb_model.specs.Outcome.{outcome, ending_in, output_in}
+use Rattle.llb_model.specs.declared.fault.VertexFault.{VertexFault}
+use Rattle.llb_model.specs.Outcome.{Ended, Failed, outcome, ending_in, output_in}
 use Rattle.llbm.specs.TreeText.{tree_text}
 use Rattle.llbm.specs.GraphText.{graph_text}
 use Rattle.llbm.specs.declared.words.Command.{Command}
@@ -24,11 +25,19 @@ pub record Yields (bytes text : List ℕ) : Type 0 where
   pub result : result_of graph ≡ Some tree
   pub printed : text ≡ tree_text tree
 
--- bytes that are the definition of a graph whose result is no tree: a vertex failed
+-- a vertex at or before one fails
+pub record FailsBy (g : Numbered) (v : ℕ) : Type 0 where
+  pub vertex : ℕ
+  pub before : vertex ≤ v
+  pub fault : VertexFault
+  pub failed : outcome g vertex ≡ Some (Ended (Failed fault))
+
+-- bytes that are the definition of a graph whose result is no tree, since a vertex fails
 pub record YieldsNone (bytes : List ℕ) : Type 0 where
   pub graph : Numbered
   pub loaded : IsGraphIn bytes graph
   pub result : result_of graph ≡ None
+  pub fails : FailsBy graph graph.result.vertex
 
 -- bytes that are no definition of a graph
 abbrev pub IsRefused : List ℕ → Type 0
@@ -38,7 +47,7 @@ IsRefused bytes = (e : LoadFault) × IsRefusalIn bytes e
 abbrev pub YieldsPart : Option (List ℕ) → Option (List ℕ) → List ℕ → Type 0
 YieldsPart out out' bytes = (text : List ℕ) × Yields bytes text × PartOut out out' text
 
--- How a run ends. 0: the text of the result is out, and nothing else. 1: the result is no tree, and nothing is out. 2: the bytes are
+-- How a run ends. 0: the text of the result is out, and nothing else. 1: a vertex fails, so that the result is no tree, and nothing is out. 2: the bytes are
 -- refused, and nothing is out. 3: a device or memory failed; nothing is out, or a front of the text.
 abbrev pub Runs : Option (List ℕ) → Option (List ℕ) → Option (List ℕ) → ℕ → Type 0
 Runs input out out' status =

@@ -11,13 +11,24 @@ use Rattle.llb_board.specs.Board.{Seen}
 use Rattle.llbm.specs.TreeText.{tree_text}
 use Rattle.llbm.specs.Answer.{Yields, YieldsNone, IsRefused, YieldsPart, DrawsAll, DrawsPart}
 use Rattle.llbm.specs.declared.fault.ProgramFault.{ProgramFault}
-use Rattle.llbm.specs.declared.fault.ProgramFault.TheVariants.{Refused, Loading}
+use Rattle.llbm.specs.declared.fault.ProgramFault.TheVariants.{Refused, Loading, Read, Memory}
+use Rattle.llbm.specs.declared.bounded.ReadFault.{ReadFault}
+use Rattle.llbm.specs.declared.bounded.ReadFault.TheVariants as reading
+use Rattle.llb_ops.specs.declared.fault.OpFault.TheVariants.{OverLimit}
+use Rattle.llb_loader.specs.declared.fault.LoadFault.TheVariants.{Definition}
 use Rattle.llb_loader.specs.declared.fault.LoadFault.{LoadFault}
 use Rattle.llb_loader.specs.Faults.{is_memory}
 
 -- how a fault of the loader is passed on
 abbrev pub passed_on : LoadFault → ProgramFault
 passed_on e = if is_memory e then Loading else Refused e
+
+-- what a fault of reading comes to
+abbrev pub unread_as : ReadFault → ProgramFault
+unread_as reading.TooLong = Refused (Definition OverLimit)
+unread_as (reading.Failed kind) = Read
+unread_as (reading.Unending interrupted) = Read
+unread_as reading.Memory = Memory
 
 -- a fault that refuses the input
 abbrev pub IsRefusal : ProgramFault → Type 0

@@ -1,12 +1,13 @@
 //! One driver: the chosen events, one after another, on the caller's own thread, until the run is complete.
 
-ghost use Rattle.std.specs.Prelude.{◌≡◌, ◌<◌, ◌↔◌, ℕ, None, [], length, slice_get, slice_index, suc, IfSome, true};
+ghost use Rattle.std.specs.Prelude.{◌≡◌, ◌<◌, ◌↔◌, ℕ, None, [], length, slice_get, slice_index, IfSome, true};
 ghost use Rattle.std.specs.Bool.{OnTrue, OnFalse};
 ghost use Rattle.llb_model.specs.Table.{Claim, Step, Settle};
 ghost use Rattle.llb_board.specs.Views.{event_of};
 ghost use Rattle.llb_model.specs.Outcome.{outcome};
 ghost use Rattle.llb_model.specs.Run.{chosen, is_complete, claims_of, AreAscending, StandsPlainly};
-ghost use Rattle.llbm.specs.Alone.{Takes, IsLeft, Goes, TakesMemory, MadeBy};
+ghost use Rattle.std.specs.List.{count_by};
+ghost use Rattle.llbm.specs.Alone.{Takes, IsLeft, Goes, TakesMemory, MadeBy, worker_of, is_of};
 
 use llb_board::laws::{chosen_until_complete, complete_is_plain};
 use llb_board::{Board, Event};
@@ -82,19 +83,31 @@ fn go_alone(board: &mut Board) -> bool
     true
 }
 
-// All events are the first worker's.
-fn made_by_first(count: u64) -> [u64; 64]
-    ensures first { slice_index result 0 ≡ count }
-    ensures others { (w : ℕ) → slice_index result (suc w) ≡ 0 }
+// The worker whose event it is.
+fn worker_of(event: Event) -> u32
+    ensures { result ≡ worker_of (event_of event) }
+{
+    match event {
+        Event::Claim(w, _) | Event::Step(w) | Event::Settle(w) => w,
+    }
+}
+
+// How many of the events are each worker's.
+fn made_by(events: &[Event]) -> [u64; 64]
+    ensures { (w : ℕ) → w < 64 → slice_index result w ≡ count_by (λ e. is_of w (event_of e)) events.now }
 {
     let mut made = [0; 64];
-    made[0] = count;
+    for event in events {
+        let w = worker_of(*event) as usize;
+        if w < 64 {
+            made[w] += 1;
+        }
+    }
     made
 }
 
-/// Does the chosen events until the board is complete; 151 where memory is refused to a claim or a step. All events are the
-/// first worker's.
-/// On a complete board every vertex stands as its plain outcome.
+/// Does the chosen events until the board is complete; 151 where memory is refused to a claim or a step. On a complete board
+/// every vertex stands as its plain outcome.
 pub fn run_alone(board: Board) -> RunEnd
     ensures goes { Goes board result.board }
     ensures ends { (result.fault ≡ None) ↔ (is_complete result.board.graph result.board.state ≡ true) }
@@ -107,7 +120,8 @@ pub fn run_alone(board: Board) -> RunEnd
     let mut board = board;
     let before = board.events().len();
     let whole = go_alone(&mut board);
-    let made = made_by_first((board.events().len() - before) as u64);
+    let (_, added) = board.events().split_at(before);
+    let made = made_by(added);
     chosen_until_complete(&board);
     complete_is_plain(&board);
     let fault = if whole { None } else { Some(RunFault::Memory) };

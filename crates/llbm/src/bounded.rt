@@ -1,6 +1,8 @@
 //! Reading to the end, within bounds on the bytes and on the reads.
 
+ghost use Rattle.std.specs.Prelude.{◌≢◌, IfErr};
 ghost use Rattle.llbm.specs.Bounded.{ReadsAll};
+ghost use Rattle.llbm.specs.declared.bounded.ReadFault.TheVariants.{Failed};
 
 use std::alloc::Global;
 use std::io::{ErrorKind, Read};
@@ -8,27 +10,32 @@ use std::io::{ErrorKind, Read};
 const PIECE: usize = 4096;
 
 /// Why an input was not read to its end.
-#[derive(Clone, Copy, Debug, PartialEq, Eq)]
+#[derive(Drop)]
 pub enum ReadFault {
     /// There were more bytes than the limit.
     TooLong,
-    /// A read failed, or the bound on reads was met.
-    Read,
+    /// A read failed, in this way.
+    Failed(ErrorKind),
+    /// The bound on reads was met, and so many of the reads were interrupted.
+    Unending(u64),
     /// Memory was refused.
     Memory,
 }
 
-/// Reads all that is left, where it is no more than `limit` bytes and comes in `reads` reads.
+/// Reads all that is left, where it is no more than `limit` bytes and its end is met in `reads` reads. An interrupted read
+/// is done again, and counts.
 pub fn read_bounded<R: Read>(
     alloc: Global,
     input: &mut R,
     limit: usize,
     reads: u64,
 ) -> Result<Vec<u8>, ReadFault>
-    ensures { ReadsAll limit (R.remaining input.old) (R.remaining input.new) result }
+    ensures reads { ReadsAll limit reads (R.remaining input.old) (R.remaining input.new) result }
+    ensures again { IfErr result (λ e. e ≢ Failed ErrorKind.Interrupted) }
 {
     let mut bytes = Vec::new(alloc);
     let mut piece = [0; PIECE];
+    let mut interrupted = 0;
     for _i in 0..reads {
         match input.read(&mut piece) {
             Ok(0) => return Ok(bytes),
@@ -42,11 +49,13 @@ pub fn read_bounded<R: Read>(
                 }
             }
             Err(error) => {
-                if error.kind() != ErrorKind::Interrupted {
-                    return Err(ReadFault::Read);
+                let kind = error.kind();
+                if kind != ErrorKind::Interrupted {
+                    return Err(ReadFault::Failed(kind));
                 }
+                interrupted += 1;
             }
         }
     }
-    Err(ReadFault::Read)
+    Err(ReadFault::Unending(interrupted))
 }

@@ -1,7 +1,7 @@
 //! The definition that is read, and its graph.
 
 ghost use Rattle.std.specs.Prelude.{◌≡◌};
-ghost use Rattle.llbm.specs.Running.{passed_on, Loads};
+ghost use Rattle.llbm.specs.Running.{passed_on, unread_as, Loads};
 
 use crate::bounded::{ReadFault, read_bounded};
 use crate::fault::ProgramFault;
@@ -24,16 +24,23 @@ fn passed_on(fault: LoadFault) -> ProgramFault
     }
 }
 
+// Why no definition was read: one that is too long is refused.
+pub(crate) fn unread(fault: ReadFault) -> ProgramFault
+    ensures { result ≡ unread_as fault }
+{
+    match fault {
+        ReadFault::TooLong => ProgramFault::Refused(LoadFault::Definition(OpFault::OverLimit)),
+        ReadFault::Failed(_) | ReadFault::Unending(_) => ProgramFault::Read,
+        ReadFault::Memory => ProgramFault::Memory,
+    }
+}
+
 // Reads the definition and loads it.
 pub(crate) fn loaded<R: Read>(alloc: Global, input: &mut R) -> Result<Graph, ProgramFault>
     ensures { Loads (R.remaining input.old) result }
 {
     match read_bounded(alloc, input, LIMIT, READS) {
-        Err(ReadFault::TooLong) => Err(ProgramFault::Refused(LoadFault::Definition(
-            OpFault::OverLimit,
-        ))),
-        Err(ReadFault::Read) => Err(ProgramFault::Read),
-        Err(ReadFault::Memory) => Err(ProgramFault::Memory),
+        Err(fault) => Err(unread(fault)),
         Ok(bytes) => match load(alloc, &bytes) {
             Ok(graph) => Ok(graph),
             Err(fault) => Err(passed_on(fault)),

@@ -1,8 +1,8 @@
 //! The program over readers and writers in memory: the worked examples, refusals, and devices that fail.
 
-mod board;
 mod definitions;
 mod devices;
+mod reading;
 mod run;
 mod show;
 mod words;

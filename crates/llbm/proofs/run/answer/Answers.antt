@@ -1,9 +1,9 @@
 use Rattle.std.proofs.Common.{◌≡◌, subst, inr}
-use Rattle.std.specs.Prelude.{Some}
+use Rattle.std.specs.Prelude.{Some, None}
 use Rattle.llb_loader.specs.declared.graph.Edge.{Edge}
 use Rattle.llb_model.specs.Outcome.{output_in}
 use Rattle.llb_model.specs.State.{ending_at}
-use Rattle.llbm.proofs.Answering.{answers_text, answers_part, shows_true}
+use Rattle.llbm.proofs.Answering.{answers_text, answers_part, answers_none, shows_true, shows_false}
 use Rattle.llbm.proofs.run.answer.Goals as goal
 
 pub returns-in-Ok-true : goal.returns-in-Ok-true
@@ -28,4 +28,14 @@ returns-in-Err g c =
       s.0,
       answers_part left c.in_ok-graph.graph c.is_graph.ensures b c.in_ok-board.ensures.board c.in_ok-graph.ensures out last s.1.0
           (subst (λ (e : Edge). output_in (ending_at b.state.statuses e.vertex) e.index ≡ Some s.1.0) c.result-edge.ensures s.1.1) s.1.2,
+    )
+
+pub returns-in-Ok-false : goal.returns-in-Ok-false
+returns-in-Ok-false g c =
+    let left = g.R.Read.remaining c.args.input.now in
+    let b = c.in_ok-board.board in
+    let s = shows_false (g.W.Write.contents c.args.out.now) (g.W.Write.contents c.print_result.new.out) (output_in (ending_at b.state.statuses c.result-edge.result.vertex) c.result-edge.result.index) c.in-Ok-false.field-0 c.in-Ok-false.field-0-test c.in-Ok-false.ensures in (
+      s.1,
+      answers_none left c.in_ok-graph.graph c.is_graph.ensures b c.in_ok-board.ensures.board c.in_ok-graph.ensures
+          (subst (λ (e : Edge). output_in (ending_at b.state.statuses e.vertex) e.index ≡ None) c.result-edge.ensures s.0),
     )
