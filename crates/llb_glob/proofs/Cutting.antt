@@ -1,12 +1,17 @@
 -- Cutting characters into items and names into parts, one at a time.
-use Rattle.std.proofs.Common.{◌≡◌, ℕ, suc, ◌+◌, ◌<◌, ◌≤◌, Bool, true, false, not, cond, List, [], ◌∷◌, ◌++◌, length, drop, get_or, Option, Some, None, is_some, is_none, option_to_list, Result, Ok, Err, is_ok, refl, sym, ap, ◌∙◌, append_assoc, add-one, drop-cons}
+use Rattle.std.proofs.Common.{◌≡◌, ℕ, suc, ◌+◌, ◌<◌, ◌≤◌, ◌==◌, Bool, true, false, not, cond, if◌then◌else◌, List, [], ◌∷◌, ◌++◌, length, drop, get_or}
+use Rattle.std.proofs.Common.{Option, Some, None, is_some, is_none, option_to_list, Result, Ok, Err, is_ok, inl, inr}
+use Rattle.std.proofs.Common.{refl, sym, ap, ◌∙◌, subst, append_assoc, add-one, drop-cons, ne_eqb}
+use Rattle.std.proofs.lemmas.Bool.{cases_eq}
 use Rattle.std.proofs.lemmas.List.{drop_all}
 use Rattle.std.specs.Str.{chars}
 use Rattle.llb_wire.specs.Answer.{◌>>=◌}
 use Rattle.llb_glob.specs.declared.fault.PatternFault.{PatternFault}
 use Rattle.llb_glob.specs.declared.fault.PatternFault.TheVariants.{BadPattern}
 use Rattle.llb_glob.specs.declared.item.Item.{Item}
-use Rattle.llb_glob.specs.Items.{cut, items_from, items_of}
+use Rattle.llb_glob.specs.declared.item.Item.TheVariants.{One}
+use Rattle.llb_glob.specs.declared.item.Letter.TheVariants.{Only}
+use Rattle.llb_glob.specs.Items.{item_of, items_of, cut}
 use Rattle.llb_glob.specs.Pattern.{each_cut}
 
 -- what is cut already, and then what is left
@@ -38,18 +43,49 @@ is_none_from (Some x) false e = refl
 
 -- ---- a part
 
+-- what characters spell, behind a `\` or not
+abbrev pub items_from : Bool → List ℕ → Result (List Item) PatternFault
+items_from quoted letters = if quoted then items_of (92 ∷ letters) else items_of letters
+
+-- what one character says, and what follows it
+abbrev and_then : List ℕ → Option Item → Result (List Item) PatternFault
+and_then letters said = behind (option_to_list said) (items_from (is_none said) letters)
+
+-- a character that is no `\`
+plain_first : (c : ℕ) (letters : List ℕ) → (c == 92) ≡ false → items_of (c ∷ letters) ≡ (item_of c >>= λ item. behind (item ∷ []) (items_of letters))
+plain_first c [] is = ap (λ b. if b then Err BadPattern else (item_of c >>= λ item. Ok (item ∷ []))) is
+plain_first c (d ∷ letters) is =
+    ap (λ b. if b then behind (One (Only d) ∷ []) (items_of letters) else (item_of c >>= λ item. behind (item ∷ []) (items_of (d ∷ letters)))) is
+
+plain_says : (r : Result Item PatternFault) (letters : List ℕ) → (r >>= λ item. behind (item ∷ []) (items_of letters)) ≡ (r >>= (λ item. Ok (Some item)) >>= and_then letters)
+plain_says (Ok item) letters = refl
+plain_says (Err e) letters = refl
+
+-- the first character decides
+at_first : (quoted : Bool) (c : ℕ) (letters : List ℕ) → items_from quoted (c ∷ letters) ≡ (cut quoted c >>= and_then letters)
+at_first true c letters = refl
+at_first false c letters =
+    elim (cases_eq c 92) [
+      | inl is ↦ subst (λ x. items_of (x ∷ letters) ≡ (cut false x >>= and_then letters)) (sym is) (sym (behind_none (items_of (92 ∷ letters))))
+      | inr other ↦
+          let plain = ne_eqb c 92 other in
+          plain_first c letters plain
+          ∙ plain_says (item_of c) letters
+          ∙ ap (λ b. (if b then Ok None else (item_of c >>= λ item. Ok (Some item))) >>= and_then letters) (sym plain)
+    ]
+
 module _ (quoted : Bool) (letters : List ℕ) (i c : ℕ) (inside : i < length letters) (is : c ≡ get_or letters i c) where
   -- the character at hand decides
-  at_letter : items_from quoted (drop i letters) ≡ (cut quoted c >>= λ said. behind (option_to_list said) (items_from (is_none said) (drop (i + 1) letters)))
+  at_letter : items_from quoted (drop i letters) ≡ (cut quoted c >>= and_then (drop (i + 1) letters))
   at_letter =
       let here : drop i letters ≡ c ∷ drop (i + 1) letters = at_drop letters i c inside is in
-      ap (items_from quoted) here
+      ap (items_from quoted) here ∙ at_first quoted c (drop (i + 1) letters)
 
   module _ (said : Option Item) (says : cut quoted c ≡ Ok said) (next : Bool) (none : is_some said ≡ not next) where
     letter_says : items_from quoted (drop i letters) ≡ behind (option_to_list said) (items_from next (drop (i + 1) letters))
     letter_says =
         at_letter
-        ∙ ap (λ r. r >>= λ s. behind (option_to_list s) (items_from (is_none s) (drop (i + 1) letters))) says
+        ∙ ap (λ r. r >>= and_then (drop (i + 1) letters)) says
         ∙ ap (λ q. behind (option_to_list said) (items_from q (drop (i + 1) letters))) (is_none_from said next none)
 
     pub cut_more :
@@ -63,7 +99,7 @@ module _ (quoted : Bool) (letters : List ℕ) (i c : ℕ) (inside : i < length l
 
   module _ (e : PatternFault) (says : cut quoted c ≡ Err e) where
     letter_stops : items_from quoted (drop i letters) ≡ Err e
-    letter_stops = at_letter ∙ ap (λ r. r >>= λ s. behind (option_to_list s) (items_from (is_none s) (drop (i + 1) letters))) says
+    letter_stops = at_letter ∙ ap (λ r. r >>= and_then (drop (i + 1) letters)) says
 
     pub cut_stops :
         (before : List Item) (r : Result (List Item) PatternFault)
@@ -75,7 +111,10 @@ module _ (quoted : Bool) (letters : List ℕ) (i c : ℕ) (inside : i < length l
     is_stopped r so_far = ap is_ok (sym letter_stops) ∙ so_far
 
 -- no character is left
-pub cut_ends : (quoted : Bool) (letters : List ℕ) (i : ℕ) → length letters ≤ i → items_from quoted (drop i letters) ≡ cond quoted (Err BadPattern) (Ok [])
+pub cut_ends :
+    (quoted : Bool) (letters : List ℕ) (i : ℕ)
+    → length letters ≤ i
+    → items_from quoted (drop i letters) ≡ cond quoted (Err BadPattern) (Ok [])
 cut_ends quoted letters i past = ap (items_from quoted) (drop_all i letters past)
 
 -- ---- a pattern

@@ -94,7 +94,7 @@ pub first_starts : (name : List ℕ) (n : ℕ) → length name < n → AreStarts
 first_starts name n fits =
     let none = replicate n false in
     let outside : (i : ℕ) → i < length name → get_or (set none (length name) true) i false ≡ false =
-      λ i inside. get_or-set_other none (length name) i true false (omega arith) ∙ get_or-replicate n i false false (omega arith) in
+    λ i inside. get_or-set_other none (length name) i true false (omega arith) ∙ get_or-replicate n i false false (omega arith) in
     end_starts name (set none (length name) true)
     (λ i inside in_set. false≢true (sym (outside i inside) ∙ in_set))
     (get_or-set_same none (length name) true false (rw length-replicate fits))

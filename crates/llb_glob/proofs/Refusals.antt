@@ -1,12 +1,12 @@
 -- The rules refuse for one cause alone.
-use Rattle.std.proofs.Common.{◌≡◌, ℕ, ◌==◌, Bool, true, false, cond, List, [], ◌∷◌, is_none, Result, Ok, Err, is_ok, refl, ap, sym}
+use Rattle.std.proofs.Common.{◌≡◌, ℕ, ◌==◌, Bool, true, false, cond, List, [], ◌∷◌, Result, Ok, Err, is_ok, refl, ap, sym}
 use Rattle.std.proofs.lemmas.Bool.{false≢true}
 use Rattle.std.specs.Str.{chars}
 use Rattle.llb_wire.specs.Answer.{◌>>=◌}
 use Rattle.llb_tree.specs.declared.fault.TreeFault.{TreeFault}
 use Rattle.llb_glob.specs.declared.fault.PatternFault.{PatternFault}
 use Rattle.llb_glob.specs.declared.fault.PatternFault.TheVariants.{BadPattern}
-use Rattle.llb_glob.specs.Items.{cut, items_from, items_of}
+use Rattle.llb_glob.specs.Items.{item_of, items_of}
 use Rattle.llb_glob.specs.Pattern.{each_cut, cut_path}
 
 -- a value, or a bad pattern
@@ -22,17 +22,20 @@ else-cond : {A : Type 0} (b : Bool) (r s : Result A PatternFault) → NothingEls
 else-cond true r s first second = first
 else-cond false r s first second = second
 
-else-cut : (quoted : Bool) (c : ℕ) → NothingElse (cut quoted c)
-else-cut true c = tt
-else-cut false c = else-cond (c == 92) _ _ tt (else-cond (c == 91) _ _ refl tt)
+else-item : (c : ℕ) → NothingElse (item_of c)
+else-item c = else-cond (c == 91) _ _ refl (else-cond (c == 42) _ _ tt (else-cond (c == 63) _ _ tt tt))
 
-else-items : (quoted : Bool) (letters : List ℕ) → NothingElse (items_from quoted letters)
-else-items quoted [] = else-cond quoted _ _ refl tt
-else-items quoted (c ∷ letters) = else-bind (cut quoted c) _ (else-cut quoted c) (λ said. else-bind (items_from (is_none said) letters) _ (else-items (is_none said) letters) (λ _. tt))
+else-items : (letters : List ℕ) → NothingElse (items_of letters)
+else-items [] = tt
+else-items (c ∷ []) = else-cond (c == 92) _ _ refl (else-bind (item_of c) _ (else-item c) (λ _. tt))
+else-items (c ∷ d ∷ letters) =
+    else-cond (c == 92) _ _
+    (else-bind (items_of letters) _ (else-items letters) (λ _. tt))
+    (else-bind (item_of c) _ (else-item c) (λ _. else-bind (items_of (d ∷ letters)) _ (else-items (d ∷ letters)) (λ _. tt)))
 
 else-each : (names : List (List ℕ)) → NothingElse (each_cut names)
 else-each [] = tt
-else-each (name ∷ names) = else-bind (items_of (chars name)) _ (else-items false (chars name)) (λ _. else-bind (each_cut names) _ (else-each names) (λ _. tt))
+else-each (name ∷ names) = else-bind (items_of (chars name)) _ (else-items (chars name)) (λ _. else-bind (each_cut names) _ (else-each names) (λ _. tt))
 
 bad : {A : Type 0} (r : Result A PatternFault) → NothingElse r → is_ok r ≡ false → r ≡ Err BadPattern
 bad (Ok x) only e = absurd (false≢true (sym e))

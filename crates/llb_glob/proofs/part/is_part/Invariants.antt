@@ -1,5 +1,6 @@
 use Rattle.std.proofs.Common.{◌≡◌, drop, is_ok}
-use Rattle.llb_glob.specs.Items.{items_from, items_of}
+use Rattle.llb_glob.specs.Items.{items_of}
+use Rattle.llb_glob.proofs.Cutting.{items_from}
 use Rattle.llb_glob.proofs.part.is_part.Given as goal
 
 abbrev pub invariant-loop-letter : goal.invariant-loop-letter

@@ -1,7 +1,8 @@
 use Rattle.std.specs.Str.{chars}
 use Rattle.std.proofs.Common.{Bool, true, false, ◌≡◌, cond, [], ◌++◌, ◌+◌, Err, Ok, option_to_list, ap, sym, ◌∙◌, drop, append-nil}
 use Rattle.std.proofs.lemmas.Result.{err_from_is_err_and}
-use Rattle.llb_glob.specs.Items.{items_of, items_from}
+use Rattle.llb_glob.specs.Items.{items_of}
+use Rattle.llb_glob.proofs.Cutting.{items_from}
 use Rattle.llb_glob.proofs.Cutting.{behind, behind_none, cut_more, cut_stops, cut_ends}
 use Rattle.llb_glob.specs.declared.fault.PatternFault.TheVariants.{BadPattern}
 use Rattle.llb_glob.proofs.part.Part.read.Goals as goal

@@ -1,5 +1,6 @@
 use Rattle.std.proofs.Common.{◌≡◌, drop}
-use Rattle.llb_glob.specs.Items.{items_from, items_of}
+use Rattle.llb_glob.specs.Items.{items_of}
+use Rattle.llb_glob.proofs.Cutting.{items_from}
 use Rattle.llb_glob.proofs.Cutting.{behind}
 use Rattle.llb_glob.proofs.part.Part.read.Given as goal
 

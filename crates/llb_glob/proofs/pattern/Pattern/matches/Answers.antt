@@ -13,9 +13,9 @@ use Rattle.llb_glob.proofs.pattern.Pattern.matches.Goals.{After-into_iter-part-i
 
 pub returns-then-parts-names : goal.returns-then-parts-names
 returns-then-parts-names c =
-    let parts = ap length (c.as_slice-parts.ensures.value ∙ c.self.view_is) in
-    let names = ap length c.names-names.ensures.all in
-    (λ no. absurd (false≢true no), λ m. absurd (c.if-parts-names.true (parts ∙ sym (same_length c.args.self.now c.args.path.now m) ∙ sym names)))
+    let parts : length c.as_slice-parts.result.now ≡ length c.args.self.now = ap length (c.as_slice-parts.ensures.value ∙ c.self.view_is) in
+    let names : length c.names-names.result.now ≡ length c.args.path.now = ap length c.names-names.ensures.all in
+    (λ none. absurd (false≢true none), λ m. absurd (omega (arith, same_length c.args.self.now c.args.path.now m)))
 
 pub matches-requires : goal.matches-requires
 matches-requires c = subst (λ name. length name ≤ 255) (sym c.as_str.ensures.value) (short_name _ c.as_str.ensures.name)
@@ -85,8 +85,9 @@ returns c =
     let ended : so_far ≡ min (length c.args.self.now) (length c.args.path.now) =
     zip_end c.args.self.now c.args.path.now c.loop-part.yielded c.into_iter-part-iterator.result c.loop-part.part-iterator c.next.new.self c.next.result
     (parts_first before) (names_second before) c.loop-part.yielded_by c.in-None.is c.next.ensures.steps in
-    let parts_long = ap length (sym (c.as_slice-parts.ensures.value ∙ c.self.view_is)) in
-    let long : length c.args.self.now ≡ length c.args.path.now = parts_long ∙ c.if-parts-names.false ∙ ap length c.names-names.ensures.all in
+    let parts_long : length c.as_slice-parts.result.now ≡ length c.args.self.now = ap length (c.as_slice-parts.ensures.value ∙ c.self.view_is) in
+    let names_long : length c.names-names.result.now ≡ length c.args.path.now = ap length c.names-names.ensures.all in
+    let long : length c.args.self.now ≡ length c.args.path.now = omega arith in
     let parts : drop so_far c.args.self.now ≡ [] = drop_all so_far c.args.self.now (omega arith) in
     let names : drop so_far c.args.path.now ≡ [] = drop_all so_far c.args.path.now (omega arith) in
     let all : Matches c.args.self.now c.args.path.now = c.loop-part.invariant.0 (rw (parts, names) tt) in
