@@ -3,7 +3,7 @@ use Rattle.std.proofs.Common.{◌≡◌, ℕ, ℤ, ◌%◌, ◌^◌, ◌<◌, Bo
 use Rattle.std.proofs.lemmas.Int.{ints, of_z-to_z}
 use Rattle.std.specs.Prelude.{FitsSigned}
 use Rattle.std.specs.Int.{w32, w64, cast_signed, cast_unsigned}
-use Rattle.llb_ops.specs.Records.{int32, int64, uint32, flag}
+use Rattle.llb_ops.specs.Records.{int32, int64, flag}
 use Rattle.llb_ops.specs.Writing.{bit}
 
 -- what is read of a number is written as a number of 64 bits, of which the same is read

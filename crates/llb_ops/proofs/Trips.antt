@@ -294,6 +294,7 @@ kind_cases false false false false true bytes a e = of_message KindRead merge_op
 kind_cases false false false false false bytes a e = subst KindRead (ok_is (Diff bytes) a e) tt
 
 pub kind_from : (n : ℕ) (xs : List Record) (a : Kind) → kind_of n xs ≡ Ok a → KindRead a
+unfolding kind_of
 kind_from n xs a e = kind_cases (n == 2) (n == 3) (n == 4) (n == 5) (n == 6) (joined xs) a e
 
 kind_written : (a : Kind) → IsWritten op_shape (kind_record a)
@@ -305,6 +306,7 @@ kind_written (Merge m) = bytes_written op_shape 6 (merge_op_bytes m) refl refl r
 kind_written (Diff bytes) = bytes_written op_shape 7 bytes refl refl refl
 
 kind_again : (a : Kind) → KindRead a → IsShort (kind_record a) → one_of kinds kind_of (kind_record a ∷ []) ≡ Ok (Some a)
+unfolding kind_of
 kind_again (Exec m) h short = rw (append-nil (exec_op_bytes m), message_short exec_op_of exec_op_bytes 2 m h exec_op_returns short) refl
 kind_again (Source m) h short = rw (append-nil (source_op_bytes m), message_short source_op_of source_op_bytes 3 m h source_op_returns short) refl
 kind_again (File m) h short = rw (append-nil (file_op_bytes m), message_short file_op_of file_op_bytes 4 m h file_op_returns short) refl

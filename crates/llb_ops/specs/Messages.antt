@@ -348,7 +348,7 @@ op_shape = (1, Bytes) ∷ (2, Bytes) ∷ (3, Bytes) ∷ (4, Bytes) ∷ (5, Bytes
 abbrev pub kinds : List ℕ
 kinds = 2 ∷ 3 ∷ 4 ∷ 5 ∷ 6 ∷ 7 ∷ []
 
-abbrev pub kind_of : ℕ → List Record → Result Kind OpFault
+unfoldable pub kind_of : ℕ → List Record → Result Kind OpFault
 kind_of n rs =
     if n == 2 then (exec_op_of (joined rs) >>= λ m. Ok (Exec m))
     else if n == 3 then (source_op_of (joined rs) >>= λ m. Ok (Source m))

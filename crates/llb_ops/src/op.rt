@@ -93,6 +93,7 @@ impl Member for Kind {
 
     ghost reading = { kind_of };
 
+    #[tactic(auto, unfolding(crate::specs::Messages::kind_of))]
     fn read(alloc: Global, number: u32, records: &[Record<'_>]) -> Result<Kind, OpFault> {
         match number {
             2 => Ok(Kind::Exec(joined_message(alloc, records, number)?)),
