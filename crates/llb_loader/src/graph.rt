@@ -5,7 +5,6 @@ ghost use Rattle.llb_loader.specs.Graph.{IsGraph};
 
 use llb_ops::Op;
 use llb_wire::{Many, Text};
-use std::fmt;
 use std::marker::Model;
 
 /// Output `index` of the vertex with that number.
@@ -34,12 +33,6 @@ pub struct Vertex {
 pub struct Graph {
     vertices: Vec<Vertex>,
     result: Edge,
-}
-
-impl fmt::Debug for Graph {
-    fn fmt<W: fmt::Write>(&self, f: &mut fmt::Formatter<W>) -> fmt::Result {
-        f.write_str("Graph")
-    }
 }
 
 impl Model for Graph {

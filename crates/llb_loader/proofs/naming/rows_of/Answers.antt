@@ -1,5 +1,7 @@
 use Rattle.std.proofs.Common.{ℕ, ◌++◌, List, [], ◌∷◌, sym, ◌∙◌, ap}
 use Rattle.llb_ops.specs.declared.op.Input.{Input}
+use Rattle.std.specs.List.{filter_map}
+use Rattle.std.proofs.lemmas.List.{take_all}
 use Rattle.llb_loader.specs.Naming.{row_named}
 use Rattle.llb_loader.proofs.Named.{filter_map_some, filter_map_none}
 use Rattle.llb_loader.proofs.naming.rows_of.Goals as goal
@@ -14,3 +16,9 @@ loop-input-preserved c =
       | in_default w ↦ rw w.named-is (c.loop-input.invariant
           ∙ sym (filter_map_none h c.as_slice-input-items.result.now c.loop-input.input-index c.input-item.result c.loop-input-test.true c.input-item.is (sym c.row_of.ensures ∙ w.in_default.is)))
     ]
+
+pub returns : goal.returns
+returns c =
+    let h = λ (i : Input). row_named c.args.rows.now c.args.terminal i.digest in
+    c.loop-input.invariant ∙ ap (λ (xs : List Input). filter_map h xs) (take_all c.loop-input.input-index c.as_slice-input-items.result.now c.loop-input-test.false)
+    ∙ ap (λ (xs : List Input). filter_map h xs) c.as_slice-input-items.ensures
