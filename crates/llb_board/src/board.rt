@@ -4,7 +4,6 @@
 ghost use Rattle.std.specs.Prelude.{◌≡◌, ◌<◌, ◌≤◌, length, map, option_map, OnErr, IfErr};
 ghost use Rattle.llb_model.specs.Outcome.{output_in};
 ghost use Rattle.llb_model.specs.State.{ending_at};
-ghost use Rattle.llb_model.specs.Consistent.{IsConsistent};
 ghost use Rattle.llb_model.specs.Room.{most_events};
 ghost use Rattle.llb_model.specs.Run.{chosen, is_complete};
 ghost use Rattle.llb_loader.specs.Graph.{IsGraph};
@@ -20,7 +19,7 @@ use crate::events::Events;
 use crate::fault::{ClaimFault, OpenFault, SettleFault, StepFault};
 use crate::fresh::opening;
 use crate::job::Job;
-use crate::ready::{actions_at, is_marked, is_ready, mark_stopped, output_at};
+use crate::ready::{actions_at, is_marked, is_ready, mark_stopped, output_at, stand_at};
 use crate::stand::{Desk, Stand};
 use crate::step::{Begun, begin, claimable, desk_at, is_finished, leave, step_at};
 use llb_loader::Graph;
@@ -108,7 +107,6 @@ impl Board {
         ensures gives { GivesSettle (λ r. (self.new, settle_reply r)) result (settle_of self.old w) }
         ensures err { OnErr result (self.new ≡ self.old) }
     {
-        self.graph.is_graph();
         let (v, stand) = leave(&self.graph, &mut self.desks, w)?;
         let failed = stand.has_failed();
         self.stands[v as usize] = stand;
@@ -124,7 +122,7 @@ impl Board {
     pub fn status(&self, v: u32) -> Option<Status>
         ensures { result ≡ look_at self.now.build self.now.state v }
     {
-        let stand = self.stands.get(v as usize)?;
+        let stand = stand_at(&self.stands, v)?;
         let ready = match self.graph.vertices().get(v as usize) {
             Some(vertex) => is_ready(&self.stands, v, vertex),
             None => false,
@@ -157,7 +155,6 @@ impl Board {
         ensures all { result.now.list ≡ self.now.events }
         ensures bound { length result.now.list ≤ most_events self.now.build }
     {
-        self.graph.is_graph();
         &self.events
     }
 

@@ -12,7 +12,6 @@ use crate::board::Board;
 pub fn is_consistent(board: &Board)
     ensures { IsConsistent board.now.build board.now.state }
 {
-    board.is_graph();
     board.replays();
 }
 
@@ -45,7 +44,6 @@ pub fn chosen_until_complete(board: &Board)
 pub fn chosen_is_granted(board: &Board)
     ensures { ChosenIsGranted board.now }
 {
-    board.is_graph();
     board.has_workers();
 }
 

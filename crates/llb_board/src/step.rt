@@ -1,6 +1,7 @@
 //! One worker's execution of a vertex: how it begins, a micro-step of it, and how it ends.
 
-ghost use Rattle.std.specs.Prelude.{◌≡◌, ◌<◌, ◌^◌, [], map, option_map, length, replicate, slice_get, slice_set, is_ok, true, Ok, OnErr, OnOk, IfOk, MatchResult};
+ghost use Rattle.std.specs.Prelude.{◌≡◌, ◌<◌, ◌^◌, [], map, option_map, length, replicate, slice_get, slice_set, is_ok, true};
+ghost use Rattle.std.specs.Prelude.{Ok, OnErr, OnOk, IfOk, MatchResult};
 ghost use Rattle.llb_tree.specs.Tree.{Gives, empty_tree};
 ghost use Rattle.llb_model.specs.Action.{act};
 ghost use Rattle.llb_model.specs.Program.{Act, base_in, fault_number, outputs_of};

@@ -20,7 +20,8 @@ is_there (Some start) is = refl
 
 pub returns-in-None-clause-first : goal.returns-in-None-clause-first
 returns-in-None-clause-first c =
-    ap (λ (o : Option At). faulted claim_fault (claim_start (map status_of c.args.stands.now) c.args.v o (slice_get c.args.graph.now.vertices c.args.v))) (sym c.in-None.ensures)
+    ap (λ (o : Option At). faulted claim_fault
+    (claim_start (map status_of c.args.stands.now) c.args.v o (slice_get c.args.graph.now.vertices c.args.v))) (sym c.in-None.ensures)
 
 pub returns-in-Some-Runs-clause-first : goal.returns-in-Some-Runs-clause-first
 returns-in-Some-Runs-clause-first c =

@@ -1,0 +1,6 @@
+use Rattle.std.proofs.Common.{ap}
+use Rattle.llb_board.specs.Board.{Seen}
+use Rattle.llb_board.proofs.board.Board.into_parts.Goals as goal
+
+pub returns : goal.returns
+returns c = ap (λ (b : Seen). b.build.graph) c.self.view_is
