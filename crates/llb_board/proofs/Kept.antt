@@ -1,295 +1,176 @@
--- What the board's type keeps, as a call changes its data.
-use Rattle.std.proofs.Common.{◌≡◌, ℕ, ◌+◌, ◌<◌, ◌≤◌, List, [], ◌∷◌, ◌++◌, map, length, refl, sym, ap, ◌∙◌, subst, arith, get_or, take, drop}
-use Rattle.std.specs.Prelude.{Bool, true, false, Some, is_some, Ok, Err, slice_get, slice_set, replicate, if◌then◌else◌}
+-- What the board's type keeps, as an event is done.
+use Rattle.std.proofs.Common.{◌≡◌, ℕ, ◌<◌, List, [], ◌∷◌, ◌++◌, map, length, refl, sym, ap, subst, ◌∙◌, arith, take, drop}
+use Rattle.std.specs.Prelude.{Bool, true, false, Some, Result, Ok, slice_get, slice_set, replicate}
 use Rattle.std.proofs.lemmas.List.{length_push, length-replicate, drop_all, take_all, append-nil}
 use Rattle.llb_loader.specs.Graph.{Numbered}
 use Rattle.llb_tree.specs.Tree.{empty_tree}
-use Rattle.llb_model.specs.Program.{MicroStep, Program, View, program_at}
-use Rattle.llb_model.specs.State.{Status, Waiting, Running, Settled, Execution, At, Idle, Runs, State, program_in, is_finished, stopped, stopped_from, is_failed, ending_of, ending_from}
-use Rattle.llb_model.specs.Table.{Claim, Step, Settle, Reply, Claimed, job_on, execution_on, after_claim, after_settle, settle_reply, SettledDone, SettledFailed, with_step, step_of}
-use Rattle.llb_model.specs.Outcome.{Ending, Done, Failed}
-use Rattle.llb_model.specs.Run.{most_events}
-use Rattle.llb_board.specs.Views.{status_of, at_of, event_of, execution_of, state_of, claim_reply}
-use Rattle.llb_board.specs.Board.{Seen, Replays, after_event, on_grant}
-use Rattle.llb_board.specs.Room.{IsKept, seen, still_to_come, all_to_come, all_left, left_by, ready_made, needed}
-use Rattle.llb_board.specs.Rules.{claim_view, claim_cause, claim_of, step_at, step_cause, step_of as step_rule, left_at, settle_cause, settle_of}
+use Rattle.llb_loader.specs.declared.graph.Vertex.{Vertex}
+use Rattle.llb_model.specs.Program.{Build, MicroStep, program_at, step_on}
+use Rattle.llb_model.specs.State.{Status, Running, Settled, Idle, Runs, State, opening, ending_at, program_in, work_of, is_finished, stopped, is_failed, ending_of}
+use Rattle.llb_model.specs.Table.{Event, Step, Reply, SettledDone, SettledFailed, settle_reply, with_step, claim_grant, step_grant, settle_grant, table}
+use Rattle.llb_model.specs.Outcome.{Ending, Done, Failed, ended, inputs_from}
+use Rattle.llb_model.specs.Run.{run}
+use Rattle.llb_model.proofs.Lists.{inside}
+use Rattle.llb_model.proofs.Events.{Answer, IsStep, step_is}
+use Rattle.llb_model.proofs.Runs.{run_more}
+use Rattle.llb_model.proofs.Rooms.{event_room}
+use Rattle.llb_board.specs.Views.{status_of, at_of, execution_of, state_of}
+use Rattle.llb_board.specs.Board.{Seen, Replays, recorded}
+use Rattle.llb_board.specs.Rules.{faulted, step_fault, begun, left_at}
+use Rattle.llb_board.specs.Room.{IsKept, seen, ready_made, needed}
 use Rattle.llb_board.specs.declared.stand.Stand.{Stand}
 use Rattle.llb_board.specs.declared.stand.Stand.TheVariants as stand
 use Rattle.llb_board.specs.declared.stand.Desk.{Desk}
 use Rattle.llb_board.specs.declared.stand.Desk.TheVariants as desk
-use Rattle.llb_board.specs.declared.stand.Work.{Work}
-use Rattle.llb_board.specs.declared.job.Job.{Job}
-use Rattle.llb_board.specs.declared.event.Event.{Event}
-use Rattle.llb_board.specs.declared.event.Event.TheVariants as event
-use Rattle.llb_model.proofs.Lists.{length_set}
-use Rattle.llb_board.proofs.Lists.{map_set, set_same, map_push, length_map, get_map}
-use Rattle.std.proofs.lemmas.Option.{get_or_from_slice_get}
-use Rattle.llb_board.proofs.Steps.{not_done}
-use Rattle.llb_board.proofs.Runs.{replays_after}
-use Rattle.llb_board.proofs.Rooms.{come_set, come_same, left_set}
-use Rattle.llb_board.proofs.Grants.{CanClaim, can_claim, claim_granted, CanStep, can_step, step_granted, with_at, settle_granted}
+use Rattle.llb_board.specs.declared.stand.Execution as own
+use Rattle.llb_board.proofs.Lists.{map_set, set_same, length_map, get_map}
+use Rattle.llb_board.proofs.Calls.{CanClaim, begins, steps, CanSettle, left_if}
+use Rattle.llb_board.proofs.Sound.{consistent}
 use Rattle.llb_board.proofs.Stopped.{marks_stay}
-use Rattle.llb_board.specs.declared.fault.SettleFault.TheVariants.{NotFinished}
 
--- the machine's own data, changed as the board's is
-pub seen_claim : (g : Numbered) (ss : List Stand) (ds : List Desk) (es : List Event) (w v : ℕ) (view : View) (work : Work) → execution_of work ≡ execution_on v view
-    → seen g (slice_set ss v (stand.Running w)) (slice_set ds w (desk.Runs work)) (es ++ event.Claim w v ∷ []) ≡ after_event (seen g ss ds es) (Claim w v) (after_claim (state_of ss ds) w v view)
-seen_claim g ss ds es w v view work is = λ i. record {
-  graph = g;
-  state = record {
-    statuses = map_set status_of ss v (stand.Running w) i;
-    workers = (map_set at_of ds w (desk.Runs work) ∙ ap (λ x. slice_set (map at_of ds) w (Runs x)) is) i;
-  };
-  events = map_push event_of es (event.Claim w v) i;
-}
+-- there is room for an event that is granted
+pub has_room : (b : Seen) (desks : List Desk) (halted : List Bool) (capacity : ℕ) (e : Event) (a : Answer) → IsKept b desks halted capacity → table b.build b.state e ≡ Some a → length b.events < capacity
+has_room b desks halted capacity e a kept granted = omega (arith, event_room b.build b.state e a granted, kept.room)
 
-claim_room : (g : Numbered) (s : State) (w v : ℕ) (view : View) → CanClaim g s w v view
-    → (all_to_come g.vertices (slice_set s.statuses v (Running w)) + all_left g (slice_set s.workers w (Runs (execution_on v view)))) + 1 ≡ all_to_come g.vertices s.statuses + all_left g s.workers
-claim_room g s w v view can =
-    let a = come_set g.vertices s.statuses v can.vertex Waiting (Running w) can.there can.waits in
-    let b = left_set g s.workers w Idle (Runs (execution_on v view)) can.idle in
-    let n : length (program_at (slice_get g.vertices v)).steps ≡ length (program_at (Some can.vertex)).steps = ap (λ o. length (program_at o).steps) can.there in
-    omega (arith, a, b, n)
-
--- a vertex can be claimed only where there is room for its events
-pub claim_fits : (b : Seen) (capacity w v : ℕ) (view : View) (desks : List Desk) (halted : List Bool) → IsKept b desks halted capacity → claim_view b.graph b.state w v ≡ Ok view → length b.events < capacity
-claim_fits b capacity w v view desks halted kept is =
-    let more = claim_room b.graph b.state w v view (can_claim b.graph b.state w v view is) in
-    let r = kept.room in
-    let f = kept.reserved in
-    omega (arith, more, r, f)
-
-pub kept_claim : (g : Numbered) (ss : List Stand) (ds : List Desk) (es : List Event) (halted : List Bool) (capacity capacity' w v : ℕ) (view : View) (work : Work)
-    → IsKept (seen g ss ds es) ds halted capacity → claim_view g (state_of ss ds) w v ≡ Ok view → execution_of work ≡ execution_on v view
-    → work.outputs.items ≡ replicate (program_at (slice_get g.vertices v)).outputs empty_tree → capacity' ≡ capacity → stopped g (map status_of (slice_set ss v (stand.Running w))) ≡ stopped g (map status_of ss)
-    → IsKept (seen g (slice_set ss v (stand.Running w)) (slice_set ds w (desk.Runs work)) (es ++ event.Claim w v ∷ [])) (slice_set ds w (desk.Runs work)) halted capacity'
-kept_claim g ss ds es halted capacity capacity' w v view work kept is begun outputs same stays =
-    let can = can_claim g (state_of ss ds) w v view is in
-    let e = seen_claim g ss ds es w v view work begun in
-    let more = claim_room g (state_of ss ds) w v view can in
-    let r = kept.room in
-    let sum = ap still_to_come e in
-    let events = ap (λ (b : Seen). length b.events) e in
-    let pushed = length_push (map event_of es) (Claim w v) in
+pub kept_after : (g : Numbered) (ss ss' : List Stand) (ds ds' : List Desk) (es : List Event) (halted halted' : List Bool) (capacity : ℕ) (e : Event) (r : Reply) → IsKept (seen g ss ds es) ds halted capacity
+    → table (record { graph = g }) (state_of ss ds) e ≡ Some (state_of ss' ds', r) → length ds' ≡ length ds → map ready_made ds' ≡ map (needed (record { graph = g })) (map at_of ds')
+    → halted' ≡ stopped (record { graph = g }) (map status_of ss') → IsKept (seen g ss' ds' (es ++ e ∷ [])) ds' halted' capacity
+kept_after g ss ss' ds ds' es halted halted' capacity e r kept granted same outputs marks =
+    let b : Build = record { graph = g } in
+    let leads : run b (opening b (record { workers = length ds })) (es ++ e ∷ []) ≡ Some (state_of ss' ds', kept.replays.replies ++ r ∷ [])
+    = run_more b (opening b (record { workers = length ds })) (state_of ss ds) (state_of ss' ds') es kept.replays.replies e r kept.replays.leads granted in
+    let less = event_room b (state_of ss ds) e (state_of ss' ds', r) granted in
+    let room = kept.room in
+    let some = kept.some in
+    let few = kept.few in
     record {
-      replays = subst Replays (sym e) (replays_after (seen g ss ds es) (Claim w v) (after_claim (state_of ss ds) w v view) _ kept.replays (claim_granted g (state_of ss ds) w v view is) (length_set (map at_of ds) w (Runs (execution_on v view))));
-      room = omega (arith, sum, events, pushed, more, r);
-      reserved = subst (λ n. most_events g ≤ n) (sym same) kept.reserved;
-      outputs = map_set ready_made ds w (desk.Runs work)
-          ∙ (λ i. slice_set (kept.outputs i) w ((outputs ∙ ap (λ (x : Execution). replicate (program_in g x).outputs empty_tree) (sym begun)) i))
-          ∙ sym (map_set (needed g) (map at_of ds) w (Runs (execution_of work))) ∙ ap (map (needed g)) (sym (map_set at_of ds w (desk.Runs work)));
-      some = omega (arith, ap (λ (b : Seen). length b.state.workers) e, length_set (map at_of ds) w (Runs (execution_on v view)), kept.some);
-      few = omega (arith, ap (λ (b : Seen). length b.state.workers) e, length_set (map at_of ds) w (Runs (execution_on v view)), kept.few);
-      halted_are = kept.halted_are ∙ sym stays;
-    }
-
-pub claim_gives : (g : Numbered) (ss : List Stand) (ds : List Desk) (es : List Event) (w v : ℕ) (view : View) (work : Work) (job : Job) → claim_view g (state_of ss ds) w v ≡ Ok view
-    → execution_of work ≡ execution_on v view → claim_reply job ≡ Claimed (job_on g w v view)
-    → claim_of (seen g ss ds es) w v ≡ Ok (seen g (slice_set ss v (stand.Running w)) (slice_set ds w (desk.Runs work)) (es ++ event.Claim w v ∷ []), claim_reply job)
-claim_gives g ss ds es w v view work job is begun reply =
-    ap (on_grant (seen g ss ds es) (Claim w v) (claim_cause (slice_get (map at_of ds) w) (slice_get g.vertices v))) (claim_granted g (state_of ss ds) w v view is)
-    ∙ (λ i. Ok (sym (seen_claim g ss ds es w v view work begun) i, sym reply i))
-
--- ---- a micro-step
-
-pub seen_at : (g : Numbered) (ss : List Stand) (ds : List Desk) (es : List Event) (w : ℕ) (d : Desk) (a : At) → at_of d ≡ a
-    → seen g ss (slice_set ds w d) (es ++ event.Step w ∷ []) ≡ after_event (seen g ss ds es) (Step w) (with_at (state_of ss ds) w a)
-seen_at g ss ds es w d a is = λ i. record {
-  graph = g;
-  state = record { statuses = map status_of ss; workers = (map_set at_of ds w d ∙ ap (slice_set (map at_of ds) w) is) i };
-  events = map_push event_of es (event.Step w) i;
-}
-
--- what a desk has when its next micro-step is done
-pub record Stepping (g : Numbered) (ds : List Desk) (w : ℕ) (d e : Desk) (x : Execution) (q : At × Reply) : Type 0 where
-  pub there : slice_get ds w ≡ Some d
-  pub runs : at_of d ≡ Runs x
-  pub done : step_at (program_in g x).steps (Runs x) ≡ Ok q
-  pub after : at_of e ≡ q.0
-  pub outputs : ready_made e ≡ ready_made d
-
-step_room : (g : Numbered) (s : State) (w : ℕ) (x : Execution) (q : At × Reply) → slice_get s.workers w ≡ Some (Runs x) → CanStep (program_in g x).steps x q
-    → all_left g (slice_set s.workers w q.0) + 1 ≤ all_left g s.workers
-step_room g s w x q at can =
-    let b = left_set g s.workers w (Runs x) q.0 at in
-    let n : left_by g q.0 ≡ left_by g (Runs (with_step x (step_of (program_in g x).steps x))) = ap (λ (p : At × Reply). left_by g p.0) can.next in
-    let low = not_done (is_some x.fault) (length (program_in g x).steps) x.done can.more in
-    omega (arith, b, n, low)
-
-pub step_fits : (g : Numbered) (ss : List Stand) (ds : List Desk) (es : List Event) (halted : List Bool) (capacity w : ℕ) (d e : Desk) (x : Execution) (q : At × Reply)
-    → IsKept (seen g ss ds es) ds halted capacity → Stepping g ds w d e x q → length es < capacity
-step_fits g ss ds es halted capacity w d e x q kept step =
-    let at : slice_get (map at_of ds) w ≡ Some (Runs x) = get_map at_of ds w d step.there ∙ ap (λ (a : At). Some a) step.runs in
-    let more = step_room g (state_of ss ds) w x q at (can_step (program_in g x).steps x q step.done) in
-    let r = kept.room in
-    let f = kept.reserved in
-    omega (arith, more, r, f, length_map event_of es)
-
-pub kept_step : (g : Numbered) (ss : List Stand) (ds : List Desk) (es : List Event) (halted : List Bool) (capacity capacity' w : ℕ) (d e : Desk) (x : Execution) (q : At × Reply)
-    → IsKept (seen g ss ds es) ds halted capacity → Stepping g ds w d e x q → capacity' ≡ capacity → IsKept (seen g ss (slice_set ds w e) (es ++ event.Step w ∷ [])) (slice_set ds w e) halted capacity'
-kept_step g ss ds es halted capacity capacity' w d e x q kept step same =
-    let at : slice_get (map at_of ds) w ≡ Some (Runs x) = get_map at_of ds w d step.there ∙ ap (λ (a : At). Some a) step.runs in
-    let can = can_step (program_in g x).steps x q step.done in
-    let is = seen_at g ss ds es w e q.0 step.after in
-    let more = step_room g (state_of ss ds) w x q at can in
-    let r = kept.room in
-    let sum = ap still_to_come is in
-    let events = ap (λ (b : Seen). length b.events) is in
-    let pushed = length_push (map event_of es) (Step w) in
-    let needs : needed g (at_of e) ≡ needed g (Runs x) = ap (needed g) step.after ∙ ap (λ (p : At × Reply). needed g p.0) can.next in
-    record {
-      replays = subst Replays (sym is) (replays_after (seen g ss ds es) (Step w) (with_at (state_of ss ds) w q.0) q.1 kept.replays (step_granted g (state_of ss ds) w x q at step.done) (length_set (map at_of ds) w q.0));
-      room = omega (arith, sum, events, pushed, more, r);
-      reserved = subst (λ n. most_events g ≤ n) (sym same) kept.reserved;
-      outputs = map_set ready_made ds w e
-          ∙ ap (slice_set (map ready_made ds) w) step.outputs
-          ∙ set_same (map ready_made ds) w (ready_made d) (get_map ready_made ds w d step.there)
-          ∙ kept.outputs
-          ∙ sym (set_same (map (needed g) (map at_of ds)) w (needed g (Runs x)) (get_map (needed g) (map at_of ds) w (Runs x) at))
-          ∙ ap (slice_set (map (needed g) (map at_of ds)) w) (sym needs)
-          ∙ sym (map_set (needed g) (map at_of ds) w (at_of e)) ∙ ap (map (needed g)) (sym (map_set at_of ds w e));
-      some = omega (arith, ap (λ (b : Seen). length b.state.workers) is, length_set (map at_of ds) w q.0, kept.some);
-      few = omega (arith, ap (λ (b : Seen). length b.state.workers) is, length_set (map at_of ds) w q.0, kept.few);
-      halted_are = kept.halted_are;
-    }
-
-pub step_gives : (g : Numbered) (ss : List Stand) (ds : List Desk) (es : List Event) (w : ℕ) (d e : Desk) (x : Execution) (q : At × Reply) → Stepping g ds w d e x q
-    → step_rule (seen g ss ds es) w ≡ Ok (seen g ss (slice_set ds w e) (es ++ event.Step w ∷ []), q.1)
-step_gives g ss ds es w d e x q step =
-    let at : slice_get (map at_of ds) w ≡ Some (Runs x) = get_map at_of ds w d step.there ∙ ap (λ (a : At). Some a) step.runs in
-    ap (on_grant (seen g ss ds es) (Step w) (step_cause (slice_get (map at_of ds) w))) (step_granted g (state_of ss ds) w x q at step.done)
-    ∙ (λ i. Ok (sym (seen_at g ss ds es w e q.0 step.after) i, q.1))
-
--- the desk at hand is that of the worker
-pub at_hand : (ds : List Desk) (w : ℕ) (d : Desk) (work : Work) → slice_get ds w ≡ Some (desk.Runs work) → d ≡ get_or ds w d → d ≡ desk.Runs work
-at_hand ds w d work at is = is ∙ get_or_from_slice_get ds w (desk.Runs work) d at
-
-pub in_program : {F : Type 0} (f : List MicroStep → At → F) (g : Numbered) (work : Work) (steps : List MicroStep) (d : Desk) → steps ≡ (program_at (slice_get g.vertices work.vertex)).steps → d ≡ desk.Runs work
-    → f steps (at_of d) ≡ f (program_in g (execution_of work)).steps (Runs (execution_of work))
-in_program f g work steps d same is = λ i. f (same i) (at_of (is i))
-
-pub stepping : (g : Numbered) (ds : List Desk) (w : ℕ) (d e : Desk) (work : Work) (steps : List MicroStep) (r : Reply) → slice_get ds w ≡ Some (desk.Runs work) → d ≡ get_or ds w d
-    → steps ≡ (program_at (slice_get g.vertices work.vertex)).steps → step_at steps (at_of d) ≡ Ok (at_of e, r) → ready_made e ≡ ready_made d → Stepping g ds w (desk.Runs work) e (execution_of work) (at_of e, r)
-stepping g ds w d e work steps r at is same gives outputs =
-    let hand = at_hand ds w d work at is in
-    record {
-      there = at;
-      runs = refl;
-      done = sym (in_program step_at g work steps d same hand) ∙ gives;
-      after = refl;
-      outputs = outputs ∙ ap ready_made hand;
-    }
-
--- ---- a settle
-
-left_is : (p : Program) (x : Execution) (st : Status) (f : Bool) → is_finished p.steps x ≡ f → (if f then Ok (Settled (ending_from p x)) else Err NotFinished) ≡ Ok st → st ≡ Settled (ending_from p x)
-left_is p x st true is e = cc
-left_is p x st false is e = absurd (cc)
-
--- what stands at a vertex when its worker leaves it
-pub record Leaving (g : Numbered) (ss : List Stand) (ds : List Desk) (w : ℕ) (work : Work) (stand : Stand) : Type 0 where
-  pub there : slice_get ds w ≡ Some (desk.Runs work)
-  pub left : left_at (program_in g (execution_of work)) (Runs (execution_of work)) ≡ Ok (status_of stand)
-  pub running : slice_get (map status_of ss) work.vertex ≡ Some (Running w)
-
-abbrev pub ending_by : Numbered → Work → Ending
-ending_by g work = ending_from (program_in g (execution_of work)) (execution_of work)
-
-pub settled_as : (g : Numbered) (ss : List Stand) (ds : List Desk) (w : ℕ) (work : Work) (stand : Stand) → Leaving g ss ds w work stand → status_of stand ≡ Settled (ending_by g work)
-settled_as g ss ds w work stand leaving = left_is (program_in g (execution_of work)) (execution_of work) (status_of stand) (is_finished (program_in g (execution_of work)).steps (execution_of work)) refl leaving.left
-
-some_same : {A : Type 0} {x y : A} → Some x ≡ Some y → x ≡ y
-some_same e = cc
-
-pub made_enough : (g : Numbered) (ss : List Stand) (ds : List Desk) (es : List Event) (halted : List Bool) (capacity w : ℕ) (work : Work) → IsKept (seen g ss ds es) ds halted capacity → slice_get ds w ≡ Some (desk.Runs work)
-    → work.outputs.items ≡ replicate (program_in g (execution_of work)).outputs empty_tree
-made_enough g ss ds es halted capacity w work kept at =
-    let a : slice_get (map ready_made ds) w ≡ Some work.outputs.items = get_map ready_made ds w (desk.Runs work) at in
-    let b : slice_get (map (needed g) (map at_of ds)) w ≡ Some (replicate (program_in g (execution_of work)).outputs empty_tree) = get_map (needed g) (map at_of ds) w (Runs (execution_of work)) (get_map at_of ds w (desk.Runs work) at) in
-    some_same (sym a ∙ ap (λ l. slice_get l w) kept.outputs ∙ b)
-
--- the empty trees are as many as the program's outputs
-pub program_kept : (g : Numbered) (ss : List Stand) (ds : List Desk) (es : List Event) (halted : List Bool) (capacity w : ℕ) (d : Desk) (work : Work) (steps : List MicroStep) → IsKept (seen g ss ds es) ds halted capacity
-    → slice_get ds w ≡ Some (desk.Runs work) → d ≡ desk.Runs work → steps ≡ (program_at (slice_get g.vertices work.vertex)).steps
-    → left_at (record { steps = steps; outputs = length (ready_made d) }) (at_of d) ≡ left_at (program_in g (execution_of work)) (Runs (execution_of work))
-program_kept g ss ds es halted capacity w d work steps kept at is same =
-    let count : length (ready_made d) ≡ (program_in g (execution_of work)).outputs = ap (λ k. length (ready_made k)) is ∙ ap length (made_enough g ss ds es halted capacity w work kept at) ∙ length-replicate (program_in g (execution_of work)).outputs empty_tree in
-    λ i. left_at (record { steps = same i; outputs = count i }) (at_of (is i))
-
-pub all_empty : (g : Numbered) (ss : List Stand) (ds : List Desk) (es : List Event) (halted : List Bool) (capacity w : ℕ) (d : Desk) (work : Work) → IsKept (seen g ss ds es) ds halted capacity
-    → slice_get ds w ≡ Some (desk.Runs work) → d ≡ desk.Runs work → ready_made d ≡ replicate (length (ready_made d)) empty_tree
-all_empty g ss ds es halted capacity w d work kept at is =
-    let made : ready_made d ≡ replicate (program_in g (execution_of work)).outputs empty_tree = ap ready_made is ∙ made_enough g ss ds es halted capacity w work kept at in
-    made ∙ ap (λ n. replicate n empty_tree) (sym (ap length made ∙ length-replicate (program_in g (execution_of work)).outputs empty_tree))
-
-seen_settle : (g : Numbered) (ss : List Stand) (ds : List Desk) (es : List Event) (w : ℕ) (work : Work) (stand : Stand) (e : Ending) → status_of stand ≡ Settled e
-    → seen g (slice_set ss work.vertex stand) (slice_set ds w desk.Idle) (es ++ event.Settle w ∷ []) ≡ after_event (seen g ss ds es) (Settle w) (after_settle (state_of ss ds) w work.vertex e)
-seen_settle g ss ds es w work stand e is = λ i. record {
-  graph = g;
-  state = record { statuses = (map_set status_of ss work.vertex stand ∙ ap (slice_set (map status_of ss) work.vertex) is) i; workers = map_set at_of ds w desk.Idle i };
-  events = map_push event_of es (event.Settle w) i;
-}
-
-settle_room : (g : Numbered) (s : State) (w : ℕ) (x : Execution) (e : Ending) → slice_get s.workers w ≡ Some (Runs x) → slice_get s.statuses x.vertex ≡ Some (Running w)
-    → (all_to_come g.vertices (slice_set s.statuses x.vertex (Settled e)) + all_left g (slice_set s.workers w Idle)) + 1 ≤ all_to_come g.vertices s.statuses + all_left g s.workers
-settle_room g s w x e at running = omega (arith, left_set g s.workers w (Runs x) Idle at, come_same g.vertices s.statuses x.vertex w e running)
-
-pub settle_fits : (g : Numbered) (ss : List Stand) (ds : List Desk) (es : List Event) (halted : List Bool) (capacity w : ℕ) (work : Work) (stand : Stand) → IsKept (seen g ss ds es) ds halted capacity → Leaving g ss ds w work stand
-    → length es < capacity
-settle_fits g ss ds es halted capacity w work stand kept leaving =
-    let more = settle_room g (state_of ss ds) w (execution_of work) (ending_by g work) (get_map at_of ds w (desk.Runs work) leaving.there) leaving.running in
-    let r = kept.room in
-    let f = kept.reserved in
-    omega (arith, more, r, f, length_map event_of es)
-
-pub kept_settle : (g : Numbered) (ss : List Stand) (ds : List Desk) (es : List Event) (halted halted' : List Bool) (capacity capacity' w : ℕ) (work : Work) (stand : Stand) → IsKept (seen g ss ds es) ds halted capacity → Leaving g ss ds w work stand
-    → capacity' ≡ capacity → halted' ≡ stopped g (map status_of (slice_set ss work.vertex stand))
-    → IsKept (seen g (slice_set ss work.vertex stand) (slice_set ds w desk.Idle) (es ++ event.Settle w ∷ [])) (slice_set ds w desk.Idle) halted' capacity'
-kept_settle g ss ds es halted halted' capacity capacity' w work stand kept leaving same marks =
-    let at = get_map at_of ds w (desk.Runs work) leaving.there in
-    let settles = settled_as g ss ds w work stand leaving in
-    let is = seen_settle g ss ds es w work stand (ending_by g work) settles in
-    let more = settle_room g (state_of ss ds) w (execution_of work) (ending_by g work) at leaving.running in
-    let r = kept.room in
-    let sum = ap still_to_come is in
-    let events = ap (λ (b : Seen). length b.events) is in
-    let pushed = length_push (map event_of es) (Settle w) in
-    record {
-      replays = subst Replays (sym is) (replays_after (seen g ss ds es) (Settle w) (after_settle (state_of ss ds) w work.vertex (ending_by g work)) (settle_reply work.vertex (ending_by g work)) kept.replays
-          (settle_granted g (state_of ss ds) w (execution_of work) (ending_by g work) at (leaving.left ∙ ap (λ (k : Status). Ok k) settles)) (length_set (map at_of ds) w Idle));
-      room = omega (arith, sum, events, pushed, more, r);
-      reserved = subst (λ n. most_events g ≤ n) (sym same) kept.reserved;
-      outputs = map_set ready_made ds w desk.Idle ∙ ap (λ l. slice_set l w []) kept.outputs ∙ sym (map_set (needed g) (map at_of ds) w Idle) ∙ ap (map (needed g)) (sym (map_set at_of ds w desk.Idle));
-      some = omega (arith, ap (λ (b : Seen). length b.state.workers) is, length_set (map at_of ds) w Idle, kept.some);
-      few = omega (arith, ap (λ (b : Seen). length b.state.workers) is, length_set (map at_of ds) w Idle, kept.few);
+      replays = record { replies = kept.replays.replies ++ r ∷ []; leads = ap (λ n. run b (opening b (record { workers = n })) (es ++ e ∷ [])) same ∙ leads };
+      room = omega (arith, less, room, length_push es e);
+      outputs = outputs;
+      some = omega (arith, length_map at_of ds', length_map at_of ds, same, some);
+      few = omega (arith, length_map at_of ds', length_map at_of ds, same, few);
       halted_are = marks;
     }
 
-reply_failed : (v : ℕ) (e : Ending) → is_failed (Some e) ≡ true → settle_reply v e ≡ SettledFailed v
+-- what is recorded of an event that is granted
+pub recorded_as : {C F : Type 0} (g : Numbered) (ss ss' : List Stand) (ds ds' : List Desk) (es : List Event) (e : Event) (fault : C → F) (answer : Result Answer C) (r : Reply)
+    → answer ≡ Ok (state_of ss' ds', r) → length ds' ≡ length ds → recorded (seen g ss ds es) e fault answer ≡ Ok (seen g ss' ds' (es ++ e ∷ []), r)
+recorded_as g ss ss' ds ds' es e fault answer r is same =
+    ap (recorded (seen g ss ds es) e fault) is
+    ∙ (λ i. Ok (record { build = record { graph = g }; opening = record { workers = sym same i }; state = state_of ss' ds'; events = es ++ e ∷ [] }, r))
+
+-- a list that is written whole
+pub whole_written : {A : Type 0} (n : ℕ) (new old : List A) → length new ≡ length old → n ≡ length old → take n (new ++ drop (length new) old) ≡ new
+whole_written n new old same is =
+    ap (λ l. take n (new ++ l)) (drop_all (length new) old (omega (arith, same))) ∙ ap (take n) (append-nil new) ∙ take_all n new (omega (arith, same, is))
+
+pub kept_written : (g : Numbered) (ss : List Stand) (ds ds' : List Desk) (es : List Event) (halted halted' : List Bool) (capacity : ℕ) → ds' ≡ ds → halted' ≡ halted → IsKept (seen g ss ds es) ds halted capacity
+    → IsKept (seen g ss ds' es) ds' halted' capacity
+kept_written g ss ds ds' es halted halted' capacity d h kept =
+    subst (λ (l : List Desk). IsKept (seen g ss l es) l halted' capacity) (sym d) (subst (λ (m : List Bool). IsKept (seen g ss ds es) ds m capacity) (sym h) kept)
+
+-- ---- a claim
+
+-- the board's data after a claim, as the machine's state
+pub state_claimed : (ss : List Stand) (ds : List Desk) (w v : ℕ) (x : own.Execution)
+    → state_of (slice_set ss v (stand.Running w)) (slice_set ds w (desk.Runs x)) ≡ record { statuses = slice_set (map status_of ss) v (Running w); workers = slice_set (map at_of ds) w (Runs (execution_of x)) }
+state_claimed ss ds w v x = λ i. record { statuses = map_set status_of ss v (stand.Running w) i; workers = map_set at_of ds w (desk.Runs x) i }
+
+-- the machine's claim is what the board does
+pub claim_does : (g : Numbered) (ss : List Stand) (ds : List Desk) (w v : ℕ) (x : Vertex) (own : own.Execution) (r : Reply) → CanClaim (record { graph = g }) (state_of ss ds) w v x
+    → begun w v x (inputs_from (ending_at (map status_of ss)) x.inputs) ≡ Ok (execution_of own, r)
+    → claim_grant (record { graph = g }) (state_of ss ds) w v ≡ Ok (state_of (slice_set ss v (stand.Running w)) (slice_set ds w (desk.Runs own)), r)
+claim_does g ss ds w v x own r can is =
+    begins (record { graph = g }) (state_of ss ds) w v x (execution_of own, r) can is ∙ (λ i. Ok (sym (state_claimed ss ds w v own) i, r))
+
+pub made_for : (g : Numbered) (x : Vertex) (v n : ℕ) → slice_get g.vertices v ≡ Some x → n ≡ v → x.outputs ≡ (program_at (slice_get g.vertices n)).outputs
+made_for g x v n there same = sym (ap (λ k. (program_at (slice_get g.vertices k)).outputs) same ∙ ap (λ o. (program_at o).outputs) there)
+
+pub outputs_claimed : (b : Build) (ds : List Desk) (w : ℕ) (x : own.Execution) → map ready_made ds ≡ map (needed b) (map at_of ds) → x.outputs.items ≡ replicate (program_at (slice_get b.graph.vertices x.vertex)).outputs empty_tree
+    → map ready_made (slice_set ds w (desk.Runs x)) ≡ map (needed b) (map at_of (slice_set ds w (desk.Runs x)))
+outputs_claimed b ds w x kept made =
+    map_set ready_made ds w (desk.Runs x) ∙ (λ i. slice_set (kept i) w (made i))
+    ∙ sym (map_set (needed b) (map at_of ds) w (Runs (execution_of x))) ∙ ap (map (needed b)) (sym (map_set at_of ds w (desk.Runs x)))
+
+-- ---- a micro-step
+
+-- the machine's micro-step is what the board does
+pub step_does : (g : Numbered) (ss : List Stand) (ds ds' : List Desk) (w : ℕ) (r : Reply) → faulted step_fault (step_grant (record { graph = g }) (state_of [] ds) w) ≡ Ok (state_of [] ds', r)
+    → step_grant (record { graph = g }) (state_of ss ds) w ≡ Ok (state_of ss ds', r)
+step_does g ss ds ds' w r is = steps (record { graph = g }) (state_of ss ds) w (map at_of ds') r is
+
+-- a worker goes on with its vertex
+needs_stay : (b : Build) (s : State) (w : ℕ) (a : Answer) → IsStep b s w a → map (needed b) a.0.workers ≡ map (needed b) s.workers
+needs_stay b s w a step =
+    let left = step_on step.x.done (Some step.step) (work_of s step.x) in
+    ap (λ (t : Answer). map (needed b) t.0.workers) step.gives
+    ∙ map_set (needed b) s.workers w (Runs (with_step step.x left))
+    ∙ set_same (map (needed b) s.workers) w (needed b (Runs step.x)) (get_map (needed b) s.workers w (Runs step.x) step.there)
+
+pub outputs_stepped : (g : Numbered) (ss : List Stand) (ds ds' : List Desk) (w : ℕ) (r : Reply) → map ready_made ds ≡ map (needed (record { graph = g })) (map at_of ds)
+    → table (record { graph = g }) (state_of ss ds) (Step w) ≡ Some (state_of ss ds', r) → map ready_made ds' ≡ map ready_made ds → map ready_made ds' ≡ map (needed (record { graph = g })) (map at_of ds')
+outputs_stepped g ss ds ds' w r kept granted same =
+    same ∙ kept ∙ sym (needs_stay (record { graph = g }) (state_of ss ds) w (state_of ss ds', r) (step_is (record { graph = g }) (state_of ss ds) w (state_of ss ds', r) granted))
+
+pub same_length : (ds ds' : List Desk) → map ready_made ds' ≡ map ready_made ds → length ds' ≡ length ds
+same_length ds ds' same = sym (length_map ready_made ds') ∙ ap length same ∙ length_map ready_made ds
+
+-- ---- a settle
+
+-- the trees that a worker has ready are those that its vertex needs
+pub made_enough : (b : Build) (ds : List Desk) (w : ℕ) (x : own.Execution) → map ready_made ds ≡ map (needed b) (map at_of ds) → slice_get ds w ≡ Some (desk.Runs x)
+    → x.outputs.items ≡ replicate (program_in b (execution_of x)).outputs empty_tree
+made_enough b ds w x kept at =
+    inside (sym (get_map ready_made ds w (desk.Runs x) at) ∙ ap (λ l. slice_get l w) kept ∙ get_map (needed b) (map at_of ds) w (Runs (execution_of x)) (get_map at_of ds w (desk.Runs x) at))
+
+pub all_empty : (b : Build) (ds : List Desk) (w : ℕ) (x : own.Execution) → map ready_made ds ≡ map (needed b) (map at_of ds) → slice_get ds w ≡ Some (desk.Runs x) → x.outputs.items ≡ replicate (length x.outputs.items) empty_tree
+all_empty b ds w x kept at =
+    let made = made_enough b ds w x kept at in
+    made ∙ ap (λ n. replicate n empty_tree) (sym (ap length made ∙ length-replicate (program_in b (execution_of x)).outputs empty_tree))
+
+finished_at : Build → Desk → Bool
+finished_at b desk.Idle = false
+finished_at b (desk.Runs x) = is_finished (program_in b (execution_of x)).steps (execution_of x)
+
+-- how the worker's execution ends: x is what was looked at, and y what was taken
+pub leaves : (b : Build) (ds : List Desk) (w : ℕ) (x y : own.Execution) (steps : List MicroStep) (stands : Status) → map ready_made ds ≡ map (needed b) (map at_of ds)
+    → slice_get ds w ≡ Some (desk.Runs x) → slice_get ds w ≡ Some (desk.Runs y) → is_finished (program_in b (execution_of x)).steps (execution_of x) ≡ true → steps ≡ (program_in b (execution_of y)).steps
+    → stands ≡ Settled (ended (record { steps = steps; outputs = length y.outputs.items }) y.view y.fault) → left_at b (slice_get (map at_of ds) w) ≡ Ok (y.vertex, stands)
+unfolding finished_at
+leaves b ds w x y steps stands kept looked taken finished same ends =
+    let count : length y.outputs.items ≡ (program_in b (execution_of y)).outputs = ap length (made_enough b ds w y kept taken) ∙ length-replicate (program_in b (execution_of y)).outputs empty_tree in
+    let is : finished_at b (desk.Runs y) ≡ true = ap (finished_at b) (inside (sym taken ∙ looked)) ∙ finished in
+    ap (left_at b) (get_map at_of ds w (desk.Runs y) taken)
+    ∙ ap (left_if b (execution_of y)) is
+    ∙ (λ i. Ok (y.vertex, Settled (ended (record { steps = sym same i; outputs = sym count i }) y.view y.fault)))
+    ∙ ap (λ s. Ok (y.vertex, s)) (sym ends)
+
+pub state_settled : (ss : List Stand) (ds : List Desk) (w v : ℕ) (s : Stand) (e : Ending) → status_of s ≡ Settled e
+    → state_of (slice_set ss v s) (slice_set ds w desk.Idle) ≡ record { statuses = slice_set (map status_of ss) v (Settled e); workers = slice_set (map at_of ds) w Idle }
+state_settled ss ds w v s e is = λ i. record { statuses = (map_set status_of ss v s ∙ ap (slice_set (map status_of ss) v) is) i; workers = map_set at_of ds w desk.Idle i }
+
+-- the machine's settle is what the board does
+pub settle_does : (g : Numbered) (ss : List Stand) (ds : List Desk) (w v : ℕ) (s : Stand) (can : CanSettle (record { graph = g }) (state_of ss ds) w v (status_of s))
+    → settle_grant (record { graph = g }) (state_of ss ds) w ≡ Ok (state_of (slice_set ss v s) (slice_set ds w desk.Idle), settle_reply v can.ending)
+settle_does g ss ds w v s can = can.grants ∙ (λ i. Ok (sym (state_settled ss ds w v s can.ending can.is) i, settle_reply v can.ending))
+
+-- the vertex that a worker leaves was Running by it
+pub leaves_running : (b : Seen) (w v : ℕ) (stands : Status) → Replays b → CanSettle b.build b.state w v stands → slice_get b.state.statuses v ≡ Some (Running w)
+leaves_running b w v stands here can = ap (slice_get b.state.statuses) (sym can.vertex) ∙ (consistent b here).working w can.x can.there
+
+pub outputs_settled : (b : Build) (ds : List Desk) (w : ℕ) → map ready_made ds ≡ map (needed b) (map at_of ds) → map ready_made (slice_set ds w desk.Idle) ≡ map (needed b) (map at_of (slice_set ds w desk.Idle))
+outputs_settled b ds w kept =
+    map_set ready_made ds w desk.Idle ∙ ap (λ l. slice_set l w []) kept ∙ sym (map_set (needed b) (map at_of ds) w Idle) ∙ ap (map (needed b)) (sym (map_set at_of ds w desk.Idle))
+
+pub reply_failed : (v : ℕ) (e : Ending) → is_failed (Some e) ≡ true → settle_reply v e ≡ SettledFailed v
 reply_failed v (Done trees) is = absurd (cc)
 reply_failed v (Failed f) is = refl
 
-reply_done : (v : ℕ) (e : Ending) → is_failed (Some e) ≡ false → settle_reply v e ≡ SettledDone v
+pub reply_done : (v : ℕ) (e : Ending) → is_failed (Some e) ≡ false → settle_reply v e ≡ SettledDone v
 reply_done v (Done trees) is = refl
 reply_done v (Failed f) is = absurd (cc)
 
-pub settle_gives : (g : Numbered) (ss : List Stand) (ds : List Desk) (es : List Event) (w : ℕ) (work : Work) (stand : Stand) → Leaving g ss ds w work stand
-    → settle_of (seen g ss ds es) w ≡ Ok (seen g (slice_set ss work.vertex stand) (slice_set ds w desk.Idle) (es ++ event.Settle w ∷ []), settle_reply work.vertex (ending_by g work))
-settle_gives g ss ds es w work stand leaving =
-    let at = get_map at_of ds w (desk.Runs work) leaving.there in
-    let settles = settled_as g ss ds w work stand leaving in
-    ap (on_grant (seen g ss ds es) (Settle w) (settle_cause (slice_get (map at_of ds) w))) (settle_granted g (state_of ss ds) w (execution_of work) (ending_by g work) at (leaving.left ∙ ap (λ (k : Status). Ok k) settles))
-    ∙ (λ i. Ok (sym (seen_settle g ss ds es w work stand (ending_by g work) settles) i, settle_reply work.vertex (ending_by g work)))
-
-pub replies_failed : (g : Numbered) (ss : List Stand) (ds : List Desk) (w : ℕ) (work : Work) (stand : Stand) → Leaving g ss ds w work stand → is_failed (ending_of (Some (status_of stand))) ≡ true → settle_reply work.vertex (ending_by g work) ≡ SettledFailed work.vertex
-replies_failed g ss ds w work stand leaving is = reply_failed work.vertex (ending_by g work) (ap (λ k. is_failed (ending_of (Some k))) (sym (settled_as g ss ds w work stand leaving)) ∙ is)
-
-pub replies_done : (g : Numbered) (ss : List Stand) (ds : List Desk) (w : ℕ) (work : Work) (stand : Stand) → Leaving g ss ds w work stand → is_failed (ending_of (Some (status_of stand))) ≡ false → settle_reply work.vertex (ending_by g work) ≡ SettledDone work.vertex
-replies_done g ss ds w work stand leaving is = reply_done work.vertex (ending_by g work) (ap (λ k. is_failed (ending_of (Some k))) (sym (settled_as g ss ds w work stand leaving)) ∙ is)
-
-pub marks_kept : (g : Numbered) (ss : List Stand) (ds : List Desk) (w : ℕ) (work : Work) (stand : Stand) → Leaving g ss ds w work stand → is_failed (ending_of (Some (status_of stand))) ≡ false → stopped g (map status_of (slice_set ss work.vertex stand)) ≡ stopped g (map status_of ss)
-marks_kept g ss ds w work stand leaving is = ap (λ S. stopped_from S [] g.vertices) (map_set status_of ss work.vertex stand) ∙ marks_stay g.vertices (map status_of ss) work.vertex (Running w) (status_of stand) leaving.running refl is
-
-pub whole_written : (n : ℕ) (new old : List Bool) → length new ≡ length old → n ≡ length old → take n (new ++ drop (length new) old) ≡ new
-whole_written n new old same is =
-    ap (λ l. take n (new ++ l)) (drop_all (length new) old (omega (arith, same))) ∙ ap (take n) (append-nil new) ∙ take_all n new (omega (arith, same, is))
+-- the marks stay where a vertex has not failed
+pub marks_kept : (b : Build) (ss : List Stand) (v : ℕ) (s : Stand) (old : Status) → slice_get (map status_of ss) v ≡ Some old → is_failed (ending_of (Some old)) ≡ false → is_failed (ending_of (Some (status_of s))) ≡ false
+    → stopped b (map status_of (slice_set ss v s)) ≡ stopped b (map status_of ss)
+marks_kept b ss v s old at was is = ap (stopped b) (map_set status_of ss v s) ∙ marks_stay b.graph.vertices (map status_of ss) v old (status_of s) at was is

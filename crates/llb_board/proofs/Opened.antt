@@ -1,50 +1,52 @@
 -- A board on which nothing has happened.
 use Rattle.std.proofs.Common.{◌≡◌, ℕ, zero, suc, ◌≤◌, List, [], ◌∷◌, map, length, refl, sym, ap, ◌∙◌, subst, arith}
-use Rattle.std.specs.Prelude.{Bool, false, Some, replicate}
+use Rattle.std.specs.Prelude.{Bool, false, replicate}
 use Rattle.std.proofs.lemmas.List.{length-replicate}
 use Rattle.llb_loader.specs.Graph.{Numbered}
+use Rattle.llb_model.specs.Program.{Build}
 use Rattle.llb_model.specs.State as model
-use Rattle.llb_model.specs.Run.{run, most_events}
-use Rattle.llb_board.specs.Views.{status_of, at_of, event_of}
+use Rattle.llb_model.specs.State.{Opening}
+use Rattle.llb_model.specs.Table.{Event}
+use Rattle.llb_model.specs.Room.{most_events}
+use Rattle.llb_model.specs.Run.{run}
+use Rattle.llb_model.proofs.Rooms.{opening_room}
+use Rattle.llb_board.specs.Views.{status_of, at_of}
 use Rattle.llb_board.specs.Board.{Replays, opened}
 use Rattle.llb_board.specs.Room.{IsKept, seen, ready_made, needed}
 use Rattle.llb_board.specs.declared.stand.Stand.{Stand}
 use Rattle.llb_board.specs.declared.stand.Stand.TheVariants.{Waiting}
 use Rattle.llb_board.specs.declared.stand.Desk.{Desk}
 use Rattle.llb_board.specs.declared.stand.Desk.TheVariants.{Idle}
-use Rattle.llb_board.specs.declared.event.Event.{Event}
-use Rattle.llb_board.proofs.Rooms.{come_open, left_none}
 use Rattle.llb_board.proofs.Stopped.{unmarked}
 
 map_replicate : {A B : Type 0} (f : A → B) (n : ℕ) (x : A) → map f (replicate n x) ≡ replicate n (f x)
 map_replicate f zero x = refl
 map_replicate f (suc n) x = ap (λ l. f x ∷ l) (map_replicate f n x)
 
-pub seen_open : (g : Numbered) (workers : ℕ) (ss : List Stand) (ds : List Desk) (es : List Event) → ss ≡ replicate (length g.vertices) Waiting → ds ≡ replicate workers Idle → es ≡ [] → seen g ss ds es ≡ opened g workers
+pub seen_open : (g : Numbered) (workers : ℕ) (ss : List Stand) (ds : List Desk) (es : List Event) → ss ≡ replicate (length g.vertices) Waiting → ds ≡ replicate workers Idle → es ≡ []
+    → seen g ss ds es ≡ opened (record { graph = g }) (record { workers = workers })
 seen_open g workers ss ds es s d e = λ i. record {
-  graph = g;
+  build = record { graph = g };
+  opening = record { workers = (ap length d ∙ length-replicate workers Idle) i };
   state = record { statuses = (ap (map status_of) s ∙ map_replicate status_of (length g.vertices) Waiting) i; workers = (ap (map at_of) d ∙ map_replicate at_of workers Idle) i };
-  events = map event_of (e i);
+  events = e i;
 }
 
-opened_replays : (g : Numbered) (workers : ℕ) → Replays (opened g workers)
+opened_replays : (b : Build) (o : Opening) → Replays (opened b o)
 unfolding run
-opened_replays g workers = record { replies = []; leads = ap (λ n. Some (model.opening g n, [])) (length-replicate workers model.Idle) }
-
-nothing_made : (workers : ℕ) → map ready_made (replicate workers Idle) ≡ replicate workers []
-nothing_made workers = map_replicate ready_made workers Idle
+opened_replays b o = record { replies = []; leads = refl }
 
 pub kept_open : (g : Numbered) (workers capacity : ℕ) (ss : List Stand) (ds : List Desk) (es : List Event) (halted : List Bool) → ss ≡ replicate (length g.vertices) Waiting → ds ≡ replicate workers Idle → es ≡ []
-    → halted ≡ replicate (length g.vertices) false → most_events g ≤ capacity → workers ≡ 1 → IsKept (seen g ss ds es) ds halted capacity
+    → halted ≡ replicate (length g.vertices) false → most_events (record { graph = g }) ≤ capacity → workers ≡ 1 → IsKept (seen g ss ds es) ds halted capacity
 kept_open g workers capacity ss ds es halted s d e h room one =
-    let is = seen_open g workers ss ds es s d e in
-    let kept : IsKept (opened g workers) ds halted capacity = record {
-      replays = opened_replays g workers;
-      room = omega (arith, come_open g.vertices, left_none g workers);
-      reserved = room;
-      outputs = ap (map ready_made) d ∙ nothing_made workers ∙ sym (map_replicate (needed g) workers model.Idle);
+    let b : Build = record { graph = g } in
+    let o : Opening = record { workers = workers } in
+    let kept : IsKept (opened b o) ds halted capacity = record {
+      replays = opened_replays b o;
+      room = omega (arith, opening_room b o, room);
+      outputs = ap (map ready_made) d ∙ map_replicate ready_made workers Idle ∙ sym (map_replicate (needed b) workers model.Idle);
       some = omega (arith, length-replicate workers model.Idle, one);
       few = omega (arith, length-replicate workers model.Idle, one);
       halted_are = h ∙ sym (unmarked g.vertices);
     } in
-    subst (λ b. IsKept b ds halted capacity) (sym is) kept
+    subst (λ b. IsKept b ds halted capacity) (sym (seen_open g workers ss ds es s d e)) kept

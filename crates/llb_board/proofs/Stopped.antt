@@ -3,10 +3,11 @@ use Rattle.std.proofs.Common.{◌≡◌, ℕ, zero, suc, ◌+◌, ◌<◌, ◌�
 use Rattle.std.specs.Prelude.{Bool, true, false, ◌||◌, slice_get, slice_set, Some, unwrap_or, replicate}
 use Rattle.std.specs.List.{list_any}
 use Rattle.std.proofs.Math.ListN.{set, length-set}
-use Rattle.std.proofs.lemmas.List.{drop_all, take_all, replicate-append-replicate, length_push}
+use Rattle.std.proofs.lemmas.List.{drop_all, take_all, replicate-append-replicate}
 use Rattle.llb_loader.specs.declared.graph.Edge.{Edge}
 use Rattle.llb_loader.specs.declared.graph.Vertex.{Vertex}
-use Rattle.llb_model.specs.State.{Status, Waiting, next_stopped, stopped_from, is_failed, ending_at, ending_of}
+use Rattle.llb_model.specs.State.{Status, Waiting, next_stopped, is_failed, ending_at, ending_of}
+use Rattle.llb_model.specs.ByNumber.{by_number}
 use Rattle.llb_board.proofs.Inputs.{edge_at}
 
 abbrev pub marked_at : List Bool → Edge → Bool
@@ -30,7 +31,7 @@ behind_end before es i here past = ap (list_any (marked_at before)) (sym (drop_a
 
 -- the marks before a place are those of the rule, as a fold that goes on
 pub record MarkedSoFar (statuses : List Status) (vs : List Vertex) (k : ℕ) (marks : List Bool) : Type 0 where
-  pub marked : stopped_from statuses (take k marks) (drop k vs) ≡ stopped_from statuses [] vs
+  pub marked : by_number (next_stopped statuses) (take k marks) (drop k vs) ≡ by_number (next_stopped statuses) [] vs
   pub lengths : length marks ≡ length vs
 
 take_set : (xs : List Bool) (k : ℕ) (x : Bool) → k < length xs → take (suc k) (set xs k x) ≡ take k xs ++ x ∷ []
@@ -44,23 +45,23 @@ marked_more statuses vs k marks v mark here low is rule =
     let next : drop k vs ≡ v ∷ drop (k + 1) vs = drop-cons vs k v low ∙ (λ i. sym is i ∷ drop (sym (add-one k) i) vs) in
     let fits : k < length marks = omega (arith, here.lengths) in
     record {
-      marked = ap (λ n. stopped_from statuses (take n (set marks k mark)) (drop (k + 1) vs)) (add-one k)
-          ∙ ap (λ l. stopped_from statuses l (drop (k + 1) vs)) (take_set marks k mark fits)
-          ∙ ap (λ m. stopped_from statuses (take k marks ++ m ∷ []) (drop (k + 1) vs)) rule
-          ∙ ap (stopped_from statuses (take k marks)) (sym next) ∙ here.marked;
+      marked = ap (λ n. by_number (next_stopped statuses) (take n (set marks k mark)) (drop (k + 1) vs)) (add-one k)
+          ∙ ap (λ l. by_number (next_stopped statuses) l (drop (k + 1) vs)) (take_set marks k mark fits)
+          ∙ ap (λ m. by_number (next_stopped statuses) (take k marks ++ m ∷ []) (drop (k + 1) vs)) rule
+          ∙ ap (by_number (next_stopped statuses) (take k marks)) (sym next) ∙ here.marked;
       lengths = length-set marks k mark ∙ here.lengths;
     }
 
-pub marked_end : (statuses : List Status) (vs : List Vertex) (k : ℕ) (marks : List Bool) → MarkedSoFar statuses vs k marks → length vs ≤ k → marks ≡ stopped_from statuses [] vs
+pub marked_end : (statuses : List Status) (vs : List Vertex) (k : ℕ) (marks : List Bool) → MarkedSoFar statuses vs k marks → length vs ≤ k → marks ≡ by_number (next_stopped statuses) [] vs
 marked_end statuses vs k marks here past =
-    sym (take_all k marks (omega (arith, here.lengths))) ∙ ap (stopped_from statuses (take k marks)) (sym (drop_all k vs past)) ∙ here.marked
+    sym (take_all k marks (omega (arith, here.lengths))) ∙ ap (by_number (next_stopped statuses) (take k marks)) (sym (drop_all k vs past)) ∙ here.marked
 
 -- the marks hang on the failures alone
-pub same_marks : (S T : List Status) → ((k : ℕ) → is_failed (ending_at S k) ≡ is_failed (ending_at T k)) → (before : List Bool) (vs : List Vertex) → stopped_from S before vs ≡ stopped_from T before vs
+pub same_marks : (S T : List Status) → ((k : ℕ) → is_failed (ending_at S k) ≡ is_failed (ending_at T k)) → (before : List Bool) (vs : List Vertex) → by_number (next_stopped S) before vs ≡ by_number (next_stopped T) before vs
 same_marks S T same before [] = refl
 same_marks S T same before (v ∷ vs) =
     same_marks S T same (before ++ next_stopped S before v ∷ []) vs
-    ∙ ap (λ b. stopped_from T (before ++ (b || list_any (marked_at before) v.inputs) ∷ []) vs) (same (length before))
+    ∙ ap (λ b. by_number (next_stopped T) (before ++ (b || list_any (marked_at before) v.inputs) ∷ []) vs) (same (length before))
 
 failed_set : (S : List Status) (v : ℕ) (old new : Status) → slice_get S v ≡ Some old → is_failed (ending_of (Some old)) ≡ false → is_failed (ending_of (Some new)) ≡ false
     → (k : ℕ) → is_failed (ending_at (slice_set S v new) k) ≡ is_failed (ending_at S k)
@@ -71,7 +72,7 @@ failed_set (y ∷ S) (suc v) old new at a b zero = refl
 failed_set (y ∷ S) (suc v) old new at a b (suc k) = failed_set S v old new at a b k
 
 pub marks_stay : (vs : List Vertex) (S : List Status) (v : ℕ) (old new : Status) → slice_get S v ≡ Some old → is_failed (ending_of (Some old)) ≡ false → is_failed (ending_of (Some new)) ≡ false
-    → stopped_from (slice_set S v new) [] vs ≡ stopped_from S [] vs
+    → by_number (next_stopped (slice_set S v new)) [] vs ≡ by_number (next_stopped S) [] vs
 marks_stay vs S v old new at a b = same_marks (slice_set S v new) S (failed_set S v old new at a b) [] vs
 
 -- nothing has failed where all wait
@@ -89,16 +90,12 @@ none_behind : (n : ℕ) (es : List Edge) → list_any (marked_at (replicate n fa
 none_behind n [] = refl
 none_behind n (e ∷ es) = ap (λ b. b || list_any (marked_at (replicate n false)) es) (unmarked_at n e.vertex) ∙ none_behind n es
 
-marks_open : (S : List Status) → ((k : ℕ) → is_failed (ending_at S k) ≡ false) → (n : ℕ) (vs : List Vertex) → stopped_from S (replicate n false) vs ≡ replicate (n + length vs) false
+marks_open : (S : List Status) → ((k : ℕ) → is_failed (ending_at S k) ≡ false) → (n : ℕ) (vs : List Vertex) → by_number (next_stopped S) (replicate n false) vs ≡ replicate (n + length vs) false
 marks_open S none n [] = ap (λ k. replicate k false) (sym (add-zero n))
 marks_open S none n (v ∷ vs) =
     let mark : next_stopped S (replicate n false) v ≡ false = ap (λ b. b || list_any (marked_at (replicate n false)) v.inputs) (none (length (replicate n false))) ∙ none_behind n v.inputs in
     let count : (n + 1) + length vs ≡ n + length (v ∷ vs) = omega arith in
-    ap (λ b. stopped_from S (replicate n false ++ b ∷ []) vs) mark ∙ ap (λ l. stopped_from S l vs) (replicate-append-replicate n 1 false) ∙ marks_open S none (n + 1) vs ∙ ap (λ k. replicate k false) count
+    ap (λ b. by_number (next_stopped S) (replicate n false ++ b ∷ []) vs) mark ∙ ap (λ l. by_number (next_stopped S) l vs) (replicate-append-replicate n 1 false) ∙ marks_open S none (n + 1) vs ∙ ap (λ k. replicate k false) count
 
-pub unmarked : (vs : List Vertex) → stopped_from (replicate (length vs) Waiting) [] vs ≡ replicate (length vs) false
+pub unmarked : (vs : List Vertex) → by_number (next_stopped (replicate (length vs) Waiting)) [] vs ≡ replicate (length vs) false
 unmarked vs = marks_open (replicate (length vs) Waiting) (waits_all (length vs)) 0 vs ∙ ap (λ k. replicate k false) (zero-add (length vs))
-
-pub length_marks : (S : List Status) (before : List Bool) (vs : List Vertex) → length (stopped_from S before vs) ≡ length before + length vs
-length_marks S before [] = omega arith
-length_marks S before (v ∷ vs) = omega (arith, length_marks S (before ++ next_stopped S before v ∷ []) vs, length_push before (next_stopped S before v))

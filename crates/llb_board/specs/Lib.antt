@@ -1,5 +1,6 @@
 pub mod Actions
 pub mod Jobs
+pub mod Events
 pub mod Views
 pub mod Board
 pub mod Rules

@@ -1,6 +1,6 @@
 -- What the board's data stands for, in the words of the machine's definitions.
-use Rattle.std.specs.Prelude.{ℕ, Bool, false, List, map, Option, option_map, unwrap_or, slice_get, if◌then◌else◌}
-use Rattle.llb_loader.specs.Graph.{Numbered}
+use Rattle.std.specs.Prelude.{ℕ, Bool, [], List, map, Option, option_map, slice_get, if◌then◌else◌}
+use Rattle.llb_model.specs.Program.{Build}
 use Rattle.llb_model.specs.Outcome.{Done, Failed}
 use Rattle.llb_model.specs.State as model
 use Rattle.llb_model.specs.Table as table
@@ -19,7 +19,7 @@ use Rattle.llb_board.specs.declared.stand.Stand.{Stand}
 use Rattle.llb_board.specs.declared.stand.Stand.TheVariants as stand
 use Rattle.llb_board.specs.declared.stand.Desk.{Desk}
 use Rattle.llb_board.specs.declared.stand.Desk.TheVariants as desk
-use Rattle.llb_board.specs.declared.stand.Work.{Work}
+use Rattle.llb_board.specs.declared.stand.Execution.{Execution}
 
 -- what stands at a vertex
 abbrev pub status_of : Stand → model.Status
@@ -28,8 +28,8 @@ status_of (stand.Running w) = model.Running w
 status_of (stand.Done trees) = model.Settled (Done trees)
 status_of (stand.Failed f) = model.Settled (Failed f)
 
-abbrev pub execution_of : Work → model.Execution
-execution_of x = record { vertex = x.vertex; done = x.done; fault = x.fault; view = x.view }
+abbrev pub execution_of : Execution → model.Execution
+execution_of x = record { vertex = x.vertex; done = x.done; fault = x.fault; own = x.view }
 
 -- what a worker does
 abbrev pub at_of : Desk → model.At
@@ -46,7 +46,7 @@ event_of (event.Settle w) = table.Settle w
 
 -- the replies
 abbrev pub claim_reply : Job → table.Reply
-claim_reply j = table.Claimed (record { worker = j.worker; vertex = j.vertex; program = j.program; done = j.done; view = j.view })
+claim_reply j = table.Claimed (record { worker = j.worker; vertex = j.vertex; program = j.program; done = j.done; work = record { own = j.view; trees = [] } })
 
 abbrev pub step_reply : Stepped → table.Reply
 step_reply (Acted a) = table.Acted a
@@ -63,13 +63,13 @@ look ready blocked (model.Running w) = seen.Running w
 look ready blocked (model.Settled (Done trees)) = seen.Done
 look ready blocked (model.Settled (Failed f)) = seen.Failed f
 
-abbrev pub look_at : Numbered → model.State → ℕ → Option Status
-look_at g s v = option_map (look (model.is_ready g s.statuses v) (unwrap_or (slice_get (model.stopped g s.statuses) v) false)) (slice_get s.statuses v)
+abbrev pub look_at : Build → model.State → ℕ → Option Status
+look_at b s v = option_map (look (model.is_ready b s.statuses v) (model.is_blocked b s.statuses v)) (slice_get s.statuses v)
 
 -- how a worker looks
-abbrev pub look_of : Numbered → model.At → At
-look_of g model.Idle = at.Idle
-look_of g (model.Runs x) = at.Runs x.vertex x.done (model.is_finished (model.program_in g x).steps x)
+abbrev pub look_of : Build → model.At → At
+look_of b model.Idle = at.Idle
+look_of b (model.Runs x) = at.Runs x.vertex x.done (model.is_finished (model.program_in b x).steps x)
 
-abbrev pub worker_look : Numbered → model.State → ℕ → Option At
-worker_look g s w = option_map (look_of g) (slice_get s.workers w)
+abbrev pub worker_look : Build → model.State → ℕ → Option At
+worker_look b s w = option_map (look_of b) (slice_get s.workers w)

@@ -4,7 +4,9 @@
 ghost use Rattle.std.specs.Prelude.{◌≡◌, ◌<◌, ◌≤◌, length, map, option_map, OnErr, IfErr};
 ghost use Rattle.llb_model.specs.Outcome.{output_in};
 ghost use Rattle.llb_model.specs.State.{ending_at};
-ghost use Rattle.llb_model.specs.Run.{most_events, chosen, is_complete};
+ghost use Rattle.llb_model.specs.Consistent.{IsConsistent};
+ghost use Rattle.llb_model.specs.Room.{most_events};
+ghost use Rattle.llb_model.specs.Run.{chosen, is_complete};
 ghost use Rattle.llb_loader.specs.Graph.{IsGraph};
 ghost use Rattle.llb_board.specs.Board.{Seen, Replays};
 ghost use Rattle.llb_wire.specs.Answer.{MemoryLast};
@@ -13,12 +15,13 @@ ghost use Rattle.llb_board.specs.Views.{event_of, claim_reply, step_reply, settl
 
 use crate::choice::{all_settled, next_claim, next_event};
 use crate::event::{At, Event, Settled, Status, Stepped};
+use crate::events::Events;
 use crate::fault::{ClaimFault, OpenFault, SettleFault, StepFault};
 use crate::fresh::opening;
 use crate::job::Job;
 use crate::ready::{actions_at, is_marked, is_ready, mark_stopped, output_at};
 use crate::stand::{Desk, Stand};
-use crate::step::{Begun, begin_claim, is_finished, leave, step_desk};
+use crate::step::{Begun, begin, claimable, desk_at, is_finished, leave, step_at};
 use llb_loader::Graph;
 use llb_tree::Tree;
 use std::alloc::Global;
@@ -32,11 +35,10 @@ pub struct Board {
     stands: Vec<Stand>,
     desks: Vec<Desk>,
     halted: Vec<bool>,
-    events: Vec<Event>,
+    events: Events,
 }
 
 impl Model for Board {
-    ghost use Rattle.std.specs.Prelude.{vec_capacity};
     ghost use Rattle.std.specs.Coded.{codes};
     ghost use Rattle.llb_tree.specs.Tree.{coded_tree};
     ghost use Rattle.llb_board.specs.Board.{Seen};
@@ -46,9 +48,9 @@ impl Model for Board {
 
     ghost coded = { Prim.hlevel (codes, coded_tree) };
 
-    ghost view = { λ b. seen b.graph b.stands.items b.desks.items b.events.items };
+    ghost view = { λ b. seen b.graph b.stands.items b.desks.items b.events.list };
 
-    ghost invariant = { λ b. IsKept (seen b.graph b.stands.items b.desks.items b.events.items) b.desks.items b.halted.items (vec_capacity b.events) };
+    ghost invariant = { λ b. IsKept (seen b.graph b.stands.items b.desks.items b.events.list) b.desks.items b.halted.items b.events.room };
 }
 
 impl Board {
@@ -81,11 +83,11 @@ impl Board {
         ensures last { MemoryLast claim_memory result (claim_of self.old w v) }
         ensures err { OnErr result (self.new ≡ self.old) }
     {
-        let begun = begin_claim(self.alloc, &self.graph, &self.stands, &self.desks, w, v)?;
-        let Begun { job, work } = begun;
+        let vertex = claimable(&self.graph, &self.stands, &self.desks, w, v)?;
+        let Begun { job, execution } = begin(self.alloc, &self.stands, w, v, vertex)?;
         self.events.push_reserved(Event::Claim(w, v));
         self.stands[v as usize] = Stand::Running(w);
-        self.desks[w as usize] = Desk::Runs(work);
+        self.desks[w as usize] = Desk::Runs(execution);
         Ok(job)
     }
 
@@ -95,13 +97,7 @@ impl Board {
         ensures last { MemoryLast step_memory result (step_of self.old w) }
         ensures err { OnErr result (self.new ≡ self.old) }
     {
-        let v = match self.desks.get(w as usize) {
-            None => return Err(StepFault::NoWorker),
-            Some(Desk::Idle) => return Err(StepFault::NotRunning),
-            Some(Desk::Runs(work)) => work.vertex,
-        };
-        let actions = actions_at(&self.graph, v);
-        let stepped = step_desk(self.alloc, &mut self.desks[w as usize], actions)?;
+        let stepped = step_at(self.alloc, &self.graph, &mut self.desks, w)?;
         self.events.push_reserved(Event::Step(w));
         Ok(stepped)
     }
@@ -111,14 +107,8 @@ impl Board {
         ensures gives { GivesSettle (λ r. (self.new, settle_reply r)) result (settle_of self.old w) }
         ensures err { OnErr result (self.new ≡ self.old) }
     {
-        let v = match self.desks.get(w as usize) {
-            None => return Err(SettleFault::NoWorker),
-            Some(Desk::Idle) => return Err(SettleFault::NotRunning),
-            Some(Desk::Runs(work)) => work.vertex,
-        };
         self.graph.is_graph();
-        let actions = actions_at(&self.graph, v);
-        let stand = leave(&mut self.desks[w as usize], actions)?;
+        let (v, stand) = leave(&self.graph, &mut self.desks, w)?;
         let failed = stand.has_failed();
         self.stands[v as usize] = stand;
         self.events.push_reserved(Event::Settle(w));
@@ -131,7 +121,7 @@ impl Board {
 
     /// How a vertex looks. No memory.
     pub fn status(&self, v: u32) -> Option<Status>
-        ensures { result ≡ look_at self.now.graph self.now.state v }
+        ensures { result ≡ look_at self.now.build self.now.state v }
     {
         let stand = self.stands.get(v as usize)?;
         let ready = match self.graph.vertices().get(v as usize) {
@@ -143,13 +133,13 @@ impl Board {
 
     /// How a worker looks. No memory.
     pub fn worker(&self, w: u32) -> Option<At>
-        ensures { result ≡ worker_look self.now.graph self.now.state w }
+        ensures { result ≡ worker_look self.now.build self.now.state w }
     {
-        match self.desks.get(w as usize)? {
+        match desk_at(&self.desks, w)? {
             Desk::Idle => Some(At::Idle),
-            Desk::Runs(work) => {
-                let finished = is_finished(work, actions_at(&self.graph, work.vertex));
-                Some(At::Runs(work.vertex, work.done, finished))
+            Desk::Runs(execution) => {
+                let finished = is_finished(execution, actions_at(&self.graph, execution.vertex));
+                Some(At::Runs(execution.vertex, execution.done, finished))
             }
         }
     }
@@ -162,16 +152,17 @@ impl Board {
     }
 
     /// The record of events since the board was opened: at most one claim, one settle and its micro-steps for each vertex.
-    pub fn events(&self) -> &[Event]
-        ensures all { map event_of result.now ≡ self.now.events }
-        ensures bound { length result.now ≤ most_events self.now.graph }
+    pub fn events(&self) -> &Events
+        ensures all { result.now.list ≡ self.now.events }
+        ensures bound { length result.now.list ≤ most_events self.now.build }
     {
-        self.events.as_slice()
+        self.graph.is_graph();
+        &self.events
     }
 
     /// The event that a driver chooses. No memory.
     pub fn chosen(&self) -> Option<Event>
-        ensures { option_map event_of result ≡ chosen self.now.graph self.now.state }
+        ensures { option_map event_of result ≡ chosen self.now.build self.now.state }
     {
         match next_event(&self.graph, &self.desks) {
             Some(event) => Some(event),
@@ -181,21 +172,21 @@ impl Board {
 
     /// Whether nothing runs any more, and every vertex is done, failed or blocked. No memory.
     pub fn is_complete(&self) -> bool
-        ensures { result ≡ is_complete self.now.graph self.now.state }
+        ensures { result ≡ is_complete self.now.build self.now.state }
     {
         all_settled(&self.graph, &self.stands, &self.halted)
     }
 
     /// The graph comes back.
     pub fn into_parts(self) -> Graph
-        ensures { result ≡ self.graph }
+        ensures { result ≡ self.build.graph }
     {
         self.graph
     }
 
     /// What is true of every graph is true of the board's.
     pub fn is_graph(&self)
-        ensures { IsGraph self.now.graph }
+        ensures { IsGraph self.now.build.graph }
     {
         self.graph.is_graph();
     }

@@ -7,7 +7,7 @@ ghost use Rattle.llb_model.specs.Run.{next_of, next_claim, is_settled, is_comple
 ghost use Rattle.llb_board.specs.Views.{at_of, event_of, state_of, status_of};
 
 use crate::event::Event;
-use crate::ready::{actions_at, is_marked, is_ready};
+use crate::ready::{actions_at, is_marked, is_ready, stand_at};
 use crate::stand::{Desk, Stand};
 use crate::step::is_finished;
 use llb_loader::Graph;
@@ -15,13 +15,13 @@ use llb_loader::Graph;
 /// The next event of the lowest running worker.
 pub(crate) fn next_event(graph: &Graph, desks: &[Desk]) -> Option<Event>
     requires { length desks.now ≤ 64 }
-    ensures { option_map event_of result ≡ next_of graph.now 0 (map at_of desks.now) }
+    ensures { option_map event_of result ≡ next_of (record { graph = graph.now }) 0 (map at_of desks.now) }
 {
     for w in 0..desks.len() {
         match &desks[w] {
             Desk::Idle => {}
-            Desk::Runs(work) => {
-                if is_finished(work, actions_at(graph, work.vertex)) {
+            Desk::Runs(execution) => {
+                if is_finished(execution, actions_at(graph, execution.vertex)) {
                     return Some(Event::Settle(w as u32));
                 }
                 return Some(Event::Step(w as u32));
@@ -33,7 +33,7 @@ pub(crate) fn next_event(graph: &Graph, desks: &[Desk]) -> Option<Event>
 
 /// The claim of the least Ready vertex, by worker 0.
 pub(crate) fn next_claim(graph: &Graph, stands: &[Stand]) -> Option<Event>
-    ensures { option_map event_of result ≡ next_claim graph.now (state_of stands.now []) }
+    ensures { option_map event_of result ≡ next_claim (record { graph = graph.now }) (state_of stands.now []) }
 {
     let vertices = graph.vertices();
     for v in 0..vertices.len() as u32 {
@@ -46,8 +46,8 @@ pub(crate) fn next_claim(graph: &Graph, stands: &[Stand]) -> Option<Event>
 
 /// Whether every vertex is done, failed or blocked.
 pub(crate) fn all_settled(graph: &Graph, stands: &[Stand], halted: &[bool]) -> bool
-    requires { halted.now ≡ stopped graph.now (map status_of stands.now) }
-    ensures { result ≡ is_complete graph.now (state_of stands.now []) }
+    requires { halted.now ≡ stopped (record { graph = graph.now }) (map status_of stands.now) }
+    ensures { result ≡ is_complete (record { graph = graph.now }) (state_of stands.now []) }
 {
     for v in 0..graph.vertices().len() as u32 {
         if !is_over(stands, halted, v) {
@@ -61,7 +61,7 @@ pub(crate) fn all_settled(graph: &Graph, stands: &[Stand], halted: &[bool]) -> b
 fn is_over(stands: &[Stand], halted: &[bool], v: u32) -> bool
     ensures { result ≡ (is_settled (slice_get (map status_of stands.now) v) || (is_waiting (slice_get (map status_of stands.now) v) && unwrap_or (slice_get halted.now v) false)) }
 {
-    match stands.get(v as usize) {
+    match stand_at(stands, v) {
         Some(Stand::Done(_)) => true,
         Some(Stand::Failed(_)) => true,
         Some(Stand::Waiting) => is_marked(halted, v),

@@ -4,10 +4,16 @@ use llb_loader::Graph;
 use llb_ops::OpFault;
 use llb_tree::TreeFault;
 use std::alloc::{AllocError, AllocFailed};
+use std::fmt;
 use thiserror::Error;
 
+/// 141: memory was refused.
+#[derive(Clone, Copy, Debug, Error)]
+#[error("141")]
+pub struct Memory;
+
 /// Why a graph is not opened. The graph comes back.
-#[derive(Debug, Drop, Error)]
+#[derive(Drop, Error)]
 pub enum OpenFault {
     /// 122: the number of workers is not 1.
     #[error("122")]
@@ -15,6 +21,12 @@ pub enum OpenFault {
     /// 123: memory was refused.
     #[error("123")]
     Memory(Graph),
+}
+
+impl fmt::Debug for OpenFault {
+    fn fmt<W: fmt::Write>(&self, f: &mut fmt::Formatter<W>) -> fmt::Result {
+        write!(f, "{self}")
+    }
 }
 
 /// Why a vertex is not claimed: the first cause that stands.
@@ -66,6 +78,18 @@ pub enum SettleFault {
     /// 138: what the worker runs is not finished.
     #[error("138")]
     NotFinished,
+}
+
+impl From<AllocError> for Memory {
+    fn from(_: AllocError) -> Memory {
+        Memory
+    }
+}
+
+impl<T: Drop> From<AllocFailed<T>> for Memory {
+    fn from(_: AllocFailed<T>) -> Memory {
+        Memory
+    }
 }
 
 impl From<AllocError> for ClaimFault {

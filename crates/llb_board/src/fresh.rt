@@ -1,12 +1,11 @@
 //! What a board begins with: all vertices wait, all workers are idle, and the record has room for every event.
 
-ghost use Rattle.std.specs.Prelude.{◌≡◌, ◌≤◌, ◌+◌, [], length, replicate, false, vec_capacity, IfOk};
-ghost use Rattle.llb_model.specs.State.{Waiting, Idle};
-ghost use Rattle.llb_model.specs.Run.{most_events};
+ghost use Rattle.std.specs.Prelude.{◌≡◌, ◌≤◌, [], length, replicate, false, IfOk};
+ghost use Rattle.llb_model.specs.Room.{most_events};
 ghost use Rattle.llb_board.specs.declared.stand.Desk.TheVariants as desk;
 ghost use Rattle.llb_board.specs.declared.stand.Stand.TheVariants as stand;
 
-use crate::event::Event;
+use crate::events::Events;
 use crate::ready::actions_at;
 use crate::stand::{Desk, Stand};
 use llb_loader::Graph;
@@ -18,7 +17,7 @@ pub(crate) struct Fresh {
     pub stands: Vec<Stand>,
     pub desks: Vec<Desk>,
     pub halted: Vec<bool>,
-    pub events: Vec<Event>,
+    pub events: Events,
 }
 
 /// For a graph and so many workers.
@@ -26,15 +25,15 @@ pub(crate) fn opening(alloc: Global, graph: &Graph, workers: u32) -> Result<Fres
     ensures stands { IfOk result (λ f. f.stands.items ≡ replicate (length graph.now.vertices) stand.Waiting) }
     ensures desks { IfOk result (λ f. f.desks.items ≡ replicate workers desk.Idle) }
     ensures halted { IfOk result (λ f. f.halted.items ≡ replicate (length graph.now.vertices) false) }
-    ensures events { IfOk result (λ f. f.events.items ≡ []) }
-    ensures room { IfOk result (λ f. most_events graph.now ≤ vec_capacity f.events) }
+    ensures events { IfOk result (λ f. f.events.list ≡ []) }
+    ensures room { IfOk result (λ f. most_events (record { graph = graph.now }) ≤ f.events.room) }
 {
     let count = graph.vertices().len();
     Ok(Fresh {
         stands: waiting(alloc, count)?,
         desks: idle(alloc, workers)?,
         halted: Vec::from_elem(alloc, false, count)?,
-        events: Vec::with_capacity(alloc, room(graph))?,
+        events: Events::with_room(alloc, room(graph))?,
     })
 }
 
@@ -60,7 +59,7 @@ fn idle(alloc: Global, count: u32) -> Result<Vec<Desk>, AllocError>
 
 // How many events may come in all.
 fn room(graph: &Graph) -> usize
-    ensures { result ≡ most_events graph.now }
+    ensures { result ≡ most_events (record { graph = graph.now }) }
 {
     let mut all: usize = 0;
     let count = graph.vertices().len() as u32;

@@ -14,7 +14,7 @@ use std::alloc::{AllocError, Global};
 use std::marker::Model;
 
 /// The micro-steps of a vertex: the actions of a file op.
-#[derive(Debug, Drop)]
+#[derive(Drop)]
 pub struct Program {
     file: Option<FileOp>,
     outputs: u32,

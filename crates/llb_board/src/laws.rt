@@ -3,9 +3,18 @@
 ghost use Rattle.std.specs.Prelude.{◌≡◌, ◌↔◌, ◌<◌, ℕ, None, true, length, slice_get};
 ghost use Rattle.llb_model.specs.Outcome.{outcome};
 ghost use Rattle.llb_model.specs.Run.{chosen, is_complete, StandsPlainly};
-ghost use Rattle.llb_board.specs.Board.{SettledArePlain, ChosenIsGranted, BlockedBehindAFailure, OutcomeByInputs};
+ghost use Rattle.llb_model.specs.Consistent.{IsConsistent};
+ghost use Rattle.llb_board.specs.Board.{SettledArePlain, ChosenIsGranted, ReadyBehindDone, BlockedBehindAFailure, OutcomeByInputs};
 
 use crate::board::Board;
+
+/// Vertices and workers agree on what runs, what is done has all its outputs, and what does not wait all its inputs.
+pub fn is_consistent(board: &Board)
+    ensures { IsConsistent board.now.build board.now.state }
+{
+    board.is_graph();
+    board.replays();
+}
 
 /// A settled vertex has its plain outcome, failures included.
 pub fn settled_are_plain(board: &Board)
@@ -17,8 +26,8 @@ pub fn settled_are_plain(board: &Board)
 
 /// On a complete board every vertex stands as its plain outcome: ended so, or Blocked.
 pub fn complete_is_plain(board: &Board)
-    ensures { is_complete board.now.graph board.now.state ≡ true → (v : ℕ) → v < length board.now.graph.vertices
-        → StandsPlainly (slice_get board.now.state.statuses v) (outcome board.now.graph v) }
+    ensures { is_complete board.now.build board.now.state ≡ true → (v : ℕ) → v < length board.now.build.graph.vertices
+        → StandsPlainly (slice_get board.now.state.statuses v) (outcome board.now.build v) }
 {
     board.is_graph();
     board.replays();
@@ -26,7 +35,7 @@ pub fn complete_is_plain(board: &Board)
 
 /// An event is chosen exactly until the board is complete.
 pub fn chosen_until_complete(board: &Board)
-    ensures { (chosen board.now.graph board.now.state ≡ None) ↔ (is_complete board.now.graph board.now.state ≡ true) }
+    ensures { (chosen board.now.build board.now.state ≡ None) ↔ (is_complete board.now.build board.now.state ≡ true) }
 {
     board.is_graph();
     board.replays();
@@ -38,6 +47,14 @@ pub fn chosen_is_granted(board: &Board)
 {
     board.is_graph();
     board.has_workers();
+}
+
+/// A vertex is Ready exactly where it waits, and all its inputs are done.
+pub fn ready_behind_done(board: &Board)
+    ensures { ReadyBehindDone board.now }
+{
+    board.is_graph();
+    board.replays();
 }
 
 /// A vertex is blocked exactly where it waits, and an input of it has failed or is blocked.

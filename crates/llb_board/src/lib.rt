@@ -6,6 +6,7 @@ mod action;
 mod board;
 mod choice;
 mod event;
+mod events;
 mod fault;
 mod fresh;
 mod job;
@@ -16,5 +17,7 @@ mod step;
 
 pub use board::Board;
 pub use event::{At, Event, Settled, Status, Stepped};
-pub use fault::{ClaimFault, OpenFault, SettleFault, StepFault};
+pub use events::Events;
+pub use fault::{ClaimFault, Memory, OpenFault, SettleFault, StepFault};
 pub use job::{Job, Program, View};
+pub use llb_wire::{Bytes, Text};

@@ -4,9 +4,10 @@
 ghost use Rattle.std.specs.Prelude.{◌≡◌, ◌<◌, ◌^◌, [], map, length, option_map, is_some, slice_get, Some, None, false, unwrap_or};
 ghost use Rattle.std.specs.List.{list_any};
 ghost use Rattle.llb_loader.specs.Rules.{actions_of};
+ghost use Rattle.llb_model.specs.ByNumber.{by_number};
 ghost use Rattle.llb_model.specs.Program.{Act, program_at};
 ghost use Rattle.llb_model.specs.Outcome.{inputs_from, output_in};
-ghost use Rattle.llb_model.specs.State.{ending_at, is_failed, stopped_from, next_stopped, view_from};
+ghost use Rattle.llb_model.specs.State.{ending_at, is_failed, next_stopped, start_from};
 ghost use Rattle.llb_board.specs.Views.{status_of};
 ghost use Rattle.llb_board.specs.Rules.{GivesClaim, or_not_ready};
 ghost use Rattle.llb_loader.specs.declared.graph.Edge as edge;
@@ -19,11 +20,18 @@ use llb_tree::Tree;
 use llb_wire::Many;
 use std::alloc::Global;
 
+/// What stands at a vertex.
+pub(crate) fn stand_at(stands: &[Stand], v: u32) -> Option<&Stand>
+    ensures { option_map (λ s. status_of s.now) result ≡ slice_get (map status_of stands.now) v }
+{
+    stands.get(v as usize)
+}
+
 /// An output of a vertex that is done.
 pub(crate) fn output_at(stands: &[Stand], v: u32, i: u32) -> Option<&Tree>
     ensures { option_map (λ t. t.now) result ≡ output_in (ending_at (map status_of stands.now) v) i }
 {
-    match stands.get(v as usize) {
+    match stand_at(stands, v) {
         Some(Stand::Done(outputs)) => outputs.as_slice().get(i as usize),
         _ => None,
     }
@@ -44,9 +52,9 @@ pub(crate) fn are_there(stands: &[Stand], inputs: &[Edge]) -> bool
 
 /// Whether a vertex waits and all its inputs are there.
 pub(crate) fn is_ready(stands: &[Stand], v: u32, vertex: &Vertex) -> bool
-    ensures { result ≡ is_some (view_from (map status_of stands.now) (slice_get (map status_of stands.now) v) (Some vertex.now)) }
+    ensures { result ≡ is_some (start_from (map status_of stands.now) (slice_get (map status_of stands.now) v) (Some vertex.now)) }
 {
-    match stands.get(v as usize) {
+    match stand_at(stands, v) {
         Some(Stand::Waiting) => are_there(stands, vertex.inputs.as_slice()),
         _ => false,
     }
@@ -95,7 +103,7 @@ fn actions_of(vertex: &Vertex) -> &[Action]
 /// Marks each vertex that has failed, or is behind one that has.
 pub(crate) fn mark_stopped(halted: &mut [bool], stands: &[Stand], vertices: &[Vertex])
     requires { length halted.old ≡ length vertices.now }
-    ensures { halted.new ≡ stopped_from (map status_of stands.now) [] vertices.now }
+    ensures { halted.new ≡ by_number (next_stopped (map status_of stands.now)) [] vertices.now }
 {
     for v in 0..vertices.len() {
         halted[v] = is_stopped(&halted[..v], stands, v, &vertices[v]);
@@ -124,17 +132,14 @@ fn is_behind(before: &[bool], inputs: &[Edge]) -> bool
 pub(crate) fn is_marked(before: &[bool], v: u32) -> bool
     ensures { result ≡ unwrap_or (slice_get before.now v) false }
 {
-    match before.get(v as usize) {
-        Some(mark) => *mark,
-        None => false,
-    }
+    before.get(v as usize).copied().unwrap_or(false)
 }
 
 fn has_failed(stands: &[Stand], v: usize) -> bool
     ensures { result ≡ is_failed (ending_at (map status_of stands.now) v) }
 {
     match stands.get(v) {
-        Some(Stand::Failed(_)) => true,
-        _ => false,
+        Some(stand) => stand.has_failed(),
+        None => false,
     }
 }

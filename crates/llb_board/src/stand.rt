@@ -34,12 +34,12 @@ impl Stand {
 #[derive(Drop)]
 pub(crate) enum Desk {
     Idle,
-    Runs(Work),
+    Runs(Execution),
 }
 
 /// What a running worker has. In `outputs` there is an empty tree for each output of its vertex.
 #[derive(Drop)]
-pub(crate) struct Work {
+pub(crate) struct Execution {
     pub vertex: u32,
     /// The micro-steps done; one that faults is counted.
     pub done: u32,

@@ -1,6 +1,14 @@
 pub mod Lists
+pub mod ByNumber
+pub mod Parts
+pub mod Events
+pub mod Runs
 pub mod Outcomes
-pub mod Sound
-pub mod Blocked
+pub mod Consistent
+pub mod Rooms
+pub mod Made
+pub mod Plain
+pub mod Stopped
+pub mod Ready
 pub mod Complete
 pub mod Alone

@@ -1,7 +1,17 @@
 -- What stands at a place of a list that is written, repeated or made longer.
-use Rattle.std.proofs.Common.{◌≡◌, ◌≢◌, ℕ, zero, suc, ◌<◌, ◌≤◌, Bool, true, false, ◌||◌, List, [], ◌∷◌, ◌++◌, length, take, Some, None, ◌⊎◌, inl, inr, refl, sym, ap, ◌∙◌, arith}
+use Rattle.std.proofs.Common.{◌≡◌, ◌≢◌, ℕ, zero, suc, ◌<◌, Bool, true, ◌||◌, List, [], ◌∷◌, ◌++◌, length, take, Option, Some, ◌⊎◌, inl, inr, refl, sym, ap, ◌∙◌, arith}
 use Rattle.std.specs.Prelude.{slice_get, slice_set, replicate}
 use Rattle.std.specs.List.{list_any}
+use Rattle.std.proofs.lemmas.Bool.{or_cases}
+use Rattle.std.proofs.Math.Bool.{or-true}
+pub use Rattle.std.proofs.lemmas.Bool.{cases_eq as eq_or}
+pub use Rattle.std.proofs.lemmas.Option.{slice_get_within as got_within, slice_get_past as get_past}
+
+abbrev pub some_of : {A : Type 0} → A → Option A
+some_of x = Some x
+
+pub inside : {A : Type 0} {x y : A} → some_of x ≡ some_of y → x ≡ y
+inside e = cc
 
 -- what is found after a write: the new item at its place, else what was there
 pub got_set : {A : Type 0} (xs : List A) (i : ℕ) (y : A) (j : ℕ) (z : A) → slice_get (slice_set xs i y) j ≡ Some z → ((j ≡ i) × (z ≡ y)) ⊎ ((j ≢ i) × (slice_get xs j ≡ Some z))
@@ -34,32 +44,14 @@ got_replicate zero x j z e = absurd cc
 got_replicate (suc n) x zero z e = let h : x ≡ z = cc in sym h
 got_replicate (suc n) x (suc j) z e = got_replicate n x j z e
 
-pub length_replicate : {A : Type 0} (n : ℕ) (x : A) → length (replicate n x) ≡ n
-length_replicate zero x = refl
-length_replicate (suc n) x = ap suc (length_replicate n x)
-
 pub get_within : {A : Type 0} (xs : List A) (i : ℕ) → i < length xs → (x : A) × (slice_get xs i ≡ Some x)
 get_within [] i lt = absurd (omega arith)
 get_within (x ∷ xs) zero lt = (x, refl)
 get_within (x ∷ xs) (suc i) lt = get_within xs i (omega arith)
 
-pub got_within : {A : Type 0} (xs : List A) (i : ℕ) (x : A) → slice_get xs i ≡ Some x → i < length xs
-got_within [] i x e = absurd cc
-got_within (y ∷ xs) zero x e = omega arith
-got_within (y ∷ xs) (suc i) x e = omega (arith, got_within xs i x e)
-
-pub get_past : {A : Type 0} (xs : List A) (i : ℕ) → length xs ≤ i → slice_get xs i ≡ None
-get_past [] i le = refl
-get_past (x ∷ xs) zero le = absurd (omega arith)
-get_past (x ∷ xs) (suc i) le = get_past xs i (omega arith)
-
 pub get_middle : {A : Type 0} (xs : List A) (x : A) (ys : List A) → slice_get (xs ++ (x ∷ ys)) (length xs) ≡ Some x
 get_middle [] x ys = refl
 get_middle (y ∷ xs) x ys = get_middle xs x ys
-
-pub take_middle : {A : Type 0} (xs ys : List A) → take (length xs) (xs ++ ys) ≡ xs
-take_middle [] ys = refl
-take_middle (x ∷ xs) ys = ap (λ zs. x ∷ zs) (take_middle xs ys)
 
 pub get_take : {A : Type 0} (xs : List A) (n j : ℕ) → j < n → slice_get (take n xs) j ≡ slice_get xs j
 get_take [] zero j lt = absurd (omega arith)
@@ -67,11 +59,6 @@ get_take [] (suc n) j lt = refl
 get_take (x ∷ xs) zero j lt = absurd (omega arith)
 get_take (x ∷ xs) (suc n) zero lt = refl
 get_take (x ∷ xs) (suc n) (suc j) lt = get_take xs n j (omega arith)
-
-pub get_front : {A : Type 0} (xs ys : List A) (j : ℕ) → j < length xs → slice_get (xs ++ ys) j ≡ slice_get xs j
-get_front [] ys j lt = absurd (omega arith)
-get_front (x ∷ xs) ys zero lt = refl
-get_front (x ∷ xs) ys (suc j) lt = get_front xs ys j (omega arith)
 
 -- a fact of some item, and of each
 abbrev pub Some_of : {A : Type 0} → (A → Type 0) → List A → Type 0
@@ -82,22 +69,22 @@ abbrev pub Each_of : {A : Type 0} → (A → Type 0) → List A → Type 0
 Each_of P [] = Unit {0}
 Each_of P (x ∷ xs) = P x × Each_of P xs
 
-or_true : (a b : Bool) → (a || b) ≡ true → (a ≡ true) ⊎ (b ≡ true)
-or_true true b e = inl refl
-or_true false b e = inr e
+pub each_unit : {A : Type 0} (xs : List A) → Each_of (λ x. Unit {0}) xs
+each_unit [] = tt
+each_unit (x ∷ xs) = (tt, each_unit xs)
+
+pub each_both : {A : Type 0} (P Q : A → Type 0) (xs : List A) → Each_of P xs → Each_of Q xs → Each_of (λ x. P x × Q x) xs
+each_both P Q [] p q = tt
+each_both P Q (x ∷ xs) p q = ((p.0, q.0), each_both P Q xs p.1 q.1)
 
 pub any_true : {A : Type 0} (p : A → Bool) (xs : List A) → list_any p xs ≡ true → Some_of (λ x. p x ≡ true) xs
 any_true p [] e = absurd cc
-any_true p (x ∷ xs) e = elim (or_true (p x) (list_any p xs) e) [ inl h ↦ inl h | inr h ↦ inr (any_true p xs h) ]
+any_true p (x ∷ xs) e = elim (or_cases (p x) (list_any p xs) e) [ inl h ↦ inl h | inr h ↦ inr (any_true p xs h) ]
 
 pub true_any : {A : Type 0} (p : A → Bool) (xs : List A) → Some_of (λ x. p x ≡ true) xs → list_any p xs ≡ true
 true_any p [] h = absurd h
 true_any p (x ∷ xs) (inl h) = ap (λ b. b || list_any p xs) h
-true_any p (x ∷ xs) (inr h) = ap (λ b. p x || b) (true_any p xs h) ∙ or_last (p x)
-  where
-    or_last : (a : Bool) → (a || true) ≡ true
-    or_last true = refl
-    or_last false = refl
+true_any p (x ∷ xs) (inr h) = ap (λ b. p x || b) (true_any p xs h) ∙ or-true (p x)
 
 -- an item of which one fact holds, where each has another
 pub some_with : {A : Type 0} (P Q : A → Type 0) (R : Type 0) (xs : List A) → Some_of P xs → Each_of Q xs → ((x : A) → P x → Q x → R) → R

@@ -1,51 +1,22 @@
--- The outcome of a vertex is that of its program on the outcomes of its inputs.
-use Rattle.std.proofs.Common.{◌≡◌, ℕ, zero, suc, ◌+◌, List, [], ◌∷◌, ◌++◌, length, take, Option, Some, None, inl, inr, refl, sym, ap, subst, ◌∙◌, add-zero, append_assoc, arith}
+-- The trees of inputs; and the outcome of a vertex is that of its program on the outcomes of its inputs.
+use Rattle.std.proofs.Common.{◌≡◌, ℕ, zero, suc, ◌<◌, ◌≤◌, Bool, true, false, not, ◌&&◌, List, [], ◌∷◌, length, take, Option, Some, None, is_some, unwrap_or, inl, inr, refl, sym, ap, subst, ◌∙◌, arith}
 use Rattle.std.specs.Prelude.{slice_get, map}
-use Rattle.std.proofs.lemmas.List.{length-append}
-use Rattle.std.specs.List.{All}
+use Rattle.std.specs.List.{All, list_all}
+use Rattle.std.proofs.lemmas.Bool.{and_parts}
+use Rattle.std.proofs.lemmas.List.FromFn.{length-map-range_with_len}
 use Rattle.std.proofs.lemmas.List.Elements.{All-head, All-tail}
 use Rattle.std.proofs.lemmas.Option.{get_or_from_slice_get}
 use Rattle.llb_loader.specs.Graph.{Numbered, LeadsBelow, IsGraph}
 use Rattle.llb_loader.specs.declared.graph.Edge.{Edge}
 use Rattle.llb_loader.specs.declared.graph.Vertex.{Vertex}
 use Rattle.llb_tree.specs.Tree.{TreeMap}
-use Rattle.llb_model.specs.Program.{program_of}
-use Rattle.llb_model.specs.Outcome.{Ending, Outcome, output_in, both, all_there, inputs_from, whole, ending_in, next_outcome, outcomes_from, outcomes, outcome}
-use Rattle.llb_model.proofs.Lists.{get_middle, take_middle, get_take, Each_of, Some_of, got_within}
-
--- ---- the list of outcomes
-
-grows : (before : List Outcome) (vs : List Vertex) → (more : List Outcome) × (outcomes_from before vs ≡ before ++ more)
-grows before [] = ([], sym (append_nil before))
-  where
-    append_nil : (xs : List Outcome) → xs ++ [] ≡ xs
-    append_nil [] = refl
-    append_nil (x ∷ xs) = ap (λ ys. x ∷ ys) (append_nil xs)
-grows before (v ∷ vs) =
-    let g = grows (before ++ next_outcome before v ∷ []) vs in
-    (next_outcome before v ∷ g.0, g.1 ∙ append_assoc before (next_outcome before v ∷ []) g.0)
-
--- the outcome at a place is the next one after those before it
-Next : List Outcome → ℕ → Vertex → Type 0
-Next outs k v = slice_get outs k ≡ Some (next_outcome (take k outs) v)
-
-next_here : (before more outs : List Outcome) (v : Vertex) → outs ≡ before ++ (next_outcome before v ∷ more) → Next outs (length before) v
-unfolding Next
-next_here before more outs v e =
-    let front : take (length before) outs ≡ before = ap (take (length before)) e ∙ take_middle before (next_outcome before v ∷ more) in
-    ap (λ xs. slice_get xs (length before)) e ∙ get_middle before (next_outcome before v) more ∙ ap (λ xs. Some (next_outcome xs v)) (sym front)
-
-next_at : (before : List Outcome) (vs : List Vertex) (k : ℕ) (v : Vertex) → slice_get vs k ≡ Some v → Next (outcomes_from before vs) (length before + k) v
-next_at before [] k v there = absurd cc
-next_at before (w ∷ vs) zero v there =
-    let same : w ≡ v = cc in
-    let g = grows (before ++ next_outcome before w ∷ []) vs in
-    subst (λ n. Next (outcomes_from before (w ∷ vs)) n v) (sym (add-zero (length before)))
-    (subst (λ x. Next (outcomes_from before (w ∷ vs)) (length before) x) same
-    (next_here before g.0 (outcomes_from before (w ∷ vs)) w (g.1 ∙ append_assoc before (next_outcome before w ∷ []) g.0)))
-next_at before (w ∷ vs) (suc k) v there =
-    let place : length (before ++ next_outcome before w ∷ []) + k ≡ length before + suc k = omega (arith, length-append before (next_outcome before w ∷ [])) in
-    subst (λ n. Next (outcomes_from (before ++ next_outcome before w ∷ []) vs) n v) place (next_at (before ++ next_outcome before w ∷ []) vs k v there)
+use Rattle.llb_model.specs.declared.fault.VertexFault.{VertexFault}
+use Rattle.llb_model.specs.Program.{Build, Program, View, Files, program_of, start_with, begin, whole, result_for, outputs_of}
+use Rattle.llb_model.specs.Outcome.{Ending, Done, Failed, Ended, ended, ending, output_in, both, all_there, inputs_from, outcome_on, ending_in, next_outcome, outcomes, outcome, has_cache, next_plain, is_plain}
+use Rattle.llb_model.specs.ByNumber.{by_number}
+use Rattle.llb_model.specs.State.{is_done}
+use Rattle.llb_model.proofs.Lists.{some_of, inside, get_take, Each_of, Some_of, some_with, get_within, got_within}
+use Rattle.llb_model.proofs.ByNumber.{by_number_is}
 
 -- ---- inputs
 
@@ -53,7 +24,7 @@ output_mono : (o p : Option Ending) (i : ℕ) (t : TreeMap) → ((x : Ending) �
 output_mono None p i t more e = absurd cc
 output_mono (Some x) p i t more e = ap (λ q. output_in q i) (more x refl) ∙ e
 
-pub there_cons : {A : Type 0} (o : Option A) (os : List (Option A)) (ys : List A) → all_there (o ∷ os) ≡ Some ys → (x : A) × (xs : List A) × (o ≡ Some x) × (all_there os ≡ Some xs) × (ys ≡ x ∷ xs)
+there_cons : {A : Type 0} (o : Option A) (os : List (Option A)) (ys : List A) → all_there (o ∷ os) ≡ Some ys → (x : A) × (xs : List A) × (o ≡ Some x) × (all_there os ≡ Some xs) × (ys ≡ x ∷ xs)
 there_cons {A} o os ys e = go o (all_there os) e
   where
     go : (o : Option A) (r : Option (List A)) → both o r ≡ Some ys → (x : A) × (xs : List A) × (o ≡ Some x) × (r ≡ Some xs) × (ys ≡ x ∷ xs)
@@ -61,18 +32,16 @@ there_cons {A} o os ys e = go o (all_there os) e
     go (Some x) None e = absurd cc
     go (Some x) (Some xs) e = (x, xs, refl, refl, let h : x ∷ xs ≡ ys = cc in sym h)
 
--- what is there by one account is there by a fuller one
-pub inputs_mono : (f g : ℕ → Option Ending) → ((j : ℕ) (x : Ending) → f j ≡ Some x → g j ≡ Some x) → (edges : List Edge) (trees : List TreeMap) → inputs_from f edges ≡ Some trees → inputs_from g edges ≡ Some trees
+-- what is there by one account of some vertices is there by a fuller one
+pub inputs_mono : (P : ℕ → Type 0) (f g : ℕ → Option Ending) → ((j : ℕ) (x : Ending) → P j → f j ≡ Some x → g j ≡ Some x) → (edges : List Edge) → Each_of (λ (e : Edge). P e.vertex) edges
+    → (trees : List TreeMap) → inputs_from f edges ≡ Some trees → inputs_from g edges ≡ Some trees
 unfolding inputs_from
-inputs_mono f g more [] trees e = e
-inputs_mono f g more (d ∷ edges) trees e =
+inputs_mono P f g more [] each trees e = e
+inputs_mono P f g more (d ∷ edges) each trees e =
     let s = there_cons (output_in (f d.vertex) d.index) (map (λ (e : Edge). output_in (f e.vertex) e.index) edges) trees e in
-    let first = output_mono (f d.vertex) (g d.vertex) d.index s.0 (more d.vertex) s.2 in
-    let rest = inputs_mono f g more edges s.1 s.3 in
-    ap (λ o. both o (all_there (map (λ (e : Edge). output_in (g e.vertex) e.index) edges))) first ∙ ap (both (Some s.0)) rest ∙ ap Some_list (sym s.4)
-  where
-    Some_list : List TreeMap → Option (List TreeMap)
-    Some_list xs = Some xs
+    let first = output_mono (f d.vertex) (g d.vertex) d.index s.0 (λ x. more d.vertex x each.0) s.2 in
+    let rest = inputs_mono P f g more edges each.1 s.1 s.3 in
+    ap (λ o. both o (all_there (map (λ (e : Edge). output_in (g e.vertex) e.index) edges))) first ∙ ap (both (Some s.0)) rest ∙ ap (λ xs. some_of xs) (sym s.4)
 
 -- two accounts that agree on the inputs
 pub inputs_same : (f g : ℕ → Option Ending) (edges : List Edge) → Each_of (λ (e : Edge). f e.vertex ≡ g e.vertex) edges → inputs_from f edges ≡ inputs_from g edges
@@ -82,11 +51,11 @@ inputs_same f g (d ∷ edges) same =
     ap (λ o. both (output_in o d.index) (all_there (map (λ (e : Edge). output_in (f e.vertex) e.index) edges))) same.0
     ∙ ap (both (output_in (g d.vertex) d.index)) (inputs_same f g edges same.1)
 
--- an input that is not there
 both_none : {A : Type 0} (o : Option A) → both o None ≡ None
 both_none None = refl
 both_none (Some x) = refl
 
+-- an input that is not there
 pub inputs_none : (f : ℕ → Option Ending) (edges : List Edge) → Some_of (λ (e : Edge). output_in (f e.vertex) e.index ≡ None) edges → inputs_from f edges ≡ None
 unfolding inputs_from
 inputs_none f [] h = absurd h
@@ -117,21 +86,154 @@ each_below g graph k v there =
     each [] all = tt
     each (e ∷ edges) all = (All-head (LeadsBelow g.vertices k) e edges all, each edges (All-tail (LeadsBelow g.vertices k) e edges all))
 
--- how each vertex ends, by the plain outcomes
-abbrev pub plain : Numbered → ℕ → Option Ending
-plain g k = ending_in (outcome g k)
+-- what ends done, by some account, has as many trees as outputs
+abbrev pub HasOutputs : Numbered → (ℕ → Option Ending) → Type 0
+HasOutputs g f = (j : ℕ) (x : Vertex) (trees : List TreeMap) → slice_get g.vertices j ≡ Some x → f j ≡ Some (Done trees) → length trees ≡ x.outputs
 
--- the outcome of a vertex is its whole program on what its inputs end with
-pub outcome_is : (g : Numbered) → IsGraph g → (k : ℕ) (v : Vertex) → slice_get g.vertices k ≡ Some v → outcome g k ≡ Some (whole (program_of v) (inputs_from (plain g) v.inputs))
-unfolding Next
-outcome_is g graph k v there =
-    let next : Next (outcomes_from [] g.vertices) k v = subst (λ n. Next (outcomes_from [] g.vertices) n v) (zero_add k) (next_at [] g.vertices k v there) in
-    let same = inputs_same (λ j. ending_in (slice_get (take k (outcomes g)) j)) (plain g) v.inputs (lower v.inputs (each_below g graph k v there)) in
-    next ∙ ap (λ ts. Some (whole (program_of v) ts)) same
+-- then an edge has a tree exactly where its vertex is done
+pub edge_there : (g : Numbered) (f : ℕ → Option Ending) → HasOutputs g f → (k : ℕ) → k ≤ length g.vertices → (e : Edge) → LeadsBelow g.vertices k e
+    → is_some (output_in (f e.vertex) e.index) ≡ is_done (f e.vertex)
+edge_there g f counts k fits e leads =
+    let x = get_within g.vertices e.vertex (let lt = leads.lower in omega (arith, lt, fits)) in
+    by_ending x.0 x.1 (f e.vertex) refl
   where
-    zero_add : (n : ℕ) → 0 + n ≡ n
-    zero_add n = omega arith
+    by_ending : (x : Vertex) → slice_get g.vertices e.vertex ≡ Some x → (o : Option Ending) → f e.vertex ≡ o → is_some (output_in o e.index) ≡ is_done o
+    by_ending x there None is = refl
+    by_ending x there (Some (Failed h)) is = refl
+    by_ending x there (Some (Done trees)) is =
+        let size = counts e.vertex x trees there is in
+        let index : e.index < x.outputs = subst (λ (y : Vertex). e.index < y.outputs) (get_or_from_slice_get g.vertices e.vertex x x there) (leads.index x) in
+        let t = get_within trees e.index (omega (arith, size, index)) in
+        ap is_some t.1
 
-    lower : (edges : List Edge) → Each_of (LeadsBelow g.vertices k) edges → Each_of (λ (e : Edge). ending_in (slice_get (take k (outcomes g)) e.vertex) ≡ plain g e.vertex) edges
-    lower [] each = tt
-    lower (e ∷ edges) each = (ap ending_in (get_take (outcomes g) k e.vertex each.0.lower), lower edges each.1)
+pub inputs_there : (g : Numbered) (f : ℕ → Option Ending) → HasOutputs g f → (k : ℕ) → k ≤ length g.vertices → (edges : List Edge) → Each_of (LeadsBelow g.vertices k) edges
+    → is_some (inputs_from f edges) ≡ list_all (λ (e : Edge). is_done (f e.vertex)) edges
+unfolding inputs_from
+inputs_there g f counts k fits [] each = refl
+inputs_there g f counts k fits (e ∷ edges) each =
+    both_there (output_in (f e.vertex) e.index) (inputs_from f edges) ∙ (λ i. edge_there g f counts k fits e each.0 i && inputs_there g f counts k fits edges each.1 i)
+  where
+    both_there : {A : Type 0} (o : Option A) (r : Option (List A)) → is_some (both o r) ≡ (is_some o && is_some r)
+    both_there (Some x) (Some xs) = refl
+    both_there (Some x) None = refl
+    both_there None r = refl
+
+-- ---- outcomes
+
+-- how each vertex ends, by the plain outcomes
+abbrev pub plain : Build → ℕ → Option Ending
+plain b k = ending_in (outcome b k)
+
+module _ (b : Build) (graph : IsGraph b.graph) where
+  -- the outcome of a vertex is its whole program on what its inputs end with
+  pub outcome_is : (k : ℕ) (v : Vertex) → slice_get b.graph.vertices k ≡ Some v → outcome b k ≡ Some (outcome_on b v (inputs_from (plain b) v.inputs))
+  outcome_is k v there =
+      by_number_is (next_outcome b) b.graph.vertices k v there
+      ∙ ap (λ ts. some_of (outcome_on b v ts)) (inputs_same (λ j. ending_in (slice_get (take k (outcomes b)) j)) (plain b) v.inputs (lower v.inputs (each_below b.graph graph k v there)))
+    where
+      lower : (edges : List Edge) → Each_of (LeadsBelow b.graph.vertices k) edges → Each_of (λ (e : Edge). ending_in (slice_get (take k (outcomes b)) e.vertex) ≡ plain b e.vertex) edges
+      lower [] each = tt
+      lower (e ∷ edges) each = (ap ending_in (get_take (outcomes b) k e.vertex each.0.lower), lower edges each.1)
+
+  -- ---- plain vertices
+
+  -- the vertices that a plain one's edges lead to are plain
+  pub plain_inputs : (k : ℕ) (v : Vertex) → slice_get b.graph.vertices k ≡ Some v → is_plain b k ≡ true → Each_of (λ (e : Edge). is_plain b e.vertex ≡ true) v.inputs
+  plain_inputs k v there is =
+      each v.inputs (each_below b.graph graph k v there)
+      (and_parts (not (has_cache v)) (list_all front v.inputs) (sym (ap (λ o. unwrap_or o false) (by_number_is next_plain b.graph.vertices k v there)) ∙ is)).1
+    where
+      front : Edge → Bool
+      front e = unwrap_or (slice_get (take k (by_number next_plain [] b.graph.vertices)) e.vertex) false
+
+      each : (edges : List Edge) → Each_of (LeadsBelow b.graph.vertices k) edges → list_all front edges ≡ true → Each_of (λ (e : Edge). is_plain b e.vertex ≡ true) edges
+      each [] leads all = tt
+      each (e ∷ edges) leads all =
+          let a = and_parts (front e) (list_all front edges) all in
+          (ap (λ o. unwrap_or o false) (sym (get_take (by_number next_plain [] b.graph.vertices) k e.vertex leads.0.lower)) ∙ a.0, each edges leads.1 a.1)
+
+  AllPlain : ℕ → Type 0
+  AllPlain n = (k : ℕ) → k < n → k < length b.graph.vertices → is_plain b k ≡ true
+
+  plain_below : (n : ℕ) → AllPlain n
+  unfolding AllPlain
+  plain_below zero k lt fits = absurd (omega arith)
+  plain_below (suc n) k lt fits =
+      let v = get_within b.graph.vertices k fits in
+      ap (λ o. unwrap_or o false) (by_number_is next_plain b.graph.vertices k v.0 v.1)
+      ∙ all v.0.inputs (each_below b.graph graph k v.0 v.1) (λ j low. plain_below n j (omega arith) (omega arith))
+    where
+      all : (edges : List Edge) → Each_of (LeadsBelow b.graph.vertices k) edges → ((j : ℕ) → j < k → is_plain b j ≡ true)
+          → list_all (λ (e : Edge). unwrap_or (slice_get (take k (by_number next_plain [] b.graph.vertices)) e.vertex) false) edges ≡ true
+      all [] leads below = refl
+      all (e ∷ edges) leads below =
+          let first = ap (λ o. unwrap_or o false) (get_take (by_number next_plain [] b.graph.vertices) k e.vertex leads.0.lower) ∙ below e.vertex leads.0.lower in
+          (λ i. first i && all edges leads.1 below i)
+
+  -- no vertex has a cache yet
+  pub all_plain : (k : ℕ) → k < length b.graph.vertices → is_plain b k ≡ true
+  unfolding AllPlain
+  all_plain k lt = plain_below (suc k) k (omega arith) lt
+
+-- ---- the number of outputs
+
+outputs_count : (p : Program) (view : View) → length (outputs_of p view) ≡ p.outputs
+unfolding outputs_of
+outputs_count p (Files inputs results) = length-map-range_with_len (λ i. result_for i p.steps results) 0 p.outputs
+
+pub ended_count : (p : Program) (view : View) (fault : Option VertexFault) (trees : List TreeMap) → ended p view fault ≡ Done trees → length trees ≡ p.outputs
+ended_count p view None trees e = let same : outputs_of p view ≡ trees = cc in ap length (sym same) ∙ outputs_count p view
+ended_count p view (Some f) trees e = absurd cc
+
+outcome_count : (b : Build) (v : Vertex) (o : Option (List TreeMap)) (trees : List TreeMap) → ending_in (Some (outcome_on b v o)) ≡ Some (Done trees) → length trees ≡ v.outputs
+outcome_count b v None trees e = absurd cc
+outcome_count b v (Some ts) trees e =
+    let left = whole (program_of v).steps (begin b (start_with v ts) []) in
+    ended_count (program_of v) left.work.own left.fault trees (inside e)
+
+pub plain_count : (b : Build) → IsGraph b.graph → HasOutputs b.graph (plain b)
+plain_count b graph k v trees there is = outcome_count b v (inputs_from (plain b) v.inputs) trees (sym (ap ending_in (outcome_is b graph k v there)) ∙ is)
+
+-- ---- where a vertex is not done, one has failed
+
+-- a vertex at or before one fails
+pub record FailsBy (b : Build) (k : ℕ) : Type 0 where
+  pub vertex : ℕ
+  pub before : vertex ≤ k
+  pub fault : VertexFault
+  pub failed : outcome b vertex ≡ Some (Ended (Failed fault))
+
+module _ (b : Build) (graph : IsGraph b.graph) where
+  FailsBelow : ℕ → Type 0
+  FailsBelow n = (k : ℕ) → k < n → k < length b.graph.vertices → is_done (plain b k) ≡ false → FailsBy b k
+
+  fails_below : (n : ℕ) → FailsBelow n
+  unfolding FailsBelow
+  fails_below zero k lt fits undone = absurd (omega arith)
+  fails_below (suc n) k lt fits undone =
+      let v = get_within b.graph.vertices k fits in
+      by_inputs v.0 v.1 (inputs_from (plain b) v.0.inputs) refl (λ j low. fails_below n j (omega arith) (omega arith))
+    where
+      by_ending : (e : Ending) → outcome b k ≡ Some (Ended e) → FailsBy b k
+      by_ending (Failed f) is = record { vertex = k; before = omega arith; fault = f; failed = is }
+      by_ending (Done trees) is = let done : is_done (plain b k) ≡ true = ap (λ o. is_done (ending_in o)) is in absurd cc
+
+      by_inputs : (v : Vertex) → slice_get b.graph.vertices k ≡ Some v → (o : Option (List TreeMap)) → inputs_from (plain b) v.inputs ≡ o
+          → ((j : ℕ) → j < k → is_done (plain b j) ≡ false → FailsBy b j) → FailsBy b k
+      by_inputs v there (Some ts) is below =
+          by_ending (ending (program_of v) (whole (program_of v).steps (begin b (start_with v ts) []))) (outcome_is b graph k v there ∙ ap (λ o. some_of (outcome_on b v o)) is)
+      by_inputs v there None is below =
+          some_with (λ (e : Edge). output_in (plain b e.vertex) e.index ≡ None) (LeadsBelow b.graph.vertices k) (FailsBy b k) v.inputs
+          (none_in_inputs (plain b) v.inputs is) (each_below b.graph graph k v there) (λ e none leads.
+          let f = below e.vertex leads.lower (sym (edge_there b.graph (plain b) (plain_count b graph) k (omega (arith, fits)) e leads) ∙ ap is_some none) in
+          record { vertex = f.vertex; before = omega (arith, f.before, leads.lower); fault = f.fault; failed = f.failed })
+
+  pub some_failed : (k : ℕ) → k < length b.graph.vertices → is_done (plain b k) ≡ false → FailsBy b k
+  unfolding FailsBelow
+  some_failed k fits undone = fails_below (suc k) k (omega arith) fits undone
+
+  -- the output that the graph names as its result is no tree only where a vertex fails
+  pub result_failed : output_in (plain b b.graph.result.vertex) b.graph.result.index ≡ None → FailsBy b b.graph.result.vertex
+  result_failed none =
+      some_failed b.graph.result.vertex graph.result.lower
+      (sym (edge_there b.graph (plain b) (plain_count b graph) (length b.graph.vertices) (omega arith) b.graph.result graph.result) ∙ ap is_some none)

@@ -1,6 +1,13 @@
 pub mod Action
+pub mod ByNumber
 pub mod Program
 pub mod Outcome
 pub mod State
+pub mod ClaimCause
+pub mod StepCause
+pub mod SettleCause
 pub mod Table
 pub mod Run
+pub mod Room
+pub mod Consistent
+pub mod Plain

@@ -1,11 +1,12 @@
--- The plain outcome of a vertex, which no order of events can change.
-use Rattle.std.specs.Prelude.{ℕ, List, [], ◌∷◌, ◌++◌, length, map, Option, Some, None, slice_get}
-use Rattle.llb_loader.specs.Graph.{Numbered}
+-- The plain outcome of a vertex, which no order of events can change where no cache mount is at or before it.
+use Rattle.std.specs.Prelude.{ℕ, Bool, false, not, ◌&&◌, List, [], ◌∷◌, map, Option, Some, None, unwrap_or, slice_get}
+use Rattle.std.specs.List.{list_all}
 use Rattle.llb_loader.specs.declared.graph.Edge.{Edge}
 use Rattle.llb_loader.specs.declared.graph.Vertex.{Vertex}
 use Rattle.llb_tree.specs.Tree.{TreeMap}
 use Rattle.llb_model.specs.declared.fault.VertexFault.{VertexFault}
-use Rattle.llb_model.specs.Program.{Program, View, program_of, view_on, part, outputs_of}
+use Rattle.llb_model.specs.ByNumber.{by_number}
+use Rattle.llb_model.specs.Program.{Build, Program, View, Left, start_with, program_of, begin, whole, outputs_of}
 
 -- how a vertex ends: with its outputs, or with its first fault
 pub data Ending : Type 0 where
@@ -17,10 +18,13 @@ pub data Outcome : Type 0 where
   Ended : Ending → Outcome
   Blocked : Outcome
 
+abbrev pub ended : Program → View → Option VertexFault → Ending
+ended p view None = Done (outputs_of p view)
+ended p view (Some f) = Failed f
+
 -- from what its micro-steps left
-abbrev pub ending : Program → View × Option VertexFault → Ending
-ending p (view, None) = Done (outputs_of p view)
-ending p (view, Some f) = Failed f
+abbrev pub ending : Program → Left → Ending
+ending p left = ended p left.work.own left.fault
 
 abbrev pub output_in : Option Ending → ℕ → Option TreeMap
 output_in (Some (Done trees)) i = slice_get trees i
@@ -42,9 +46,9 @@ unfoldable pub inputs_from : (ℕ → Option Ending) → List Edge → Option (L
 inputs_from ending_of edges = all_there (map (λ (e : Edge). output_in (ending_of e.vertex) e.index) edges)
 
 -- the whole program on the trees of the inputs
-abbrev pub whole : Program → Option (List TreeMap) → Outcome
-whole p None = Blocked
-whole p (Some trees) = Ended (ending p (part p (view_on trees) (length p.steps)))
+abbrev pub outcome_on : Build → Vertex → Option (List TreeMap) → Outcome
+outcome_on b v None = Blocked
+outcome_on b v (Some trees) = Ended (ending (program_of v) (whole (program_of v).steps (begin b (start_with v trees) [])))
 
 abbrev pub ending_in : Option Outcome → Option Ending
 ending_in (Some (Ended e)) = Some e
@@ -52,16 +56,24 @@ ending_in (Some Blocked) = None
 ending_in None = None
 
 -- from the outcomes of the vertices below
-abbrev pub next_outcome : List Outcome → Vertex → Outcome
-next_outcome before v = whole (program_of v) (inputs_from (λ k. ending_in (slice_get before k)) v.inputs)
-
-abbrev pub outcomes_from : List Outcome → List Vertex → List Outcome
-outcomes_from before [] = before
-outcomes_from before (v ∷ vs) = outcomes_from (before ++ next_outcome before v ∷ []) vs
+abbrev pub next_outcome : Build → List Outcome → Vertex → Outcome
+next_outcome b before v = outcome_on b v (inputs_from (λ k. ending_in (slice_get before k)) v.inputs)
 
 -- the outcomes of all vertices, by number
-abbrev pub outcomes : Numbered → List Outcome
-outcomes g = outcomes_from [] g.vertices
+abbrev pub outcomes : Build → List Outcome
+outcomes b = by_number (next_outcome b) [] b.graph.vertices
 
-abbrev pub outcome : Numbered → ℕ → Option Outcome
-outcome g v = slice_get (outcomes g) v
+abbrev pub outcome : Build → ℕ → Option Outcome
+outcome b v = slice_get (outcomes b) v
+
+-- whether a vertex mounts a cache, which none does yet
+abbrev pub has_cache : Vertex → Bool
+has_cache v = false
+
+-- neither it nor a vertex that an edge of it leads to has a cache before it
+abbrev pub next_plain : List Bool → Vertex → Bool
+next_plain before v = not (has_cache v) && list_all (λ (e : Edge). unwrap_or (slice_get before e.vertex) false) v.inputs
+
+-- whether no cache mount is at or before a vertex
+abbrev pub is_plain : Build → ℕ → Bool
+is_plain b v = unwrap_or (slice_get (by_number next_plain [] b.graph.vertices) v) false

@@ -1,12 +1,9 @@
 -- Whole runs: the fold of the table over events; the event that a driver chooses; when all is done.
-use Rattle.std.specs.Prelude.{◌≡◌, ℕ, zero, suc, ◌+◌, ◌<◌, Bool, true, false, ◌||◌, ◌&&◌, List, [], ◌∷◌, length, Option, Some, None, option_map, slice_get, if◌then◌else◌}
-use Rattle.std.specs.List.{sum_by}
-use Rattle.llb_loader.specs.Graph.{Numbered}
-use Rattle.llb_loader.specs.declared.graph.Vertex.{Vertex}
-use Rattle.llb_model.specs.Program.{program_of}
+use Rattle.std.specs.Prelude.{◌≡◌, ℕ, zero, suc, ◌+◌, ◌<◌, ◌==◌, Bool, true, false, ◌||◌, ◌&&◌, List, [], ◌∷◌, length, count_by, Option, Some, None, option_map, slice_get, if◌then◌else◌}
+use Rattle.llb_model.specs.Program.{Build}
 use Rattle.llb_model.specs.Outcome.{Outcome, Ended, Blocked}
 use Rattle.llb_model.specs.State.{Status, Waiting, Running, Settled, At, Idle, Runs, State, is_ready, is_blocked, is_finished, program_in}
-use Rattle.llb_model.specs.Table.{Event, Claim, Step, Settle, Reply, table}
+use Rattle.llb_model.specs.Table.{Event, Claim, Step, Settle, Reply, worker_of, table}
 
 -- a run goes on from what an event gives, with its reply in front
 abbrev pub after : Option (State × Reply) → (State → Option (State × List Reply)) → Option (State × List Reply)
@@ -14,15 +11,19 @@ after None go = None
 after (Some (s, r)) go = option_map (λ (t : State × List Reply). (t.0, r ∷ t.1)) (go s)
 
 -- the state and the replies after events, each of which is granted
-unfoldable pub run : Numbered → State → List Event → Option (State × List Reply)
-run g s [] = Some (s, [])
-run g s (e ∷ es) = after (table g s e) (λ t. run g t es)
+unfoldable pub run : Build → State → List Event → Option (State × List Reply)
+run b s [] = Some (s, [])
+run b s (e ∷ es) = after (table b s e) (λ t. run b t es)
+
+-- how many of the events are a worker's
+abbrev pub events_by : ℕ → List Event → ℕ
+events_by w es = count_by (λ e. worker_of e == w) es
 
 -- the next event of the lowest running worker, from a worker on
-abbrev pub next_of : Numbered → ℕ → List At → Option Event
-next_of g w [] = None
-next_of g w (Idle ∷ workers) = next_of g (w + 1) workers
-next_of g w (Runs x ∷ workers) = Some (if is_finished (program_in g x).steps x then Settle w else Step w)
+abbrev pub next_of : Build → ℕ → List At → Option Event
+next_of b w [] = None
+next_of b w (Idle ∷ workers) = next_of b (w + 1) workers
+next_of b w (Runs x ∷ workers) = Some (if is_finished (program_in b x).steps x then Settle w else Step w)
 
 -- the least of so many numbers from one on that passes a test
 abbrev pub least : (ℕ → Bool) → ℕ → ℕ → Option ℕ
@@ -30,16 +31,16 @@ least test v zero = None
 least test v (suc n) = if test v then Some v else least test (v + 1) n
 
 -- worker 0 claims the least Ready vertex
-abbrev pub next_claim : Numbered → State → Option Event
-next_claim g s = option_map (λ v. Claim 0 v) (least (is_ready g s.statuses) 0 (length g.vertices))
+abbrev pub next_claim : Build → State → Option Event
+next_claim b s = option_map (λ v. Claim 0 v) (least (is_ready b s.statuses) 0 (length b.graph.vertices))
 
 abbrev pub or_else : Option Event → Option Event → Option Event
 or_else (Some e) other = Some e
 or_else None other = other
 
 -- the event that a driver chooses
-abbrev pub chosen : Numbered → State → Option Event
-chosen g s = or_else (next_of g 0 s.workers) (next_claim g s)
+abbrev pub chosen : Build → State → Option Event
+chosen b s = or_else (next_of b 0 s.workers) (next_claim b s)
 
 abbrev pub is_settled : Option Status → Bool
 is_settled (Some (Settled e)) = true
@@ -53,16 +54,8 @@ each test v zero = true
 each test v (suc n) = test v && each test (v + 1) n
 
 -- nothing runs any more: every vertex is done, failed or blocked
-abbrev pub is_complete : Numbered → State → Bool
-is_complete g s = each (λ v. is_settled (slice_get s.statuses v) || is_blocked g s.statuses v) 0 (length g.vertices)
-
--- the most events that a vertex can take: its claim, its micro-steps, its settle
-abbrev pub events_of : Vertex → ℕ
-events_of v = length (program_of v).steps + 2
-
--- the most events of a whole run
-abbrev pub most_events : Numbered → ℕ
-most_events g = sum_by events_of g.vertices
+abbrev pub is_complete : Build → State → Bool
+is_complete b s = each (λ v. is_settled (slice_get s.statuses v) || is_blocked b s.statuses v) 0 (length b.graph.vertices)
 
 -- the vertices that were claimed, in order
 abbrev pub claims_of : List Event → List ℕ

@@ -1,12 +1,12 @@
 -- The state of the machine, and the tests on it.
-use Rattle.std.specs.Prelude.{ℕ, Bool, true, false, ◌&&◌, ◌||◌, List, [], ◌∷◌, ◌++◌, length, Option, Some, None, is_some, option_map, unwrap_or, slice_get, nat_le, replicate}
+use Rattle.std.specs.Prelude.{ℕ, Bool, true, false, ◌&&◌, ◌||◌, List, [], length, Option, Some, None, is_some, option_map, unwrap_or, slice_get, nat_le, replicate, if◌then◌else◌}
 use Rattle.std.specs.List.{list_any}
-use Rattle.llb_loader.specs.Graph.{Numbered}
 use Rattle.llb_loader.specs.declared.graph.Edge.{Edge}
 use Rattle.llb_loader.specs.declared.graph.Vertex.{Vertex}
 use Rattle.llb_model.specs.declared.fault.VertexFault.{VertexFault}
-use Rattle.llb_model.specs.Program.{MicroStep, Program, View, program_at, view_on}
-use Rattle.llb_model.specs.Outcome.{Ending, Done, Failed, ending, inputs_from}
+use Rattle.llb_model.specs.ByNumber.{by_number}
+use Rattle.llb_model.specs.Program.{Build, MicroStep, Program, View, Work, Start, start_with, program_at}
+use Rattle.llb_model.specs.Outcome.{Ending, Done, Failed, ended, inputs_from}
 
 -- of a vertex
 pub data Status : Type 0 where
@@ -19,7 +19,7 @@ pub record Execution : Type 0 where
   pub vertex : ℕ
   pub done : ℕ
   pub fault : Option VertexFault
-  pub view : View
+  pub own : View
 
 -- of a worker
 pub data At : Type 0 where
@@ -30,9 +30,13 @@ pub record State : Type 0 where
   pub statuses : List Status
   pub workers : List At
 
+-- what a machine is opened with beside the build
+pub record Opening : Type 0 where
+  pub workers : ℕ
+
 -- all vertices wait, and so many workers are idle
-abbrev pub opening : Numbered → ℕ → State
-opening g workers = record { statuses = replicate (length g.vertices) Waiting; workers = replicate workers Idle }
+abbrev pub opening : Build → Opening → State
+opening b o = record { statuses = replicate (length b.graph.vertices) Waiting; workers = replicate o.workers Idle }
 
 abbrev pub ending_of : Option Status → Option Ending
 ending_of (Some (Settled e)) = Some e
@@ -43,25 +47,30 @@ ending_of None = None
 abbrev pub ending_at : List Status → ℕ → Option Ending
 ending_at statuses v = ending_of (slice_get statuses v)
 
-abbrev pub view_from : List Status → Option Status → Option Vertex → Option View
-view_from statuses (Some Waiting) (Some v) = option_map view_on (inputs_from (ending_at statuses) v.inputs)
-view_from statuses (Some Waiting) None = None
-view_from statuses (Some (Running w)) v = None
-view_from statuses (Some (Settled e)) v = None
-view_from statuses None v = None
+abbrev pub start_from : List Status → Option Status → Option Vertex → Option Start
+start_from statuses (Some Waiting) (Some v) = option_map (start_with v) (inputs_from (ending_at statuses) v.inputs)
+start_from statuses (Some Waiting) None = None
+start_from statuses (Some (Running w)) v = None
+start_from statuses (Some (Settled e)) v = None
+start_from statuses None v = None
 
--- what a Ready vertex begins with: it waits, and all its inputs are there
-abbrev pub ready_view : Numbered → List Status → ℕ → Option View
-ready_view g statuses v = view_from statuses (slice_get statuses v) (slice_get g.vertices v)
+-- what a Ready vertex begins with: it waits, and the trees of all its inputs are there
+abbrev pub ready : Build → List Status → ℕ → Option Start
+ready b statuses v = start_from statuses (slice_get statuses v) (slice_get b.graph.vertices v)
 
-abbrev pub is_ready : Numbered → List Status → ℕ → Bool
-is_ready g statuses v = is_some (ready_view g statuses v)
+abbrev pub is_ready : Build → List Status → ℕ → Bool
+is_ready b statuses v = is_some (ready b statuses v)
 
 abbrev pub is_waiting : Option Status → Bool
 is_waiting (Some Waiting) = true
 is_waiting (Some (Running w)) = false
 is_waiting (Some (Settled e)) = false
 is_waiting None = false
+
+abbrev pub is_done : Option Ending → Bool
+is_done (Some (Done trees)) = true
+is_done (Some (Failed f)) = false
+is_done None = false
 
 abbrev pub is_failed : Option Ending → Bool
 is_failed (Some (Failed f)) = true
@@ -73,17 +82,13 @@ abbrev pub next_stopped : List Status → List Bool → Vertex → Bool
 next_stopped statuses before v =
     is_failed (ending_at statuses (length before)) || list_any (λ (e : Edge). unwrap_or (slice_get before e.vertex) false) v.inputs
 
-abbrev pub stopped_from : List Status → List Bool → List Vertex → List Bool
-stopped_from statuses before [] = before
-stopped_from statuses before (v ∷ vs) = stopped_from statuses (before ++ next_stopped statuses before v ∷ []) vs
-
 -- of each vertex, by number
-abbrev pub stopped : Numbered → List Status → List Bool
-stopped g statuses = stopped_from statuses [] g.vertices
+abbrev pub stopped : Build → List Status → List Bool
+stopped b statuses = by_number (next_stopped statuses) [] b.graph.vertices
 
 -- a vertex waits behind one that has failed
-abbrev pub is_blocked : Numbered → List Status → ℕ → Bool
-is_blocked g statuses v = is_waiting (slice_get statuses v) && unwrap_or (slice_get (stopped g statuses) v) false
+abbrev pub is_blocked : Build → List Status → ℕ → Bool
+is_blocked b statuses v = is_waiting (slice_get statuses v) && unwrap_or (slice_get (stopped b statuses) v) false
 
 -- what a worker runs, if anything
 abbrev pub runs : Option At → Option Execution
@@ -91,13 +96,21 @@ runs (Some (Runs x)) = Some x
 runs (Some Idle) = None
 runs None = None
 
-abbrev pub program_in : Numbered → Execution → Program
-program_in g x = program_at (slice_get g.vertices x.vertex)
+abbrev pub program_in : Build → Execution → Program
+program_in b x = program_at (slice_get b.graph.vertices x.vertex)
+
+-- what an execution works on, with the trees of the instances that it holds as they are now
+abbrev pub work_of : State → Execution → Work
+work_of s x = record { own = x.own; trees = [] }
 
 -- after its first fault, or the last of its micro-steps
 abbrev pub is_finished : List MicroStep → Execution → Bool
 is_finished steps x = is_some x.fault || nat_le (length steps) x.done
 
+-- the micro-step that comes next, of an execution that is not finished
+abbrev pub next_step : List MicroStep → Execution → Option MicroStep
+next_step steps x = if is_finished steps x then None else slice_get steps x.done
+
 -- how a finished execution ends
 abbrev pub ending_from : Program → Execution → Ending
-ending_from p x = ending p (x.view, x.fault)
+ending_from p x = ended p x.own x.fault

@@ -1,10 +1,14 @@
--- The transition table: which event is granted in a state, the state after it, and its reply.
-use Rattle.std.specs.Prelude.{ℕ, ◌+◌, List, Option, Some, None, slice_get, slice_set, if◌then◌else◌}
-use Rattle.llb_loader.specs.Graph.{Numbered}
+-- The transition table: which event is granted in a state, the state after it, and its reply; else the first cause.
+use Rattle.std.specs.Prelude.{ℕ, ◌+◌, List, [], Option, Some, None, slice_get, slice_set, Result, Ok, Err, if◌then◌else◌}
+use Rattle.std.specs.Result.{result_ok}
+use Rattle.llb_loader.specs.declared.graph.Vertex.{Vertex}
 use Rattle.llb_model.specs.declared.fault.VertexFault.{VertexFault}
-use Rattle.llb_model.specs.Program.{MicroStep, Program, View, program_at, step_on}
+use Rattle.llb_model.specs.Program.{Build, MicroStep, Act, Program, Work, Left, Start, program_of, begin, step_on}
 use Rattle.llb_model.specs.Outcome.{Ending, Done, Failed}
-use Rattle.llb_model.specs.State.{Running, Settled, Execution, At, Idle, Runs, State, ready_view, runs, program_in, is_finished, ending_from}
+use Rattle.llb_model.specs.State.{Status, Running, Settled, Execution, At, Idle, Runs, State, start_from, program_in, work_of, is_finished, next_step, ending_from}
+use Rattle.llb_model.specs.ClaimCause as claim
+use Rattle.llb_model.specs.StepCause as step
+use Rattle.llb_model.specs.SettleCause as settle
 
 -- a worker claims a vertex, does the next micro-step of what it runs, ends what it runs
 pub data Event : Type 0 where
@@ -12,13 +16,18 @@ pub data Event : Type 0 where
   Step : ℕ → Event
   Settle : ℕ → Event
 
+abbrev pub worker_of : Event → ℕ
+worker_of (Claim w v) = w
+worker_of (Step w) = w
+worker_of (Settle w) = w
+
 -- what a worker is to do
 pub record Job : Type 0 where
   pub worker : ℕ
   pub vertex : ℕ
   pub program : Program
   pub done : ℕ
-  pub view : View
+  pub work : Work
 
 pub data Reply : Type 0 where
   Claimed : Job → Reply
@@ -27,56 +36,94 @@ pub data Reply : Type 0 where
   SettledDone : ℕ → Reply
   SettledFailed : ℕ → Reply
 
+-- ---- a claim
+
+abbrev pub or_not_ready : {A : Type 0} → Option A → Result A claim.ClaimCause
+or_not_ready (Some x) = Ok x
+or_not_ready None = Err claim.NotReady
+
+-- what a claim begins with: the worker is idle and the vertex Ready
+abbrev pub claim_start : List Status → ℕ → Option At → Option Vertex → Result Start claim.ClaimCause
+claim_start statuses v None vertex = Err claim.NoWorker
+claim_start statuses v (Some (Runs x)) vertex = Err claim.Busy
+claim_start statuses v (Some Idle) None = Err claim.NoVertex
+claim_start statuses v (Some Idle) (Some vertex) = or_not_ready (start_from statuses (slice_get statuses v) (Some vertex))
+
 -- a worker that has not yet done anything of a vertex
-abbrev pub execution_on : ℕ → View → Execution
-execution_on v view = record { vertex = v; done = 0; fault = None; view = view }
+abbrev pub execution_on : ℕ → Work → Execution
+execution_on v work = record { vertex = v; done = 0; fault = None; own = work.own }
 
-abbrev pub job_on : Numbered → ℕ → ℕ → View → Job
-job_on g w v view = record { worker = w; vertex = v; program = program_at (slice_get g.vertices v); done = 0; view = view }
+abbrev pub job_on : ℕ → ℕ → Vertex → Work → Job
+job_on w v vertex work = record { worker = w; vertex = v; program = program_of vertex; done = 0; work = work }
 
-abbrev pub after_claim : State → ℕ → ℕ → View → State
-after_claim s w v view = record { statuses = slice_set s.statuses v (Running w); workers = slice_set s.workers w (Runs (execution_on v view)) }
+abbrev pub after_claim : State → ℕ → ℕ → Work → State
+after_claim s w v work = record s { statuses = slice_set s.statuses v (Running w); workers = slice_set s.workers w (Runs (execution_on v work)) }
 
--- granted to an idle worker where the vertex is Ready
-abbrev pub claimed : Numbered → State → ℕ → ℕ → Option At → Option View → Option (State × Reply)
-claimed g s w v (Some Idle) (Some view) = Some (after_claim s w v view, Claimed (job_on g w v view))
-claimed g s w v (Some Idle) None = None
-claimed g s w v (Some (Runs x)) view = None
-claimed g s w v None view = None
+abbrev pub claim_with : State → ℕ → ℕ → Vertex → Work → State × Reply
+claim_with s w v vertex work = (after_claim s w v work, Claimed (job_on w v vertex work))
 
--- the next micro-step of an execution
-abbrev pub step_of : List MicroStep → Execution → View × Option VertexFault
-step_of steps x = step_on x.done (slice_get steps x.done) x.view
+abbrev pub claimed : Build → State → ℕ → ℕ → Result Start claim.ClaimCause → Result (State × Reply) claim.ClaimCause
+claimed b s w v (Ok start) = Ok (claim_with s w v start.vertex (begin b start []))
+claimed b s w v (Err cause) = Err cause
+
+abbrev pub claim_grant : Build → State → ℕ → ℕ → Result (State × Reply) claim.ClaimCause
+claim_grant b s w v = claimed b s w v (claim_start s.statuses v (slice_get s.workers w) (slice_get b.graph.vertices v))
+
+-- ---- a step
 
 -- one micro-step more is done
-abbrev pub with_step : Execution → View × Option VertexFault → Execution
-with_step x after = record { vertex = x.vertex; done = x.done + 1; fault = after.1; view = after.0 }
+abbrev pub with_step : Execution → Left → Execution
+with_step x left = record x { done = x.done + 1; fault = left.fault; own = left.work.own }
 
-abbrev pub step_reply : ℕ → Option VertexFault → Reply
-step_reply k None = Acted k
-step_reply k (Some f) = Faulted f
+-- by the micro-step that was done
+abbrev pub step_reply : ℕ → MicroStep → Option VertexFault → Reply
+step_reply k (Act action) None = Acted k
+step_reply k (Act action) (Some f) = Faulted f
 
-abbrev pub after_step : State → ℕ → Execution → State
-after_step s w x = record { statuses = s.statuses; workers = slice_set s.workers w (Runs x) }
+abbrev pub after_step : State → ℕ → Execution → Left → State
+after_step s w x left = record s { workers = slice_set s.workers w (Runs (with_step x left)) }
 
--- granted where the worker runs a vertex that is not finished
-abbrev pub stepped : Numbered → State → ℕ → Option Execution → Option (State × Reply)
-stepped g s w None = None
-stepped g s w (Some x) = if is_finished (program_in g x).steps x then None else Some (after_step s w (with_step x (step_of (program_in g x).steps x)), step_reply x.done (step_of (program_in g x).steps x).1)
+abbrev pub step_by : State → ℕ → Execution → MicroStep → Left → State × Reply
+step_by s w x m left = (after_step s w x left, step_reply x.done m left.fault)
+
+abbrev pub step_with : State → ℕ → Execution → Option MicroStep → Result (State × Reply) step.StepCause
+step_with s w x None = Err step.NothingLeft
+step_with s w x (Some m) = Ok (step_by s w x m (step_on x.done (Some m) (work_of s x)))
+
+-- the next micro-step of what the worker runs
+abbrev pub stepped : Build → State → ℕ → Option At → Result (State × Reply) step.StepCause
+stepped b s w None = Err step.NoWorker
+stepped b s w (Some Idle) = Err step.NotRunning
+stepped b s w (Some (Runs x)) = step_with s w x (next_step (program_in b x).steps x)
+
+abbrev pub step_grant : Build → State → ℕ → Result (State × Reply) step.StepCause
+step_grant b s w = stepped b s w (slice_get s.workers w)
+
+-- ---- a settle
 
 abbrev pub settle_reply : ℕ → Ending → Reply
 settle_reply v (Done trees) = SettledDone v
 settle_reply v (Failed f) = SettledFailed v
 
 abbrev pub after_settle : State → ℕ → ℕ → Ending → State
-after_settle s w v e = record { statuses = slice_set s.statuses v (Settled e); workers = slice_set s.workers w Idle }
+after_settle s w v e = record s { statuses = slice_set s.statuses v (Settled e); workers = slice_set s.workers w Idle }
 
--- granted where the worker runs a finished vertex
-abbrev pub settled : Numbered → State → ℕ → Option Execution → Option (State × Reply)
-settled g s w None = None
-settled g s w (Some x) = if is_finished (program_in g x).steps x then Some (after_settle s w x.vertex (ending_from (program_in g x) x), settle_reply x.vertex (ending_from (program_in g x) x)) else None
+abbrev pub settle_with : State → ℕ → ℕ → Ending → State × Reply
+settle_with s w v e = (after_settle s w v e, settle_reply v e)
 
-unfoldable pub table : Numbered → State → Event → Option (State × Reply)
-table g s (Claim w v) = claimed g s w v (slice_get s.workers w) (ready_view g s.statuses v)
-table g s (Step w) = stepped g s w (runs (slice_get s.workers w))
-table g s (Settle w) = settled g s w (runs (slice_get s.workers w))
+-- the worker ends what it runs, which is finished
+abbrev pub settled : Build → State → ℕ → Option At → Result (State × Reply) settle.SettleCause
+settled b s w None = Err settle.NoWorker
+settled b s w (Some Idle) = Err settle.NotRunning
+settled b s w (Some (Runs x)) =
+    if is_finished (program_in b x).steps x then Ok (settle_with s w x.vertex (ending_from (program_in b x) x)) else Err settle.NotFinished
+
+abbrev pub settle_grant : Build → State → ℕ → Result (State × Reply) settle.SettleCause
+settle_grant b s w = settled b s w (slice_get s.workers w)
+
+-- ---- the table
+
+unfoldable pub table : Build → State → Event → Option (State × Reply)
+table b s (Claim w v) = result_ok (claim_grant b s w v)
+table b s (Step w) = result_ok (step_grant b s w)
+table b s (Settle w) = result_ok (settle_grant b s w)

@@ -1,7 +1,7 @@
 use Rattle.std.proofs.Common.{◌<◌, length, ap, sym, ◌∙◌}
 use Rattle.llb_model.specs.Program.{Act}
 use Rattle.llb_board.proofs.Lists.{length_map}
-use Rattle.llb_board.proofs.Rooms.{counted_at}
+use Rattle.llb_board.proofs.Counted.{counted_at}
 use Rattle.llb_board.proofs.fresh.room.Goals as goal
 
 pub loop-v-preserved : goal.loop-v-preserved

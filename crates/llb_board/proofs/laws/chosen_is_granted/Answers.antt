@@ -8,4 +8,4 @@ pub returns : goal.returns
 returns c =
     let b = c.args.board.now in
     let first = get_within b.state.workers 0 c.has_workers.ensures.some in
-    λ e is. ap is_some (chosen_granted b.graph c.is_graph.ensures b.state e first.0 first.1 is).given
+    λ e is. ap is_some (chosen_granted b.build b.state e first.0 first.1 is).given

@@ -1,7 +1,8 @@
 use Rattle.llb_model.proofs.Complete.{complete_plain}
-use Rattle.llb_board.proofs.Plain.{sound_board}
+use Rattle.llb_board.proofs.Sound.{consistent, plain}
 use Rattle.llb_board.proofs.laws.complete_is_plain.Goals as goal
 
 pub returns : goal.returns
 returns c =
-    λ complete v lt. complete_plain c.args.board.now.graph c.is_graph.ensures c.args.board.now.state (sound_board c.args.board.now c.is_graph.ensures c.replays.ensures) complete v lt
+    let b = c.args.board.now in
+    λ complete v low. complete_plain b.build c.is_graph.ensures b.state (consistent b c.replays.ensures) (plain b c.is_graph.ensures c.replays.ensures) complete v low

@@ -1,0 +1,21 @@
+use Rattle.std.proofs.Common.{sym}
+use Rattle.llb_board.specs.Views.{look, status_of}
+use Rattle.llb_board.proofs.board.look.Goals as goal
+
+pub returns-then-ready : goal.returns-then-ready
+returns-then-ready c = λ i. look (sym c.if-ready.true i) c.args.behind (status_of (sym c.in-Waiting.is i))
+
+pub returns-then-behind : goal.returns-then-behind
+returns-then-behind c = λ i. look (sym c.if-ready.false i) (sym c.if-behind.true i) (status_of (sym c.in-Waiting.is i))
+
+pub returns-else-behind : goal.returns-else-behind
+returns-else-behind c = λ i. look (sym c.if-ready.false i) (sym c.if-behind.false i) (status_of (sym c.in-Waiting.is i))
+
+pub returns-in-Running : goal.returns-in-Running
+returns-in-Running c = λ i. look c.args.ready c.args.behind (status_of (sym c.in-Running.is i))
+
+pub returns-in-Done : goal.returns-in-Done
+returns-in-Done c = λ i. look c.args.ready c.args.behind (status_of (sym c.in-Done.is i))
+
+pub returns-in-Failed : goal.returns-in-Failed
+returns-in-Failed c = λ i. look c.args.ready c.args.behind (status_of (sym c.in-Failed.is i))

@@ -1,0 +1,102 @@
+-- What the first micro-steps of a program leave, and which one comes next.
+use Rattle.std.proofs.Common.{◌≡◌, ℕ, zero, suc, ◌+◌, ◌-◌, ◌<◌, ◌≤◌, Bool, true, false, ◌||◌, List, length, Option, Some, None, is_some, inl, inr, refl, sym, ap, ◌∙◌, cond, add-zero, add-suc, arith}
+use Rattle.std.specs.Prelude.{slice_get, nat_le, Result, Ok, Err}
+use Rattle.std.proofs.lemmas.Bool.{leb-true, leb-false, le-leb, cases_lt}
+use Rattle.llb_model.specs.declared.fault.VertexFault.{VertexFault}
+use Rattle.llb_model.specs.Program.{MicroStep, Act, View, Work, Left, micro_step, with_own, tried, act_on, step_on, unless_faulted, go_on, part, whole}
+use Rattle.llb_model.specs.State.{Execution, is_finished, next_step}
+use Rattle.llb_model.proofs.Lists.{some_of, get_past, get_within}
+
+-- ---- past the end, or a fault
+
+-- so many micro-steps are all that are done
+abbrev pub is_over_at : List MicroStep → Left → ℕ → Bool
+is_over_at steps left k = is_some left.fault || nat_le (length steps) k
+
+past_end : (a : Bool) (n k : ℕ) → n ≤ k → (a || nat_le n k) ≡ true
+past_end true n k le = refl
+past_end false n k le = le-leb n k le
+
+goes_nowhere : (steps : List MicroStep) (k : ℕ) (left : Left) (o : Option VertexFault) → left.fault ≡ o → (is_some o || nat_le (length steps) k) ≡ true → go_on steps k left ≡ left
+goes_nowhere steps k left (Some f) is over = ap (λ o. unless_faulted o left (step_on k (slice_get steps k) left.work)) is
+goes_nowhere steps k left None is over =
+    ap (λ o. unless_faulted o left (step_on k (slice_get steps k) left.work)) is ∙ ap (λ m. step_on k m left.work) (get_past steps k (leb-true _ _ over))
+    ∙ ap (λ o. left_with left.work o) (sym is)
+  where
+    left_with : Work → Option VertexFault → Left
+    left_with work o = record { work = work; fault = o }
+
+over_later : (a : Bool) (n k j : ℕ) → (a || nat_le n k) ≡ true → (a || nat_le n (k + j)) ≡ true
+over_later true n k j over = refl
+over_later false n k j over = past_end false n (k + j) (let le : n ≤ k = leb-true _ _ over in omega arith)
+
+pub stays : (steps : List MicroStep) (work : Work) (k : ℕ) → is_over_at steps (part steps work k) k ≡ true → (j : ℕ) → part steps work (k + j) ≡ part steps work k
+unfolding part
+stays steps work k over zero = ap (part steps work) (add-zero k)
+stays steps work k over (suc j) =
+    ap (part steps work) (add-suc k j) ∙ ap (go_on steps (k + j)) (stays steps work k over j)
+    ∙ goes_nowhere steps (k + j) (part steps work k) (part steps work k).fault refl (over_later (is_some (part steps work k).fault) (length steps) k j over)
+
+-- what is finished has done its whole program
+pub finished_whole : (steps : List MicroStep) (work : Work) (k : ℕ) → is_over_at steps (part steps work k) k ≡ true → whole steps work ≡ part steps work k
+finished_whole steps work k over = elim (cases_lt k (length steps)) [
+  | inl lt ↦
+      let sum : k + (length steps - k) ≡ length steps = omega arith in
+      ap (part steps work) (sym sum) ∙ stays steps work k over (length steps - k)
+  | inr le ↦
+      let sum : length steps + (k - length steps) ≡ k = omega arith in
+      let past : is_over_at steps (whole steps work) (length steps) ≡ true = past_end (is_some (whole steps work).fault) (length steps) (length steps) (omega arith) in
+      sym (stays steps work (length steps) past (k - length steps)) ∙ ap (part steps work) sum
+]
+
+-- ---- the next micro-step
+
+-- a micro-step that comes next: none has faulted, and it stands at that place
+pub record IsNextStep (steps : List MicroStep) (x : Execution) (m : MicroStep) : Type 0 where
+  pub unfinished : is_finished steps x ≡ false
+  pub clean : x.fault ≡ None
+  pub there : slice_get steps x.done ≡ Some m
+
+no_fault : (f : Option VertexFault) (b : Bool) → (is_some f || b) ≡ false → f ≡ None
+no_fault None b e = refl
+no_fault (Some f) b e = absurd cc
+
+none_done : (a b : Bool) → (a || b) ≡ false → b ≡ false
+none_done true b e = absurd cc
+none_done false b e = e
+
+pub next_step_is : (steps : List MicroStep) (x : Execution) (m : MicroStep) → next_step steps x ≡ Some m → IsNextStep steps x m
+next_step_is steps x m e = by_test (is_finished steps x) refl e
+  where
+    by_test : (b : Bool) → is_finished steps x ≡ b → cond b None (slice_get steps x.done) ≡ Some m → IsNextStep steps x m
+    by_test true is e = absurd cc
+    by_test false is e = record { unfinished = is; clean = no_fault x.fault (nat_le (length steps) x.done) is; there = e }
+
+-- a finished execution has none
+pub finished_none : (steps : List MicroStep) (x : Execution) → is_finished steps x ≡ true → next_step steps x ≡ None
+finished_none steps x e = ap (λ b. cond b None (slice_get steps x.done)) e
+
+pub unfinished_some : (steps : List MicroStep) (x : Execution) → is_finished steps x ≡ false → (m : MicroStep) × (next_step steps x ≡ Some m)
+unfinished_some steps x e =
+    let lt : x.done < length steps = leb-false _ _ (none_done (is_some x.fault) (nat_le (length steps) x.done) e) in
+    let m = get_within steps x.done lt in
+    (m.0, ap (λ b. cond b None (slice_get steps x.done)) e ∙ m.1)
+
+pub none_finished : (steps : List MicroStep) (x : Execution) → next_step steps x ≡ None → is_finished steps x ≡ true
+none_finished steps x e = by_test (is_finished steps x) refl
+  where
+    by_test : (b : Bool) → is_finished steps x ≡ b → b ≡ true
+    by_test true is = refl
+    by_test false is = let m = unfinished_some steps x is in let both : some_of m.0 ≡ None = sym m.1 ∙ e in absurd cc
+
+-- ---- the trees of instances
+
+-- as many trees as before
+own_keeps : (work : Work) (r : Result View VertexFault) → length (tried work (with_own work r)).work.trees ≡ length work.trees
+own_keeps work (Ok view) = refl
+own_keeps work (Err f) = refl
+
+pub step_keeps : (k : ℕ) (m : Option MicroStep) (work : Work) → length (step_on k m work).work.trees ≡ length work.trees
+unfolding micro_step
+step_keeps k None work = refl
+step_keeps k (Some (Act action)) work = own_keeps work (act_on k action work.own)

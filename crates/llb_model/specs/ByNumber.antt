@@ -1,0 +1,6 @@
+-- A list by number: each item is made from those before it.
+use Rattle.std.specs.Prelude.{List, [], ◌∷◌, ◌++◌}
+
+abbrev pub by_number : {A B : Type 0} → (List B → A → B) → List B → List A → List B
+by_number next before [] = before
+by_number next before (x ∷ xs) = by_number next (before ++ next before x ∷ []) xs
