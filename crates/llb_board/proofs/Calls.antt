@@ -6,12 +6,14 @@ use Rattle.llb_loader.specs.declared.graph.Vertex.{Vertex}
 use Rattle.llb_tree.specs.Tree.{TreeMap}
 use Rattle.llb_model.specs.Program.{Build, MicroStep, Start, begin}
 use Rattle.llb_model.specs.Outcome.{Ending, inputs_from}
-use Rattle.llb_model.specs.State.{Status, Waiting, Running, Settled, Execution, At, Idle, Runs, State, ending_at, program_in, is_finished, next_step, ending_from}
+use Rattle.llb_model.specs.State.{Status, Waiting, Running, Settled, Execution, At, Idle, Runs, State, ending_at, program_in, is_finished, next_step}
+use Rattle.llb_model.specs.State.{ending_from}
 use Rattle.llb_model.specs.ClaimCause.{ClaimCause}
 use Rattle.llb_model.specs.StepCause.{StepCause}
 use Rattle.llb_model.specs.SettleCause as no_settle
 use Rattle.llb_model.specs.SettleCause.{SettleCause}
-use Rattle.llb_model.specs.Table.{Claim, Step, Settle, Reply, claim_start, claim_with, claimed, claim_grant, step_with, stepped, step_grant, settle_with, settle_grant, settled, table}
+use Rattle.llb_model.specs.Table.{Claim, Step, Settle, Reply, claim_start, claim_with, claimed, claim_grant, step_with, stepped, step_grant}
+use Rattle.llb_model.specs.Table.{settle_with, settle_grant, settled, table}
 use Rattle.llb_model.proofs.Lists.{inside}
 use Rattle.llb_model.proofs.Events.{Answer, IsClaim, claim_is}
 use Rattle.llb_board.specs.Rules.{faulted, step_fault, work_on, begun_on, begun, worked, worked_by, left_at}
@@ -74,7 +76,8 @@ can_claim b s w v x ok there = by_start (start_for b s w v) refl ok
 
     by_start : (r : Result Start ClaimCause) → start_for b s w v ≡ r → is_ok r ≡ true → CanClaim b s w v x
     by_start (Err cause) is ok = absurd cc
-    by_start (Ok start) is ok = by_claim start is (claim_is b s w v (claim_with s w v start.vertex (begin b start [])) (ap (λ r. result_ok (claimed b s w v r)) is))
+    by_start (Ok start) is ok =
+        by_claim start is (claim_is b s w v (claim_with s w v start.vertex (begin b start [])) (ap (λ r. result_ok (claimed b s w v r)) is))
 
 -- what a claim that is granted gives: the board's execution at the worker, and the job
 pub begins : (b : Build) (s : State) (w v : ℕ) (x : Vertex) (p : Execution × Reply) → CanClaim b s w v x
@@ -82,9 +85,12 @@ pub begins : (b : Build) (s : State) (w v : ℕ) (x : Vertex) (p : Execution × 
     → claim_grant b s w v ≡ Ok (record s { statuses = slice_set s.statuses v (Running w); workers = slice_set s.workers w (Runs p.0) }, p.1)
 begins b s w v x p can is =
     let starts : ok_of {E = ClaimFault} (begun_on w v x can.trees) ≡ Ok p = ap (begun w v x) (sym can.inputs) ∙ is in
-    can.grants ∙ (λ i. Ok (record s { statuses = slice_set s.statuses v (Running w); workers = slice_set s.workers w (Runs (inside_ok starts i).0) }, (inside_ok starts i).1))
+    can.grants
+    ∙ (λ i. Ok
+    (record s { statuses = slice_set s.statuses v (Running w); workers = slice_set s.workers w (Runs (inside_ok starts i).0) }, (inside_ok starts i).1))
 
-pub begins_at : (b : Build) (s : State) (w v : ℕ) (x : Vertex) (p : Execution × Reply) → CanClaim b s w v x → begun w v x (inputs_from (ending_at s.statuses) x.inputs) ≡ Ok p → p.0.vertex ≡ v
+pub begins_at : (b : Build) (s : State) (w v : ℕ) (x : Vertex) (p : Execution × Reply) → CanClaim b s w v x
+    → begun w v x (inputs_from (ending_at s.statuses) x.inputs) ≡ Ok p → p.0.vertex ≡ v
 begins_at b s w v x p can is =
     let starts : ok_of {E = ClaimFault} (begun_on w v x can.trees) ≡ Ok p = ap (begun w v x) (sym can.inputs) ∙ is in
     sym (ap (λ q. q.0.vertex) (inside_ok starts))
@@ -108,17 +114,23 @@ step_alone b s w = by_worker (slice_get s.workers w)
     by_worker (Some Idle) = refl
     by_worker (Some (Runs x)) = by_next x (next_step (program_in b x).steps x)
 
-pub steps : (b : Build) (s : State) (w : ℕ) (workers : List At) (r : Reply) → faulted step_fault (step_grant b (record s { statuses = [] }) w) ≡ Ok (record { statuses = []; workers = workers }, r)
+pub steps : (b : Build) (s : State) (w : ℕ) (workers : List At) (r : Reply)
+    → faulted step_fault (step_grant b (record s { statuses = [] }) w) ≡ Ok (record { statuses = []; workers = workers }, r)
     → step_grant b s w ≡ Ok (record s { workers = workers }, r)
-steps b s w workers r is = step_alone b s w ∙ ap (with_statuses s.statuses) (granted step_fault (step_grant b (record s { statuses = [] }) w) (record { statuses = []; workers = workers }, r) is)
+steps b s w workers r is =
+    step_alone b s w
+    ∙ ap (with_statuses s.statuses) (granted step_fault (step_grant b (record s { statuses = [] }) w) (record { statuses = []; workers = workers }, r) is)
 
 -- a micro-step of an execution is that of the worker that runs it
-pub stepped_as : (b : Build) (s : State) (w : ℕ) (x : Execution) (steps : List MicroStep) (p : Execution × Reply) → slice_get s.workers w ≡ Some (Runs x) → steps ≡ (program_in b x).steps
+pub stepped_as : (b : Build) (s : State) (w : ℕ) (x : Execution) (steps : List MicroStep) (p : Execution × Reply)
+    → slice_get s.workers w ≡ Some (Runs x) → steps ≡ (program_in b x).steps
     → worked steps x ≡ Ok p → faulted step_fault (step_grant b s w) ≡ Ok (record s { workers = slice_set s.workers w (Runs p.0) }, p.1)
 stepped_as b s w x steps p there same is =
-    ap (λ o. faulted step_fault (stepped b s w o)) there ∙ ap (λ l. faulted step_fault (step_with s w x (next_step l x))) (sym same) ∙ by_next (next_step steps x) is
+    ap (λ o. faulted step_fault (stepped b s w o)) there ∙ ap (λ l. faulted step_fault (step_with s w x (next_step l x))) (sym same)
+    ∙ by_next (next_step steps x) is
   where
-    by_next : (o : Option MicroStep) → worked_by x o ≡ Ok p → faulted step_fault (step_with s w x o) ≡ Ok (record s { workers = slice_set s.workers w (Runs p.0) }, p.1)
+    by_next : (o : Option MicroStep) → worked_by x o ≡ Ok p
+        → faulted step_fault (step_with s w x o) ≡ Ok (record s { workers = slice_set s.workers w (Runs p.0) }, p.1)
     by_next None is = absurd cc
     by_next (Some m) is = λ i. Ok (record s { workers = slice_set s.workers w (Runs (inside_ok is i).0) }, (inside_ok is i).1)
 

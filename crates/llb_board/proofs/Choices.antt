@@ -31,10 +31,13 @@ each_later p n v here low is = ap (λ b. b && each p (v + 1) (n - (v + 1))) (sym
 
 -- the workers that are left begin with this one
 next_drop : (b : Build) (ws : List At) (w : ℕ) (a : At) → slice_get ws w ≡ Some a → next_of b w (drop w ws) ≡ next_of b w (a ∷ drop (w + 1) ws)
-next_drop b ws w a at = ap (next_of b w) (drop-cons ws w a (slice_get_within ws w a at) ∙ (λ i. get_or_from_slice_get ws w a a at i ∷ drop (sym (add-one w) i) ws))
+next_drop b ws w a at =
+    ap (next_of b w) (drop-cons ws w a (slice_get_within ws w a at) ∙ (λ i. get_or_from_slice_get ws w a a at i ∷ drop (sym (add-one w) i) ws))
 
-pub next_idle : (b : Build) (ws : List At) (w : ℕ) → next_of b w (drop w ws) ≡ next_of b 0 ws → slice_get ws w ≡ Some Idle → next_of b (w + 1) (drop (w + 1) ws) ≡ next_of b 0 ws
+pub next_idle : (b : Build) (ws : List At) (w : ℕ) → next_of b w (drop w ws) ≡ next_of b 0 ws → slice_get ws w ≡ Some Idle
+    → next_of b (w + 1) (drop (w + 1) ws) ≡ next_of b 0 ws
 next_idle b ws w here at = sym (next_drop b ws w Idle at) ∙ here
 
-pub next_runs : (b : Build) (ws : List At) (w : ℕ) (x : Execution) → next_of b w (drop w ws) ≡ next_of b 0 ws → slice_get ws w ≡ Some (Runs x) → next_of b 0 ws ≡ Some (if is_finished (program_in b x).steps x then Settle w else Step w)
+pub next_runs : (b : Build) (ws : List At) (w : ℕ) (x : Execution) → next_of b w (drop w ws) ≡ next_of b 0 ws → slice_get ws w ≡ Some (Runs x)
+    → next_of b 0 ws ≡ Some (if is_finished (program_in b x).steps x then Settle w else Step w)
 next_runs b ws w x here at = sym here ∙ next_drop b ws w (Runs x) at

@@ -13,13 +13,17 @@ pub record CountedSoFar (vs : List Vertex) (k all : ℕ) : Type 0 where
   pub counted : all + sum_by events_of (drop k vs) ≡ sum_by events_of vs
   pub small : all ≤ k * 4_294_967_298
 
-pub counted_more : (vs : List Vertex) (k all n : ℕ) (v : Vertex) → slice_get vs k ≡ Some v → CountedSoFar vs k all → n ≡ length (program_of v).steps → n < 2 ^ 32 → CountedSoFar vs (k + 1) (all + (n + 2))
+pub counted_more : (vs : List Vertex) (k all n : ℕ) (v : Vertex) → slice_get vs k ≡ Some v → CountedSoFar vs k all → n ≡ length (program_of v).steps
+    → n < 2 ^ 32 → CountedSoFar vs (k + 1) (all + (n + 2))
 counted_more vs k all n v there here is few =
-    let next : drop k vs ≡ v ∷ drop (k + 1) vs = drop-cons vs k v (slice_get_within vs k v there) ∙ (λ i. get_or_from_slice_get vs k v v there i ∷ drop (sym (add-one k) i) vs) in
-    let add : sum_by events_of (drop k vs) ≡ events_of v + sum_by events_of (drop (k + 1) vs) = ap (sum_by events_of) next ∙ sum_by-cons events_of v (drop (k + 1) vs) in
+    let next : drop k vs ≡ v ∷ drop (k + 1) vs
+    = drop-cons vs k v (slice_get_within vs k v there) ∙ (λ i. get_or_from_slice_get vs k v v there i ∷ drop (sym (add-one k) i) vs) in
+    let add : sum_by events_of (drop k vs) ≡ events_of v + sum_by events_of (drop (k + 1) vs)
+    = ap (sum_by events_of) next ∙ sum_by-cons events_of v (drop (k + 1) vs) in
     record { counted = omega (arith, add, here.counted); small = omega (arith, here.small) }
 
-pub counted_at : (vs : List Vertex) (k all n : ℕ) → k < length vs → CountedSoFar vs k all → n ≡ length (program_at (slice_get vs k)).steps → n < 2 ^ 32 → CountedSoFar vs (k + 1) (all + (n + 2))
+pub counted_at : (vs : List Vertex) (k all n : ℕ) → k < length vs → CountedSoFar vs k all → n ≡ length (program_at (slice_get vs k)).steps
+    → n < 2 ^ 32 → CountedSoFar vs (k + 1) (all + (n + 2))
 counted_at [] k all n low here is few = absurd (omega arith)
 counted_at (y ∷ vs) k all n low here is few =
     let there = slice_get-get_or (y ∷ vs) k y low in

@@ -13,9 +13,11 @@ abbrev pub tree_at : (ℕ → Option Ending) → List Edge → ℕ → Option Tr
 tree_at E es i = output_in (E (edge_at es i).vertex) (edge_at es i).index
 
 -- the first of the edges that are left, and the others
-pub inputs_next : (E : ℕ → Option Ending) (es : List Edge) (i : ℕ) → i < length es → inputs_from E (drop i es) ≡ both (tree_at E es i) (inputs_from E (drop (i + 1) es))
+pub inputs_next : (E : ℕ → Option Ending) (es : List Edge) (i : ℕ) → i < length es
+    → inputs_from E (drop i es) ≡ both (tree_at E es i) (inputs_from E (drop (i + 1) es))
 unfolding inputs_from
-inputs_next E es i low = ap (inputs_from E) (drop-cons es i (record { vertex = 0; index = 0 }) low) ∙ ap (λ k. both (tree_at E es i) (inputs_from E (drop k es))) (sym (add-one i))
+inputs_next E es i low =
+    ap (inputs_from E) (drop-cons es i (record { vertex = 0; index = 0 }) low) ∙ ap (λ k. both (tree_at E es i) (inputs_from E (drop k es))) (sym (add-one i))
 
 inputs_done : (E : ℕ → Option Ending) (es : List Edge) (i : ℕ) → length es ≤ i → inputs_from E (drop i es) ≡ Some []
 unfolding inputs_from
@@ -29,12 +31,15 @@ both_there x (Some xs) = refl
 abbrev pub AsThere : (ℕ → Option Ending) → List Edge → ℕ → Type 0
 AsThere E es i = is_some (inputs_from E (drop i es)) ≡ is_some (inputs_from E es)
 
-pub there_missing : (E : ℕ → Option Ending) (es : List Edge) (i : ℕ) → AsThere E es i → i < length es → tree_at E es i ≡ None → false ≡ is_some (inputs_from E es)
+pub there_missing : (E : ℕ → Option Ending) (es : List Edge) (i : ℕ) → AsThere E es i → i < length es → tree_at E es i ≡ None
+    → false ≡ is_some (inputs_from E es)
 there_missing E es i here low gone = ap (λ o. is_some (both o (inputs_from E (drop (i + 1) es)))) (sym gone) ∙ ap is_some (sym (inputs_next E es i low)) ∙ here
 
-pub there_next : (E : ℕ → Option Ending) (es : List Edge) (i : ℕ) (t : TreeMap) → AsThere E es i → i < length es → tree_at E es i ≡ Some t → AsThere E es (i + 1)
+pub there_next : (E : ℕ → Option Ending) (es : List Edge) (i : ℕ) (t : TreeMap) → AsThere E es i → i < length es → tree_at E es i ≡ Some t
+    → AsThere E es (i + 1)
 there_next E es i t here low there =
-    sym (both_there t (inputs_from E (drop (i + 1) es))) ∙ ap (λ o. is_some (both o (inputs_from E (drop (i + 1) es)))) (sym there) ∙ ap is_some (sym (inputs_next E es i low)) ∙ here
+    sym (both_there t (inputs_from E (drop (i + 1) es))) ∙ ap (λ o. is_some (both o (inputs_from E (drop (i + 1) es)))) (sym there)
+    ∙ ap is_some (sym (inputs_next E es i low)) ∙ here
 
 pub there_end : (E : ℕ → Option Ending) (es : List Edge) (i : ℕ) → AsThere E es i → length es ≤ i → true ≡ is_some (inputs_from E es)
 there_end E es i here past = ap is_some (sym (inputs_done E es i past)) ∙ here
@@ -49,7 +54,8 @@ none_before : (o : Option (List TreeMap)) → option_map (λ (more : List TreeMa
 none_before None = refl
 none_before (Some ts) = refl
 
-one_more : (trees : List TreeMap) (t : TreeMap) (o : Option (List TreeMap)) → option_map (λ (more : List TreeMap). (trees ++ t ∷ []) ++ more) o ≡ option_map (λ (more : List TreeMap). trees ++ more) (both (Some t) o)
+one_more : (trees : List TreeMap) (t : TreeMap) (o : Option (List TreeMap))
+    → option_map (λ (more : List TreeMap). (trees ++ t ∷ []) ++ more) o ≡ option_map (λ (more : List TreeMap). trees ++ more) (both (Some t) o)
 one_more trees t None = refl
 one_more trees t (Some more) = ap (λ (l : List TreeMap). Some l) (append_assoc trees (t ∷ []) more)
 
@@ -65,9 +71,11 @@ gathered_next E es i trees t here low there =
     ∙ ap (option_map (λ (more : List TreeMap). trees ++ more)) (sym (inputs_next E es i low)) ∙ here
 
 pub gathered_missing : (E : ℕ → Option Ending) (es : List Edge) (i : ℕ) (trees : List TreeMap)
-    → option_map (λ (more : List TreeMap). trees ++ more) (inputs_from E (drop i es)) ≡ inputs_from E es → i < length es → tree_at E es i ≡ None → inputs_from E es ≡ None
+    → option_map (λ (more : List TreeMap). trees ++ more) (inputs_from E (drop i es)) ≡ inputs_from E es → i < length es → tree_at E es i ≡ None
+    → inputs_from E es ≡ None
 gathered_missing E es i trees here low gone =
-    sym here ∙ ap (option_map (λ (more : List TreeMap). trees ++ more)) (inputs_next E es i low) ∙ ap (λ o. option_map (λ (more : List TreeMap). trees ++ more) (both o (inputs_from E (drop (i + 1) es)))) gone
+    sym here ∙ ap (option_map (λ (more : List TreeMap). trees ++ more)) (inputs_next E es i low)
+    ∙ ap (λ o. option_map (λ (more : List TreeMap). trees ++ more) (both o (inputs_from E (drop (i + 1) es)))) gone
 
 pub gathered_end : (E : ℕ → Option Ending) (es : List Edge) (i : ℕ) (trees : List TreeMap)
     → option_map (λ (more : List TreeMap). trees ++ more) (inputs_from E (drop i es)) ≡ inputs_from E es → length es ≤ i → inputs_from E es ≡ Some trees

@@ -6,7 +6,8 @@ use Rattle.llb_loader.specs.Graph.{Numbered}
 use Rattle.llb_tree.specs.Tree.{empty_tree}
 use Rattle.llb_loader.specs.declared.graph.Vertex.{Vertex}
 use Rattle.llb_model.specs.Program.{Build, MicroStep, program_at, step_on}
-use Rattle.llb_model.specs.State.{Status, Running, Settled, Idle, Runs, State, opening, ending_at, program_in, work_of, is_finished, stopped, is_failed, ending_of}
+use Rattle.llb_model.specs.State.{Status, Running, Settled, Idle, Runs, State, opening, ending_at, program_in, work_of, is_finished, stopped}
+use Rattle.llb_model.specs.State.{is_failed, ending_of}
 use Rattle.llb_model.specs.Table.{Event, Step, Reply, SettledDone, SettledFailed, settle_reply, with_step, claim_grant, step_grant, settle_grant, table}
 use Rattle.llb_model.specs.Outcome.{Ending, Done, Failed, ended, inputs_from}
 use Rattle.llb_model.specs.Run.{run}
@@ -29,11 +30,14 @@ use Rattle.llb_board.proofs.Sound.{consistent}
 use Rattle.llb_board.proofs.Stopped.{marks_stay}
 
 -- there is room for an event that is granted
-pub has_room : (b : Seen) (desks : List Desk) (halted : List Bool) (capacity : ℕ) (e : Event) (a : Answer) → IsKept b desks halted capacity → table b.build b.state e ≡ Some a → length b.events < capacity
+pub has_room : (b : Seen) (desks : List Desk) (halted : List Bool) (capacity : ℕ) (e : Event) (a : Answer) → IsKept b desks halted capacity
+    → table b.build b.state e ≡ Some a → length b.events < capacity
 has_room b desks halted capacity e a kept granted = omega (arith, event_room b.build b.state e a granted, kept.room)
 
-pub kept_after : (g : Numbered) (ss ss' : List Stand) (ds ds' : List Desk) (es : List Event) (halted halted' : List Bool) (capacity : ℕ) (e : Event) (r : Reply) → IsKept (seen g ss ds es) ds halted capacity
-    → table (record { graph = g }) (state_of ss ds) e ≡ Some (state_of ss' ds', r) → length ds' ≡ length ds → map ready_made ds' ≡ map (needed (record { graph = g })) (map at_of ds')
+pub kept_after : (g : Numbered) (ss ss' : List Stand) (ds ds' : List Desk) (es : List Event) (halted halted' : List Bool) (capacity : ℕ) (e : Event)
+    (r : Reply) → IsKept (seen g ss ds es) ds halted capacity
+    → table (record { graph = g }) (state_of ss ds) e ≡ Some (state_of ss' ds', r) → length ds' ≡ length ds
+    → map ready_made ds' ≡ map (needed (record { graph = g })) (map at_of ds')
     → halted' ≡ stopped (record { graph = g }) (map status_of ss') → IsKept (seen g ss' ds' (es ++ e ∷ [])) ds' halted' capacity
 kept_after g ss ss' ds ds' es halted halted' capacity e r kept granted same outputs marks =
     let b : Build = record { graph = g } in
@@ -53,7 +57,8 @@ kept_after g ss ss' ds ds' es halted halted' capacity e r kept granted same outp
     }
 
 -- what is recorded of an event that is granted
-pub recorded_as : {C F : Type 0} (g : Numbered) (ss ss' : List Stand) (ds ds' : List Desk) (es : List Event) (e : Event) (fault : C → F) (answer : Result Answer C) (r : Reply)
+pub recorded_as : {C F : Type 0} (g : Numbered) (ss ss' : List Stand) (ds ds' : List Desk) (es : List Event) (e : Event) (fault : C → F)
+    (answer : Result Answer C) (r : Reply)
     → answer ≡ Ok (state_of ss' ds', r) → length ds' ≡ length ds → recorded (seen g ss ds es) e fault answer ≡ Ok (seen g ss' ds' (es ++ e ∷ []), r)
 recorded_as g ss ss' ds ds' es e fault answer r is same =
     ap (recorded (seen g ss ds es) e fault) is
@@ -64,20 +69,24 @@ pub whole_written : {A : Type 0} (n : ℕ) (new old : List A) → length new ≡
 whole_written n new old same is =
     ap (λ l. take n (new ++ l)) (drop_all (length new) old (omega (arith, same))) ∙ ap (take n) (append-nil new) ∙ take_all n new (omega (arith, same, is))
 
-pub kept_written : (g : Numbered) (ss : List Stand) (ds ds' : List Desk) (es : List Event) (halted halted' : List Bool) (capacity : ℕ) → ds' ≡ ds → halted' ≡ halted → IsKept (seen g ss ds es) ds halted capacity
+pub kept_written : (g : Numbered) (ss : List Stand) (ds ds' : List Desk) (es : List Event) (halted halted' : List Bool) (capacity : ℕ) → ds' ≡ ds
+    → halted' ≡ halted → IsKept (seen g ss ds es) ds halted capacity
     → IsKept (seen g ss ds' es) ds' halted' capacity
 kept_written g ss ds ds' es halted halted' capacity d h kept =
-    subst (λ (l : List Desk). IsKept (seen g ss l es) l halted' capacity) (sym d) (subst (λ (m : List Bool). IsKept (seen g ss ds es) ds m capacity) (sym h) kept)
+    subst (λ (l : List Desk). IsKept (seen g ss l es) l halted' capacity) (sym d)
+    (subst (λ (m : List Bool). IsKept (seen g ss ds es) ds m capacity) (sym h) kept)
 
 -- ---- a claim
 
 -- the board's data after a claim, as the machine's state
 pub state_claimed : (ss : List Stand) (ds : List Desk) (w v : ℕ) (x : own.Execution)
-    → state_of (slice_set ss v (stand.Running w)) (slice_set ds w (desk.Runs x)) ≡ record { statuses = slice_set (map status_of ss) v (Running w); workers = slice_set (map at_of ds) w (Runs (execution_of x)) }
+    → state_of (slice_set ss v (stand.Running w)) (slice_set ds w (desk.Runs x))
+    ≡ record { statuses = slice_set (map status_of ss) v (Running w); workers = slice_set (map at_of ds) w (Runs (execution_of x)) }
 state_claimed ss ds w v x = λ i. record { statuses = map_set status_of ss v (stand.Running w) i; workers = map_set at_of ds w (desk.Runs x) i }
 
 -- the machine's claim is what the board does
-pub claim_does : (g : Numbered) (ss : List Stand) (ds : List Desk) (w v : ℕ) (x : Vertex) (own : own.Execution) (r : Reply) → CanClaim (record { graph = g }) (state_of ss ds) w v x
+pub claim_does : (g : Numbered) (ss : List Stand) (ds : List Desk) (w v : ℕ) (x : Vertex) (own : own.Execution) (r : Reply)
+    → CanClaim (record { graph = g }) (state_of ss ds) w v x
     → begun w v x (inputs_from (ending_at (map status_of ss)) x.inputs) ≡ Ok (execution_of own, r)
     → claim_grant (record { graph = g }) (state_of ss ds) w v ≡ Ok (state_of (slice_set ss v (stand.Running w)) (slice_set ds w (desk.Runs own)), r)
 claim_does g ss ds w v x own r can is =
@@ -86,7 +95,8 @@ claim_does g ss ds w v x own r can is =
 pub made_for : (g : Numbered) (x : Vertex) (v n : ℕ) → slice_get g.vertices v ≡ Some x → n ≡ v → x.outputs ≡ (program_at (slice_get g.vertices n)).outputs
 made_for g x v n there same = sym (ap (λ k. (program_at (slice_get g.vertices k)).outputs) same ∙ ap (λ o. (program_at o).outputs) there)
 
-pub outputs_claimed : (b : Build) (ds : List Desk) (w : ℕ) (x : own.Execution) → map ready_made ds ≡ map (needed b) (map at_of ds) → x.outputs.items ≡ replicate (program_at (slice_get b.graph.vertices x.vertex)).outputs empty_tree
+pub outputs_claimed : (b : Build) (ds : List Desk) (w : ℕ) (x : own.Execution) → map ready_made ds ≡ map (needed b) (map at_of ds)
+    → x.outputs.items ≡ replicate (program_at (slice_get b.graph.vertices x.vertex)).outputs empty_tree
     → map ready_made (slice_set ds w (desk.Runs x)) ≡ map (needed b) (map at_of (slice_set ds w (desk.Runs x)))
 outputs_claimed b ds w x kept made =
     map_set ready_made ds w (desk.Runs x) ∙ (λ i. slice_set (kept i) w (made i))
@@ -95,7 +105,8 @@ outputs_claimed b ds w x kept made =
 -- ---- a micro-step
 
 -- the machine's micro-step is what the board does
-pub step_does : (g : Numbered) (ss : List Stand) (ds ds' : List Desk) (w : ℕ) (r : Reply) → faulted step_fault (step_grant (record { graph = g }) (state_of [] ds) w) ≡ Ok (state_of [] ds', r)
+pub step_does : (g : Numbered) (ss : List Stand) (ds ds' : List Desk) (w : ℕ) (r : Reply)
+    → faulted step_fault (step_grant (record { graph = g }) (state_of [] ds) w) ≡ Ok (state_of [] ds', r)
     → step_grant (record { graph = g }) (state_of ss ds) w ≡ Ok (state_of ss ds', r)
 step_does g ss ds ds' w r is = steps (record { graph = g }) (state_of ss ds) w (map at_of ds') r is
 
@@ -107,10 +118,14 @@ needs_stay b s w a step =
     ∙ map_set (needed b) s.workers w (Runs (with_step step.x left))
     ∙ set_same (map (needed b) s.workers) w (needed b (Runs step.x)) (get_map (needed b) s.workers w (Runs step.x) step.there)
 
-pub outputs_stepped : (g : Numbered) (ss : List Stand) (ds ds' : List Desk) (w : ℕ) (r : Reply) → map ready_made ds ≡ map (needed (record { graph = g })) (map at_of ds)
-    → table (record { graph = g }) (state_of ss ds) (Step w) ≡ Some (state_of ss ds', r) → map ready_made ds' ≡ map ready_made ds → map ready_made ds' ≡ map (needed (record { graph = g })) (map at_of ds')
+pub outputs_stepped : (g : Numbered) (ss : List Stand) (ds ds' : List Desk) (w : ℕ) (r : Reply)
+    → map ready_made ds ≡ map (needed (record { graph = g })) (map at_of ds)
+    → table (record { graph = g }) (state_of ss ds) (Step w) ≡ Some (state_of ss ds', r) → map ready_made ds' ≡ map ready_made ds
+    → map ready_made ds' ≡ map (needed (record { graph = g })) (map at_of ds')
 outputs_stepped g ss ds ds' w r kept granted same =
-    same ∙ kept ∙ sym (needs_stay (record { graph = g }) (state_of ss ds) w (state_of ss ds', r) (step_is (record { graph = g }) (state_of ss ds) w (state_of ss ds', r) granted))
+    same ∙ kept
+    ∙ sym (needs_stay (record { graph = g }) (state_of ss ds) w (state_of ss ds', r)
+    (step_is (record { graph = g }) (state_of ss ds) w (state_of ss ds', r) granted))
 
 pub same_length : (ds ds' : List Desk) → map ready_made ds' ≡ map ready_made ds → length ds' ≡ length ds
 same_length ds ds' same = sym (length_map ready_made ds') ∙ ap length same ∙ length_map ready_made ds
@@ -118,12 +133,15 @@ same_length ds ds' same = sym (length_map ready_made ds') ∙ ap length same ∙
 -- ---- a settle
 
 -- the trees that a worker has ready are those that its vertex needs
-pub made_enough : (b : Build) (ds : List Desk) (w : ℕ) (x : own.Execution) → map ready_made ds ≡ map (needed b) (map at_of ds) → slice_get ds w ≡ Some (desk.Runs x)
+pub made_enough : (b : Build) (ds : List Desk) (w : ℕ) (x : own.Execution) → map ready_made ds ≡ map (needed b) (map at_of ds)
+    → slice_get ds w ≡ Some (desk.Runs x)
     → x.outputs.items ≡ replicate (program_in b (execution_of x)).outputs empty_tree
 made_enough b ds w x kept at =
-    inside (sym (get_map ready_made ds w (desk.Runs x) at) ∙ ap (λ l. slice_get l w) kept ∙ get_map (needed b) (map at_of ds) w (Runs (execution_of x)) (get_map at_of ds w (desk.Runs x) at))
+    inside (sym (get_map ready_made ds w (desk.Runs x) at) ∙ ap (λ l. slice_get l w) kept
+    ∙ get_map (needed b) (map at_of ds) w (Runs (execution_of x)) (get_map at_of ds w (desk.Runs x) at))
 
-pub all_empty : (b : Build) (ds : List Desk) (w : ℕ) (x : own.Execution) → map ready_made ds ≡ map (needed b) (map at_of ds) → slice_get ds w ≡ Some (desk.Runs x) → x.outputs.items ≡ replicate (length x.outputs.items) empty_tree
+pub all_empty : (b : Build) (ds : List Desk) (w : ℕ) (x : own.Execution) → map ready_made ds ≡ map (needed b) (map at_of ds)
+    → slice_get ds w ≡ Some (desk.Runs x) → x.outputs.items ≡ replicate (length x.outputs.items) empty_tree
 all_empty b ds w x kept at =
     let made = made_enough b ds w x kept at in
     made ∙ ap (λ n. replicate n empty_tree) (sym (ap length made ∙ length-replicate (program_in b (execution_of x)).outputs empty_tree))
@@ -133,12 +151,16 @@ finished_at b desk.Idle = false
 finished_at b (desk.Runs x) = is_finished (program_in b (execution_of x)).steps (execution_of x)
 
 -- how the worker's execution ends: x is what was looked at, and y what was taken
-pub leaves : (b : Build) (ds : List Desk) (w : ℕ) (x y : own.Execution) (steps : List MicroStep) (stands : Status) → map ready_made ds ≡ map (needed b) (map at_of ds)
-    → slice_get ds w ≡ Some (desk.Runs x) → slice_get ds w ≡ Some (desk.Runs y) → is_finished (program_in b (execution_of x)).steps (execution_of x) ≡ true → steps ≡ (program_in b (execution_of y)).steps
-    → stands ≡ Settled (ended (record { steps = steps; outputs = length y.outputs.items }) y.view y.fault) → left_at b (slice_get (map at_of ds) w) ≡ Ok (y.vertex, stands)
+pub leaves : (b : Build) (ds : List Desk) (w : ℕ) (x y : own.Execution) (steps : List MicroStep) (stands : Status)
+    → map ready_made ds ≡ map (needed b) (map at_of ds)
+    → slice_get ds w ≡ Some (desk.Runs x) → slice_get ds w ≡ Some (desk.Runs y)
+    → is_finished (program_in b (execution_of x)).steps (execution_of x) ≡ true → steps ≡ (program_in b (execution_of y)).steps
+    → stands ≡ Settled (ended (record { steps = steps; outputs = length y.outputs.items }) y.view y.fault)
+    → left_at b (slice_get (map at_of ds) w) ≡ Ok (y.vertex, stands)
 unfolding finished_at
 leaves b ds w x y steps stands kept looked taken finished same ends =
-    let count : length y.outputs.items ≡ (program_in b (execution_of y)).outputs = ap length (made_enough b ds w y kept taken) ∙ length-replicate (program_in b (execution_of y)).outputs empty_tree in
+    let count : length y.outputs.items ≡ (program_in b (execution_of y)).outputs
+    = ap length (made_enough b ds w y kept taken) ∙ length-replicate (program_in b (execution_of y)).outputs empty_tree in
     let is : finished_at b (desk.Runs y) ≡ true = ap (finished_at b) (inside (sym taken ∙ looked)) ∙ finished in
     ap (left_at b) (get_map at_of ds w (desk.Runs y) taken)
     ∙ ap (left_if b (execution_of y)) is
@@ -146,11 +168,14 @@ leaves b ds w x y steps stands kept looked taken finished same ends =
     ∙ ap (λ s. Ok (y.vertex, s)) (sym ends)
 
 pub state_settled : (ss : List Stand) (ds : List Desk) (w v : ℕ) (s : Stand) (e : Ending) → status_of s ≡ Settled e
-    → state_of (slice_set ss v s) (slice_set ds w desk.Idle) ≡ record { statuses = slice_set (map status_of ss) v (Settled e); workers = slice_set (map at_of ds) w Idle }
-state_settled ss ds w v s e is = λ i. record { statuses = (map_set status_of ss v s ∙ ap (slice_set (map status_of ss) v) is) i; workers = map_set at_of ds w desk.Idle i }
+    → state_of (slice_set ss v s) (slice_set ds w desk.Idle)
+    ≡ record { statuses = slice_set (map status_of ss) v (Settled e); workers = slice_set (map at_of ds) w Idle }
+state_settled ss ds w v s e is =
+    λ i. record { statuses = (map_set status_of ss v s ∙ ap (slice_set (map status_of ss) v) is) i; workers = map_set at_of ds w desk.Idle i }
 
 -- the machine's settle is what the board does
-pub settle_does : (g : Numbered) (ss : List Stand) (ds : List Desk) (w v : ℕ) (s : Stand) (can : CanSettle (record { graph = g }) (state_of ss ds) w v (status_of s))
+pub settle_does : (g : Numbered) (ss : List Stand) (ds : List Desk) (w v : ℕ) (s : Stand)
+    (can : CanSettle (record { graph = g }) (state_of ss ds) w v (status_of s))
     → settle_grant (record { graph = g }) (state_of ss ds) w ≡ Ok (state_of (slice_set ss v s) (slice_set ds w desk.Idle), settle_reply v can.ending)
 settle_does g ss ds w v s can = can.grants ∙ (λ i. Ok (sym (state_settled ss ds w v s can.ending can.is) i, settle_reply v can.ending))
 
@@ -158,9 +183,11 @@ settle_does g ss ds w v s can = can.grants ∙ (λ i. Ok (sym (state_settled ss 
 pub leaves_running : (b : Seen) (w v : ℕ) (stands : Status) → Replays b → CanSettle b.build b.state w v stands → slice_get b.state.statuses v ≡ Some (Running w)
 leaves_running b w v stands here can = ap (slice_get b.state.statuses) (sym can.vertex) ∙ (consistent b here).working w can.x can.there
 
-pub outputs_settled : (b : Build) (ds : List Desk) (w : ℕ) → map ready_made ds ≡ map (needed b) (map at_of ds) → map ready_made (slice_set ds w desk.Idle) ≡ map (needed b) (map at_of (slice_set ds w desk.Idle))
+pub outputs_settled : (b : Build) (ds : List Desk) (w : ℕ) → map ready_made ds ≡ map (needed b) (map at_of ds)
+    → map ready_made (slice_set ds w desk.Idle) ≡ map (needed b) (map at_of (slice_set ds w desk.Idle))
 outputs_settled b ds w kept =
-    map_set ready_made ds w desk.Idle ∙ ap (λ l. slice_set l w []) kept ∙ sym (map_set (needed b) (map at_of ds) w Idle) ∙ ap (map (needed b)) (sym (map_set at_of ds w desk.Idle))
+    map_set ready_made ds w desk.Idle ∙ ap (λ l. slice_set l w []) kept ∙ sym (map_set (needed b) (map at_of ds) w Idle)
+    ∙ ap (map (needed b)) (sym (map_set at_of ds w desk.Idle))
 
 pub reply_failed : (v : ℕ) (e : Ending) → is_failed (Some e) ≡ true → settle_reply v e ≡ SettledFailed v
 reply_failed v (Done trees) is = absurd (cc)
@@ -171,6 +198,7 @@ reply_done v (Done trees) is = refl
 reply_done v (Failed f) is = absurd (cc)
 
 -- the marks stay where a vertex has not failed
-pub marks_kept : (b : Build) (ss : List Stand) (v : ℕ) (s : Stand) (old : Status) → slice_get (map status_of ss) v ≡ Some old → is_failed (ending_of (Some old)) ≡ false → is_failed (ending_of (Some (status_of s))) ≡ false
+pub marks_kept : (b : Build) (ss : List Stand) (v : ℕ) (s : Stand) (old : Status) → slice_get (map status_of ss) v ≡ Some old
+    → is_failed (ending_of (Some old)) ≡ false → is_failed (ending_of (Some (status_of s))) ≡ false
     → stopped b (map status_of (slice_set ss v s)) ≡ stopped b (map status_of ss)
 marks_kept b ss v s old at was is = ap (stopped b) (map_set status_of ss v s) ∙ marks_stay b.graph.vertices (map status_of ss) v old (status_of s) at was is

@@ -23,12 +23,16 @@ map_replicate : {A B : Type 0} (f : A → B) (n : ℕ) (x : A) → map f (replic
 map_replicate f zero x = refl
 map_replicate f (suc n) x = ap (λ l. f x ∷ l) (map_replicate f n x)
 
-pub seen_open : (g : Numbered) (workers : ℕ) (ss : List Stand) (ds : List Desk) (es : List Event) → ss ≡ replicate (length g.vertices) Waiting → ds ≡ replicate workers Idle → es ≡ []
+pub seen_open : (g : Numbered) (workers : ℕ) (ss : List Stand) (ds : List Desk) (es : List Event) → ss ≡ replicate (length g.vertices) Waiting
+    → ds ≡ replicate workers Idle → es ≡ []
     → seen g ss ds es ≡ opened (record { graph = g }) (record { workers = workers })
 seen_open g workers ss ds es s d e = λ i. record {
   build = record { graph = g };
   opening = record { workers = (ap length d ∙ length-replicate workers Idle) i };
-  state = record { statuses = (ap (map status_of) s ∙ map_replicate status_of (length g.vertices) Waiting) i; workers = (ap (map at_of) d ∙ map_replicate at_of workers Idle) i };
+  state = record {
+    statuses = (ap (map status_of) s ∙ map_replicate status_of (length g.vertices) Waiting) i;
+    workers = (ap (map at_of) d ∙ map_replicate at_of workers Idle) i;
+  };
   events = e i;
 }
 
@@ -36,7 +40,8 @@ opened_replays : (b : Build) (o : Opening) → Replays (opened b o)
 unfolding run
 opened_replays b o = record { replies = []; leads = refl }
 
-pub kept_open : (g : Numbered) (workers capacity : ℕ) (ss : List Stand) (ds : List Desk) (es : List Event) (halted : List Bool) → ss ≡ replicate (length g.vertices) Waiting → ds ≡ replicate workers Idle → es ≡ []
+pub kept_open : (g : Numbered) (workers capacity : ℕ) (ss : List Stand) (ds : List Desk) (es : List Event) (halted : List Bool)
+    → ss ≡ replicate (length g.vertices) Waiting → ds ≡ replicate workers Idle → es ≡ []
     → halted ≡ replicate (length g.vertices) false → most_events (record { graph = g }) ≤ capacity → workers ≡ 1 → IsKept (seen g ss ds es) ds halted capacity
 kept_open g workers capacity ss ds es halted s d e h room one =
     let b : Build = record { graph = g } in

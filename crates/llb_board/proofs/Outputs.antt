@@ -1,5 +1,6 @@
 -- The outputs, as the results take their places from the last one on.
-use Rattle.std.proofs.Common.{◌≡◌, ℕ, zero, suc, ◌+◌, ◌<◌, ◌≤◌, List, [], ◌∷◌, ◌++◌, map, drop, length, refl, ap, sym, ◌∙◌, drop-cons, add-one, append_assoc, zero-add, arith}
+use Rattle.std.proofs.Common.{◌≡◌, ℕ, zero, suc, ◌+◌, ◌<◌, ◌≤◌, List, [], ◌∷◌, ◌++◌, map, drop, length, refl, ap, sym, ◌∙◌, drop-cons, add-one}
+use Rattle.std.proofs.Common.{append_assoc, zero-add, arith}
 use Rattle.std.specs.Prelude.{ℤ, pos, negsuc, ◌==◌, Bool, Option, Some, None, slice_get, slice_set, replicate, if◌then◌else◌}
 use Rattle.std.specs.List.{range_with_len}
 use Rattle.std.proofs.lemmas.List.{drop_all, append-nil, length_push}
@@ -39,7 +40,8 @@ none_there f t k (suc n) b low =
 further : (a j : ℕ) → (a + 1) + j ≡ a + suc j
 further a j = omega arith
 
-at_place : (f : ℕ → TreeMap) (t : TreeMap) (j n a : ℕ) → slice_set (map f (range_with_len a n)) j t ≡ map (λ (i : ℕ). if (a + j) == i then t else f i) (range_with_len a n)
+at_place : (f : ℕ → TreeMap) (t : TreeMap) (j n a : ℕ)
+    → slice_set (map f (range_with_len a n)) j t ≡ map (λ (i : ℕ). if (a + j) == i then t else f i) (range_with_len a n)
 at_place f t j zero a = refl
 at_place f t zero (suc n) a =
     λ k. (sym (ap (λ (c : Bool). if c then t else f a) (eq-eqb (a + 0) a (omega arith)))) k ∷ (sym (none_there f t (a + 0) n (a + 1) (omega arith))) k
@@ -47,7 +49,8 @@ at_place f t (suc j) (suc n) a =
     λ k. (sym (ap (λ (c : Bool). if c then t else f a) (ne_eqb (a + suc j) a (λ p. omega (arith, p))))) k
     ∷ (at_place f t j n (a + 1) ∙ ap (λ m. map (λ (i : ℕ). if m == i then t else f i) (range_with_len (a + 1) n)) (further a j)) k
 
-placed_all : (z : ℤ) (f : ℕ → TreeMap) (t : TreeMap) (n : ℕ) → placed z t (map f (range_with_len 0 n)) ≡ map (λ (i : ℕ). if is_output i z then t else f i) (range_with_len 0 n)
+placed_all : (z : ℤ) (f : ℕ → TreeMap) (t : TreeMap) (n : ℕ)
+    → placed z t (map f (range_with_len 0 n)) ≡ map (λ (i : ℕ). if is_output i z then t else f i) (range_with_len 0 n)
 placed_all (pos j) f t n = at_place f t j n 0 ∙ ap (λ m. map (λ (i : ℕ). if m == i then t else f i) (range_with_len 0 n)) (zero-add j)
 placed_all (negsuc j) f t n = refl
 
@@ -55,11 +58,13 @@ drop_front : (xs ys : List TreeMap) → drop (length xs) (xs ++ ys) ≡ ys
 drop_front [] ys = refl
 drop_front (x ∷ xs) ys = drop_front xs ys
 
-pub placed_start : (steps : List MicroStep) (all : List TreeMap) (outs : List TreeMap) → outs ≡ replicate (length outs) empty_tree → PlacedSoFar steps all (length outs) all outs
+pub placed_start : (steps : List MicroStep) (all : List TreeMap) (outs : List TreeMap) → outs ≡ replicate (length outs) empty_tree
+    → PlacedSoFar steps all (length outs) all outs
 placed_start steps all outs is =
     record {
       outputs = is ∙ sym (all_the_same (length outs) 0) ∙ same_map (λ i. empty_tree) (from_on steps all (length all))
-          (λ i. sym (ap (result_for i (drop (length all) steps)) (drop_all (length all) all (omega arith)) ∙ no_result i (drop (length all) steps))) (range_with_len 0 (length outs));
+          (λ i. sym (ap (result_for i (drop (length all) steps)) (drop_all (length all) all (omega arith)) ∙ no_result i (drop (length all) steps)))
+          (range_with_len 0 (length outs));
       front = ap (λ l. all ++ l) (drop_all (length all) all (omega arith)) ∙ append-nil all;
     }
 
@@ -70,21 +75,26 @@ last_of all rs t e = ap (λ n. rs ++ t ∷ drop n all) (sym (length_push rs t)) 
 behind_last : (all rs : List TreeMap) (t : TreeMap) → rs ++ t ∷ drop (length rs + 1) all ≡ all → drop (length rs) all ≡ t ∷ drop (length rs + 1) all
 behind_last all rs t e = ap (drop (length rs)) (sym e) ∙ drop_front rs (t ∷ drop (length rs + 1) all)
 
-pub placed_more : (steps : List MicroStep) (all : List TreeMap) (n : ℕ) (rs : List TreeMap) (t : TreeMap) (outs : List TreeMap) (a : Action) → PlacedSoFar steps all n (rs ++ t ∷ []) outs → slice_get steps (length rs) ≡ Some (Act a)
+pub placed_more : (steps : List MicroStep) (all : List TreeMap) (n : ℕ) (rs : List TreeMap) (t : TreeMap) (outs : List TreeMap) (a : Action)
+    → PlacedSoFar steps all n (rs ++ t ∷ []) outs → slice_get steps (length rs) ≡ Some (Act a)
     → PlacedSoFar steps all n rs (placed a.output t outs)
 placed_more steps all n rs t outs a here at =
     let k = length rs in
     let whole = last_of all rs t here.front in
     let rest = behind_last all rs t whole in
-    let next : drop k steps ≡ Act a ∷ drop (k + 1) steps = drop-cons steps k (Act a) (slice_get_within steps k (Act a) at) ∙ (λ i. get_or_from_slice_get steps k (Act a) (Act a) at i ∷ drop (sym (add-one k) i) steps) in
+    let next : drop k steps ≡ Act a ∷ drop (k + 1) steps
+    = drop-cons steps k (Act a) (slice_get_within steps k (Act a) at)
+    ∙ (λ i. get_or_from_slice_get steps k (Act a) (Act a) at i ∷ drop (sym (add-one k) i) steps) in
     record {
       outputs = ap (placed a.output t) (here.outputs ∙ ap (λ m. map (from_on steps all m) (range_with_len 0 n)) (length_push rs t))
           ∙ placed_all a.output (from_on steps all (k + 1)) t n
-          ∙ same_map (λ i. if is_output i a.output then t else from_on steps all (k + 1) i) (from_on steps all k) (λ i. λ j. result_for i (sym next j) (sym rest j)) (range_with_len 0 n);
+          ∙ same_map (λ i. if is_output i a.output then t else from_on steps all (k + 1) i) (from_on steps all k)
+          (λ i. λ j. result_for i (sym next j) (sym rest j)) (range_with_len 0 n);
       front = ap (λ l. rs ++ l) rest ∙ whole;
     }
 
-pub placed_past : (steps : List MicroStep) (all : List TreeMap) (n : ℕ) (rs : List TreeMap) (t : TreeMap) (outs : List TreeMap) → PlacedSoFar steps all n (rs ++ t ∷ []) outs → length steps ≤ length rs → PlacedSoFar steps all n rs outs
+pub placed_past : (steps : List MicroStep) (all : List TreeMap) (n : ℕ) (rs : List TreeMap) (t : TreeMap) (outs : List TreeMap)
+    → PlacedSoFar steps all n (rs ++ t ∷ []) outs → length steps ≤ length rs → PlacedSoFar steps all n rs outs
 placed_past steps all n rs t outs here past =
     let k = length rs in
     let whole = last_of all rs t here.front in
@@ -93,11 +103,13 @@ placed_past steps all n rs t outs here past =
     let none' : drop (k + 1) steps ≡ [] = drop_all (k + 1) steps (omega arith) in
     record {
       outputs = here.outputs ∙ ap (λ m. map (from_on steps all m) (range_with_len 0 n)) (length_push rs t)
-          ∙ same_map (from_on steps all (k + 1)) (from_on steps all k) (λ i. ap (λ l. result_for i l (drop (k + 1) all)) none' ∙ sym (ap (λ l. result_for i l (drop k all)) none)) (range_with_len 0 n);
+          ∙ same_map (from_on steps all (k + 1)) (from_on steps all k)
+          (λ i. ap (λ l. result_for i l (drop (k + 1) all)) none' ∙ sym (ap (λ l. result_for i l (drop k all)) none)) (range_with_len 0 n);
       front = ap (λ l. rs ++ l) rest ∙ whole;
     }
 
-pub placed_end : (steps : List MicroStep) (view : View) (n : ℕ) (rs outs : List TreeMap) → PlacedSoFar steps (results_in view) n rs outs → rs ≡ [] → outs ≡ outputs_of (record { steps = steps; outputs = n }) view
+pub placed_end : (steps : List MicroStep) (view : View) (n : ℕ) (rs outs : List TreeMap) → PlacedSoFar steps (results_in view) n rs outs → rs ≡ []
+    → outs ≡ outputs_of (record { steps = steps; outputs = n }) view
 unfolding outputs_of
 placed_end steps (Files inputs results) n rs outs here is = here.outputs ∙ ap (λ l. map (from_on steps results (length l)) (range_with_len 0 n)) is
 
@@ -106,7 +118,8 @@ past [] k at = omega arith
 past (a ∷ actions) zero at = absurd (cc)
 past (a ∷ actions) (suc k) at = omega (arith, past actions k at)
 
-pub placed_next : (actions : List Action) (all : List TreeMap) (n : ℕ) (rs : List TreeMap) (t : TreeMap) (outs : List TreeMap) → PlacedSoFar (map Act actions) all n (rs ++ t ∷ []) outs
+pub placed_next : (actions : List Action) (all : List TreeMap) (n : ℕ) (rs : List TreeMap) (t : TreeMap) (outs : List TreeMap)
+    → PlacedSoFar (map Act actions) all n (rs ++ t ∷ []) outs
     → PlacedSoFar (map Act actions) all n rs (placed_by (slice_get actions (length rs)) t outs)
 placed_next actions all n rs t outs here =
     let cases : (o : Option Action) → slice_get actions (length rs) ≡ o → PlacedSoFar (map Act actions) all n rs (placed_by o t outs)

@@ -1,5 +1,6 @@
 -- The parents of a path, one after another.
-use Rattle.std.proofs.Common.{◌≡◌, ℕ, ◌+◌, ◌<◌, ◌≤◌, List, [], ◌∷◌, ◌++◌, map, drop, length, get_or, refl, ap, sym, ◌∙◌, append_assoc, drop-cons, add-one, arith}
+use Rattle.std.proofs.Common.{◌≡◌, ℕ, ◌+◌, ◌<◌, ◌≤◌, List, [], ◌∷◌, ◌++◌, map, drop, length, get_or, refl, ap, sym, ◌∙◌, append_assoc, drop-cons}
+use Rattle.std.proofs.Common.{add-one, arith}
 use Rattle.std.specs.Prelude.{Result, Ok, Err, Bool, true, false, cond, nat_lt}
 use Rattle.std.proofs.lemmas.Bool.{lt-ltb}
 use Rattle.llb_tree.specs.Path.{below}
@@ -17,7 +18,8 @@ abbrev pub parents_from : List (List ℕ) → List (List ℕ) → List (List (Li
 parents_from p [] = []
 parents_from p (n ∷ ns) = p ∷ parents_from (p ++ n ∷ []) ns
 
-map_map : (p : List (List ℕ)) (n : List ℕ) (qs : List (List (List ℕ))) → map (λ (q : List (List ℕ)). p ++ q) (map (λ (q : List (List ℕ)). n ∷ q) qs) ≡ map (λ (q : List (List ℕ)). (p ++ n ∷ []) ++ q) qs
+map_map : (p : List (List ℕ)) (n : List ℕ) (qs : List (List (List ℕ)))
+    → map (λ (q : List (List ℕ)). p ++ q) (map (λ (q : List (List ℕ)). n ∷ q) qs) ≡ map (λ (q : List (List ℕ)). (p ++ n ∷ []) ++ q) qs
 map_map p n [] = refl
 map_map p n (q ∷ qs) = λ i. (sym (append_assoc p (n ∷ []) q)) i ∷ map_map p n qs i
 
@@ -42,24 +44,30 @@ made_start m ns t = ap (λ ps. make_all m ps t) (parents_are ns)
 
 -- the next parent, and the others below it
 pub made_next : (m : MetaValue) (ns : List (List ℕ)) (i : ℕ) (p : List (List ℕ)) (t : TreeMap) → i < length ns
-    → make_all m (parents_from p (drop i ns)) t ≡ (kept_or_made m p (finite.get t p) t >>= make_all m (parents_from (p ++ get_or ns i [] ∷ []) (drop (i + 1) ns)))
+    → make_all m (parents_from p (drop i ns)) t ≡
+    (kept_or_made m p (finite.get t p) t >>= make_all m (parents_from (p ++ get_or ns i [] ∷ []) (drop (i + 1) ns)))
 made_next m ns i p t low =
     ap (λ l. make_all m (parents_from p l) t) (drop-cons ns i [] low)
     ∙ ap (λ k. kept_or_made m p (finite.get t p) t >>= make_all m (parents_from (p ++ get_or ns i [] ∷ []) (drop k ns))) (sym (add-one i))
 
-pub made_fault : (m : MetaValue) (ns : List (List ℕ)) (old : TreeMap) (i : ℕ) (p : List (List ℕ)) (t : TreeMap) (e : TreeFault) → MadeSoFar m ns old i p t → i < length ns
+pub made_fault : (m : MetaValue) (ns : List (List ℕ)) (old : TreeMap) (i : ℕ) (p : List (List ℕ)) (t : TreeMap) (e : TreeFault)
+    → MadeSoFar m ns old i p t → i < length ns
     → kept_or_made m p (finite.get t p) t ≡ Err e → make_all m (parents ns) old ≡ Err e
-made_fault m ns old i p t e here low is = sym here.left ∙ made_next m ns i p t low ∙ ap (λ r. r >>= make_all m (parents_from (p ++ get_or ns i [] ∷ []) (drop (i + 1) ns))) is
+made_fault m ns old i p t e here low is =
+    sym here.left ∙ made_next m ns i p t low ∙ ap (λ r. r >>= make_all m (parents_from (p ++ get_or ns i [] ∷ []) (drop (i + 1) ns))) is
 
-pub made_more : (m : MetaValue) (ns : List (List ℕ)) (old : TreeMap) (i : ℕ) (p : List (List ℕ)) (t u : TreeMap) (n : List ℕ) → MadeSoFar m ns old i p t → i < length ns
+pub made_more : (m : MetaValue) (ns : List (List ℕ)) (old : TreeMap) (i : ℕ) (p : List (List ℕ)) (t u : TreeMap) (n : List ℕ)
+    → MadeSoFar m ns old i p t → i < length ns
     → kept_or_made m p (finite.get t p) t ≡ Ok u → n ≡ get_or ns i [] → MadeSoFar m ns old (i + 1) (p ++ n ∷ []) u
 made_more m ns old i p t u n here low is same =
     record {
-      left = ap (λ k. make_all m (parents_from (p ++ k ∷ []) (drop (i + 1) ns)) u) same ∙ ap (λ r. r >>= make_all m (parents_from (p ++ get_or ns i [] ∷ []) (drop (i + 1) ns))) (sym is) ∙ sym (made_next m ns i p t low) ∙ here.left;
+      left = ap (λ k. make_all m (parents_from (p ++ k ∷ []) (drop (i + 1) ns)) u) same
+          ∙ ap (λ r. r >>= make_all m (parents_from (p ++ get_or ns i [] ∷ []) (drop (i + 1) ns))) (sym is) ∙ sym (made_next m ns i p t low) ∙ here.left;
       names = omega (arith, length-append p (n ∷ []), here.names);
     }
 
-pub made_end : (m : MetaValue) (ns : List (List ℕ)) (old : TreeMap) (i : ℕ) (p : List (List ℕ)) (t : TreeMap) → MadeSoFar m ns old i p t → length ns ≤ i → make_all m (parents ns) old ≡ Ok t
+pub made_end : (m : MetaValue) (ns : List (List ℕ)) (old : TreeMap) (i : ℕ) (p : List (List ℕ)) (t : TreeMap) → MadeSoFar m ns old i p t
+    → length ns ≤ i → make_all m (parents ns) old ≡ Ok t
 made_end m ns old i p t here past = sym here.left ∙ ap (λ l. make_all m (parents_from p l) t) (drop_all i ns past)
 
 -- a path that is short takes one more name

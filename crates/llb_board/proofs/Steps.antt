@@ -26,12 +26,16 @@ work view = record { own = view; trees = [] }
 abbrev pub by_action : ℕ → View → Result TreeMap TreeFault → Left
 by_action k (Files inputs results) r = tried (work (Files inputs results)) (with_own (work (Files inputs results)) (with_result k inputs results r))
 
-on_action : (k : ℕ) (view : View) (a : Action) (r : Result TreeMap TreeFault) → act a.kind (base_in a.input (trees_in view)) ≡ r → step_on k (Some (Act a)) (work view) ≡ by_action k view r
+on_action : (k : ℕ) (view : View) (a : Action) (r : Result TreeMap TreeFault) → act a.kind (base_in a.input (trees_in view)) ≡ r
+    → step_on k (Some (Act a)) (work view) ≡ by_action k view r
 unfolding micro_step
-on_action k (Files inputs results) a r is = ap (λ q. tried (work (Files inputs results)) (with_own (work (Files inputs results)) (with_result k inputs results q))) is
+on_action k (Files inputs results) a r is =
+    ap (λ q. tried (work (Files inputs results)) (with_own (work (Files inputs results)) (with_result k inputs results q))) is
 
-worked_on : (actions : List Action) (v k : ℕ) (f : Option VertexFault) (view : View) (a : Action) (r : Result TreeMap TreeFault) → false ≡ is_finished (map Act actions) (execution v k f view)
-    → slice_get actions k ≡ Some a → act a.kind (base_in a.input (trees_in view)) ≡ r → worked (map Act actions) (execution v k f view) ≡ Ok (stepped_to (execution v k f view) (Act a) (by_action k view r))
+worked_on : (actions : List Action) (v k : ℕ) (f : Option VertexFault) (view : View) (a : Action) (r : Result TreeMap TreeFault)
+    → false ≡ is_finished (map Act actions) (execution v k f view)
+    → slice_get actions k ≡ Some a → act a.kind (base_in a.input (trees_in view)) ≡ r
+    → worked (map Act actions) (execution v k f view) ≡ Ok (stepped_to (execution v k f view) (Act a) (by_action k view r))
 worked_on actions v k f view a r more at is =
     let x = execution v k f view in
     ap (λ (b : Bool). worked_by x (if b then None else slice_get (map Act actions) k)) (sym more)
@@ -43,22 +47,28 @@ no_fault : (steps : List MicroStep) (v k : ℕ) (f : Option VertexFault) (view :
 no_fault steps v k None view more = refl
 no_fault steps v k (Some f) view more = absurd (cc)
 
-done_by : (v k : ℕ) (f : Option VertexFault) (view : View) (a : Action) (t : TreeMap) → stepped_to (execution v k f view) (Act a) (by_action k view (Ok t)) ≡ (execution v (k + 1) None (with_tree view t), Acted k)
+done_by : (v k : ℕ) (f : Option VertexFault) (view : View) (a : Action) (t : TreeMap)
+    → stepped_to (execution v k f view) (Act a) (by_action k view (Ok t)) ≡ (execution v (k + 1) None (with_tree view t), Acted k)
 done_by v k f (Files inputs results) a t = refl
 
 faulted_by : (v k : ℕ) (f : Option VertexFault) (view : View) (a : Action) (e : TreeFault)
-    → stepped_to (execution v k f view) (Act a) (by_action k view (Err e)) ≡ (execution v (k + 1) (Some (fault.Action k (fault_number e))) view, Faulted (fault.Action k (fault_number e)))
+    → stepped_to (execution v k f view) (Act a) (by_action k view (Err e)) ≡
+    (execution v (k + 1) (Some (fault.Action k (fault_number e))) view, Faulted (fault.Action k (fault_number e)))
 faulted_by v k f (Files inputs results) a e = refl
 
-pub worked_acts : (actions : List Action) (v k : ℕ) (f : Option VertexFault) (view : View) (a : Action) (t : TreeMap) → false ≡ is_finished (map Act actions) (execution v k f view)
-    → slice_get actions k ≡ Some a → act a.kind (base_in a.input (trees_in view)) ≡ Ok t → worked (map Act actions) (execution v k f view) ≡ Ok (execution v (k + 1) f (with_tree view t), Acted k)
+pub worked_acts : (actions : List Action) (v k : ℕ) (f : Option VertexFault) (view : View) (a : Action) (t : TreeMap)
+    → false ≡ is_finished (map Act actions) (execution v k f view)
+    → slice_get actions k ≡ Some a → act a.kind (base_in a.input (trees_in view)) ≡ Ok t
+    → worked (map Act actions) (execution v k f view) ≡ Ok (execution v (k + 1) f (with_tree view t), Acted k)
 worked_acts actions v k f view a t more at is =
     worked_on actions v k f view a (Ok t) more at is ∙ ap (λ p. Ok p) (done_by v k f view a t)
     ∙ (λ i. Ok (execution v (k + 1) (sym (no_fault (map Act actions) v k f view more) i) (with_tree view t), Acted k))
 
-pub worked_faults : (actions : List Action) (v k : ℕ) (f : Option VertexFault) (view : View) (a : Action) (e : TreeFault) → false ≡ is_finished (map Act actions) (execution v k f view)
+pub worked_faults : (actions : List Action) (v k : ℕ) (f : Option VertexFault) (view : View) (a : Action) (e : TreeFault)
+    → false ≡ is_finished (map Act actions) (execution v k f view)
     → slice_get actions k ≡ Some a → act a.kind (base_in a.input (trees_in view)) ≡ Err e
-    → worked (map Act actions) (execution v k f view) ≡ Ok (execution v (k + 1) (Some (fault.Action k (fault_number e))) view, Faulted (fault.Action k (fault_number e)))
+    → worked (map Act actions) (execution v k f view) ≡ Ok
+    (execution v (k + 1) (Some (fault.Action k (fault_number e))) view, Faulted (fault.Action k (fault_number e)))
 worked_faults actions v k f view a e more at is = worked_on actions v k f view a (Err e) more at is ∙ ap (λ p. Ok p) (faulted_by v k f view a e)
 
 pub not_done : (f : Bool) (n k : ℕ) → (f || nat_le n k) ≡ false → k < n

@@ -43,7 +43,8 @@ ChosenIsGranted b = (e : Event) → chosen b.build b.state ≡ Some e → is_som
 -- a vertex is Ready exactly where it waits, and all its inputs are done
 abbrev pub ReadyBehindDone : Seen → Type 0
 ReadyBehindDone b = (v : ℕ) (x : Vertex) → slice_get b.build.graph.vertices v ≡ Some x
-    → is_ready b.build b.state.statuses v ≡ (is_waiting (slice_get b.state.statuses v) && list_all (λ (e : Edge). is_done (ending_at b.state.statuses e.vertex)) x.inputs)
+    → is_ready b.build b.state.statuses v
+    ≡ (is_waiting (slice_get b.state.statuses v) && list_all (λ (e : Edge). is_done (ending_at b.state.statuses e.vertex)) x.inputs)
 
 -- whether a vertex has failed, or is blocked
 abbrev pub is_failed_or_blocked : Seen → ℕ → Bool
@@ -52,7 +53,8 @@ is_failed_or_blocked b v = is_failed (ending_at b.state.statuses v) || is_blocke
 -- a vertex is blocked exactly where it waits, and an input of it has failed or is blocked
 abbrev pub BlockedBehindAFailure : Seen → Type 0
 BlockedBehindAFailure b = (v : ℕ) (x : Vertex) → slice_get b.build.graph.vertices v ≡ Some x
-    → is_blocked b.build b.state.statuses v ≡ (is_waiting (slice_get b.state.statuses v) && list_any (λ (e : Edge). is_failed_or_blocked b e.vertex) x.inputs)
+    → is_blocked b.build b.state.statuses v
+    ≡ (is_waiting (slice_get b.state.statuses v) && list_any (λ (e : Edge). is_failed_or_blocked b e.vertex) x.inputs)
 
 -- the plain outcome of a vertex is what its whole program makes of the outcomes of its inputs
 abbrev pub OutcomeByInputs : Seen → Type 0

@@ -22,7 +22,8 @@ needed b Idle = []
 needed b (Runs x) = replicate (program_in b x).outputs empty_tree
 
 abbrev pub seen : Numbered → List Stand → List Desk → List Event → Seen
-seen g stands desks events = record { build = record { graph = g }; opening = record { workers = length desks }; state = state_of stands desks; events = events }
+seen g stands desks events =
+    record { build = record { graph = g }; opening = record { workers = length desks }; state = state_of stands desks; events = events }
 
 pub record IsKept (b : Seen) (desks : List Desk) (halted : List Bool) (capacity : ℕ) : Type 0 where
   pub replays : Replays b

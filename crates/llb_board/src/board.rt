@@ -10,7 +10,8 @@ ghost use Rattle.llb_model.specs.Run.{chosen, is_complete};
 ghost use Rattle.llb_loader.specs.Graph.{IsGraph};
 ghost use Rattle.llb_board.specs.Board.{Seen, Replays};
 ghost use Rattle.llb_wire.specs.Answer.{MemoryLast};
-ghost use Rattle.llb_board.specs.Rules.{open_memory, claim_memory, step_memory, GivesOpen, open_of, graph_in, GivesClaim, claim_of, GivesStep, step_of, GivesSettle, settle_of};
+ghost use Rattle.llb_board.specs.Rules.{open_memory, claim_memory, step_memory, GivesOpen, open_of, graph_in};
+ghost use Rattle.llb_board.specs.Rules.{GivesClaim, claim_of, GivesStep, step_of, GivesSettle, settle_of};
 ghost use Rattle.llb_board.specs.Views.{event_of, claim_reply, step_reply, settle_reply, status_of, look, look_at, worker_look};
 
 use crate::choice::{all_settled, next_claim, next_event};

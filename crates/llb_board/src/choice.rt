@@ -59,7 +59,8 @@ pub(crate) fn all_settled(graph: &Graph, stands: &[Stand], halted: &[bool]) -> b
 
 // Whether a vertex is done, failed or blocked.
 fn is_over(stands: &[Stand], halted: &[bool], v: u32) -> bool
-    ensures { result ≡ (is_settled (slice_get (map status_of stands.now) v) || (is_waiting (slice_get (map status_of stands.now) v) && unwrap_or (slice_get halted.now v) false)) }
+    ensures { result ≡ (is_settled (slice_get (map status_of stands.now) v)
+        || (is_waiting (slice_get (map status_of stands.now) v) && unwrap_or (slice_get halted.now v) false)) }
 {
     match stand_at(stands, v) {
         Some(Stand::Done(_)) => true,

@@ -44,7 +44,8 @@ pub(crate) fn claimable<'a>(
     v: u32,
 ) -> Result<&'a Vertex, ClaimFault>
     ensures there { IfOk result (λ x. slice_get graph.now.vertices v ≡ Some x.now) }
-    ensures first { MatchResult result (λ _. is_ok (claim_start (map status_of stands.now) v (slice_get (map at_of desks.now) w) (slice_get graph.now.vertices v)) ≡ true)
+    ensures first { MatchResult result
+        (λ _. is_ok (claim_start (map status_of stands.now) v (slice_get (map at_of desks.now) w) (slice_get graph.now.vertices v)) ≡ true)
         (λ e. faulted claim_fault (claim_start (map status_of stands.now) v (slice_get (map at_of desks.now) w) (slice_get graph.now.vertices v)) ≡ Err e) }
 {
     match desk_at(desks, w) {
@@ -88,7 +89,8 @@ pub(crate) fn begin(
     v: u32,
     vertex: &Vertex,
 ) -> Result<Begun, ClaimFault>
-    ensures gives { GivesClaim (λ b. (execution_of b.execution, claim_reply b.job)) result (begun w v vertex.now (inputs_from (ending_at (map status_of stands.now)) vertex.now.inputs)) }
+    ensures gives { GivesClaim (λ b. (execution_of b.execution, claim_reply b.job)) result
+        (begun w v vertex.now (inputs_from (ending_at (map status_of stands.now)) vertex.now.inputs)) }
     ensures outputs { IfOk result (λ b. b.execution.outputs.items ≡ replicate vertex.now.outputs empty_tree) }
 {
     let shown = gathered(alloc, stands, vertex.inputs.as_slice())?;
@@ -126,7 +128,8 @@ pub(crate) fn step_at(
     desks: &mut [Desk],
     w: u32,
 ) -> Result<Stepped, StepFault>
-    ensures gives { GivesStep (λ r. (state_of [] desks.new, step_reply r)) result (faulted step_fault (step_grant (record { graph = graph.now }) (state_of [] desks.old) w)) }
+    ensures gives { GivesStep (λ r. (state_of [] desks.new, step_reply r)) result
+        (faulted step_fault (step_grant (record { graph = graph.now }) (state_of [] desks.old) w)) }
     ensures last { MemoryLast step_memory result (faulted step_fault (step_grant (record { graph = graph.now }) (state_of [] desks.old) w)) }
     ensures outputs { map ready_made desks.new ≡ map ready_made desks.old }
     ensures err { OnErr result (desks.new ≡ desks.old) }
@@ -201,7 +204,8 @@ pub(crate) fn leave(graph: &Graph, desks: &mut [Desk], w: u32) -> Result<(u32, S
 // How an execution ends: its outputs take the places of the empty trees.
 fn end(execution: Execution, actions: &[Action]) -> Stand
     requires { execution.outputs.items ≡ replicate (length execution.outputs.items) empty_tree }
-    ensures { status_of result ≡ Settled (ended (record { steps = map Act actions.now; outputs = length execution.outputs.items }) execution.view execution.fault) }
+    ensures { status_of result
+        ≡ Settled (ended (record { steps = map Act actions.now; outputs = length execution.outputs.items }) execution.view execution.fault) }
 {
     match execution.fault {
         Some(fault) => Stand::Failed(fault),

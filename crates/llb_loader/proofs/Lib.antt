@@ -13,6 +13,5 @@ pub mod Parts
 pub mod Plans
 pub mod Refusals
 pub mod Builds
-pub mod Limited
 pub mod Whole
 pub mod Single

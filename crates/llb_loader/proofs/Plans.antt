@@ -1,17 +1,17 @@
 -- The rows that inputs name, by their places.
 use Rattle.std.proofs.Common.{◌≡◌, ◌≢◌, ℕ, zero, suc, ◌<◌, ◌≤◌, Bool, true, false, cond, eqb, List, [], ◌∷◌, ◌⊎◌, inl, inr, Option, Some, None, length, get_or, refl, sym, ◌∙◌, ap, subst, arith, ℤ, pos, negsuc, nat_abs}
 use Rattle.std.proofs.lemmas.Int.{ints}
-use Rattle.std.proofs.lemmas.Bool.{cases_lt, cases_Bool, eq-eqb}
+use Rattle.std.proofs.lemmas.Bool.{cases_lt, cases_Bool, cases_order, eq-eqb}
 use Rattle.std.proofs.lemmas.List.{get_or-map, get_or_past, length-map}
 use Rattle.std.proofs.lemmas.List.Elements.{All-nil, All-cons, All-map, All-get_or, All-contains}
-use Rattle.std.specs.List.{All, filter_map, cons_option}
+use Rattle.std.specs.List.{All, Contains, filter_map, cons_option}
 use Rattle.std.specs.Option.{unwrap_or}
 use Rattle.llb_ops.specs.declared.op.Op.{Op}
 use Rattle.llb_ops.specs.declared.op.Input.{Input}
 use Rattle.llb_loader.specs.declared.row.Row.{Row}
 use Rattle.llb_loader.specs.Rows.{inputs, InRange, HasEdge, Walk, Reached}
 use Rattle.llb_loader.specs.Rules.{IsBelow}
-use Rattle.llb_loader.specs.Naming.{first_with, other_than, row_named, rows_named, graph_of}
+use Rattle.llb_loader.specs.Naming.{row_at, first_with, other_than, row_named, rows_named, graph_of}
 use Rattle.llb_loader.specs.Linking.{op_at}
 use Rattle.llb_loader.proofs.Firsts.{first_cases}
 use Rattle.llb_loader.proofs.Outputs.{below_at}
@@ -36,6 +36,25 @@ other_cases t (Some j) k e = elim (cases_Bool (eqb j t)) [
 -- a named row is one of the rows, and not the terminal
 pub named_below : (rows : List Row) (t : ℕ) (d : List ℕ) (k : ℕ) → row_named rows t d ≡ Some k → k < length rows
 named_below rows t d k e = (first_cases rows d (Some k) (other_cases t (first_with rows d) k e).0).0
+
+-- a digest text names the first row that has it
+pub named_digest : (rows : List Row) (t : ℕ) (d : List ℕ) (k : ℕ) → row_named rows t d ≡ Some k → (row_at rows k).digest ≡ d
+named_digest rows t d k e = (first_cases rows d (Some k) (other_cases t (first_with rows d) k e).0).1
+
+-- no row before this one has its digest
+abbrev pub IsFirstRow : List Row → ℕ → Type 0
+IsFirstRow rows k = (j : ℕ) → j < k → (row_at rows j).digest ≢ (row_at rows k).digest
+
+pub named_first : (rows : List Row) (t : ℕ) (d : List ℕ) (k : ℕ) → row_named rows t d ≡ Some k → IsFirstRow rows k
+named_first rows t d k e j l same =
+    let f = first_cases rows d (Some k) (other_cases t (first_with rows d) k e).0 in
+    f.2 j l (same ∙ f.1)
+
+pub same_first : (rows : List Row) (a b : ℕ) → IsFirstRow rows a → IsFirstRow rows b → (row_at rows a).digest ≡ (row_at rows b).digest → a ≡ b
+same_first rows a b f g e = elim (cases_order a b) [
+  | inl same ↦ same
+  | inr o ↦ elim o [ inl l ↦ absurd (g a l e) | inr l ↦ absurd (f b l (sym e)) ]
+]
 
 pub in_range : (rows : List Row) (t : ℕ) (ops : List Op) → InRange (graph_of rows t ops) (length rows)
 in_range rows t ops = All-map (λ (r : List ℕ). All (λ b. b < length rows) r) (rows_named rows t) ops
@@ -63,6 +82,16 @@ walk_below g n s k (suc m) all h (c, w, e) = edge_below g n c k all e
 
 pub row_below : (g : List (List ℕ)) (n s k : ℕ) → InRange g n → s < n → Reached g s k → k < n
 row_below g n s k all h r = walk_below g n s k r.0 all h r.1
+
+walk_first : (rows : List Row) (t : ℕ) (ops : List Op) (s k n : ℕ) → IsFirstRow rows s → Walk (graph_of rows t ops) s k n → IsFirstRow rows k
+walk_first rows t ops s k zero f w = subst (λ (x : ℕ). IsFirstRow rows x) w f
+walk_first rows t ops s k (suc n) f (c, w, e) =
+    let all = all_filter_map (λ (i : Input). row_named rows t i.digest) (IsFirstRow rows) (λ x y q. named_first rows t x.digest y q) (op_at ops c).inputs in
+    All-contains (IsFirstRow rows) (rows_named rows t (op_at ops c)) k all (subst (λ (xs : List ℕ). Contains xs k) (graph_at rows t ops c) e)
+
+-- what is reached from a first row is first
+pub reached_first : (rows : List Row) (t : ℕ) (ops : List Op) (s k : ℕ) → IsFirstRow rows s → Reached (graph_of rows t ops) s k → IsFirstRow rows k
+reached_first rows t ops s k f r = walk_first rows t ops s k r.0 f r.1
 
 -- ---- where the first n inputs are named
 
@@ -97,3 +126,13 @@ below_wider n m (negsuc k) l b = absurd (let h = b.low in omega (arith, ints, h)
 pub below_abs : (n : ℕ) (z : ℤ) → IsBelow n z → nat_abs z < n
 below_abs n (pos k) b = let h = b.high in omega (arith, ints, h)
 below_abs n (negsuc k) b = absurd (let h = b.low in omega (arith, ints, h))
+
+pub below_pos : (n : ℕ) (z : ℤ) → IsBelow n z → z ≡ pos (nat_abs z)
+below_pos n (pos k) b = refl
+below_pos n (negsuc k) b = absurd (let h = b.low in omega (arith, ints, h))
+
+-- ---- a value that is there
+
+pub value_there : (o : Option ℕ) → o ≢ None → o ≡ Some (unwrap_or o 0)
+value_there None n = absurd (n refl)
+value_there (Some k) n = refl

@@ -9,9 +9,9 @@ use Rattle.llb_loader.specs.declared.row.Row.{Row}
 use Rattle.llb_loader.specs.declared.fault.LoadFault.{LoadFault}
 use Rattle.llb_loader.specs.Rows.{inputs}
 use Rattle.llb_loader.specs.Placing.{IsMarked}
-use Rattle.llb_loader.specs.Naming.{row_named}
+use Rattle.llb_loader.specs.Naming.{row_named, terminal_in}
 use Rattle.llb_loader.specs.Rules.{IsBelow, output_count}
-use Rattle.llb_loader.specs.Linking.{op_at, input_at, Plan, plan, links_in, input_row, ReachedRow, HasInput, outputs_there, IsBadIndex, Foremost, HasResult, IsStarted, IsNamed, IsOrdered, IsTaken, IsValid, Refused}
+use Rattle.llb_loader.specs.Linking.{op_at, input_at, Plan, plan, links_in, input_row, ReachedRow, HasInput, outputs_there, IsBadIndex, Foremost, HasResult, IsStarted, IsNamed, IsOrdered, IsTaken, IsValid, start_in, IsPlanOf, Refuses, Refused}
 use Rattle.llb_loader.specs.Checks.{RefusesUnknown, RefusesFeature, RefusesRule, RefusesIndex, FitsAll, FirstBad, asked_of, count_there}
 use Rattle.llb_loader.proofs.Plans.{named_below, in_range, graph_at, row_below, NamedAt, named_at}
 
@@ -35,15 +35,29 @@ input_named p n k i h e = n.named k i (record { input = h; unknown = e })
 pub first_named : (p : Plan) → IsStarted p → input_row p p.terminal 0 ≢ None
 first_named p s e = let x : None ≡ Some p.start = sym e ∙ s.start in cc
 
+-- ---- the plan of rows and ops
+
+pub planned : (rows : List Row) (ops : List Op) (t s : ℕ) → t ≡ terminal_in rows → row_named rows t (input_at (op_at ops t) 0).digest ≡ Some s → IsPlanOf rows ops (plan rows ops t s)
+planned rows ops t s terminal found =
+    let start : s ≡ start_in rows ops =
+    ap (λ (o : Option ℕ). unwrap_or o 0) (sym found) ∙ ap (λ (x : ℕ). unwrap_or (row_named rows x (input_at (op_at ops x) 0).digest) 0) terminal in
+    record { same = ap (λ (x : ℕ). plan rows ops x s) terminal ∙ ap (λ (y : ℕ). plan rows ops (terminal_in rows) y) start }
+
+pub unplanned : (rows : List Row) (ops : List Op) (t : ℕ) → t ≡ terminal_in rows → row_named rows t (input_at (op_at ops t) 0).digest ≡ None → IsPlanOf rows ops (plan rows ops t 0)
+unplanned rows ops t terminal none =
+    let start : 0 ≡ start_in rows ops =
+    ap (λ (o : Option ℕ). unwrap_or o 0) (sym none) ∙ ap (λ (x : ℕ). unwrap_or (row_named rows x (input_at (op_at ops x) 0).digest) 0) terminal in
+    record { same = ap (λ (x : ℕ). plan rows ops x 0) terminal ∙ ap (λ (y : ℕ). plan rows ops (terminal_in rows) y) start }
+
+pub refused_by : (rows : List Row) (ops : List Op) (p : Plan) (e : LoadFault) → IsPlanOf rows ops p → Refuses p e → Refused rows ops e
+refused_by rows ops p e of r = subst (λ (q : Plan). Refuses q e) of.same r
+
 -- ---- the first refusals
 
 pub refuses_unknown : (rows : List Row) (ops : List Op) (t s : ℕ) (Marked : ℕ → Type 0) → IsStarted (plan rows ops t s)
-    → ((k : ℕ) → Marked k ↔ ReachedRow (plan rows ops t s) k) → (e : LoadFault) → RefusesUnknown rows t ops Marked e → Refused rows ops e
+    → ((k : ℕ) → Marked k ↔ ReachedRow (plan rows ops t s) k) → (e : LoadFault) → RefusesUnknown rows t ops Marked e → Refuses (plan rows ops t s) e
 refuses_unknown rows ops t s Marked started exact e (k, i, same, marked, first, before) =
-    subst (λ (x : LoadFault). Refused rows ops x) (sym same) (inr (
-      plan rows ops t s,
-      refl,
-      refl,
+    subst (λ (x : LoadFault). Refuses (plan rows ops t s) x) (sym same) (inr (
       started,
       record {
         holds = record { input = record { reached = (exact k).0 marked; here = first.here }; unknown = first.unknown };
@@ -64,13 +78,10 @@ refuses_unknown rows ops t s Marked started exact e (k, i, same, marked, first, 
     ))
 
 pub refuses_feature : (rows : List Row) (ops : List Op) (t s : ℕ) (order : List ℕ) (Marked : ℕ → Type 0) → IsOrdered (plan rows ops t s) order
-    → ((k : ℕ) → Marked k ↔ ReachedRow (plan rows ops t s) k) → (e : LoadFault) → RefusesFeature ops Marked e → Refused rows ops e
+    → ((k : ℕ) → Marked k ↔ ReachedRow (plan rows ops t s) k) → (e : LoadFault) → RefusesFeature ops Marked e → Refuses (plan rows ops t s) e
 refuses_feature rows ops t s order Marked ordered exact e (k, f, same, marked, feature, before) =
-    subst (λ (x : LoadFault). Refused rows ops x) (sym same) (
-      plan rows ops t s,
+    subst (λ (x : LoadFault). Refuses (plan rows ops t s) x) (sym same) (
       order,
-      refl,
-      refl,
       ordered,
       record {
         reached = (exact k).0 marked;
@@ -80,13 +91,10 @@ refuses_feature rows ops t s order Marked ordered exact e (k, f, same, marked, f
     )
 
 pub refuses_rule : (rows : List Row) (ops : List Op) (t s : ℕ) (order : List ℕ) (Marked : ℕ → Type 0) → IsTaken (plan rows ops t s) order
-    → ((k : ℕ) → Marked k ↔ ReachedRow (plan rows ops t s) k) → (e : LoadFault) → RefusesRule ops Marked e → Refused rows ops e
+    → ((k : ℕ) → Marked k ↔ ReachedRow (plan rows ops t s) k) → (e : LoadFault) → RefusesRule ops Marked e → Refuses (plan rows ops t s) e
 refuses_rule rows ops t s order Marked taken exact e (k, r, same, marked, broken, before) =
-    subst (λ (x : LoadFault). Refused rows ops x) (sym same) (
-      plan rows ops t s,
+    subst (λ (x : LoadFault). Refuses (plan rows ops t s) x) (sym same) (
       order,
-      refl,
-      refl,
       taken,
       record {
         reached = (exact k).0 marked;
@@ -200,7 +208,7 @@ module _ (p : Plan) (seen : List Bool) (exact : (k : ℕ) → IsMarked seen k �
 
 pub refuses_index : (rows : List Row) (ops : List Op) (t s : ℕ) (order : List ℕ) (seen : List Bool) → IsValid (plan rows ops t s) order → length ops ≡ length rows
     → ((k : ℕ) → IsMarked seen k ↔ ReachedRow (plan rows ops t s) k) → (e : LoadFault)
-    → RefusesIndex ops (links_in (plan rows ops t s)) (map output_count ops) seen t e → Refused rows ops e
+    → RefusesIndex ops (links_in (plan rows ops t s)) (map output_count ops) seen t e → Refuses (plan rows ops t s) e
 refuses_index rows ops t s order seen valid len exact e (k, i, same, h, first, before) =
-    subst (λ (x : LoadFault). Refused rows ops x) (sym same)
-    (plan rows ops t s, order, refl, refl, valid, foremost_bad (plan rows ops t s) seen exact valid.taken.ordered.named len k i first before)
+    subst (λ (x : LoadFault). Refuses (plan rows ops t s) x) (sym same)
+    (order, valid, foremost_bad (plan rows ops t s) seen exact valid.taken.ordered.named len k i first before)

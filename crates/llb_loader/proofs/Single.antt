@@ -16,11 +16,11 @@ use Rattle.llb_loader.specs.declared.fault.LoadFault.TheVariants.{Definition, En
 use Rattle.llb_loader.specs.declared.fault.Feature.{Feature}
 use Rattle.llb_loader.specs.declared.fault.Rule.{Rule}
 use Rattle.llb_loader.specs.Numbering.{HasCycle, rank_in}
-use Rattle.llb_loader.specs.Naming.{row_at, AllSame, Collides, Least, IsTerminal, row_named}
+use Rattle.llb_loader.specs.Naming.{row_at, AllSame, Collides, Least}
 use Rattle.llb_loader.specs.Features.{feature_of}
-use Rattle.llb_loader.specs.Rules.{MeetsAll, Breaks, MeetsEach, BreaksFirst, rules}
+use Rattle.llb_loader.specs.Rules.{MeetsAll, Breaks, BreaksFirst, rules}
 use Rattle.llb_loader.specs.Graph.{Numbered}
-use Rattle.llb_loader.specs.Linking.{Plan, op_at, input_at, links_in, input_row, ReachedRow, Foremost, IsApart, HasResult, IsStarted, IsNamed, IsOrdered, IsTaken, IsValid, IsWhole, IsUnknown, IsBadIndex, IsUnsupported, IsInvalid, Refused, GraphOf, numbered_of}
+use Rattle.llb_loader.specs.Linking.{Plan, plan_of, op_at, links_in, input_row, Foremost, IsApart, HasResult, IsStarted, IsNamed, IsOrdered, IsTaken, IsValid, IsWhole, IsUnknown, IsBadIndex, IsUnsupported, IsInvalid, Refuses, Refused, GraphOf, numbered_of}
 use Rattle.llb_loader.specs.Reading.{AreOps, IsUnread, RefusesRow}
 use Rattle.llb_loader.specs.Link.{IsGraphOf, IsRefusalOf}
 use Rattle.llb_loader.specs.Load.{rows_from}
@@ -52,72 +52,43 @@ broken_one is kind (r ∷ rs) a b h g = elim h [
   | inr x ↦ elim g [ inl y ↦ absurd (y.1 x.0) | inr y ↦ broken_one is kind rs a b x.1 y.1 ]
 ]
 
--- ---- one plan
+-- ---- the refusals of a plan, one after another
 
-terminal_one : (p q : Plan) → p.rows ≡ q.rows → IsTerminal p.rows p.terminal → IsTerminal q.rows q.terminal → p.terminal ≡ q.terminal
-terminal_one p q e a b = least_one (λ k. (k < length p.rows) × (row_at p.rows k ≡ row_at p.rows (length p.rows - 1))) p.terminal q.terminal a
-    (subst (λ (rs : List Row). IsTerminal rs q.terminal) (sym e) b)
-
-result_row_one : (p q : Plan) → p.rows ≡ q.rows → p.ops ≡ q.ops → p.terminal ≡ q.terminal → input_row p p.terminal 0 ≡ input_row q q.terminal 0
-result_row_one p q er eo et =
-    ap (λ (rs : List Row). row_named rs p.terminal (input_at (op_at p.ops p.terminal) 0).digest) er
-    ∙ ap (λ (ops : List Op). row_named q.rows p.terminal (input_at (op_at ops p.terminal) 0).digest) eo
-    ∙ ap (λ (t : ℕ). row_named q.rows t (input_at (op_at q.ops t) 0).digest) et
-
-plan_one : (p q : Plan) → p.rows ≡ q.rows → p.ops ≡ q.ops → IsStarted p → IsStarted q → p ≡ q
-plan_one p q er eo a b =
-    let et = terminal_one p q er a.result.terminal b.result.terminal in
-    let some : ◌≡◌ {A = Option ℕ} (Some p.start) (Some q.start) = sym a.start ∙ result_row_one p q er eo et ∙ b.start in
-    let es : p.start ≡ q.start = cc in
-    ap (λ (x : List Row). let r : Plan = record { rows = x; ops = p.ops; terminal = p.terminal; start = p.start } in r) er
-    ∙ ap (λ (x : List Op). let r : Plan = record { rows = q.rows; ops = x; terminal = p.terminal; start = p.start } in r) eo
-    ∙ ap (λ (x : ℕ). let r : Plan = record { rows = q.rows; ops = q.ops; terminal = x; start = p.start } in r) et
-    ∙ ap (λ (x : ℕ). let r : Plan = record { rows = q.rows; ops = q.ops; terminal = q.terminal; start = x } in r) es
-
--- ---- the refusals of rows that are readable, one after another
-
-module _ (rows : List Row) (ops : List Op) where
-  -- a plan of these rows
-  abbrev Planned : (Plan → Type 0) → Type 0
-  Planned P = (p : Plan) × (p.rows ≡ rows) × (p.ops ≡ ops) × P p
-
-  same_plan : (p q : Plan) → p.rows ≡ rows → p.ops ≡ ops → q.rows ≡ rows → q.ops ≡ ops → IsStarted p → IsStarted q → p ≡ q
-  same_plan p q a b c d s t = plan_one p q (a ∙ sym c) (b ∙ sym d) s t
-
+module _ (p : Plan) where
   -- what holds once the first refusals do not stand
   abbrev Passes : ℕ → Type 0
-  Passes zero = ¬ AllSame rows
-  Passes (suc zero) = IsApart rows
-  Passes (suc (suc zero)) = Planned HasResult
-  Passes (suc (suc (suc zero))) = Planned IsStarted
-  Passes (suc (suc (suc (suc zero)))) = Planned IsNamed
-  Passes (suc (suc (suc (suc (suc zero))))) = Planned (λ p. (order : List ℕ) × IsOrdered p order)
-  Passes (suc (suc (suc (suc (suc (suc zero)))))) = Planned (λ p. (order : List ℕ) × IsTaken p order)
-  Passes (suc (suc (suc (suc (suc (suc (suc zero))))))) = Planned (λ p. (order : List ℕ) × IsValid p order)
-  Passes (suc (suc (suc (suc (suc (suc (suc (suc n)))))))) = Planned (λ p. (order : List ℕ) × IsWhole p order)
+  Passes zero = ¬ AllSame p.rows
+  Passes (suc zero) = IsApart p.rows
+  Passes (suc (suc zero)) = HasResult p
+  Passes (suc (suc (suc zero))) = IsStarted p
+  Passes (suc (suc (suc (suc zero)))) = IsNamed p
+  Passes (suc (suc (suc (suc (suc zero))))) = (order : List ℕ) × IsOrdered p order
+  Passes (suc (suc (suc (suc (suc (suc zero)))))) = (order : List ℕ) × IsTaken p order
+  Passes (suc (suc (suc (suc (suc (suc (suc zero))))))) = (order : List ℕ) × IsValid p order
+  Passes (suc (suc (suc (suc (suc (suc (suc (suc n)))))))) = (order : List ℕ) × IsWhole p order
 
   -- a refusal in its turn
   abbrev Stops : ℕ → LoadFault → Type 0
-  Stops zero e = (e ≡ TooFew) × AllSame rows
-  Stops (suc zero) e = (k : ℕ) × (e ≡ Collision k) × (¬ AllSame rows) × Least (Collides rows) k
-  Stops (suc (suc zero)) e = (t : ℕ) × (e ≡ NoResult) × IsApart rows × IsTerminal rows t × ((op_at ops t).inputs ≡ [])
-  Stops (suc (suc (suc zero))) e = Planned (λ p. (e ≡ UnknownDigest p.terminal 0) × HasResult p × (input_row p p.terminal 0 ≡ None))
-  Stops (suc (suc (suc (suc zero)))) e = Planned (λ p. (k : ℕ) × (i : ℕ) × (e ≡ UnknownDigest k i) × IsStarted p × Foremost (IsUnknown p) k i)
-  Stops (suc (suc (suc (suc (suc zero))))) e = Planned (λ p. (e ≡ Cycle) × IsNamed p × HasCycle (links_in p) p.start)
-  Stops (suc (suc (suc (suc (suc (suc zero)))))) e = Planned (λ p. (order : List ℕ) × (k : ℕ) × (f : Feature) × (e ≡ Unsupported k f) × IsOrdered p order × IsUnsupported p k f)
-  Stops (suc (suc (suc (suc (suc (suc (suc zero))))))) e = Planned (λ p. (order : List ℕ) × (k : ℕ) × (r : Rule) × (e ≡ Invalid k r) × IsTaken p order × IsInvalid p k r)
-  Stops (suc (suc (suc (suc (suc (suc (suc (suc zero)))))))) e = Planned (λ p. (order : List ℕ) × (k : ℕ) × (i : ℕ) × (e ≡ BadIndex k i) × IsValid p order × Foremost (IsBadIndex p) k i)
+  Stops zero e = (e ≡ TooFew) × AllSame p.rows
+  Stops (suc zero) e = (k : ℕ) × (e ≡ Collision k) × (¬ AllSame p.rows) × Least (Collides p.rows) k
+  Stops (suc (suc zero)) e = (e ≡ NoResult) × IsApart p.rows × ((op_at p.ops p.terminal).inputs ≡ [])
+  Stops (suc (suc (suc zero))) e = (e ≡ UnknownDigest p.terminal 0) × HasResult p × (input_row p p.terminal 0 ≡ None)
+  Stops (suc (suc (suc (suc zero)))) e = (k : ℕ) × (i : ℕ) × (e ≡ UnknownDigest k i) × IsStarted p × Foremost (IsUnknown p) k i
+  Stops (suc (suc (suc (suc (suc zero))))) e = (e ≡ Cycle) × IsNamed p × HasCycle (links_in p) p.start
+  Stops (suc (suc (suc (suc (suc (suc zero)))))) e = (order : List ℕ) × (k : ℕ) × (f : Feature) × (e ≡ Unsupported k f) × IsOrdered p order × IsUnsupported p k f
+  Stops (suc (suc (suc (suc (suc (suc (suc zero))))))) e = (order : List ℕ) × (k : ℕ) × (r : Rule) × (e ≡ Invalid k r) × IsTaken p order × IsInvalid p k r
+  Stops (suc (suc (suc (suc (suc (suc (suc (suc zero)))))))) e = (order : List ℕ) × (k : ℕ) × (i : ℕ) × (e ≡ BadIndex k i) × IsValid p order × Foremost (IsBadIndex p) k i
   Stops (suc (suc (suc (suc (suc (suc (suc (suc (suc n))))))))) e = ⊥
 
   passed_before : (n : ℕ) → Passes (suc n) → Passes n
   passed_before zero a = a.several
-  passed_before (suc zero) (p, er, eo, s) = subst (λ (rs : List Row). IsApart rs) er s.apart
-  passed_before (suc (suc zero)) (p, er, eo, s) = (p, er, eo, s.result)
-  passed_before (suc (suc (suc zero))) (p, er, eo, s) = (p, er, eo, s.started)
-  passed_before (suc (suc (suc (suc zero)))) (p, er, eo, s) = (p, er, eo, s.1.named)
-  passed_before (suc (suc (suc (suc (suc zero))))) (p, er, eo, s) = (p, er, eo, (s.0, s.1.ordered))
-  passed_before (suc (suc (suc (suc (suc (suc zero)))))) (p, er, eo, s) = (p, er, eo, (s.0, s.1.taken))
-  passed_before (suc (suc (suc (suc (suc (suc (suc zero))))))) (p, er, eo, s) = (p, er, eo, (s.0, s.1.valid))
+  passed_before (suc zero) s = s.apart
+  passed_before (suc (suc zero)) s = s.result
+  passed_before (suc (suc (suc zero))) s = s.started
+  passed_before (suc (suc (suc (suc zero)))) s = s.1.named
+  passed_before (suc (suc (suc (suc (suc zero))))) s = (s.0, s.1.ordered)
+  passed_before (suc (suc (suc (suc (suc (suc zero)))))) s = (s.0, s.1.taken)
+  passed_before (suc (suc (suc (suc (suc (suc (suc zero))))))) s = (s.0, s.1.valid)
   passed_before (suc (suc (suc (suc (suc (suc (suc (suc n)))))))) s = s
 
   passed_below : (m d : ℕ) → Passes (d + m) → Passes m
@@ -127,87 +98,63 @@ module _ (rows : List Row) (ops : List Op) where
   -- a refusal stands where all before it do not
   stopped_after : (n : ℕ) (e : LoadFault) → Stops (suc n) e → Passes n
   stopped_after zero e s = s.2
-  stopped_after (suc zero) e s = s.2
-  stopped_after (suc (suc zero)) e (p, er, eo, s) = (p, er, eo, s.1)
-  stopped_after (suc (suc (suc zero))) e (p, er, eo, s) = (p, er, eo, s.3)
-  stopped_after (suc (suc (suc (suc zero)))) e (p, er, eo, s) = (p, er, eo, s.1)
-  stopped_after (suc (suc (suc (suc (suc zero))))) e (p, er, eo, s) = (p, er, eo, (s.0, s.4))
-  stopped_after (suc (suc (suc (suc (suc (suc zero)))))) e (p, er, eo, s) = (p, er, eo, (s.0, s.4))
-  stopped_after (suc (suc (suc (suc (suc (suc (suc zero))))))) e (p, er, eo, s) = (p, er, eo, (s.0, s.4))
+  stopped_after (suc zero) e s = s.1
+  stopped_after (suc (suc zero)) e s = s.1
+  stopped_after (suc (suc (suc zero))) e s = s.3
+  stopped_after (suc (suc (suc (suc zero)))) e s = s.1
+  stopped_after (suc (suc (suc (suc (suc zero))))) e s = (s.0, s.4)
+  stopped_after (suc (suc (suc (suc (suc (suc zero)))))) e s = (s.0, s.4)
+  stopped_after (suc (suc (suc (suc (suc (suc (suc zero))))))) e s = (s.0, s.4)
   stopped_after (suc (suc (suc (suc (suc (suc (suc (suc n)))))))) e s = absurd s
 
   -- and what it says is not passed
   stopped_fails : (n : ℕ) (e : LoadFault) → Stops n e → ¬ Passes n
   stopped_fails zero e s a = a s.1
   stopped_fails (suc zero) e s a = a.apart s.0 s.3.holds
-  stopped_fails (suc (suc zero)) e s (p, er, eo, a) =
-      let t : p.terminal ≡ s.0 = least_one (λ k. (k < length rows) × (row_at rows k ≡ row_at rows (length rows - 1))) p.terminal s.0 (subst (λ (rs : List Row). IsTerminal rs p.terminal) er a.terminal) s.3 in
-      let none : (op_at p.ops p.terminal).inputs ≡ [] = ap (λ (os : List Op). (op_at os p.terminal).inputs) eo ∙ ap (λ (k : ℕ). (op_at ops k).inputs) t ∙ s.4 in
-      let some = a.input in
-      let l = ap (λ (xs : List Input). length xs) none in
-      omega (arith, some, l)
-  stopped_fails (suc (suc (suc zero))) e (p, er, eo, s) (q, fr, fo, a) =
-      let et = terminal_one p q (er ∙ sym fr) s.1.terminal a.result.terminal in
-      let x : ◌≡◌ {A = Option ℕ} None (Some q.start) = sym s.2 ∙ result_row_one p q (er ∙ sym fr) (eo ∙ sym fo) et ∙ a.start in cc
-  stopped_fails (suc (suc (suc (suc zero)))) e (p, er, eo, s) (q, fr, fo, a) =
-      let same = same_plan p q er eo fr fo s.3 a.started in
-      subst (λ (r : Plan). (k i : ℕ) → ¬ IsUnknown r k i) (sym same) a.named s.0 s.1 s.4.holds
-  stopped_fails (suc (suc (suc (suc (suc zero))))) e (p, er, eo, s) (q, fr, fo, a) =
-      let same = same_plan p q er eo fr fo s.1.started a.1.named.started in
-      subst (λ (r : Plan). HasCycle (links_in r) r.start) same s.2 (rank_in a.0) (numbering_down (links_in q) q.start a.0 a.1.numbering)
-  stopped_fails (suc (suc (suc (suc (suc (suc zero)))))) e (p, er, eo, s) (q, fr, fo, a) =
-      let same = same_plan p q er eo fr fo s.4.named.started a.1.ordered.named.started in
-      let free = subst (λ (r : Plan). (k : ℕ) → ReachedRow r k → feature_of (op_at r.ops k) ≡ None) (sym same) a.1.featureless s.1 s.5.reached in
-      let x : ◌≡◌ {A = Option Feature} None (Some s.2) = sym free ∙ s.5.feature in cc
-  stopped_fails (suc (suc (suc (suc (suc (suc (suc zero))))))) e (p, er, eo, s) (q, fr, fo, a) =
-      let same = same_plan p q er eo fr fo s.4.ordered.named.started a.1.taken.ordered.named.started in
-      let met = subst (λ (r : Plan). (k : ℕ) → ReachedRow r k → MeetsEach (op_at r.ops k) rules) (sym same) a.1.valid s.1 s.5.reached in
-      not_both (op_at p.ops s.1).inputs (op_at p.ops s.1).kind rules s.2 s.5.broken met
-  stopped_fails (suc (suc (suc (suc (suc (suc (suc (suc zero)))))))) e (p, er, eo, s) (q, fr, fo, a) =
-      let same = same_plan p q er eo fr fo s.4.taken.ordered.named.started a.1.valid.taken.ordered.named.started in
-      subst (λ (r : Plan). (k i : ℕ) → ¬ IsBadIndex r k i) (sym same) a.1.indexes s.1 s.2 s.5.holds
+  stopped_fails (suc (suc zero)) e s a = let some = a.input in let l = ap (λ (xs : List Input). length xs) s.2 in omega (arith, some, l)
+  stopped_fails (suc (suc (suc zero))) e s a = let x : ◌≡◌ {A = Option ℕ} None (Some p.start) = sym s.2 ∙ a.start in cc
+  stopped_fails (suc (suc (suc (suc zero)))) e s a = a.named s.0 s.1 s.4.holds
+  stopped_fails (suc (suc (suc (suc (suc zero))))) e s a = s.2 (rank_in a.0) (numbering_down (links_in p) p.start a.0 a.1.numbering)
+  stopped_fails (suc (suc (suc (suc (suc (suc zero)))))) e s a =
+      let x : ◌≡◌ {A = Option Feature} None (Some s.2) = sym (a.1.featureless s.1 s.5.reached) ∙ s.5.feature in cc
+  stopped_fails (suc (suc (suc (suc (suc (suc (suc zero))))))) e s a =
+      not_both (op_at p.ops s.1).inputs (op_at p.ops s.1).kind rules s.2 s.5.broken (a.1.valid s.1 s.5.reached)
+  stopped_fails (suc (suc (suc (suc (suc (suc (suc (suc zero)))))))) e s a = a.1.indexes s.1 s.2 s.5.holds
   stopped_fails (suc (suc (suc (suc (suc (suc (suc (suc (suc n))))))))) e s a = s
 
   -- in its turn it is one
   stopped_one : (n : ℕ) (e f : LoadFault) → Stops n e → Stops n f → e ≡ f
   stopped_one zero e f s t = s.0 ∙ sym t.0
-  stopped_one (suc zero) e f s t = s.1 ∙ ap (λ (k : ℕ). Collision k) (least_one (Collides rows) s.0 t.0 s.3 t.3) ∙ sym t.1
-  stopped_one (suc (suc zero)) e f s t = s.1 ∙ sym t.1
-  stopped_one (suc (suc (suc zero))) e f (p, er, eo, s) (q, fr, fo, t) =
-      s.0 ∙ ap (λ (k : ℕ). UnknownDigest k 0) (terminal_one p q (er ∙ sym fr) s.1.terminal t.1.terminal) ∙ sym t.0
-  stopped_one (suc (suc (suc (suc zero)))) e f (p, er, eo, s) (q, fr, fo, t) =
-      let same = same_plan p q er eo fr fo s.3 t.3 in
-      let at = foremost_one (IsUnknown p) s.0 s.1 t.0 t.1 s.4 (subst (λ (r : Plan). Foremost (IsUnknown r) t.0 t.1) (sym same) t.4) in
+  stopped_one (suc zero) e f s t = s.1 ∙ ap (λ (k : ℕ). Collision k) (least_one (Collides p.rows) s.0 t.0 s.3 t.3) ∙ sym t.1
+  stopped_one (suc (suc zero)) e f s t = s.0 ∙ sym t.0
+  stopped_one (suc (suc (suc zero))) e f s t = s.0 ∙ sym t.0
+  stopped_one (suc (suc (suc (suc zero)))) e f s t =
+      let at = foremost_one (IsUnknown p) s.0 s.1 t.0 t.1 s.4 t.4 in
       s.2 ∙ ap (λ (k : ℕ). UnknownDigest k s.1) at.0 ∙ ap (λ (i : ℕ). UnknownDigest t.0 i) at.1 ∙ sym t.2
-  stopped_one (suc (suc (suc (suc (suc zero))))) e f s t = s.3.0 ∙ sym t.3.0
-  stopped_one (suc (suc (suc (suc (suc (suc zero)))))) e f (p, er, eo, s) (q, fr, fo, t) =
-      let same = same_plan p q er eo fr fo s.4.named.started t.4.named.started in
-      let other = subst (λ (r : Plan). IsUnsupported r t.1 t.2) (sym same) t.5 in
+  stopped_one (suc (suc (suc (suc (suc zero))))) e f s t = s.0 ∙ sym t.0
+  stopped_one (suc (suc (suc (suc (suc (suc zero)))))) e f s t =
       let at : s.1 ≡ t.1 = elim (cases_order s.1 t.1) [
         | inl x ↦ x
         | inr o ↦ elim o [
-          | inl l ↦ absurd (let x : ◌≡◌ {A = Option Feature} None (Some s.2) = sym (other.least s.1 l s.5.reached) ∙ s.5.feature in cc)
-          | inr l ↦ absurd (let x : ◌≡◌ {A = Option Feature} None (Some t.2) = sym (s.5.least t.1 l other.reached) ∙ other.feature in cc)
+          | inl l ↦ absurd (let x : ◌≡◌ {A = Option Feature} None (Some s.2) = sym (t.5.least s.1 l s.5.reached) ∙ s.5.feature in cc)
+          | inr l ↦ absurd (let x : ◌≡◌ {A = Option Feature} None (Some t.2) = sym (s.5.least t.1 l t.5.reached) ∙ t.5.feature in cc)
         ]
       ] in
-      let some : ◌≡◌ {A = Option Feature} (Some s.2) (Some t.2) = sym s.5.feature ∙ ap (λ (k : ℕ). feature_of (op_at p.ops k)) at ∙ other.feature in
+      let some : ◌≡◌ {A = Option Feature} (Some s.2) (Some t.2) = sym s.5.feature ∙ ap (λ (k : ℕ). feature_of (op_at p.ops k)) at ∙ t.5.feature in
       let feature : s.2 ≡ t.2 = cc in
       s.3 ∙ ap (λ (k : ℕ). Unsupported k s.2) at ∙ ap (λ (x : Feature). Unsupported t.1 x) feature ∙ sym t.3
-  stopped_one (suc (suc (suc (suc (suc (suc (suc zero))))))) e f (p, er, eo, s) (q, fr, fo, t) =
-      let same = same_plan p q er eo fr fo s.4.ordered.named.started t.4.ordered.named.started in
-      let other = subst (λ (r : Plan). IsInvalid r t.1 t.2) (sym same) t.5 in
+  stopped_one (suc (suc (suc (suc (suc (suc (suc zero))))))) e f s t =
       let at : s.1 ≡ t.1 = elim (cases_order s.1 t.1) [
         | inl x ↦ x
         | inr o ↦ elim o [
-          | inl l ↦ absurd (not_both (op_at p.ops s.1).inputs (op_at p.ops s.1).kind rules s.2 s.5.broken (other.least s.1 l s.5.reached))
-          | inr l ↦ absurd (not_both (op_at p.ops t.1).inputs (op_at p.ops t.1).kind rules t.2 other.broken (s.5.least t.1 l other.reached))
+          | inl l ↦ absurd (not_both (op_at p.ops s.1).inputs (op_at p.ops s.1).kind rules s.2 s.5.broken (t.5.least s.1 l s.5.reached))
+          | inr l ↦ absurd (not_both (op_at p.ops t.1).inputs (op_at p.ops t.1).kind rules t.2 t.5.broken (s.5.least t.1 l t.5.reached))
         ]
       ] in
-      let rule = broken_one (op_at p.ops s.1).inputs (op_at p.ops s.1).kind rules s.2 t.2 s.5.broken (subst (λ (k : ℕ). BreaksFirst (op_at p.ops k) rules t.2) (sym at) other.broken) in
+      let rule = broken_one (op_at p.ops s.1).inputs (op_at p.ops s.1).kind rules s.2 t.2 s.5.broken (subst (λ (k : ℕ). BreaksFirst (op_at p.ops k) rules t.2) (sym at) t.5.broken) in
       s.3 ∙ ap (λ (k : ℕ). Invalid k s.2) at ∙ ap (λ (x : Rule). Invalid t.1 x) rule ∙ sym t.3
-  stopped_one (suc (suc (suc (suc (suc (suc (suc (suc zero)))))))) e f (p, er, eo, s) (q, fr, fo, t) =
-      let same = same_plan p q er eo fr fo s.4.taken.ordered.named.started t.4.taken.ordered.named.started in
-      let at = foremost_one (IsBadIndex p) s.1 s.2 t.1 t.2 s.5 (subst (λ (r : Plan). Foremost (IsBadIndex r) t.1 t.2) (sym same) t.5) in
+  stopped_one (suc (suc (suc (suc (suc (suc (suc (suc zero)))))))) e f s t =
+      let at = foremost_one (IsBadIndex p) s.1 s.2 t.1 t.2 s.5 t.5 in
       s.3 ∙ ap (λ (k : ℕ). BadIndex k s.2) at.0 ∙ ap (λ (i : ℕ). BadIndex t.1 i) at.1 ∙ sym t.3
   stopped_one (suc (suc (suc (suc (suc (suc (suc (suc (suc n))))))))) e f s t = absurd s
 
@@ -236,40 +183,39 @@ module _ (rows : List Row) (ops : List Op) where
   stops_within (suc (suc (suc (suc (suc (suc (suc (suc (suc n))))))))) e s = absurd s
 
   -- where no refusal is left, none stands
-  not_whole : (n : ℕ) (e : LoadFault) → Stops n e → ¬ Planned (λ p. (order : List ℕ) × IsWhole p order)
+  not_whole : (n : ℕ) (e : LoadFault) → Stops n e → ¬ ((order : List ℕ) × IsWhole p order)
   not_whole n e s w =
       stopped_fails n e s (passed_below n (8 - n) (subst (λ (k : ℕ). Passes k) (let h = stops_within n e s in let x : 8 ≡ (8 - n) + n = omega (arith, h) in x) w))
 
   -- each refusal has its turn
-  refused_stops : (e : LoadFault) → Refused rows ops e → (n : ℕ) × Stops n e
-  refused_stops TooFew r = (0, (refl, r))
-  refused_stops (Collision k) r = (1, (k, refl, r.0, r.1))
-  refused_stops NoResult r = (2, (r.1, refl, r.0, r.2, r.3))
-  refused_stops (UnknownDigest k i) r = elim r [
-    | inl a ↦ (3, (a.0, a.1, a.2, (ap (λ (x : ℕ). UnknownDigest x i) a.5 ∙ ap (λ (x : ℕ). UnknownDigest a.0.terminal x) a.6, a.3, a.4)))
-    | inr a ↦ (4, (a.0, a.1, a.2, (k, i, refl, a.3, a.4)))
+  refusal_stops : (e : LoadFault) → Refuses p e → (n : ℕ) × Stops n e
+  refusal_stops TooFew r = (0, (refl, r))
+  refusal_stops (Collision k) r = (1, (k, refl, r.0, r.1))
+  refusal_stops NoResult r = (2, (refl, r.0, r.2))
+  refusal_stops (UnknownDigest k i) r = elim r [
+    | inl a ↦ (3, (ap (λ (x : ℕ). UnknownDigest x i) a.row ∙ ap (λ (x : ℕ). UnknownDigest p.terminal x) a.input, a.result, a.unknown))
+    | inr a ↦ (4, (k, i, refl, a.0, a.1))
   ]
-  refused_stops Cycle r = (5, (r.0, r.1, r.2, (refl, r.3, r.4)))
-  refused_stops (Unsupported k f) r = (6, (r.0, r.2, r.3, (r.1, k, f, refl, r.4, r.5)))
-  refused_stops (Invalid k x) r = (7, (r.0, r.2, r.3, (r.1, k, x, refl, r.4, r.5)))
-  refused_stops (BadIndex k i) r = (8, (r.0, r.2, r.3, (r.1, k, i, refl, r.4, r.5)))
-  refused_stops (Definition f) r = absurd r
-  refused_stops (Entry k f) r = absurd r
-  refused_stops Memory r = absurd r
+  refusal_stops Cycle r = (5, (refl, r.0, r.1))
+  refusal_stops (Unsupported k f) r = (6, (r.0, k, f, refl, r.1, r.2))
+  refusal_stops (Invalid k x) r = (7, (r.0, k, x, refl, r.1, r.2))
+  refusal_stops (BadIndex k i) r = (8, (r.0, k, i, refl, r.1, r.2))
+  refusal_stops (Definition f) r = absurd r
+  refusal_stops (Entry k f) r = absurd r
+  refusal_stops Memory r = absurd r
 
-  refused_one : (e f : LoadFault) → Refused rows ops e → Refused rows ops f → e ≡ f
-  refused_one e f r t = let s = refused_stops e r in let u = refused_stops f t in stops_alike s.0 u.0 e f s.1 u.1
+  one_refusal : (e f : LoadFault) → Refuses p e → Refuses p f → e ≡ f
+  one_refusal e f r t = let s = refusal_stops e r in let u = refusal_stops f t in stops_alike s.0 u.0 e f s.1 u.1
 
-  refused_no_graph : (g : Numbered) (e : LoadFault) → GraphOf rows ops g → ¬ Refused rows ops e
-  refused_no_graph g e a r = let s = refused_stops e r in not_whole s.0 e s.1 (a.plan, a.same_rows, a.same_ops, (a.order, a.whole))
+  whole_not_refused : (order : List ℕ) (e : LoadFault) → IsWhole p order → ¬ Refuses p e
+  whole_not_refused order e w r = let s = refusal_stops e r in not_whole s.0 e s.1 (order, w)
 
-  graph_one : (g h : Numbered) → GraphOf rows ops g → GraphOf rows ops h → g ≡ h
-  graph_one g h a b =
-      let started = a.whole.valid.taken.ordered.named.started in
-      let same = same_plan a.plan b.plan a.same_rows a.same_ops b.same_rows b.same_ops started b.whole.valid.taken.ordered.named.started in
-      let other = subst (λ (p : Plan). IsWhole p b.order) (sym same) b.whole in
-      let order = one_numbering (links_in a.plan) a.plan.start a.order b.order a.whole.valid.taken.ordered.numbering other.valid.taken.ordered.numbering in
-      a.graph ∙ ap (λ (p : Plan). numbered_of p a.order) same ∙ ap (λ (o : List ℕ). numbered_of b.plan o) order ∙ sym b.graph
+  one_order : (xs ys : List ℕ) → IsWhole p xs → IsWhole p ys → xs ≡ ys
+  one_order xs ys a b = one_numbering (links_in p) p.start xs ys a.valid.taken.ordered.numbering b.valid.taken.ordered.numbering
+
+graph_one : (rows : List Row) (ops : List Op) (g h : Numbered) → GraphOf rows ops g → GraphOf rows ops h → g ≡ h
+graph_one rows ops g h a b =
+    a.graph ∙ ap (λ (o : List ℕ). numbered_of (plan_of rows ops) o) (one_order (plan_of rows ops) a.order b.order a.whole b.whole) ∙ sym b.graph
 
 -- ---- rows, readable or not
 
@@ -302,7 +248,7 @@ refusal_one rows e f r t = elim r [
   | inl a ↦ elim t [ inl b ↦ a.2 ∙ unread_one rows a.0 b.0 a.1 b.1 a.3 b.3 ∙ sym b.2 | inr b ↦ absurd (not_unread rows b.0 e b.1 a) ]
   | inr a ↦ elim t [
     | inl b ↦ absurd (not_unread rows a.0 f a.1 b)
-    | inr b ↦ refused_one rows a.0 e f a.2 (subst (λ (ops : List Op). Refused rows ops f) (ops_one rows b.0 a.0 b.1 a.1) b.2)
+    | inr b ↦ one_refusal (plan_of rows a.0) e f a.2 (subst (λ (ops : List Op). Refused rows ops f) (ops_one rows b.0 a.0 b.1 a.1) b.2)
   ]
 ]
 
@@ -312,7 +258,7 @@ one_answer rows = record {
   refusals = refusal_one rows;
   apart = λ g e a r. elim r [
     | inl b ↦ not_unread rows a.0 e a.1 b
-    | inr b ↦ refused_no_graph rows a.0 g e a.2 (subst (λ (ops : List Op). Refused rows ops e) (ops_one rows b.0 a.0 b.1 a.1) b.2)
+    | inr b ↦ whole_not_refused (plan_of rows a.0) a.2.order e a.2.whole (subst (λ (ops : List Op). Refused rows ops e) (ops_one rows b.0 a.0 b.1 a.1) b.2)
   ];
 }
 

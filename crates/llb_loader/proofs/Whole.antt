@@ -14,21 +14,21 @@ use Rattle.llb_ops.specs.declared.file.Action.{Action}
 use Rattle.llb_ops.specs.declared.file.ActionKind.{ActionKind}
 use Rattle.llb_ops.specs.declared.file.ActionKind.TheVariants.{Copy, MkFile, MkDir, Rm}
 use Rattle.llb_ops.specs.declared.exec.Mount.{Mount}
+use Rattle.llb_ops.specs.Within.{IsKindWithin, IsWithinLimits}
 use Rattle.llb_loader.specs.declared.fault.Feature.TheVariants as feature
 use Rattle.llb_loader.specs.declared.graph.Edge.{Edge}
 use Rattle.llb_loader.specs.declared.graph.Vertex.{Vertex}
 use Rattle.llb_loader.specs.Numbering.{rank_in}
 use Rattle.llb_loader.specs.Rows.{inputs, HasEdge, Walk}
-use Rattle.llb_loader.specs.Naming.{row_named}
+use Rattle.llb_loader.specs.Naming.{row_at, row_named}
 use Rattle.llb_loader.specs.Features.{is_later, is_not_yet, is_diff, is_build, is_nameless, has, features, refused_features, feature_of}
-use Rattle.llb_loader.specs.Rules.{kind_actions, kind_mounts, kind_merged, kind_steps, kind_outputs, actions_of, is_made, is_output, owner_of, owner_by_name, outputs_of, mount_outputs, count_outputs, step_count, output_count, IsBelow, ActionInputs, AreOutputs, MeetsAll, MeetsEach, rules}
-use Rattle.llb_loader.specs.Graph.{links, LeadsBelow, IsFileVertex, IsGraph}
+use Rattle.llb_loader.specs.Rules.{kind_actions, kind_steps, kind_outputs, actions_of, is_made, is_output, owner_of, owner_by_name, outputs_of, mount_outputs, count_outputs, step_count, output_count, IsBelow, ActionInputs, AreOutputs, MeetsAll, MeetsEach, rules}
+use Rattle.llb_loader.specs.Graph.{links, LeadsBelow, StandsFor, HasInputs, IsVertex, IsFileVertex, IsGraph}
 use Rattle.llb_loader.specs.Linking.{Plan, op_at, input_at, links_in, input_row, ReachedRow, HasInput, outputs_there, IsNamed, IsWhole, edge_of, vertex_of}
-use Rattle.llb_loader.specs.Checks.{IsWithin}
 use Rattle.llb_loader.specs.Building.{IsBuildable, IsBuilt, AreBuilt, edge_at, vertex_at, edge_to}
 use Rattle.llb_loader.proofs.Searching.{reached_step}
 use Rattle.llb_loader.proofs.Unique.{rank_at}
-use Rattle.llb_loader.proofs.Plans.{graph_at, NamedAt, named_at, below_cases, below_wider, below_abs}
+use Rattle.llb_loader.proofs.Plans.{graph_at, NamedAt, named_at, below_cases, below_wider, below_abs, below_pos, value_there, IsFirstRow, named_first, same_first, reached_first, named_digest}
 use Rattle.llb_loader.proofs.Refusals.{reached_in, input_named}
 
 -- ---- one op
@@ -105,12 +105,23 @@ file_op is (Some (Diff x)) free met = absurd (let r = (refused_by (Some (Diff x)
 file_op is (Some (Build x)) free met = absurd (let r = (refused_by (Some (Build x)) free).2 in let y : true ≡ false = r in cc)
 file_op is None free met = absurd (let y : false ≡ true = met.0 in cc)
 
-file_vertex : (text : List ℕ) (op : Op) (named ranks : List ℕ) (v : Vertex) → IsBuilt text op named ranks v → IsWithin op → feature_of op ≡ None → MeetsEach op rules → IsFileVertex v
+-- the limits of a message
+
+kind_actions_within : (kind : Option Kind) → IsKindWithin kind → length (kind_actions kind) ≤ 1_024
+kind_actions_within (Some (File f)) w = w.actions
+kind_actions_within (Some (Exec x)) w = omega arith
+kind_actions_within (Some (Source x)) w = omega arith
+kind_actions_within (Some (Merge x)) w = omega arith
+kind_actions_within (Some (Build x)) w = omega arith
+kind_actions_within (Some (Diff x)) w = omega arith
+kind_actions_within None w = omega arith
+
+file_vertex : (text : List ℕ) (op : Op) (named ranks : List ℕ) (v : Vertex) → IsBuilt text op named ranks v → IsWithinLimits op → feature_of op ≡ None → MeetsEach op rules → IsFileVertex v
 file_vertex text op named ranks v b within free met =
     let f = file_op op.inputs op.kind free met in
     record {
       some = rw b.op f.some;
-      few = rw b.op within.actions;
+      few = rw b.op (kind_actions_within op.kind within.kind);
       made = subst (λ (o : Op). All (λ a. is_made a.kind ≡ true) (actions_of o)) (sym b.op) f.made;
       numbered = subst (λ (o : Op). All (λ a. owner_by_name (owner_of a.kind) ≡ false) (actions_of o)) (sym b.op) f.numbered;
       action_inputs = rw b.op f.inputs;
@@ -120,35 +131,31 @@ file_vertex text op named ranks v b within free met =
       outputs = rw b.op (b.outputs ∙ f.counted);
     }
 
-kind_count_within : (kind : Option Kind) → length (kind_actions kind) ≤ 1_024 → length (kind_mounts kind) ≤ 1_024 → kind_outputs kind ≤ 1_024
-kind_count_within (Some (File f)) a m =
+kind_count_within : (kind : Option Kind) → IsKindWithin kind → kind_outputs kind ≤ 1_024
+kind_count_within (Some (File f)) w =
     let c = count_by-le-length is_output (outputs_of f.actions) in
     let l = length-map f.actions (λ (x : Action). x.output) in
+    let a = w.actions in
     omega (arith, a, c, l)
-kind_count_within (Some (Exec x)) a m =
+kind_count_within (Some (Exec x)) w =
     let c = count_by-le-length is_output (mount_outputs x.mounts) in
     let l = length-map x.mounts (λ (x : Mount). x.output) in
+    let m = w.mounts in
     omega (arith, m, c, l)
-kind_count_within (Some (Source x)) a m = omega arith
-kind_count_within (Some (Merge x)) a m = omega arith
-kind_count_within (Some (Build x)) a m = omega arith
-kind_count_within (Some (Diff x)) a m = omega arith
-kind_count_within None a m = omega arith
+kind_count_within (Some (Source x)) w = omega arith
+kind_count_within (Some (Merge x)) w = omega arith
+kind_count_within (Some (Build x)) w = omega arith
+kind_count_within (Some (Diff x)) w = omega arith
+kind_count_within None w = omega arith
 
-pub count_within : (op : Op) → IsWithin op → output_count op ≤ 1_024
-count_within op w = kind_count_within op.kind w.actions w.mounts
-
-kind_steps_within : (kind : Option Kind) → length (kind_actions kind) ≤ 1_024 → length (kind_merged kind) ≤ 1_024 → kind_steps kind ≤ 1_024
-kind_steps_within (Some (File f)) a m = a
-kind_steps_within (Some (Merge x)) a m = m
-kind_steps_within (Some (Source x)) a m = omega arith
-kind_steps_within (Some (Exec x)) a m = omega arith
-kind_steps_within (Some (Build x)) a m = omega arith
-kind_steps_within (Some (Diff x)) a m = omega arith
-kind_steps_within None a m = omega arith
-
-pub steps_within : (op : Op) → IsWithin op → step_count op ≤ 1_024
-steps_within op w = kind_steps_within op.kind w.actions w.merged
+kind_steps_within : (kind : Option Kind) → IsKindWithin kind → kind_steps kind ≤ 1_024
+kind_steps_within (Some (File f)) w = w.actions
+kind_steps_within (Some (Merge x)) w = w
+kind_steps_within (Some (Source x)) w = omega arith
+kind_steps_within (Some (Exec x)) w = omega arith
+kind_steps_within (Some (Build x)) w = omega arith
+kind_steps_within (Some (Diff x)) w = omega arith
+kind_steps_within None w = omega arith
 
 cons_le : (o : Option ℕ) (ys : List ℕ) (n : ℕ) → length ys ≤ n → length (cons_option o ys) ≤ suc n
 cons_le None ys n l = omega (arith, l)
@@ -168,7 +175,7 @@ same_vertex v w a b c d e =
 
 -- ---- a plan in which nothing is refused
 
-module _ (p : Plan) (order : List ℕ) (whole : IsWhole p order) (len : length p.ops ≡ length p.rows) (within : All IsWithin p.ops) where
+module _ (p : Plan) (order : List ℕ) (whole : IsWhole p order) (len : length p.ops ≡ length p.rows) (within : All IsWithinLimits p.ops) where
   named_in : IsNamed p
   named_in = whole.valid.taken.ordered.named
 
@@ -178,12 +185,12 @@ module _ (p : Plan) (order : List ℕ) (whole : IsWhole p order) (len : length p
   pub in_ops : (k : ℕ) → ReachedRow p k → k < length p.ops
   in_ops k r = let h = reached_in p named_in.started k r in omega (arith, h, len)
 
-  pub within_at : (k : ℕ) → ReachedRow p k → IsWithin (op_at p.ops k)
-  within_at k r = All-get_or IsWithin p.ops k (record { inputs = []; kind = None; extra = [] }) (in_ops k r) within
+  pub within_at : (k : ℕ) → ReachedRow p k → IsWithinLimits (op_at p.ops k)
+  within_at k r = All-get_or IsWithinLimits p.ops k (record { inputs = []; kind = None; extra = [] }) (in_ops k r) within
 
   count_small : (k : ℕ) → output_count (op_at p.ops k) ≤ 1_024
   count_small k = elim (cases_lt k (length p.ops)) [
-    | inl l ↦ count_within (op_at p.ops k) (All-get_or IsWithin p.ops k (record { inputs = []; kind = None; extra = [] }) l within)
+    | inl l ↦ kind_count_within (op_at p.ops k).kind (All-get_or IsWithinLimits p.ops k (record { inputs = []; kind = None; extra = [] }) l within).kind
     | inr g ↦ (let e = ap output_count (get_or_past p.ops k (record { inputs = []; kind = None; extra = [] }) g) in omega (arith, e))
   ]
 
@@ -212,10 +219,14 @@ module _ (p : Plan) (order : List ℕ) (whole : IsWhole p order) (len : length p
 
   pub buildable : (i : ℕ) → i < length order → IsBuildable (op_at p.ops (get_or order i 0)) (inputs (links_in p) (get_or order i 0))
   buildable i h = record {
-    within = within_at (get_or order i 0) (row_reached i h);
+    steps = kind_steps_within (op_at p.ops (get_or order i 0)).kind (within_at (get_or order i 0) (row_reached i h)).kind;
+    outputs = count_small (get_or order i 0);
     len = full (get_or order i 0) (row_reached i h);
     indexes = λ j l. index_small (get_or order i 0) j (inl (record { reached = row_reached i h; here = l }));
   }
+
+  first_row : (k : ℕ) → ReachedRow p k → IsFirstRow p.rows k
+  first_row k r = reached_first p.rows p.terminal p.ops p.start k (named_first p.rows p.terminal (input_at (op_at p.ops p.terminal) 0).digest p.start named_in.started.start) r
 
   -- ---- with the numbers of rows
 
@@ -308,6 +319,55 @@ module _ (p : Plan) (order : List ℕ) (whole : IsWhole p order) (len : length p
       walk_up b zero w = ap (λ (x : ℕ). get_or ranks x 0) w
       walk_up b (suc n) (c, w, e) = (get_or ranks c 0, walk_up c n w, link_edge c b (n, w) e)
 
+      -- what is true of each vertex
+      is_vertex : (k : ℕ) → k < length order → IsVertex (vertex_at vs k)
+      is_vertex k h =
+          let b = built k h in
+          let r = row_reached k h in
+          record {
+            within = subst (λ (o : Op). IsWithinLimits o) (sym b.op) (within_at (get_or order k 0) r);
+            featureless = ap feature_of b.op ∙ whole.valid.taken.featureless (get_or order k 0) r;
+            valid = subst (λ (o : Op). MeetsEach o rules) (sym b.op) (whole.valid.valid (get_or order k 0) r);
+            steps = b.steps ∙ sym (ap step_count b.op);
+            outputs = b.outputs ∙ sym (ap output_count b.op);
+          }
+
+      stands_for : (k i : ℕ) → k < length order → i < length (op_at p.ops (get_or order k 0)).inputs → StandsFor vs (input_at (op_at p.ops (get_or order k 0)) i) (edge_at (vertex_at vs k).inputs i)
+      stands_for k i h l =
+          let r = row_reached k h in
+          let f = full (get_or order k 0) (row_reached k h) in
+          let li : i < length (inputs (links_in p) (get_or order k 0)) = omega (arith, l, f) in
+          let b = reached_step (links_in p) p.start (get_or order k 0) (get_or (inputs (links_in p) (get_or order k 0)) i 0) (row_reached k h) (Contains-get_or (inputs (links_in p) (get_or order k 0)) i 0 li) in
+          let c = place (get_or (inputs (links_in p) (get_or order k 0)) i 0) b in
+          let e = (built k h).edges i l ∙ ap (λ (n : ℕ). edge_to n (input_at (op_at p.ops (get_or order k 0)) i)) c.3 in
+          let named = value_there (input_row p (get_or order k 0) i) (input_named p named_in (get_or order k 0) i (record { reached = r; here = l })) in
+          subst (λ (x : Edge). StandsFor vs (input_at (op_at p.ops (get_or order k 0)) i) x) (sym e) (record {
+            digest = λ d.
+                ap (λ (v : Vertex). v.digest) (vertex_is c.0 d c.1)
+                ∙ (built c.0 c.1).digest
+                ∙ ap (λ (n : ℕ). (row_at p.rows n).digest) (c.2 ∙ linked (get_or order k 0) i r l)
+                ∙ named_digest p.rows p.terminal (input_at (op_at p.ops (get_or order k 0)) i).digest (unwrap_or (input_row p (get_or order k 0) i) 0) named;
+            index = below_pos (outputs_there p (get_or order k 0) i) (input_at (op_at p.ops (get_or order k 0)) i).index (index_below (get_or order k 0) i (inl (record { reached = r; here = l })));
+          })
+
+      has_inputs : (k : ℕ) → k < length order → HasInputs vs (vertex_at vs k)
+      has_inputs k h =
+          let b = built k h in
+          record {
+            len = b.len ∙ sym (ap (λ (o : Op). length o.inputs) b.op);
+            each = λ i input e l.
+                let m : i < length (op_at p.ops (get_or order k 0)).inputs = (let n = b.len in omega (arith, l, n)) in
+                subst (λ (x : Edge). StandsFor vs (get_or (vertex_at vs k).op.inputs i input) x) (get_or_default (vertex_at vs k).inputs i _ e l)
+                (subst (λ (o : Op). StandsFor vs (get_or o.inputs i input) (edge_at (vertex_at vs k).inputs i)) (sym b.op)
+                (subst (λ (x : Input). StandsFor vs x (edge_at (vertex_at vs k).inputs i)) (get_or_default (op_at p.ops (get_or order k 0)).inputs i _ input m) (stands_for k i h m)));
+          }
+
+      distinct : (a b : ℕ) → a < length order → b < length order → (vertex_at vs a).digest ≡ (vertex_at vs b).digest → a ≡ b
+      distinct a b la lb e =
+          let same = same_first p.rows (get_or order a 0) (get_or order b 0) (first_row (get_or order a 0) (row_reached a la)) (first_row (get_or order b 0) (row_reached b lb))
+          (sym (built a la).digest ∙ e ∙ (built b lb).digest) in
+          sym (inverse a la) ∙ ap (λ (n : ℕ). get_or ranks n 0) same ∙ inverse b lb
+
       pub is_graph : (x : Edge) → x ≡ edge_to (get_or ranks p.start 0) (input_at (op_at p.ops p.terminal) 0) → length p.rows ≤ 65_536 → length order ≤ length p.rows
           → IsGraph (record { vertices = vs; result = x })
       is_graph x e few short = record {
@@ -317,6 +377,16 @@ module _ (p : Plan) (order : List ℕ) (whole : IsWhole p order) (len : length p
             let l : k < length order = (let b = built_len in omega (arith, h, b)) in
             let r = row_reached k l in
             (r.0, subst (λ (n : ℕ). Walk (links vs) x.vertex n r.0) (inverse k l) (subst (λ (n : ℕ). Walk (links vs) n (get_or ranks (get_or order k 0) 0) r.0) (sym (ap (λ (y : Edge). y.vertex) e)) (walk_up (get_or order k 0) r.0 r.1)));
+        vertex = λ k d h.
+            let l : k < length order = (let b = built_len in omega (arith, h, b)) in
+            subst (λ (v : Vertex). IsVertex v) (sym (vertex_is k d l)) (is_vertex k l);
+        inputs = λ k d h.
+            let l : k < length order = (let b = built_len in omega (arith, h, b)) in
+            subst (λ (v : Vertex). HasInputs vs v) (sym (vertex_is k d l)) (has_inputs k l);
+        distinct = λ a b d ha hb e.
+            let la : a < length order = (let n = built_len in omega (arith, ha, n)) in
+            let lb : b < length order = (let n = built_len in omega (arith, hb, n)) in
+            distinct a b la lb (sym (ap (λ (v : Vertex). v.digest) (vertex_is a d la)) ∙ e ∙ ap (λ (v : Vertex). v.digest) (vertex_is b d lb));
         file = λ k d h.
             let l : k < length order = (let b = built_len in omega (arith, h, b)) in
             let r = row_reached k l in

@@ -1,5 +1,5 @@
 -- Vertices as they are built: from a row's digest and op, the rows that its inputs name, and the numbers of rows.
-use Rattle.std.specs.Prelude.{◌≡◌, ℕ, ◌<◌, nat_abs, List, [], length, slice_index, slice_index_or, None}
+use Rattle.std.specs.Prelude.{◌≡◌, ℕ, ◌<◌, ◌≤◌, nat_abs, List, [], length, slice_index, slice_index_or, None}
 use Rattle.llb_ops.specs.declared.op.Op.{Op}
 use Rattle.llb_ops.specs.declared.op.Input.{Input}
 use Rattle.llb_loader.specs.declared.row.Row.{Row}
@@ -9,7 +9,6 @@ use Rattle.llb_loader.specs.Rows.{inputs}
 use Rattle.llb_loader.specs.Rules.{IsBelow, step_count, output_count}
 use Rattle.llb_loader.specs.Naming.{row_at}
 use Rattle.llb_loader.specs.Linking.{op_at, input_at}
-use Rattle.llb_loader.specs.Checks.{IsWithin}
 
 -- an edge of a list, and a vertex of a list
 abbrev pub edge_at : List Edge → ℕ → Edge
@@ -22,9 +21,10 @@ vertex_at vertices n = slice_index_or vertices n (record { digest = []; op = rec
 abbrev pub edge_to : ℕ → Input → Edge
 edge_to vertex input = record { vertex = vertex; index = nat_abs input.index }
 
--- an op whose inputs name these rows and have small indexes
+-- an op with few steps and outputs, whose inputs name these rows and have small indexes
 pub record IsBuildable (op : Op) (named : List ℕ) : Type 0 where
-  pub within : IsWithin op
+  pub steps : step_count op ≤ 1_024
+  pub outputs : output_count op ≤ 1_024
   pub len : length named ≡ length op.inputs
   pub indexes : (i : ℕ) → i < length op.inputs → IsBelow 1_025 (input_at op i).index
 

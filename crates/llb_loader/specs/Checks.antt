@@ -1,5 +1,5 @@
 -- What the checks over the marked rows find: each looks at the rows in their order and stops at the first that fails.
-use Rattle.std.specs.Prelude.{◌≡◌, ◌≢◌, ℕ, ◌<◌, ◌≤◌, ◌==◌, Bool, false, cond, List, length, slice_index_or, Some, None}
+use Rattle.std.specs.Prelude.{◌≡◌, ◌≢◌, ℕ, ◌<◌, ◌==◌, Bool, false, cond, List, length, slice_index_or, Some, None}
 use Rattle.llb_ops.specs.declared.op.Op.{Op}
 use Rattle.llb_loader.specs.declared.row.Row.{Row}
 use Rattle.llb_loader.specs.declared.fault.LoadFault.{LoadFault}
@@ -10,14 +10,7 @@ use Rattle.llb_loader.specs.Rows.{inputs}
 use Rattle.llb_loader.specs.Naming.{row_named}
 use Rattle.llb_loader.specs.Linking.{op_at, input_at}
 use Rattle.llb_loader.specs.Features.{feature_of}
-use Rattle.llb_loader.specs.Rules.{actions_of, mounts_of, merged_of, rules, MeetsEach, BreaksFirst, IsBelow}
-
--- as many inputs, actions and mounts as a message can have
-pub record IsWithin (op : Op) : Type 0 where
-  pub inputs : length op.inputs ≤ 1_024
-  pub actions : length (actions_of op) ≤ 1_024
-  pub mounts : length (mounts_of op) ≤ 1_024
-  pub merged : length (merged_of op) ≤ 1_024
+use Rattle.llb_loader.specs.Rules.{rules, MeetsEach, BreaksFirst, IsBelow}
 
 abbrev pub NamesAll : List Row → ℕ → Op → ℕ → Type 0
 NamesAll rows t op n = (i : ℕ) → i < n → row_named rows t (input_at op i).digest ≢ None

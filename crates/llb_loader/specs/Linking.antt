@@ -12,7 +12,7 @@ use Rattle.llb_loader.specs.declared.fault.Feature.{Feature}
 use Rattle.llb_loader.specs.declared.fault.Rule.{Rule}
 use Rattle.llb_loader.specs.Rows.{Reached}
 use Rattle.llb_loader.specs.Numbering.{IsNumbering, HasCycle, rank_in}
-use Rattle.llb_loader.specs.Naming.{row_at, AllSame, Collides, Least, IsTerminal, row_named, graph_of}
+use Rattle.llb_loader.specs.Naming.{row_at, AllSame, Collides, Least, IsTerminal, terminal_in, row_named, graph_of}
 use Rattle.llb_loader.specs.Features.{feature_of}
 use Rattle.llb_loader.specs.Rules.{step_count, output_count, IsBelow, rules, MeetsEach, BreaksFirst}
 use Rattle.llb_loader.specs.Graph.{Numbered}
@@ -39,6 +39,18 @@ pub record Plan : Type 0 where
 
 abbrev pub plan : List Row → List Op → ℕ → ℕ → Plan
 plan rows ops terminal start = record { rows = rows; ops = ops; terminal = terminal; start = start }
+
+-- the row that the terminal's first input names
+abbrev pub start_in : List Row → List Op → ℕ
+start_in rows ops = unwrap_or (row_named rows (terminal_in rows) (input_at (op_at ops (terminal_in rows)) 0).digest) 0
+
+-- the plan of rows that are readable as these ops
+abbrev pub plan_of : List Row → List Op → Plan
+plan_of rows ops = plan rows ops (terminal_in rows) (start_in rows ops)
+
+-- a plan is the one of rows that are readable as these ops
+pub record IsPlanOf (rows : List Row) (ops : List Op) (p : Plan) : Type 0 where
+  pub same : p ≡ plan_of rows ops
 
 -- what each row names
 abbrev pub links_in : Plan → List (List ℕ)
@@ -117,19 +129,28 @@ pub record IsInvalid (p : Plan) (k : ℕ) (r : Rule) : Type 0 where
   pub broken : BreaksFirst (op_at p.ops k) rules r
   pub least : (j : ℕ) → j < k → ReachedRow p j → MeetsEach (op_at p.ops j) rules
 
+-- the terminal's first input names no row
+pub record HasNoStart (p : Plan) (k i : ℕ) : Type 0 where
+  pub result : HasResult p
+  pub unknown : input_row p p.terminal 0 ≡ None
+  pub row : k ≡ p.terminal
+  pub input : i ≡ 0
+
+-- the plan is refused: each refusal stands where those before it do not
+abbrev pub Refuses : Plan → LoadFault → Type 0
+Refuses p TooFew = AllSame p.rows
+Refuses p (Collision k) = (¬ AllSame p.rows) × Least (Collides p.rows) k
+Refuses p NoResult = IsApart p.rows × IsTerminal p.rows p.terminal × ((op_at p.ops p.terminal).inputs ≡ [])
+Refuses p (UnknownDigest k i) = HasNoStart p k i ⊎ (IsStarted p × Foremost (IsUnknown p) k i)
+Refuses p Cycle = IsNamed p × HasCycle (links_in p) p.start
+Refuses p (Unsupported k f) = (order : List ℕ) × IsOrdered p order × IsUnsupported p k f
+Refuses p (Invalid k r) = (order : List ℕ) × IsTaken p order × IsInvalid p k r
+Refuses p (BadIndex k i) = (order : List ℕ) × IsValid p order × Foremost (IsBadIndex p) k i
+Refuses p _ = ⊥
+
 -- the rows, readable as these ops, are refused
 abbrev pub Refused : List Row → List Op → LoadFault → Type 0
-Refused rows ops TooFew = AllSame rows
-Refused rows ops (Collision k) = (¬ AllSame rows) × Least (Collides rows) k
-Refused rows ops NoResult = IsApart rows × (t : ℕ) × IsTerminal rows t × ((op_at ops t).inputs ≡ [])
-Refused rows ops (UnknownDigest k i) =
-    ((p : Plan) × (p.rows ≡ rows) × (p.ops ≡ ops) × HasResult p × (input_row p p.terminal 0 ≡ None) × (k ≡ p.terminal) × (i ≡ 0))
-    ⊎ ((p : Plan) × (p.rows ≡ rows) × (p.ops ≡ ops) × IsStarted p × Foremost (IsUnknown p) k i)
-Refused rows ops Cycle = (p : Plan) × (p.rows ≡ rows) × (p.ops ≡ ops) × IsNamed p × HasCycle (links_in p) p.start
-Refused rows ops (Unsupported k f) = (p : Plan) × (order : List ℕ) × (p.rows ≡ rows) × (p.ops ≡ ops) × IsOrdered p order × IsUnsupported p k f
-Refused rows ops (Invalid k r) = (p : Plan) × (order : List ℕ) × (p.rows ≡ rows) × (p.ops ≡ ops) × IsTaken p order × IsInvalid p k r
-Refused rows ops (BadIndex k i) = (p : Plan) × (order : List ℕ) × (p.rows ≡ rows) × (p.ops ≡ ops) × IsValid p order × Foremost (IsBadIndex p) k i
-Refused rows ops _ = ⊥
+Refused rows ops e = Refuses (plan_of rows ops) e
 
 -- ---- the graph
 
@@ -155,9 +176,6 @@ numbered_of p order = record {
 
 -- the rows, readable as these ops, are this graph
 pub record GraphOf (rows : List Row) (ops : List Op) (g : Numbered) : Type 0 where
-  pub plan : Plan
   pub order : List ℕ
-  pub same_rows : plan.rows ≡ rows
-  pub same_ops : plan.ops ≡ ops
-  pub whole : IsWhole plan order
-  pub graph : g ≡ numbered_of plan order
+  pub whole : IsWhole (plan_of rows ops) order
+  pub graph : g ≡ numbered_of (plan_of rows ops) order

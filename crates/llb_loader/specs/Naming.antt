@@ -1,6 +1,7 @@
 -- Rows as given: which are distinct, which one is the terminal, and which one a digest text names.
 use Rattle.std.specs.Prelude.{◌≡◌, ◌≢◌, ℕ, ◌-◌, ◌<◌, ◌==◌, cond, List, [], length, map, slice_index_or, position, Option, Some, None}
 use Rattle.std.specs.List.{filter_map}
+use Rattle.std.specs.Option.{unwrap_or}
 use Rattle.std.specs.Str.{bytes_eq}
 use Rattle.llb_ops.specs.declared.op.Op.{Op}
 use Rattle.llb_loader.specs.declared.row.Row.{Row}
@@ -34,6 +35,10 @@ IsTerminal rows t = Least (λ k. (k < length rows) × (row_at rows k ≡ row_at 
 -- the first row with a digest text
 abbrev pub first_with : List Row → List ℕ → Option ℕ
 first_with rows d = position (λ r. bytes_eq d r.digest) rows
+
+-- the first row with the last row's digest text
+abbrev pub terminal_in : List Row → ℕ
+terminal_in rows = unwrap_or (first_with rows (row_at rows (length rows - 1)).digest) 0
 
 abbrev pub other_than : ℕ → Option ℕ → Option ℕ
 other_than t (Some k) = cond (k == t) None (Some k)

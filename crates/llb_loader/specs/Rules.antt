@@ -20,7 +20,6 @@ use Rattle.llb_ops.specs.declared.file.UserOpt.{UserOpt}
 use Rattle.llb_ops.specs.declared.file.User.{User}
 use Rattle.llb_ops.specs.declared.file.User.TheVariants.{ByName}
 use Rattle.llb_ops.specs.declared.merge.MergeOp.{MergeOp}
-use Rattle.llb_ops.specs.declared.merge.MergeInput.{MergeInput}
 use Rattle.llb_ops.specs.declared.source.SourceOp.{SourceOp}
 use Rattle.llb_loader.specs.Mounts.{bind, cache, tmpfs, dests_of, keys_of, AreApart, ReadsPaths}
 
@@ -45,17 +44,6 @@ actions_of op = kind_actions op.kind
 abbrev pub kind_mounts : Option Kind → List Mount
 kind_mounts (Some (Exec x)) = x.mounts
 kind_mounts _ = []
-
-abbrev pub mounts_of : Op → List Mount
-mounts_of op = kind_mounts op.kind
-
--- what a kind merges: the inputs of a merge
-abbrev pub kind_merged : Option Kind → List MergeInput
-kind_merged (Some (Merge m)) = m.inputs
-kind_merged _ = []
-
-abbrev pub merged_of : Op → List MergeInput
-merged_of op = kind_merged op.kind
 
 -- a member that makes a file or a directory
 abbrev pub is_made : Option ActionKind → Bool

@@ -2,6 +2,7 @@
 
 ghost use Rattle.std.specs.Prelude.{◌≡◌, ◌<◌, ◌≤◌, ◌↔◌, ℕ, false, cond, length, map, IfOk, IfErr, OnOk, IsTrue, MatchOption};
 ghost use Rattle.std.specs.List.{All};
+ghost use Rattle.llb_ops.specs.Within.{IsWithinLimits};
 ghost use Rattle.llb_loader.specs.Faults.{is_memory};
 ghost use Rattle.llb_loader.specs.Placing.{IsMarked};
 ghost use Rattle.llb_loader.specs.Naming.{IsIndex};
@@ -9,7 +10,7 @@ ghost use Rattle.llb_loader.specs.Rows.{lists, InRange, inputs};
 ghost use Rattle.llb_loader.specs.Linking.{op_at};
 ghost use Rattle.llb_loader.specs.Features.{feature_of};
 ghost use Rattle.llb_loader.specs.Rules.{IsBelow, MeetsEach, rules, output_count};
-ghost use Rattle.llb_loader.specs.Checks.{IsWithin, NamesAll, FirstUnknown, FitsAll, FirstBad, asked_of, RefusesIndex, RefusesUnknown, RefusesFeature, RefusesRule};
+ghost use Rattle.llb_loader.specs.Checks.{NamesAll, FirstUnknown, FitsAll, FirstBad, asked_of, RefusesIndex, RefusesUnknown, RefusesFeature, RefusesRule};
 
 use crate::counts::count_of;
 use crate::fault::LoadFault;
@@ -32,7 +33,7 @@ pub(crate) fn check_names(
     requires index { IsIndex rows.now index.now }
     requires len { length seen.now ≡ length ops.now }
     requires few { length ops.now ≤ 65_536 }
-    requires within { All IsWithin ops.now }
+    requires within { All IsWithinLimits ops.now }
     ensures named { OnOk result ((k : ℕ) → IsMarked seen.now k → NamesAll rows.now terminal (op_at ops.now k) (length (op_at ops.now k).inputs)) }
     ensures refused { IfErr result (RefusesUnknown rows.now terminal ops.now (IsMarked seen.now)) }
 {
@@ -74,13 +75,11 @@ pub(crate) fn check_features(ops: &[Op], seen: &[bool]) -> Result<(), LoadFault>
     ensures refused { IfErr result (RefusesFeature ops.now (IsMarked seen.now)) }
 {
     for k in 0..ops.len() {
-        if !seen[k] {
-            continue;
+        if seen[k] {
+            if let Some(feature) = first_feature(&ops[k]) {
+                return Err(LoadFault::Unsupported(k as u32, feature));
+            }
         }
-        let Some(feature) = first_feature(&ops[k]) else {
-            continue;
-        };
-        return Err(LoadFault::Unsupported(k as u32, feature));
     }
     Ok(())
 }
@@ -127,7 +126,7 @@ pub(crate) fn check_indexes(
     requires links { length links.now ≡ length ops.now }
     requires counts { length counts.now ≡ length ops.now }
     requires few { length ops.now ≤ 65_536 }
-    requires within { All IsWithin ops.now }
+    requires within { All IsWithinLimits ops.now }
     requires asked { (k : ℕ) → k < length ops.now → asked_of ops.now seen.now terminal k ≤ length (inputs (lists links.now) k) }
     requires there { (k : ℕ) → k < length ops.now → asked_of ops.now seen.now terminal k ≤ length (op_at ops.now k).inputs }
     requires range { InRange (lists links.now) (length ops.now) }

@@ -13,7 +13,10 @@ pub(crate) fn steps_of(op: &Op) -> usize
         Some(Kind::Source(_)) => 1,
         Some(Kind::File(file)) => file.actions.len(),
         Some(Kind::Merge(merge)) => merge.inputs.len(),
-        _ => 0,
+        Some(Kind::Exec(_)) => 0,
+        Some(Kind::Build(_)) => 0,
+        Some(Kind::Diff(_)) => 0,
+        None => 0,
     }
 }
 
@@ -26,7 +29,9 @@ pub(crate) fn count_of(op: &Op) -> usize
         Some(Kind::Merge(_)) => 1,
         Some(Kind::File(file)) => outputs_among(file.actions.as_slice()),
         Some(Kind::Exec(exec)) => mount_outputs_among(exec.mounts.as_slice()),
-        _ => 0,
+        Some(Kind::Build(_)) => 0,
+        Some(Kind::Diff(_)) => 0,
+        None => 0,
     }
 }
 

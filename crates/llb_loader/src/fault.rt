@@ -30,10 +30,10 @@ pub enum LoadFault {
     #[error("87")]
     Cycle,
     /// 88: the op of row k has a feature that is not taken.
-    #[error("88 {0} {1}")]
+    #[error("88 {0} {1:?}")]
     Unsupported(u32, Feature),
     /// 89: the op of row k breaks a rule.
-    #[error("89 {0} {1}")]
+    #[error("89 {0} {1:?}")]
     Invalid(u32, Rule),
     /// 90: that input of row k has the index of no output.
     #[error("90 {0} {1}")]
@@ -44,103 +44,73 @@ pub enum LoadFault {
 }
 
 /// What an op can have that is not taken; of several the first.
-#[derive(Clone, Copy, Debug, PartialEq, Eq, Error)]
+#[derive(Clone, Copy, Debug, PartialEq, Eq)]
 pub enum Feature {
     /// An op or an action that is not taken yet.
-    #[error("NotYet")]
     NotYet,
     /// A diff op.
-    #[error("DiffOp")]
     DiffOp,
     /// A build op.
-    #[error("BuildOp")]
     BuildOp,
     /// A source other than a local one.
-    #[error("Source")]
     Source,
     /// A mount of a secret.
-    #[error("SecretMount")]
     SecretMount,
     /// A mount of an SSH agent.
-    #[error("SshMount")]
     SshMount,
     /// A secret in the environment.
-    #[error("SecretEnv")]
     SecretEnv,
     /// An action without a named member.
-    #[error("Action")]
     Action,
     /// A copy that unpacks archives.
-    #[error("Unpack")]
     Unpack,
     /// A copy with patterns of what to leave in or out.
-    #[error("Patterns")]
     Patterns,
     /// An owner that is given by name.
-    #[error("OwnerByName")]
     OwnerByName,
     /// A copy with a field that it doesn't name.
-    #[error("CopyField")]
     CopyField,
 }
 
 /// The rules that ops meet, in the order in which they are checked. That of scripts, which carries the script's
 /// own fault, will stand behind `CacheTwice`.
-#[derive(Clone, Copy, Debug, PartialEq, Eq, Error)]
+#[derive(Clone, Copy, Debug, PartialEq, Eq)]
 pub enum Rule {
     /// The op is of some kind.
-    #[error("NoKind")]
     NoKind,
     /// There is a name behind `local://`.
-    #[error("LocalName")]
     LocalName,
     /// A file op has an action.
-    #[error("NoActions")]
     NoActions,
     /// An action reads an input, the result of an earlier action, or nothing.
-    #[error("ActionInput")]
     ActionInput,
     /// The outputs of actions are numbered from 0, each once.
-    #[error("ActionOutput")]
     ActionOutput,
     /// An exec has its meta.
-    #[error("NoMeta")]
     NoMeta,
     /// An exec has a word to run.
-    #[error("NoArgs")]
     NoArgs,
     /// An exec has a mount.
-    #[error("NoMounts")]
     NoMounts,
     /// A mount is at the root.
-    #[error("NoRoot")]
     NoRoot,
     /// A dest, a selector and a cwd are paths.
-    #[error("BadPath")]
     BadPath,
     /// No two mounts are at one path.
-    #[error("SameDest")]
     SameDest,
     /// A mount is of a known kind.
-    #[error("MountKind")]
     MountKind,
     /// A bind or cache mount shows an input or nothing.
-    #[error("MountInput")]
     MountInput,
     /// The outputs of mounts are numbered from 0, each once, and only bind mounts have one.
-    #[error("MountOutput")]
     MountOutput,
     /// A cache mount has its options.
-    #[error("NoCacheOpt")]
     NoCacheOpt,
     /// A cache is shared in a known way.
-    #[error("Sharing")]
     Sharing,
     /// No two cache mounts of an exec have one key.
-    #[error("CacheTwice")]
     CacheTwice,
     /// A merge takes inputs or nothing.
-    #[error("MergeInput")]
     MergeInput,
 }
 

@@ -5,17 +5,18 @@ ghost use Rattle.llb_loader.specs.Graph.{IsGraph};
 
 use llb_ops::Op;
 use llb_wire::{Many, Text};
+use std::fmt;
 use std::marker::Model;
 
 /// Output `index` of the vertex with that number.
-#[derive(Clone, Copy, Debug, PartialEq, Eq)]
+#[derive(Clone, Copy, PartialEq, Eq)]
 pub struct Edge {
     pub vertex: u32,
     pub index: u32,
 }
 
 /// A row of the graph under its number.
-#[derive(Debug, Drop)]
+#[derive(Drop)]
 pub struct Vertex {
     /// `sha256:` and 64 hexadecimal digits, where the row came with the entry's own digest.
     pub digest: Text,
@@ -29,10 +30,16 @@ pub struct Vertex {
 }
 
 /// The vertices at or before the result, each above its inputs. Contracts see the list of the vertices and the result.
-#[derive(Debug, Drop)]
+#[derive(Drop)]
 pub struct Graph {
     vertices: Vec<Vertex>,
     result: Edge,
+}
+
+impl fmt::Debug for Graph {
+    fn fmt<W: fmt::Write>(&self, f: &mut fmt::Formatter<W>) -> fmt::Result {
+        f.write_str("Graph")
+    }
 }
 
 impl Model for Graph {

@@ -31,6 +31,3 @@ pub use laws::{numbering_goes_down, one_answer, one_answer_in, one_numbering};
 pub use linking::link;
 pub use loading::load;
 pub use row::Row;
-
-#[cfg(test)]
-mod tests;

@@ -2,11 +2,11 @@
 
 ghost use Rattle.std.specs.Prelude.{◌≡◌, ◌<◌, ◌≤◌, ◌↔◌, ℕ, true, false, length, slice_index_or, IfOk, IfErr};
 ghost use Rattle.std.specs.List.{All};
+ghost use Rattle.llb_ops.specs.Within.{IsWithinLimits};
 ghost use Rattle.llb_loader.specs.Faults.{is_memory};
 ghost use Rattle.llb_loader.specs.Rows.{lists};
-ghost use Rattle.llb_loader.specs.Naming.{IsIndex, IsTerminal};
-ghost use Rattle.llb_loader.specs.Checks.{IsWithin};
-ghost use Rattle.llb_loader.specs.Linking.{IsApart, IsNamed, IsWhole, ReachedRow, links_in, plan, Refused, GraphOf};
+ghost use Rattle.llb_loader.specs.Naming.{IsIndex, IsTerminal, terminal_in};
+ghost use Rattle.llb_loader.specs.Linking.{IsApart, IsNamed, IsWhole, ReachedRow, links_in, plan, IsPlanOf, Refused, GraphOf};
 ghost use Rattle.llb_loader.specs.Link.{IsGraphOf, IsRefusalOf};
 
 use crate::build::{first_edge, vertices_of};
@@ -52,10 +52,11 @@ fn link_read(
 ) -> Result<Graph, LoadFault>
     requires few { length rows.now ≤ 65_536 }
     requires ops { length ops.items ≡ length rows.now }
-    requires within { All IsWithin ops.items }
+    requires within { All IsWithinLimits ops.items }
     requires index { IsIndex rows.now index.now }
     requires apart { IsApart rows.now }
     requires terminal { IsTerminal rows.now terminal }
+    requires found { terminal ≡ terminal_in rows.now }
     ensures graph { IfOk result (λ g. GraphOf rows.now ops.items g) }
     ensures refused { IfErr result (λ e. is_memory e ≡ false → Refused rows.now ops.items e) }
 {
@@ -85,15 +86,16 @@ fn link_named(
 ) -> Result<Graph, LoadFault>
     requires few { length rows.now ≤ 65_536 }
     requires ops { length ops.items ≡ length rows.now }
-    requires within { All IsWithin ops.items }
+    requires within { All IsWithinLimits ops.items }
     requires links { lists links.now ≡ links_in (plan rows.now ops.items terminal start) }
+    requires planned { IsPlanOf rows.now ops.items (plan rows.now ops.items terminal start) }
     requires named { IsNamed (plan rows.now ops.items terminal start) }
     requires seen { length seen.now ≡ length rows.now }
     requires exact { (k : ℕ) → (slice_index_or seen.now k false ≡ true) ↔ ReachedRow (plan rows.now ops.items terminal start) k }
     ensures graph { IfOk result (λ g. GraphOf rows.now ops.items g) }
     ensures refused { IfErr result (λ e. is_memory e ≡ false → Refused rows.now ops.items e) }
 {
-    let Some(order) = number(alloc, links, start)? else {
+    let Some(order) = number(alloc, links, start, seen)? else {
         return Err(LoadFault::Cycle);
     };
     check_features(&ops, seen)?;
@@ -115,8 +117,9 @@ fn link_whole(
 ) -> Result<Graph, LoadFault>
     requires few { length rows.now ≤ 65_536 }
     requires ops { length ops.items ≡ length rows.now }
-    requires within { All IsWithin ops.items }
+    requires within { All IsWithinLimits ops.items }
     requires links { lists links.now ≡ links_in (plan rows.now ops.items terminal start) }
+    requires planned { IsPlanOf rows.now ops.items (plan rows.now ops.items terminal start) }
     requires whole { IsWhole (plan rows.now ops.items terminal start) order.now }
     requires short { length order.now ≤ length rows.now }
     ensures graph { IfOk result (λ g. GraphOf rows.now ops.items g) }

@@ -4,7 +4,7 @@
 ghost use Rattle.std.specs.Prelude.{◌≡◌, ◌<◌, ◌≤◌, ◌↔◌, ℕ, false, length, map, IfOk, IfErr, IsTrue};
 ghost use Rattle.std.specs.List.{filter_map};
 ghost use Rattle.llb_loader.specs.Faults.{is_memory};
-ghost use Rattle.llb_loader.specs.Naming.{AllSame, Collides, IsIndex, IsTerminal, row_named, rows_named, graph_of, RefusesCollision};
+ghost use Rattle.llb_loader.specs.Naming.{AllSame, Collides, IsIndex, IsTerminal, terminal_in, row_named, rows_named, graph_of, RefusesCollision};
 ghost use Rattle.llb_loader.specs.Rows.{lists};
 
 use crate::fault::LoadFault;
@@ -61,7 +61,8 @@ pub(crate) fn terminal_of(rows: &[Row], index: &IndexMap<&str, usize>) -> usize
     requires some { 0 < length rows.now }
     requires index { IsIndex rows.now index.now }
     requires apart { (k : ℕ) → ¬ Collides rows.now k }
-    ensures { IsTerminal rows.now result }
+    ensures terminal { IsTerminal rows.now result }
+    ensures found { result ≡ terminal_in rows.now }
 {
     match index.get(rows[rows.len() - 1].digest.as_str()) {
         Some(row) => *row,

@@ -1,15 +1,14 @@
 // The numbering of the reached rows.
 
-ghost use Rattle.std.specs.Prelude.{◌≡◌, ℕ, ◌<◌, ◌≤◌, length, slice_index, slice_index_or, true, false, IfOk, OnOk, List, [], vec_len};
+ghost use Rattle.std.specs.Prelude.{◌≡◌, ◌↔◌, ℕ, ◌<◌, ◌≤◌, length, slice_index, slice_index_or, true, false, IfOk, OnOk, MatchOption, List, [], vec_len};
 ghost use Rattle.std.specs.Option.{IfSome, IfNone};
 ghost use Rattle.std.specs.List.{All};
 ghost use Rattle.std.specs.Ordering.{nat_cmp};
 ghost use Rattle.std.specs.BTreeSet.{contains};
-ghost use Rattle.llb_loader.specs.Rows.{lists, InRange, inputs};
+ghost use Rattle.llb_loader.specs.Rows.{lists, InRange, inputs, Reached};
 ghost use Rattle.llb_loader.specs.Numbering.{IsNumbering, HasCycle};
 ghost use Rattle.llb_loader.specs.Placing.{IsMarked, IsChecked, IsPlacing};
 
-use crate::reach::reached;
 use std::alloc::{AllocError, Global};
 use std::collections::BTreeSet;
 use std::mem;
@@ -21,23 +20,24 @@ struct Waiter {
     checked: usize,
 }
 
-/// The numbering of the rows that are reached from `start`, or `None` where they have a cycle.
+/// The numbering of the rows that are reached from `start`, which are marked, or `None` where they have a cycle.
 pub(crate) fn number(
     alloc: Global,
     rows: &[Vec<usize>],
     start: usize,
+    seen: &[bool],
 ) -> Result<Option<Vec<usize>>, AllocError>
     requires rows { InRange (lists rows.now) (length rows.now) }
-    requires start { start < length rows.now }
+    requires len { length seen.now ≡ length rows.now }
+    requires exact { (k : ℕ) → (slice_index_or seen.now k false ≡ true) ↔ Reached (lists rows.now) start k }
     ensures numbering { IfOk result (λ answer. IfSome answer (λ order. IsNumbering (lists rows.now) start order.items)) }
     ensures few { IfOk result (λ answer. IfSome answer (λ order. length order.items ≤ length rows.now)) }
     ensures cycle { IfOk result (λ answer. IfNone answer (HasCycle (lists rows.now) start)) }
 {
-    let seen = reached(alloc, rows, start)?;
     let mut done = vec![in alloc; false; rows.len()]?;
     let mut ready = BTreeSet::new(alloc);
     let mut waiting = empty_lists(alloc, rows.len())?;
-    'placing: for row in 0..rows.len() {
+    'placing: for row in 0..seen.len() {
         if seen[row] {
             place(
                 rows,
@@ -57,14 +57,25 @@ pub(crate) fn number(
             place(rows, &done, &mut ready, &mut waiting, *waiter)?;
         }
     }
-    'whole: for row in 0..rows.len() {
+    match first_stuck(seen, &done) {
+        Some(_) => Ok(None),
+        None => Ok(Some(order)),
+    }
+}
+
+// The first marked row that is not numbered.
+fn first_stuck(seen: &[bool], done: &[bool]) -> Option<usize>
+    requires { length done.now ≡ length seen.now }
+    ensures { MatchOption result ((k : ℕ) → IsMarked seen.now k → IsMarked done.now k) (λ k. IsMarked seen.now k × (slice_index_or done.now k false ≡ false)) }
+{
+    for row in 0..seen.len() {
         if seen[row] {
             if !done[row] {
-                return Ok(None);
+                return Some(row);
             }
         }
     }
-    Ok(Some(order))
+    None
 }
 
 // So many lists of no waiters.

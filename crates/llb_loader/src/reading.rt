@@ -1,6 +1,8 @@
 //! The ops that rows spell, each by its own bytes.
 
 ghost use Rattle.std.specs.Prelude.{◌≡◌, ◌≤◌, false, length, IfOk, IfErr};
+ghost use Rattle.std.specs.List.{All};
+ghost use Rattle.llb_ops.specs.Within.{IsWithinLimits};
 ghost use Rattle.llb_loader.specs.Faults.{is_memory, row_fault};
 ghost use Rattle.llb_loader.specs.Reading.{AreOps, RefusesRow};
 
@@ -13,6 +15,7 @@ use std::alloc::Global;
 pub(crate) fn ops_of(alloc: Global, rows: &[Row]) -> Result<Vec<Op>, LoadFault>
     requires { length rows.now ≤ 65_536 }
     ensures read { IfOk result (λ ops. AreOps rows.now ops.items) }
+    ensures within { IfOk result (λ ops. All IsWithinLimits ops.items) }
     ensures refused { IfErr result (λ e. is_memory e ≡ false → RefusesRow rows.now e) }
 {
     let mut ops = Vec::new(alloc);

@@ -3,7 +3,7 @@
 use llb_wire::{Bytes, Text};
 
 /// An entry of a definition, and the digest text by which inputs name it.
-#[derive(Debug, Drop)]
+#[derive(Drop)]
 pub struct Row {
     pub digest: Text,
     pub bytes: Bytes,

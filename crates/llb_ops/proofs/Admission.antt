@@ -154,6 +154,3 @@ pub admitted_is : (bytes : List ℕ) → admission (definition_of bytes) ≡ Ok 
 admitted_is bytes e =
     let h = ok_admitted (definition_of bytes) e in
     h.1 ∙ sym (are_in bytes h.0 h.1)
-
-pub admitted_ok : (bytes : List ℕ) → admission (definition_of bytes) ≡ Ok tt → IsOk (definition_of bytes)
-admitted_ok bytes e = let h = ok_admitted (definition_of bytes) e in rw h.1 refl

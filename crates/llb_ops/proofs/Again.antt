@@ -1,16 +1,14 @@
 -- What is written is read again.
-use Rattle.std.proofs.Common.{◌≡◌, ℕ, ◌+◌, ◌-◌, ◌*◌, ◌/◌, ◌%◌, ◌^◌, ◌≤◌, ◌<◌, true, false, eqb, ltb, List, [], ◌∷◌, ◌++◌, length, drop, Ok, refl, sym, ap, subst, ◌∙◌, append_assoc, arith}
+use Rattle.std.proofs.Common.{◌≡◌, ℕ, ◌+◌, ◌-◌, ◌*◌, ◌^◌, ◌≤◌, ◌<◌, true, List, [], ◌∷◌, ◌++◌, length, drop, Ok, refl, sym, ap, subst, ◌∙◌, arith}
 use Rattle.std.specs.List.{AllByRecursion, flat_map}
-use Rattle.std.proofs.lemmas.Bool.{ne_eqb, le-ltb}
-use Rattle.std.proofs.lemmas.List.{take_at, drop_at, length-append}
-use Rattle.llb_wire.specs.declared.field.Wire.{Wire}
+use Rattle.std.proofs.lemmas.List.{drop_at, length-append}
 use Rattle.llb_wire.specs.declared.field.Wire.TheVariants as wire
 use Rattle.llb_wire.specs.declared.field.Field.{Field}
-use Rattle.llb_wire.specs.Reading.{varint_at, number_of, wire_of, field_at, payload_at}
-use Rattle.llb_wire.specs.Spelling.{varint_text, code_of, record_text}
-use Rattle.llb_wire.specs.Records.{Record, record_of}
-use Rattle.llb_wire.proofs.Spellings.{varint_again, shortest_some}
 use Rattle.llb_wire.specs.Answer.{◌>>=◌}
+use Rattle.llb_wire.specs.Reading.{field_at}
+use Rattle.llb_wire.specs.Spelling.{code_of, Spells, varint_text, record_text}
+use Rattle.llb_wire.specs.Records.{Record, record_of, placed, IsRecord}
+use Rattle.llb_wire.specs.Laws.Records.{record_read, record_kept, written_is_record}
 use Rattle.llb_ops.specs.Records.{Shape, form_of, wire_fits, records_from}
 use Rattle.llb_ops.proofs.Split.{parts_skip, drop_pred}
 
@@ -60,68 +58,27 @@ parts_again shape (r ∷ rs) fits =
     let behind : drop f.«end» (r.text ++ rest) ≡ rest = drop_at r.text rest f.«end» (sym p.ends) in
     one ∙ rw (behind, parts_again shape rs fits.1, same) refl
 
-varint_at_again : (before : List ℕ) (n : ℕ) (rest : List ℕ) (at : ℕ) → at ≡ length before → n < 2 ^ 64 → varint_at (before ++ (varint_text n ++ rest)) at ≡ Ok (n, at + length (varint_text n))
-varint_at_again before n rest at e small = rw (drop_at before (varint_text n ++ rest) at (sym e), varint_again 9 n rest small) refl
+some_bytes : (bytes : List ℕ) (n : ℕ) → Spells bytes n → 0 < length bytes
+some_bytes [] n h = absurd h
+some_bytes (b ∷ bytes) n h = omega arith
 
-wire_again : (w : Wire) → wire_of (code_of w) ≡ Ok w
-wire_again wire.Varint = refl
-wire_again wire.I64 = refl
-wire_again wire.Len = refl
-wire_again wire.I32 = refl
+pub some_text : (r : Record) → IsRecord r → 0 < length r.text
+some_text r h = omega (arith, ap length h.text, length-append h.tag h.behind, some_bytes h.tag (8 * r.number + code_of r.wire) h.tagged.spells)
 
-code_small : (w : Wire) → code_of w < 8
-code_small wire.Varint = omega arith
-code_small wire.I64 = omega arith
-code_small wire.Len = omega arith
-code_small wire.I32 = omega arith
-
-number_again : (n : ℕ) → 0 < n → n ≤ 536_870_911 → number_of n ≡ Ok n
-number_again n some small =
-    let a : eqb n 0 ≡ false = ne_eqb _ _ (omega (arith, some)) in
-    let b : ltb 536_870_911 n ≡ false = le-ltb _ _ small in
-    rw (a, b) refl
-
--- the tag is read again
-tag_again : (n : ℕ) (w : Wire) (rest : List ℕ) → 0 < n → n ≤ 536_870_911
-    → field_at (varint_text (8 * n + code_of w) ++ rest) 0 ≡ payload_at n w (varint_text (8 * n + code_of w) ++ rest) (length (varint_text (8 * n + code_of w)))
-unfolding field_at
-tag_again n w rest some small =
-    let tag = 8 * n + code_of w in
-    let code = code_small w in
-    let at : varint_at (varint_text tag ++ rest) 0 ≡ Ok (tag, length (varint_text tag)) = varint_at_again [] tag rest 0 refl (omega (arith, code, small)) ∙ ap (λ (k : ℕ). Ok (tag, k)) (omega arith) in
-    let q : (8 * n + code_of w) / 8 ≡ n = omega (arith, code) in
-    let r : (8 * n + code_of w) % 8 ≡ code_of w = omega (arith, code) in
-    rw (at, q, r, number_again n some small, wire_again w) refl
+-- what is spelled by the grammar is read again
+part_of : (r : Record) → IsRecord r → IsPart r
+part_of r h =
+    let ends : 0 + length r.text ≡ length r.text = omega arith in
+    record {
+      field = placed 0 r;
+      ends = ends;
+      some = some_text r h;
+      reads = λ rest. record_read r rest h;
+      again = λ rest. record_kept r rest h;
+    }
 
 pub number_part_is : (n v : ℕ) → 0 < n → n ≤ 536_870_911 → v < 2 ^ 64 → IsPart (number_part n v)
-unfolding payload_at
-number_part_is n v some small fits =
-    let tag = varint_text (8 * n + code_of wire.Varint) in
-    let len : length (tag ++ varint_text v) ≡ length tag + length (varint_text v) = length-append tag (varint_text v) in
-    record {
-      field = record { number = n; wire = wire.Varint; value = v; start = length tag; «end» = length tag + length (varint_text v) };
-      ends = sym len;
-      some = omega (arith, len, shortest_some 9 v);
-      reads = λ rest. ap (λ (x : List ℕ). field_at x 0) (append_assoc tag (varint_text v) rest) ∙ tag_again n wire.Varint (varint_text v ++ rest) some small ∙ rw (varint_at_again tag v rest (length tag) refl fits) refl;
-      again = λ rest. rw (take_at (tag ++ varint_text v) rest (length tag + length (varint_text v)) len, drop_at tag (varint_text v) (length tag) refl) refl;
-    }
+number_part_is n v some small fits = part_of (number_part n v) (written_is_record n wire.Varint v [] (omega (arith, some), small) fits (omega arith) (λ e. absurd cc))
 
 pub bytes_part_is : (n : ℕ) (bytes : List ℕ) → 0 < n → n ≤ 536_870_911 → length bytes < 2 ^ 64 → IsPart (bytes_part n bytes)
-unfolding payload_at
-bytes_part_is n bytes some small fits =
-    let tag = varint_text (8 * n + code_of wire.Len) in
-    let size = varint_text (length bytes) in
-    let len : length (tag ++ (size ++ bytes)) ≡ length tag + length size + length bytes = omega (arith, length-append tag (size ++ bytes), length-append size bytes) in
-    record {
-      field = record { number = n; wire = wire.Len; value = length bytes; start = length tag + length size; «end» = length tag + length size + length bytes };
-      ends = sym len;
-      some = omega (arith, len, shortest_some 9 (length bytes));
-      reads = λ rest.
-          let room : length (tag ++ (size ++ (bytes ++ rest))) ≡ length tag + length size + length bytes + length rest = omega (arith, length-append tag (size ++ (bytes ++ rest)), length-append size (bytes ++ rest), length-append bytes rest) in
-          let enough : ltb (length (tag ++ (size ++ (bytes ++ rest))) - (length tag + length size)) (length bytes) ≡ false = le-ltb _ _ (omega (arith, room)) in
-          ap (λ (x : List ℕ). field_at x 0) (append_assoc tag (size ++ bytes) rest ∙ ap (λ (x : List ℕ). tag ++ x) (append_assoc size bytes rest))
-          ∙ tag_again n wire.Len (size ++ (bytes ++ rest)) some small ∙ rw (varint_at_again tag (length bytes) (bytes ++ rest) (length tag) refl fits, enough) refl;
-      again = λ rest.
-          let regrouped : drop (length tag + length size) (tag ++ (size ++ bytes)) ≡ bytes = ap (drop (length tag + length size)) (sym (append_assoc tag size bytes)) ∙ drop_at (tag ++ size) bytes (length tag + length size) (length-append tag size) in
-          rw (take_at (tag ++ (size ++ bytes)) rest (length tag + length size + length bytes) len, regrouped) refl;
-    }
+bytes_part_is n bytes some small fits = part_of (bytes_part n bytes) (written_is_record n wire.Len 0 bytes (omega (arith, some), small) (omega arith) fits (λ e. absurd cc))

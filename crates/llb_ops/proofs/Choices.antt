@@ -6,13 +6,12 @@ use Rattle.std.specs.Bool.{◌==◌}
 use Rattle.std.proofs.lemmas.Bool.{eqb-true}
 use Rattle.std.proofs.lemmas.List.{append-nil}
 use Rattle.std.proofs.lemmas.List.Elements.{filter-append}
-use Rattle.llb_wire.specs.Answer.{◌>>=◌}
+use Rattle.llb_wire.specs.Answer.{◌>>=◌, bind_ok}
 use Rattle.llb_wire.specs.Records.{Record}
 use Rattle.llb_ops.specs.declared.fault.OpFault.{OpFault}
 use Rattle.llb_ops.specs.Records.{Shape, all, last_of, is_member, chosen, kept, since, is_other, member, member_of, one_of}
 use Rattle.llb_ops.specs.Writing.{one_of_field}
 use Rattle.llb_ops.proofs.Again.{spelled}
-use Rattle.llb_ops.proofs.Kept.{bind_ok}
 use Rattle.llb_ops.proofs.Texts.{last_more}
 use Rattle.llb_ops.proofs.Picks.{All-append, All-filter, filter_passes, filter_narrow, mine, has}
 use Rattle.llb_ops.proofs.FieldOf.{IsGood, IsShort, IsWritten, FieldOf, ok_of}

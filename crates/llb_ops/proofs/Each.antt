@@ -28,15 +28,16 @@ first_is : {A : Type 0} (read : List ℕ → Result A OpFault) (n : ℕ) (rs : L
 unfolding each
 first_is read n rs i d lt e = ap (each read) (field_step n rs i d true lt e)
 
-pub goes_on : {A : Type 0} (read : List ℕ → Result A OpFault) (front : List A) (n : ℕ) (rs : List Held) (i : ℕ) (d : Held) (m : A) (total : Result (List A) OpFault) → i < length rs → eqb (get_or rs i d).number n ≡ true → read (get_or rs i d).payload.now ≡ Ok m
-    → behind front (each read (field_from n rs i)) ≡ total → behind (front ++ m ∷ []) (each read (field_from n rs (i + 1))) ≡ total
-goes_on read front n rs i d m total lt is got so_far =
+pub goes_on : {A : Type 0} (read : List ℕ → Result A OpFault) (front new : List A) (n : ℕ) (rs : List Held) (i : ℕ) (d : Held) (m : A) (total : Result (List A) OpFault) → i < length rs → eqb (get_or rs i d).number n ≡ true → read (get_or rs i d).payload.now ≡ Ok m
+    → new ≡ front ++ m ∷ [] → behind front (each read (field_from n rs i)) ≡ total → behind new (each read (field_from n rs (i + 1))) ≡ total
+goes_on read front new n rs i d m total lt is got put so_far =
     let e : each read (field_from n rs i) ≡ (each read (field_from n rs (i + 1)) >>= λ ms. Ok (m ∷ ms)) = first_is read n rs i d lt is ∙ rw got refl in
-    sym (regroup front m (each read (field_from n rs (i + 1)))) ∙ ap (behind front) (sym e) ∙ so_far
+    ap (λ xs. behind xs (each read (field_from n rs (i + 1)))) put ∙ sym (regroup front m (each read (field_from n rs (i + 1)))) ∙ ap (behind front) (sym e) ∙ so_far
 
-pub passes : {A : Type 0} (read : List ℕ → Result A OpFault) (front : List A) (n : ℕ) (rs : List Held) (i : ℕ) (d : Held) (total : Result (List A) OpFault) → i < length rs → eqb (get_or rs i d).number n ≡ false
-    → behind front (each read (field_from n rs i)) ≡ total → behind front (each read (field_from n rs (i + 1))) ≡ total
-passes read front n rs i d total lt is so_far = ap (λ xs. behind front (each read xs)) (sym (field_step n rs i d false lt is)) ∙ so_far
+pub passes : {A : Type 0} (read : List ℕ → Result A OpFault) (front new : List A) (n : ℕ) (rs : List Held) (i : ℕ) (d : Held) (total : Result (List A) OpFault) → i < length rs → eqb (get_or rs i d).number n ≡ false
+    → new ≡ front → behind front (each read (field_from n rs i)) ≡ total → behind new (each read (field_from n rs (i + 1))) ≡ total
+passes read front new n rs i d total lt is same so_far =
+    ap (λ xs. behind xs (each read (field_from n rs (i + 1)))) same ∙ ap (λ xs. behind front (each read xs)) (sym (field_step n rs i d false lt is)) ∙ so_far
 
 err_goes : {A : Type 0} (read : List ℕ → Result A OpFault) (front : List A) (n : ℕ) (rs : List Held) (i : ℕ) (d : Held) (f : OpFault) (total : Result (List A) OpFault) → i < length rs → eqb (get_or rs i d).number n ≡ true → read (get_or rs i d).payload.now ≡ Err f
     → behind front (each read (field_from n rs i)) ≡ total → total ≡ Err f

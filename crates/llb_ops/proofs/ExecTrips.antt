@@ -1,13 +1,12 @@
 -- An execution that was read is read again of its canonical bytes.
-use Rattle.std.proofs.Common.{◌≡◌, ℕ, ℤ, Bool, List, Option, refl}
-use Rattle.llb_ops.specs.declared.fault.OpFault.{OpFault}
+use Rattle.std.proofs.Common.{ℕ, ℤ, Bool, List, Option, refl}
 use Rattle.llb_ops.specs.declared.exec.ExecOp.{ExecOp}
 use Rattle.llb_ops.specs.declared.exec.Meta.{Meta}
 use Rattle.llb_ops.specs.declared.exec.Mount.{Mount}
 use Rattle.llb_ops.specs.declared.exec.TmpfsOpt.{TmpfsOpt}
 use Rattle.llb_ops.specs.declared.exec.CacheOpt.{CacheOpt}
-use Rattle.llb_ops.specs.Records.{int64, int32, flag}
-use Rattle.llb_ops.specs.Messages.{meta_shape, meta_of, tmpfs_opt_shape, tmpfs_opt_of, cache_opt_shape, cache_opt_of, mount_shape, mount_of, exec_op_shape, exec_op_of}
+use Rattle.llb_ops.specs.Records.{int64, int32, flag, message_of}
+use Rattle.llb_ops.specs.Messages.{meta_shape, meta_of, tmpfs_opt_shape, tmpfs_opt_of, cache_opt_shape, cache_opt_of, mount_shape, mount_of, exec_op_shape, exec_op_of, cache_opt_in, exec_op_in, meta_in, mount_in, tmpfs_opt_in}
 use Rattle.llb_ops.specs.Writing.{bit, meta_bytes, tmpfs_opt_bytes, cache_opt_bytes, mount_bytes, exec_op_bytes}
 use Rattle.llb_ops.proofs.Texts.{empty_utf8}
 use Rattle.llb_ops.proofs.Numbers.{from_signed, int64_recodes, int32_recodes, flag_recodes}
@@ -25,7 +24,7 @@ abbrev meta_made : List (List ℕ) × (List (List ℕ) × (List ℕ × (List ℕ
 meta_made a extra = record { args = a.0; env = a.1.0; cwd = a.1.1.0; user = a.1.1.1.0; extra = extra }
 
 pub meta_returns : Returns meta_of meta_bytes
-unfolding meta_of meta_bytes
+unfolding message_of meta_in meta_bytes
 meta_returns = returns_by meta_fields meta_made meta_of meta_bytes refl (λ bytes. refl) (λ a extra. refl)
 
 abbrev tmpfs_opt_fields : FieldOf tmpfs_opt_shape TmpfsOpt (ℤ × Unit {0})
@@ -36,7 +35,7 @@ abbrev tmpfs_opt_made : ℤ × Unit {0} → List ℕ → TmpfsOpt
 tmpfs_opt_made a extra = record { size = a.0; extra = extra }
 
 pub tmpfs_opt_returns : Returns tmpfs_opt_of tmpfs_opt_bytes
-unfolding tmpfs_opt_of tmpfs_opt_bytes
+unfolding message_of tmpfs_opt_in tmpfs_opt_bytes
 tmpfs_opt_returns = returns_by tmpfs_opt_fields tmpfs_opt_made tmpfs_opt_of tmpfs_opt_bytes refl (λ bytes. refl) (λ a extra. refl)
 
 abbrev cache_opt_fields : FieldOf cache_opt_shape CacheOpt (List ℕ × (ℤ × Unit {0}))
@@ -48,7 +47,7 @@ abbrev cache_opt_made : List ℕ × (ℤ × Unit {0}) → List ℕ → CacheOpt
 cache_opt_made a extra = record { id = a.0; sharing = a.1.0; extra = extra }
 
 pub cache_opt_returns : Returns cache_opt_of cache_opt_bytes
-unfolding cache_opt_of cache_opt_bytes
+unfolding message_of cache_opt_in cache_opt_bytes
 cache_opt_returns = returns_by cache_opt_fields cache_opt_made cache_opt_of cache_opt_bytes refl (λ bytes. refl) (λ a extra. refl)
 
 abbrev mount_fields : FieldOf mount_shape Mount (ℤ × (List ℕ × (List ℕ × (ℤ × (Bool × (ℤ × (Option TmpfsOpt × (Option CacheOpt × Unit {0}))))))))
@@ -66,7 +65,7 @@ abbrev mount_made : ℤ × (List ℕ × (List ℕ × (ℤ × (Bool × (ℤ × (O
 mount_made a extra = record { input = a.0; selector = a.1.0; dest = a.1.1.0; output = a.1.1.1.0; readonly = a.1.1.1.1.0; mount_type = a.1.1.1.1.1.0; tmpfs_opt = a.1.1.1.1.1.1.0; cache_opt = a.1.1.1.1.1.1.1.0; extra = extra }
 
 pub mount_returns : Returns mount_of mount_bytes
-unfolding mount_of mount_bytes
+unfolding message_of mount_in mount_bytes
 mount_returns = returns_by mount_fields mount_made mount_of mount_bytes refl (λ bytes. refl) (λ a extra. refl)
 
 abbrev exec_op_fields : FieldOf exec_op_shape ExecOp (Option Meta × (List Mount × (ℤ × (ℤ × (List (List ℕ) × Unit {0})))))
@@ -81,5 +80,5 @@ abbrev exec_op_made : Option Meta × (List Mount × (ℤ × (ℤ × (List (List 
 exec_op_made a extra = record { meta = a.0; mounts = a.1.0; network = a.1.1.0; security = a.1.1.1.0; secretenv = a.1.1.1.1.0; extra = extra }
 
 pub exec_op_returns : Returns exec_op_of exec_op_bytes
-unfolding exec_op_of exec_op_bytes
+unfolding message_of exec_op_in exec_op_bytes
 exec_op_returns = returns_by exec_op_fields exec_op_made exec_op_of exec_op_bytes refl (λ bytes. refl) (λ a extra. refl)

@@ -7,13 +7,13 @@ use Rattle.std.specs.Bool.{if◌then◌else◌}
 use Rattle.std.proofs.lemmas.List.{append-nil, length-append}
 use Rattle.std.proofs.lemmas.List.Elements.{filter-append}
 use Rattle.std.proofs.lemmas.List.Concat.{flat_map-append}
-use Rattle.llb_wire.specs.Answer.{◌>>=◌}
+use Rattle.llb_wire.specs.Answer.{◌>>=◌, bind_ok}
 use Rattle.llb_wire.specs.Records.{Record}
 use Rattle.llb_ops.specs.declared.fault.OpFault.{OpFault}
 use Rattle.llb_ops.specs.declared.fault.OpFault.TheVariants.{OverLimit, NotUtf8}
 use Rattle.llb_ops.specs.Records.{Shape, form_of, text_fits, texts_fit, parts, records_from, is_member, unnamed}
 use Rattle.llb_ops.proofs.Again.{FitsShape, parts_again, spelled}
-use Rattle.llb_ops.proofs.Kept.{bind_ok, guard_ended, records_fit}
+use Rattle.llb_ops.proofs.Kept.{guard_ended, records_fit}
 use Rattle.llb_ops.proofs.Picks.{All-append, All-front, All-behind, All-map, All-filter, filter_passes, filter_all, filter_none, filter_narrow, mine, has_left, has_right, apart, apart_left, apart_right, are_named, named_of, extras_of, unnamed_has}
 
 -- a record is read again, with its wire type, and UTF-8 where it is a text
@@ -76,10 +76,6 @@ ok_of x = Ok x
 
 pub ok_is : {A : Type 0} (x y : A) → ok_of x ≡ ok_of y → x ≡ y
 ok_is x y e = cc
-
--- what is there is no fault
-pub no_fault : {A : Type 0} (x : A) (e : OpFault) → ok_of x ≡ Err e → ⊥
-no_fault x e h = cc
 
 abbrev pub pair_read : {A B : Type 0} → (List Record → Result A OpFault) → (List Record → Result B OpFault) → List Record → Result (A × B) OpFault
 pair_read f g rs = f rs >>= λ a. (g rs >>= λ b. Ok (a, b))

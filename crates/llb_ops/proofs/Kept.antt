@@ -6,25 +6,21 @@ use Rattle.llb_wire.specs.declared.fault.WireFault.{WireFault}
 use Rattle.llb_wire.specs.declared.field.Field.{Field}
 use Rattle.llb_wire.specs.Reading.{field_at}
 use Rattle.llb_wire.specs.Records.{Record, record_of}
-use Rattle.llb_wire.proofs.Prefix.{field_local}
+use Rattle.llb_wire.specs.Laws.Own.{field_local}
 use Rattle.llb_ops.specs.declared.fault.OpFault.{OpFault}
 use Rattle.llb_ops.specs.declared.fault.OpFault.TheVariants.{WrongWireType}
-use Rattle.llb_wire.specs.Answer.{◌>>=◌}
+use Rattle.llb_wire.specs.Answer.{◌>>=◌, bind_ok}
 use Rattle.llb_ops.specs.Records.{Shape, from_wire, first_record, form_of, wire_fits, records_from}
 use Rattle.llb_ops.proofs.Again.{IsPart, FitsShape}
 
-pub bind_ok : {A B : Type 0} (r : Result A OpFault) (f : A → Result B OpFault) (y : B) → (r >>= f) ≡ Ok y → (x : A) × (r ≡ Ok x) × (f x ≡ Ok y)
-bind_ok (Ok x) f y e = (x, refl, e)
-bind_ok (Err d) f y e = absurd cc
-
-wire_ok : {A : Type 0} (r : Result A WireFault) (x : A) → from_wire r ≡ Ok x → r ≡ Ok x
+pub wire_ok : {A : Type 0} (r : Result A WireFault) (x : A) → from_wire r ≡ Ok x → r ≡ Ok x
 wire_ok (Ok y) x e = let h : y ≡ x = cc in ap (λ z. Ok z) h
 wire_ok (Err d) x e = absurd cc
 
-abbrev ok_of : List Record → Result (List Record) OpFault
+abbrev pub ok_of : List Record → Result (List Record) OpFault
 ok_of xs = Ok xs
 
-ok_list : (xs ys : List Record) → ok_of xs ≡ ok_of ys → xs ≡ ys
+pub ok_list : (xs ys : List Record) → ok_of xs ≡ ok_of ys → xs ≡ ys
 ok_list xs ys e = cc
 
 pub guard_ended : {A : Type 0} (b : Bool) (d : OpFault) (x y : A) → cond b (Ok x) (Err d) ≡ Ok y → (b ≡ true) × (x ≡ y)

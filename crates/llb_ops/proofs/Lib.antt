@@ -5,6 +5,7 @@ pub mod Admission
 pub mod Each
 pub mod Members
 pub mod Counts
+pub mod Pushed
 pub mod Written
 pub mod Again
 pub mod Kept
@@ -13,10 +14,11 @@ pub mod FieldOf
 pub mod Numbers
 pub mod Sorts
 pub mod Choices
-pub mod Copying
 pub mod Settled
 pub mod ExecTrips
 pub mod MergeTrips
 pub mod SourceTrips
 pub mod Trips
+pub mod Within
+pub mod Spelled
 pub mod DefinitionTrips

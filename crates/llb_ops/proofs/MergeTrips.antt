@@ -1,15 +1,13 @@
 -- A merge that was read is read again of its canonical bytes.
-use Rattle.std.proofs.Common.{◌≡◌, ℕ, ℤ, Bool, List, Option, refl}
-use Rattle.llb_ops.specs.declared.fault.OpFault.{OpFault}
+use Rattle.std.proofs.Common.{ℕ, ℤ, List, refl}
 use Rattle.llb_ops.specs.declared.merge.MergeOp.{MergeOp}
 use Rattle.llb_ops.specs.declared.merge.MergeInput.{MergeInput}
-use Rattle.llb_ops.specs.Records.{int64, int32, flag}
-use Rattle.llb_ops.specs.Messages.{merge_input_shape, merge_input_of, merge_op_shape, merge_op_of}
-use Rattle.llb_ops.specs.Writing.{bit, merge_input_bytes, merge_op_bytes}
-use Rattle.llb_ops.proofs.Texts.{empty_utf8}
-use Rattle.llb_ops.proofs.Numbers.{from_signed, int64_recodes, int32_recodes, flag_recodes}
+use Rattle.llb_ops.specs.Records.{int64, message_of}
+use Rattle.llb_ops.specs.Messages.{merge_input_shape, merge_input_of, merge_op_shape, merge_op_of, merge_input_in, merge_op_in}
+use Rattle.llb_ops.specs.Writing.{merge_input_bytes, merge_op_bytes}
+use Rattle.llb_ops.proofs.Numbers.{from_signed, int64_recodes}
 use Rattle.llb_ops.proofs.FieldOf.{FieldOf, Returns, end, both, returns_by}
-use Rattle.llb_ops.proofs.Sorts.{numeric, string, strings, message, messages}
+use Rattle.llb_ops.proofs.Sorts.{numeric, messages}
 
 abbrev merge_input_fields : FieldOf merge_input_shape MergeInput (ℤ × Unit {0})
 merge_input_fields =
@@ -19,7 +17,7 @@ abbrev merge_input_made : ℤ × Unit {0} → List ℕ → MergeInput
 merge_input_made a extra = record { input = a.0; extra = extra }
 
 pub merge_input_returns : Returns merge_input_of merge_input_bytes
-unfolding merge_input_of merge_input_bytes
+unfolding message_of merge_input_in merge_input_bytes
 merge_input_returns = returns_by merge_input_fields merge_input_made merge_input_of merge_input_bytes refl (λ bytes. refl) (λ a extra. refl)
 
 abbrev merge_op_fields : FieldOf merge_op_shape MergeOp (List MergeInput × Unit {0})
@@ -30,5 +28,5 @@ abbrev merge_op_made : List MergeInput × Unit {0} → List ℕ → MergeOp
 merge_op_made a extra = record { inputs = a.0; extra = extra }
 
 pub merge_op_returns : Returns merge_op_of merge_op_bytes
-unfolding merge_op_of merge_op_bytes
+unfolding message_of merge_op_in merge_op_bytes
 merge_op_returns = returns_by merge_op_fields merge_op_made merge_op_of merge_op_bytes refl (λ bytes. refl) (λ a extra. refl)

@@ -41,12 +41,6 @@ int32_recodes = record {
   same = λ v. int32_again (int32 v) (int32_fits (v % 2 ^ 32) (omega arith));
 }
 
-pub uint32_recodes : Recodes uint32 (λ v. v)
-uint32_recodes = record {
-  small = λ v. omega arith;
-  same = λ v. omega arith;
-}
-
 bit_small : (b : Bool) → bit b < 2 ^ 64
 bit_small true = omega arith
 bit_small false = omega arith

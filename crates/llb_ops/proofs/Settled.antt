@@ -1,5 +1,5 @@
 -- The attributes that are held: no two have one key, so that their entries settle as they stand.
-use Rattle.std.proofs.Common.{◌≡◌, ℕ, suc, ◌+◌, ◌≤◌, Bool, true, false, List, [], ◌∷◌, ◌++◌, length, map, fold, nat_eq, refl, sym, ap, subst, ◌∙◌, append_assoc, arith}
+use Rattle.std.proofs.Common.{◌≡◌, ℕ, ◌+◌, ◌≤◌, Bool, true, false, List, [], ◌∷◌, ◌++◌, length, map, fold, nat_eq, refl, sym, ap, subst, ◌∙◌, append_assoc, arith}
 use Rattle.std.specs.List.{AllByRecursion, IsDistinct}
 use Rattle.std.specs.Map.{keys_of}
 use Rattle.std.specs.Cmp.Lexicographic.{pointwise, nat_list_eq_equiv}
@@ -67,32 +67,6 @@ fold_apart front (p ∷ ps) h a =
 pub settles_again : (ps : List Held) → Apart ps → settled (map entry_of ps) ≡ ps
 unfolding settled
 settles_again ps a = fold_apart [] ps tt a
-
--- a map's keys differ
-no_sooner : (k j : List ℕ) (b : Bool) → same j k ≡ b → same k j ≡ false → same j k ≡ false
-no_sooner k j true s h = absurd (let e : same k j ≡ true = subst (λ (x : List ℕ). same k x ≡ true) (sym (same_text j k s)) (nat_list_eq_equiv.refl k) in cc)
-no_sooner k j false s h = s
-
-behind_differ : (k : List ℕ) (ps : List Held) → AllByRecursion (λ j. same k j ≡ false) (keys_of ps) → AllByRecursion (λ q. same q.0 k ≡ false) ps
-behind_differ k [] h = tt
-behind_differ k (p ∷ ps) h = (no_sooner k p.0 (same p.0 k) refl h.0, behind_differ k ps h.1)
-
-pub distinct_apart : (ps : List Held) → IsDistinct same (keys_of ps) → Apart ps
-unfolding IsDistinct
-distinct_apart [] h = tt
-distinct_apart (p ∷ ps) h = (behind_differ p.0 ps h.0, distinct_apart ps h.1)
-
--- ---- a copy, entry by entry
-
-pub copy_begins : (held ps all : List Held) → held ≡ [] → ps ≡ all → Apart all → fold put held (map entry_of ps) ≡ all
-unfolding settled
-copy_begins held ps all none is apart =
-    ap (λ (xs : List Held). fold put xs (map entry_of ps)) none ∙ ap (λ (xs : List Held). fold put [] (map entry_of xs)) is ∙ settles_again all apart
-
-pub copy_goes_on : (held ps rest new all : List Held) (k j : List ℕ) (v w : Attribute) → fold put held (map entry_of ps) ≡ all → ps ≡ (k, v) ∷ rest → j ≡ k → w ≡ v → new ≡ insert_entry same held j w → fold put new (map entry_of rest) ≡ all
-copy_goes_on held ps rest new all k j v w so_far is key value put_in =
-    ap (λ (xs : List Held). fold put xs (map entry_of rest)) (put_in ∙ ap (λ x. insert_entry same held x w) key ∙ ap (λ x. insert_entry same held k x) value)
-    ∙ ap (λ (xs : List Held). fold put held (map entry_of xs)) (sym is) ∙ so_far
 
 -- ---- what is held was an entry
 

@@ -5,7 +5,7 @@ use Rattle.std.specs.List.{AllByRecursion}
 use Rattle.std.specs.Bool.{◌==◌, if◌then◌else◌}
 use Rattle.std.proofs.lemmas.Bool.{eqb-true, ne_eqb, ltb-true, leb-true}
 use Rattle.std.proofs.lemmas.List.{append-nil, length-append, length-map}
-use Rattle.llb_wire.specs.Answer.{◌>>=◌}
+use Rattle.llb_wire.specs.Answer.{◌>>=◌, bind_ok}
 use Rattle.llb_wire.specs.declared.field.Wire.TheVariants as wire
 use Rattle.llb_wire.specs.Spelling.{varint_text}
 use Rattle.llb_wire.specs.Records.{Record}
@@ -15,7 +15,6 @@ use Rattle.llb_ops.specs.Limits.{field_limit}
 use Rattle.llb_ops.specs.Records.{Shape, form_of, wire_fits, text_ok, all, is_member, number, payload, payloads, joined, one, each}
 use Rattle.llb_ops.specs.Writing.{number_field, bytes_field, set_number, set_bytes, message_field, messages_field, each_field}
 use Rattle.llb_ops.proofs.Again.{number_part, bytes_part, number_part_is, bytes_part_is, spelled}
-use Rattle.llb_ops.proofs.Kept.{bind_ok}
 use Rattle.llb_ops.proofs.Texts.{last_payload}
 use Rattle.llb_ops.proofs.Numbers.{Recodes}
 use Rattle.llb_ops.proofs.Picks.{All-map, All-both, All-filter, filter_passes, filter_all, filter_narrow, mine, has_one}

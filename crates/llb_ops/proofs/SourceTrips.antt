@@ -1,20 +1,19 @@
 -- A source that was read is read again of its canonical bytes.
-use Rattle.std.proofs.Common.{◌≡◌, ℕ, ◌≤◌, Bool, true, false, List, [], ◌∷◌, length, map, refl, sym, ap, subst, ◌∙◌, Result, Ok, Err, arith}
+use Rattle.std.proofs.Common.{◌≡◌, ℕ, ◌≤◌, true, List, [], ◌∷◌, length, map, refl, ap, subst, ◌∙◌, Result, Ok, Err, arith}
 use Rattle.std.specs.Prelude.{nat_le}
 use Rattle.std.specs.List.{AllByRecursion}
 use Rattle.std.proofs.lemmas.Bool.{leb-true, le-leb}
 use Rattle.std.proofs.lemmas.List.{length-map}
-use Rattle.llb_wire.specs.Answer.{◌>>=◌}
+use Rattle.llb_wire.specs.Answer.{◌>>=◌, bind_ok}
 use Rattle.llb_wire.specs.Records.{Record}
 use Rattle.llb_ops.specs.declared.fault.OpFault.{OpFault}
 use Rattle.llb_ops.specs.declared.source.SourceOp.{SourceOp}
 use Rattle.llb_ops.specs.declared.source.AttributeEntry.{AttributeEntry}
 use Rattle.llb_ops.specs.Attributes.{Held, entry_of, settled}
 use Rattle.llb_ops.specs.Limits.{field_limit}
-use Rattle.llb_ops.specs.Records.{Shape, each}
-use Rattle.llb_ops.specs.Messages.{attribute_entry_shape, attribute_entry_of, source_op_shape, source_op_of}
+use Rattle.llb_ops.specs.Records.{each, message_of}
+use Rattle.llb_ops.specs.Messages.{attribute_entry_shape, attribute_entry_of, source_op_shape, source_op_of, attribute_entry_in, source_op_in}
 use Rattle.llb_ops.specs.Writing.{attribute_entry_bytes, source_op_bytes, messages_field}
-use Rattle.llb_ops.proofs.Kept.{bind_ok}
 use Rattle.llb_ops.proofs.Texts.{empty_utf8}
 use Rattle.llb_ops.proofs.FieldOf.{IsShort, FieldOf, Returns, end, both, returns_by, ok_is}
 use Rattle.llb_ops.proofs.Settled.{settled_apart, settles_again, settled_hold, settled_length}
@@ -27,7 +26,7 @@ abbrev attribute_entry_made : List ℕ × (List ℕ × Unit {0}) → List ℕ �
 attribute_entry_made a extra = record { key = a.0; value = a.1.0; extra = extra }
 
 pub attribute_entry_returns : Returns attribute_entry_of attribute_entry_bytes
-unfolding attribute_entry_of attribute_entry_bytes
+unfolding message_of attribute_entry_in attribute_entry_bytes
 attribute_entry_returns = returns_by attribute_entry_fields attribute_entry_made attribute_entry_of attribute_entry_bytes refl (λ bytes. refl) (λ a extra. refl)
 
 -- ---- the map of attributes
@@ -81,5 +80,5 @@ abbrev source_op_made : List ℕ × (List Held × Unit {0}) → List ℕ → Sou
 source_op_made a extra = record { identifier = a.0; attrs = a.1.0; extra = extra }
 
 pub source_op_returns : Returns source_op_of source_op_bytes
-unfolding source_op_of source_op_bytes
+unfolding message_of source_op_in source_op_bytes
 source_op_returns = returns_by source_op_fields source_op_made source_op_of source_op_bytes refl (λ bytes. refl) (λ a extra. refl)

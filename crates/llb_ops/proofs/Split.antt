@@ -1,15 +1,16 @@
 -- Splitting bytes into records, as a loop does.
 use Rattle.std.proofs.Common.{◌≡◌, ℕ, zero, suc, ◌-◌, ◌<◌, true, false, eqb, List, [], ◌∷◌, ◌++◌, length, drop, Option, Some, None, Result, Ok, Err, refl, sym, ap, ◌∙◌, append_assoc, arith}
 use Rattle.std.proofs.lemmas.Bool.{ne_eqb}
-use Rattle.std.proofs.lemmas.List.{append-nil}
+use Rattle.std.proofs.lemmas.List.{append-nil, length-drop}
 use Rattle.llb_wire.specs.declared.fault.WireFault.{WireFault}
 use Rattle.llb_wire.specs.declared.field.Field.{Field}
-use Rattle.llb_wire.specs.Reading.{field_at, next_field}
+use Rattle.llb_wire.specs.Reading.{field_at, next_field, IsWithin}
 use Rattle.llb_wire.specs.Records.{Record, record_of}
 use Rattle.llb_ops.specs.declared.fault.OpFault.{OpFault}
 use Rattle.llb_ops.specs.declared.fault.OpFault.TheVariants.{Wire, WrongWireType}
 use Rattle.llb_wire.specs.Answer.{◌>>=◌}
-use Rattle.llb_ops.specs.Records.{Shape, form_of, wire_fits, records_from}
+use Rattle.llb_ops.specs.declared.records.Front.{Front}
+use Rattle.llb_ops.specs.Records.{Shape, view, form_of, wire_fits, records_from, IsFront}
 
 -- what was read before, and what is still read
 abbrev pub with_front : List Record → Result (List Record) OpFault → Result (List Record) OpFault
@@ -81,14 +82,21 @@ parts_more shape (b ∷ bytes) f e fits some =
     let one : drop f.«end» (b ∷ bytes) ≡ drop (f.«end» - 1) bytes = drop_pred f.«end» b bytes some in
     rw (h, fits, one, ← parts_skip shape (f.«end» - 1) bytes) refl
 
+-- the record that was taken is in front of the others
+pub is_front : (shape : Shape) (bytes : List ℕ) (f : Field) (front : Front) → Ok (Some f) ≡ next_field bytes 0 → wire_fits (form_of shape f.number) f.wire ≡ true → IsWithin bytes 0 f
+    → view front.record ≡ record_of bytes f → front.after.now ≡ drop f.«end» bytes → IsFront shape bytes front
+is_front shape bytes f front e fits within seen left = record {
+  reads = parts_more shape bytes f e fits (omega (arith, within.begins, within.ordered))
+      ∙ ap (λ (xs : List ℕ). records_from shape 0 xs >>= λ rs. Ok (record_of bytes f ∷ rs)) (sym left)
+      ∙ ap (λ (r : Record). records_from shape 0 front.after.now >>= λ rs. Ok (r ∷ rs)) (sym seen);
+  shorter = omega (arith, within.begins, within.ordered, within.inside, ap length left, length-drop f.«end» bytes);
+}
+
 -- the loop goes on, and ends
 
-pub goes_on : (shape : Shape) (front : List Record) (bytes : List ℕ) (f : Field) (total : Result (List Record) OpFault) → Ok (Some f) ≡ next_field bytes 0 → wire_fits (form_of shape f.number) f.wire ≡ true → 0 < f.«end»
-    → with_front front (records_from shape 0 bytes) ≡ total → with_front (front ++ record_of bytes f ∷ []) (records_from shape 0 (drop f.«end» bytes)) ≡ total
-goes_on shape front bytes f total e fits some so_far =
-    let more = parts_more shape bytes f e fits some in
-    let same = regroup front (record_of bytes f) (records_from shape 0 (drop f.«end» bytes)) in
-    sym same ∙ ap (with_front front) (sym more) ∙ so_far
+pub goes_on : (shape : Shape) (front : List Record) (r : Record) (bytes after : List ℕ) (total : Result (List Record) OpFault) → records_from shape 0 bytes ≡ (records_from shape 0 after >>= λ rs. Ok (r ∷ rs))
+    → with_front front (records_from shape 0 bytes) ≡ total → with_front (front ++ r ∷ []) (records_from shape 0 after) ≡ total
+goes_on shape front r bytes after total more so_far = sym (regroup front r (records_from shape 0 after)) ∙ ap (with_front front) (sym more) ∙ so_far
 
-pub is_done : (shape : Shape) (front : List Record) (bytes : List ℕ) (total : Result (List Record) OpFault) → Ok None ≡ next_field bytes 0 → with_front front (records_from shape 0 bytes) ≡ total → total ≡ Ok front
-is_done shape front bytes total e so_far = sym so_far ∙ ap (with_front front) (parts_end shape bytes e) ∙ ap (λ (x : List Record). Ok x) (append-nil front)
+pub is_done : (shape : Shape) (front : List Record) (bytes : List ℕ) (total : Result (List Record) OpFault) → records_from shape 0 bytes ≡ Ok [] → with_front front (records_from shape 0 bytes) ≡ total → total ≡ Ok front
+is_done shape front bytes total none so_far = sym so_far ∙ ap (with_front front) none ∙ ap (λ (x : List Record). Ok x) (append-nil front)

@@ -3,7 +3,7 @@ use Rattle.std.proofs.Common.{◌≡◌, ℕ, ℤ, ◌<◌, ◌^◌, Bool, true,
 use Rattle.std.specs.Bool.{◌==◌}
 use Rattle.std.proofs.lemmas.Bool.{le-ltb}
 use Rattle.std.proofs.lemmas.List.{append-nil}
-use Rattle.llb_wire.specs.Answer.{◌>>=◌}
+use Rattle.llb_wire.specs.Answer.{◌>>=◌, bind_ok}
 use Rattle.llb_wire.specs.Records.{Record}
 use Rattle.llb_ops.specs.declared.fault.OpFault.{OpFault}
 use Rattle.llb_ops.specs.declared.fault.OpFault.TheVariants.{OverLimit}
@@ -23,13 +23,12 @@ use Rattle.llb_ops.specs.declared.file.ChownOpt.{ChownOpt}
 use Rattle.llb_ops.specs.declared.file.UserOpt.{UserOpt}
 use Rattle.llb_ops.specs.declared.file.User.{User}
 use Rattle.llb_ops.specs.declared.file.User.TheVariants.{ByName, ById}
-use Rattle.llb_ops.specs.Records.{int64, int32, uint32, flag, number, joined, is_member, one_of}
-use Rattle.llb_ops.specs.Messages.{input_shape, input_of, users, user_of, user_opt_shape, user_opt_of, chown_opt_shape, chown_opt_of, mk_file_shape, mk_file_of, mk_dir_shape, mk_dir_of, copy_file_shape, copy_file_of, copy_file_with, rm_shape, rm_of, action_shape, action_kinds, action_kind_of, action_of, file_op_shape, file_op_of, exec_op_of, source_op_of, merge_op_of, op_shape, kinds, kind_of, op_message_of, op_of}
+use Rattle.llb_ops.specs.Records.{int64, int32, uint32, flag, number, joined, is_member, one_of, message_of}
+use Rattle.llb_ops.specs.Messages.{input_shape, input_of, users, user_of, user_opt_shape, user_opt_of, chown_opt_shape, chown_opt_of, mk_file_shape, mk_file_of, mk_dir_shape, mk_dir_of, copy_file_shape, copy_file_of, copy_file_with, rm_shape, rm_of, action_shape, action_kinds, action_kind_of, action_of, file_op_shape, file_op_of, exec_op_of, source_op_of, merge_op_of, op_shape, kinds, kind_of, op_message_of, op_of, action_in, chown_opt_in, copy_file_in, file_op_in, input_in, mk_dir_in, mk_file_in, op_in, rm_in, user_opt_in}
 use Rattle.llb_ops.specs.Limits.{entry_limit}
 use Rattle.llb_ops.specs.Laws.{IsReadAgain}
 use Rattle.llb_ops.specs.Writing.{bit, input_bytes, user_bytes, user_opt_bytes, chown_opt_bytes, mk_file_bytes, mk_dir_bytes, copy_file_bytes, rm_bytes, exec_op_bytes, source_op_bytes, merge_op_bytes, action_kind_bytes, action_bytes, file_op_bytes, kind_bytes, op_bytes, set_bytes, set_number}
 use Rattle.llb_ops.proofs.Again.{number_part, bytes_part}
-use Rattle.llb_ops.proofs.Kept.{bind_ok}
 use Rattle.llb_ops.proofs.Texts.{empty_utf8}
 use Rattle.llb_ops.proofs.Numbers.{from_signed, int64_recodes, int32_recodes, flag_recodes}
 use Rattle.llb_ops.proofs.FieldOf.{IsShort, IsWritten, FieldOf, Returns, end, both, returns_by, ok_is}
@@ -46,7 +45,7 @@ abbrev input_made : List ℕ × (ℤ × Unit {0}) → List ℕ → Input
 input_made a extra = record { digest = a.0; index = a.1.0; extra = extra }
 
 pub input_returns : Returns input_of input_bytes
-unfolding input_of input_bytes
+unfolding message_of input_in input_bytes
 input_returns = returns_by input_fields input_made input_of input_bytes refl (λ bytes. refl) (λ a extra. refl)
 
 -- ---- users and groups
@@ -90,7 +89,7 @@ abbrev user_opt_made : Option User × Unit {0} → List ℕ → UserOpt
 user_opt_made a extra = record { user = a.0; extra = extra }
 
 pub user_opt_returns : Returns user_opt_of user_opt_bytes
-unfolding user_opt_of user_opt_bytes
+unfolding message_of user_opt_in user_opt_bytes
 user_opt_returns = returns_by user_opt_fields user_opt_made user_opt_of user_opt_bytes refl (λ bytes. refl) (λ a extra. refl)
 
 abbrev chown_opt_fields : FieldOf chown_opt_shape ChownOpt (Option UserOpt × (Option UserOpt × Unit {0}))
@@ -100,7 +99,7 @@ abbrev chown_opt_made : Option UserOpt × (Option UserOpt × Unit {0}) → List 
 chown_opt_made a extra = record { user = a.0; group = a.1.0; extra = extra }
 
 pub chown_opt_returns : Returns chown_opt_of chown_opt_bytes
-unfolding chown_opt_of chown_opt_bytes
+unfolding message_of chown_opt_in chown_opt_bytes
 chown_opt_returns = returns_by chown_opt_fields chown_opt_made chown_opt_of chown_opt_bytes refl (λ bytes. refl) (λ a extra. refl)
 
 -- ---- file actions
@@ -117,7 +116,7 @@ abbrev mk_file_made : List ℕ × (ℤ × (List ℕ × (Option ChownOpt × (ℤ 
 mk_file_made a extra = record { path = a.0; mode = a.1.0; body = a.1.1.0; owner = a.1.1.1.0; timestamp = a.1.1.1.1.0; extra = extra }
 
 pub mk_file_returns : Returns mk_file_of mk_file_bytes
-unfolding mk_file_of mk_file_bytes
+unfolding message_of mk_file_in mk_file_bytes
 mk_file_returns = returns_by mk_file_fields mk_file_made mk_file_of mk_file_bytes refl (λ bytes. refl) (λ a extra. refl)
 
 abbrev mk_dir_fields : FieldOf mk_dir_shape MkDir (List ℕ × (ℤ × (Bool × (Option ChownOpt × (ℤ × Unit {0})))))
@@ -132,7 +131,7 @@ abbrev mk_dir_made : List ℕ × (ℤ × (Bool × (Option ChownOpt × (ℤ × Un
 mk_dir_made a extra = record { path = a.0; mode = a.1.0; make_parents = a.1.1.0; owner = a.1.1.1.0; timestamp = a.1.1.1.1.0; extra = extra }
 
 pub mk_dir_returns : Returns mk_dir_of mk_dir_bytes
-unfolding mk_dir_of mk_dir_bytes
+unfolding message_of mk_dir_in mk_dir_bytes
 mk_dir_returns = returns_by mk_dir_fields mk_dir_made mk_dir_of mk_dir_bytes refl (λ bytes. refl) (λ a extra. refl)
 
 abbrev copy_file_fields : FieldOf copy_file_shape CopyFile (List ℕ × (List ℕ × (Option ChownOpt × (ℤ × (Bool × (Bool × (Bool × (Bool × (Bool × (Bool × (ℤ × (List (List ℕ) × (List (List ℕ) × Unit {0})))))))))))))
@@ -155,7 +154,7 @@ abbrev copy_file_made : List ℕ × (List ℕ × (Option ChownOpt × (ℤ × (Bo
 copy_file_made a extra = record { src = a.0; dest = a.1.0; owner = a.1.1.0; mode = a.1.1.1.0; follow_symlink = a.1.1.1.1.0; dir_copy_contents = a.1.1.1.1.1.0; attempt_unpack_docker_compatibility = a.1.1.1.1.1.1.0; create_dest_path = a.1.1.1.1.1.1.1.0; allow_wildcard = a.1.1.1.1.1.1.1.1.0; allow_empty_wildcard = a.1.1.1.1.1.1.1.1.1.0; timestamp = a.1.1.1.1.1.1.1.1.1.1.0; include_patterns = a.1.1.1.1.1.1.1.1.1.1.1.0; exclude_patterns = a.1.1.1.1.1.1.1.1.1.1.1.1.0; extra = extra }
 
 pub copy_file_returns : Returns copy_file_of copy_file_bytes
-unfolding copy_file_of copy_file_with copy_file_bytes
+unfolding message_of copy_file_in copy_file_with copy_file_bytes
 copy_file_returns = returns_by copy_file_fields copy_file_made copy_file_of copy_file_bytes refl (λ bytes. refl) (λ a extra. refl)
 
 abbrev rm_fields : FieldOf rm_shape Rm (List ℕ × (Bool × (Bool × Unit {0})))
@@ -168,7 +167,7 @@ abbrev rm_made : List ℕ × (Bool × (Bool × Unit {0})) → List ℕ → Rm
 rm_made a extra = record { path = a.0; allow_not_found = a.1.0; allow_wildcard = a.1.1.0; extra = extra }
 
 pub rm_returns : Returns rm_of rm_bytes
-unfolding rm_of rm_bytes
+unfolding message_of rm_in rm_bytes
 rm_returns = returns_by rm_fields rm_made rm_of rm_bytes refl (λ bytes. refl) (λ a extra. refl)
 
 abbrev action_record : ActionKind → Record
@@ -190,7 +189,7 @@ action_own (action.MkFile m) = refl
 action_own (action.MkDir m) = refl
 action_own (action.Rm m) = refl
 
-abbrev ActionRead : ActionKind → Type 0
+abbrev pub ActionRead : ActionKind → Type 0
 ActionRead (action.Copy m) = IsRead copy_file_of m
 ActionRead (action.MkFile m) = IsRead mk_file_of m
 ActionRead (action.MkDir m) = IsRead mk_dir_of m
@@ -209,7 +208,7 @@ action_cases false true b6 bytes a e = of_message ActionRead mk_file_of (λ m. a
 action_cases false false true bytes a e = of_message ActionRead mk_dir_of (λ m. action.MkDir m) bytes a e (λ m h. (bytes, h))
 action_cases false false false bytes a e = of_message ActionRead rm_of (λ m. action.Rm m) bytes a e (λ m h. (bytes, h))
 
-action_from : (n : ℕ) (xs : List Record) (a : ActionKind) → action_kind_of n xs ≡ Ok a → ActionRead a
+pub action_from : (n : ℕ) (xs : List Record) (a : ActionKind) → action_kind_of n xs ≡ Ok a → ActionRead a
 action_from n xs a e = action_cases (n == 4) (n == 5) (n == 6) (joined xs) a e
 
 action_written : (a : ActionKind) → IsWritten action_shape (action_record a)
@@ -237,7 +236,7 @@ abbrev action_made : ℤ × (ℤ × (ℤ × (Option ActionKind × Unit {0}))) �
 action_made a extra = record { input = a.0; secondary_input = a.1.0; output = a.1.1.0; kind = a.1.1.1.0; extra = extra }
 
 pub action_returns : Returns action_of action_bytes
-unfolding action_of action_bytes
+unfolding message_of action_in action_bytes
 action_returns = returns_by action_fields action_made action_of action_bytes refl (λ bytes. refl) (λ a extra. refl)
 
 abbrev file_op_fields : FieldOf file_op_shape FileOp (List Action × Unit {0})
@@ -247,7 +246,7 @@ abbrev file_op_made : List Action × Unit {0} → List ℕ → FileOp
 file_op_made a extra = record { actions = a.0; extra = extra }
 
 pub file_op_returns : Returns file_op_of file_op_bytes
-unfolding file_op_of file_op_bytes
+unfolding message_of file_op_in file_op_bytes
 file_op_returns = returns_by file_op_fields file_op_made file_op_of file_op_bytes refl (λ bytes. refl) (λ a extra. refl)
 
 -- ---- ops
@@ -277,7 +276,7 @@ kind_own (Build bytes) = refl
 kind_own (Merge m) = refl
 kind_own (Diff bytes) = refl
 
-abbrev KindRead : Kind → Type 0
+abbrev pub KindRead : Kind → Type 0
 KindRead (Exec m) = IsRead exec_op_of m
 KindRead (Source m) = IsRead source_op_of m
 KindRead (File m) = IsRead file_op_of m
@@ -294,7 +293,7 @@ kind_cases false false false true b6 bytes a e = subst KindRead (ok_is (Build by
 kind_cases false false false false true bytes a e = of_message KindRead merge_op_of (λ m. Merge m) bytes a e (λ m h. (bytes, h))
 kind_cases false false false false false bytes a e = subst KindRead (ok_is (Diff bytes) a e) tt
 
-kind_from : (n : ℕ) (xs : List Record) (a : Kind) → kind_of n xs ≡ Ok a → KindRead a
+pub kind_from : (n : ℕ) (xs : List Record) (a : Kind) → kind_of n xs ≡ Ok a → KindRead a
 kind_from n xs a e = kind_cases (n == 2) (n == 3) (n == 4) (n == 5) (n == 6) (joined xs) a e
 
 kind_written : (a : Kind) → IsWritten op_shape (kind_record a)
@@ -324,7 +323,7 @@ abbrev op_made : List Input × (Option Kind × Unit {0}) → List ℕ → Op
 op_made a extra = record { inputs = a.0; kind = a.1.0; extra = extra }
 
 pub op_message_returns : Returns op_message_of op_bytes
-unfolding op_message_of op_bytes
+unfolding message_of op_in op_bytes
 op_message_returns = returns_by op_fields op_made op_message_of op_bytes refl (λ bytes. refl) (λ a extra. refl)
 
 -- an entry that stands for an op is short enough

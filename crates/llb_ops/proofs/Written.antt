@@ -22,10 +22,6 @@ put_more write n ms i d before so_far after bytes lt old item put =
     ∙ ap (λ xs. before ++ xs) (sym (messages_more write n ms i d lt))
 
 -- byte strings that are repeated are written as messages that are their own bytes
-pub each_as_messages : (n : ℕ) (items : List (List ℕ)) → each_field n items ≡ messages_field (λ bytes. bytes) n items
-unfolding each_field messages_field
-each_as_messages n items = refl
-
 pub put_each_more : (n : ℕ) (items : List (List ℕ)) (i : ℕ) (d : List ℕ) (before so_far after bytes : List ℕ) → i < length items
     → so_far ≡ before ++ each_field n (take i items) → bytes ≡ get_or items i d → after ≡ so_far ++ set_bytes n bytes
     → after ≡ before ++ each_field n (take (i + 1) items)

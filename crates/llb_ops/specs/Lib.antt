@@ -4,5 +4,6 @@ pub mod Records
 pub mod Attributes
 pub mod Messages
 pub mod Writing
+pub mod Within
 pub mod Definition
 pub mod Laws

@@ -33,16 +33,17 @@ use Rattle.llb_ops.specs.declared.source.SourceOp.{SourceOp}
 use Rattle.llb_ops.specs.declared.source.AttributeEntry.{AttributeEntry}
 use Rattle.llb_ops.specs.Limits.{entry_limit}
 use Rattle.llb_ops.specs.Attributes.{settled}
-use Rattle.llb_ops.specs.Records.{Shape, parts, all, payload, payloads, number, flag, uint32, int32, int64, joined, one, each, one_of, within_limits, unnamed}
+use Rattle.llb_ops.specs.Records.{Shape, message_of, all, payload, payloads, number, flag, uint32, int32, int64, joined, one, each, one_of, within_limits, unnamed}
 
 -- digest, index
 abbrev pub input_shape : Shape
 input_shape = (1, Text) ∷ (2, Number) ∷ []
 
-unfoldable pub input_of : List ℕ → Result Input OpFault
-input_of bytes = do
-  rs ← parts input_shape bytes
-  Ok (record { digest = payload (all 1 rs); index = int64 (number (all 2 rs)); extra = unnamed input_shape rs })
+unfoldable pub input_in : List Record → Result Input OpFault
+input_in rs = Ok (record { digest = payload (all 1 rs); index = int64 (number (all 2 rs)); extra = unnamed input_shape rs })
+
+abbrev pub input_of : List ℕ → Result Input OpFault
+input_of = message_of input_shape input_in
 
 -- byName, byID
 abbrev pub user_opt_shape : Shape
@@ -54,30 +55,33 @@ users = 1 ∷ 2 ∷ []
 abbrev pub user_of : ℕ → List Record → Result User OpFault
 user_of n rs = if n == 1 then Ok (ByName (joined rs)) else Ok (ById (uint32 (number rs)))
 
-unfoldable pub user_opt_of : List ℕ → Result UserOpt OpFault
-user_opt_of bytes = do
-  rs ← parts user_opt_shape bytes
+unfoldable pub user_opt_in : List Record → Result UserOpt OpFault
+user_opt_in rs = do
   user ← one_of users user_of rs
   Ok (record { user = user; extra = unnamed user_opt_shape rs })
+
+abbrev pub user_opt_of : List ℕ → Result UserOpt OpFault
+user_opt_of = message_of user_opt_shape user_opt_in
 
 -- user, group
 abbrev pub chown_opt_shape : Shape
 chown_opt_shape = (1, Bytes) ∷ (2, Bytes) ∷ []
 
-unfoldable pub chown_opt_of : List ℕ → Result ChownOpt OpFault
-chown_opt_of bytes = do
-  rs ← parts chown_opt_shape bytes
+unfoldable pub chown_opt_in : List Record → Result ChownOpt OpFault
+chown_opt_in rs = do
   user ← one user_opt_of (all 1 rs)
   group ← one user_opt_of (all 2 rs)
   Ok (record { user = user; group = group; extra = unnamed chown_opt_shape rs })
+
+abbrev pub chown_opt_of : List ℕ → Result ChownOpt OpFault
+chown_opt_of = message_of chown_opt_shape chown_opt_in
 
 -- path, mode, data, owner, timestamp
 abbrev pub mk_file_shape : Shape
 mk_file_shape = (1, Text) ∷ (2, Number) ∷ (3, Bytes) ∷ (4, Bytes) ∷ (5, Number) ∷ []
 
-unfoldable pub mk_file_of : List ℕ → Result MkFile OpFault
-mk_file_of bytes = do
-  rs ← parts mk_file_shape bytes
+unfoldable pub mk_file_in : List Record → Result MkFile OpFault
+mk_file_in rs = do
   owner ← one chown_opt_of (all 4 rs)
   Ok (record {
     path = payload (all 1 rs);
@@ -88,13 +92,15 @@ mk_file_of bytes = do
     extra = unnamed mk_file_shape rs;
   })
 
+abbrev pub mk_file_of : List ℕ → Result MkFile OpFault
+mk_file_of = message_of mk_file_shape mk_file_in
+
 -- path, mode, makeParents, owner, timestamp
 abbrev pub mk_dir_shape : Shape
 mk_dir_shape = (1, Text) ∷ (2, Number) ∷ (3, Number) ∷ (4, Bytes) ∷ (5, Number) ∷ []
 
-unfoldable pub mk_dir_of : List ℕ → Result MkDir OpFault
-mk_dir_of bytes = do
-  rs ← parts mk_dir_shape bytes
+unfoldable pub mk_dir_in : List Record → Result MkDir OpFault
+mk_dir_in rs = do
   owner ← one chown_opt_of (all 4 rs)
   Ok (record {
     path = payload (all 1 rs);
@@ -104,6 +110,9 @@ mk_dir_of bytes = do
     timestamp = int64 (number (all 5 rs));
     extra = unnamed mk_dir_shape rs;
   })
+
+abbrev pub mk_dir_of : List ℕ → Result MkDir OpFault
+mk_dir_of = message_of mk_dir_shape mk_dir_in
 
 -- src, dest, owner, mode, followSymlink, dirCopyContents, attemptUnpackDockerCompatibility, createDestPath, allowWildcard,
 -- allowEmptyWildcard, timestamp, include_patterns and exclude_patterns, both repeated
@@ -129,25 +138,28 @@ copy_file_with rs owner = record {
   extra = unnamed copy_file_shape rs;
 }
 
-unfoldable pub copy_file_of : List ℕ → Result CopyFile OpFault
-copy_file_of bytes = do
-  rs ← parts copy_file_shape bytes
+unfoldable pub copy_file_in : List Record → Result CopyFile OpFault
+copy_file_in rs = do
   owner ← one chown_opt_of (all 3 rs)
   if within_limits (12 ∷ 13 ∷ []) rs then Ok (copy_file_with rs owner) else Err OverLimit
+
+abbrev pub copy_file_of : List ℕ → Result CopyFile OpFault
+copy_file_of = message_of copy_file_shape copy_file_in
 
 -- path, allowNotFound, allowWildcard
 abbrev pub rm_shape : Shape
 rm_shape = (1, Text) ∷ (2, Number) ∷ (3, Number) ∷ []
 
-unfoldable pub rm_of : List ℕ → Result Rm OpFault
-rm_of bytes = do
-  rs ← parts rm_shape bytes
-  Ok (record {
-    path = payload (all 1 rs);
-    allow_not_found = flag (number (all 2 rs));
-    allow_wildcard = flag (number (all 3 rs));
-    extra = unnamed rm_shape rs;
-  })
+unfoldable pub rm_in : List Record → Result Rm OpFault
+rm_in rs = Ok (record {
+  path = payload (all 1 rs);
+  allow_not_found = flag (number (all 2 rs));
+  allow_wildcard = flag (number (all 3 rs));
+  extra = unnamed rm_shape rs;
+})
+
+abbrev pub rm_of : List ℕ → Result Rm OpFault
+rm_of = message_of rm_shape rm_in
 
 -- input, secondaryInput, output, copy, mkfile, mkdir, rm
 abbrev pub action_shape : Shape
@@ -163,9 +175,8 @@ action_kind_of n rs =
     else if n == 6 then (mk_dir_of (joined rs) >>= λ m. Ok (action.MkDir m))
     else (rm_of (joined rs) >>= λ m. Ok (action.Rm m))
 
-unfoldable pub action_of : List ℕ → Result Action OpFault
-action_of bytes = do
-  rs ← parts action_shape bytes
+unfoldable pub action_in : List Record → Result Action OpFault
+action_in rs = do
   kind ← one_of action_kinds action_kind_of rs
   Ok (record {
     input = int64 (number (all 1 rs));
@@ -175,63 +186,70 @@ action_of bytes = do
     extra = unnamed action_shape rs;
   })
 
+abbrev pub action_of : List ℕ → Result Action OpFault
+action_of = message_of action_shape action_in
+
 -- actions, repeated
 abbrev pub file_op_shape : Shape
 file_op_shape = (2, Bytes) ∷ []
 
-unfoldable pub file_op_of : List ℕ → Result FileOp OpFault
-file_op_of bytes = do
-  rs ← parts file_op_shape bytes
+unfoldable pub file_op_in : List Record → Result FileOp OpFault
+file_op_in rs = do
   actions ← each action_of (all 2 rs)
   if within_limits (2 ∷ []) rs then Ok (record { actions = actions; extra = unnamed file_op_shape rs }) else Err OverLimit
+
+abbrev pub file_op_of : List ℕ → Result FileOp OpFault
+file_op_of = message_of file_op_shape file_op_in
 
 -- args and env, both repeated; cwd, user
 abbrev pub meta_shape : Shape
 meta_shape = (1, Text) ∷ (2, Text) ∷ (3, Text) ∷ (4, Text) ∷ []
 
-unfoldable pub meta_of : List ℕ → Result Meta OpFault
-meta_of bytes = do
-  rs ← parts meta_shape bytes
-  if within_limits (1 ∷ 2 ∷ []) rs then Ok (record {
-    args = payloads (all 1 rs);
-    env = payloads (all 2 rs);
-    cwd = payload (all 3 rs);
-    user = payload (all 4 rs);
-    extra = unnamed meta_shape rs;
-  }) else Err OverLimit
+unfoldable pub meta_in : List Record → Result Meta OpFault
+meta_in rs = if within_limits (1 ∷ 2 ∷ []) rs then Ok (record {
+  args = payloads (all 1 rs);
+  env = payloads (all 2 rs);
+  cwd = payload (all 3 rs);
+  user = payload (all 4 rs);
+  extra = unnamed meta_shape rs;
+}) else Err OverLimit
+
+abbrev pub meta_of : List ℕ → Result Meta OpFault
+meta_of = message_of meta_shape meta_in
 
 -- size
 abbrev pub tmpfs_opt_shape : Shape
 tmpfs_opt_shape = (1, Number) ∷ []
 
-unfoldable pub tmpfs_opt_of : List ℕ → Result TmpfsOpt OpFault
-tmpfs_opt_of bytes = do
-  rs ← parts tmpfs_opt_shape bytes
-  Ok (record {
-    size = int64 (number (all 1 rs));
-    extra = unnamed tmpfs_opt_shape rs;
-  })
+unfoldable pub tmpfs_opt_in : List Record → Result TmpfsOpt OpFault
+tmpfs_opt_in rs = Ok (record {
+  size = int64 (number (all 1 rs));
+  extra = unnamed tmpfs_opt_shape rs;
+})
+
+abbrev pub tmpfs_opt_of : List ℕ → Result TmpfsOpt OpFault
+tmpfs_opt_of = message_of tmpfs_opt_shape tmpfs_opt_in
 
 -- ID, sharing
 abbrev pub cache_opt_shape : Shape
 cache_opt_shape = (1, Text) ∷ (2, Number) ∷ []
 
-unfoldable pub cache_opt_of : List ℕ → Result CacheOpt OpFault
-cache_opt_of bytes = do
-  rs ← parts cache_opt_shape bytes
-  Ok (record {
-    id = payload (all 1 rs);
-    sharing = int32 (number (all 2 rs));
-    extra = unnamed cache_opt_shape rs;
-  })
+unfoldable pub cache_opt_in : List Record → Result CacheOpt OpFault
+cache_opt_in rs = Ok (record {
+  id = payload (all 1 rs);
+  sharing = int32 (number (all 2 rs));
+  extra = unnamed cache_opt_shape rs;
+})
+
+abbrev pub cache_opt_of : List ℕ → Result CacheOpt OpFault
+cache_opt_of = message_of cache_opt_shape cache_opt_in
 
 -- input, selector, dest, output, readonly, mountType, TmpfsOpt, cacheOpt
 abbrev pub mount_shape : Shape
 mount_shape = (1, Number) ∷ (2, Text) ∷ (3, Text) ∷ (4, Number) ∷ (5, Number) ∷ (6, Number) ∷ (19, Bytes) ∷ (20, Bytes) ∷ []
 
-unfoldable pub mount_of : List ℕ → Result Mount OpFault
-mount_of bytes = do
-  rs ← parts mount_shape bytes
+unfoldable pub mount_in : List Record → Result Mount OpFault
+mount_in rs = do
   tmpfs_opt ← one tmpfs_opt_of (all 19 rs)
   cache_opt ← one cache_opt_of (all 20 rs)
   Ok (record {
@@ -246,13 +264,15 @@ mount_of bytes = do
     extra = unnamed mount_shape rs;
   })
 
+abbrev pub mount_of : List ℕ → Result Mount OpFault
+mount_of = message_of mount_shape mount_in
+
 -- meta; mounts, repeated; network, security; secretenv, repeated
 abbrev pub exec_op_shape : Shape
 exec_op_shape = (1, Bytes) ∷ (2, Bytes) ∷ (3, Number) ∷ (4, Number) ∷ (5, Bytes) ∷ []
 
-unfoldable pub exec_op_of : List ℕ → Result ExecOp OpFault
-exec_op_of bytes = do
-  rs ← parts exec_op_shape bytes
+unfoldable pub exec_op_in : List Record → Result ExecOp OpFault
+exec_op_in rs = do
   meta ← one meta_of (all 1 rs)
   mounts ← each mount_of (all 2 rs)
   if within_limits (2 ∷ 5 ∷ []) rs then Ok (record {
@@ -264,53 +284,62 @@ exec_op_of bytes = do
     extra = unnamed exec_op_shape rs;
   }) else Err OverLimit
 
+abbrev pub exec_op_of : List ℕ → Result ExecOp OpFault
+exec_op_of = message_of exec_op_shape exec_op_in
+
 -- input
 abbrev pub merge_input_shape : Shape
 merge_input_shape = (1, Number) ∷ []
 
-unfoldable pub merge_input_of : List ℕ → Result MergeInput OpFault
-merge_input_of bytes = do
-  rs ← parts merge_input_shape bytes
-  Ok (record {
-    input = int64 (number (all 1 rs));
-    extra = unnamed merge_input_shape rs;
-  })
+unfoldable pub merge_input_in : List Record → Result MergeInput OpFault
+merge_input_in rs = Ok (record {
+  input = int64 (number (all 1 rs));
+  extra = unnamed merge_input_shape rs;
+})
+
+abbrev pub merge_input_of : List ℕ → Result MergeInput OpFault
+merge_input_of = message_of merge_input_shape merge_input_in
 
 -- inputs, repeated
 abbrev pub merge_op_shape : Shape
 merge_op_shape = (1, Bytes) ∷ []
 
-unfoldable pub merge_op_of : List ℕ → Result MergeOp OpFault
-merge_op_of bytes = do
-  rs ← parts merge_op_shape bytes
+unfoldable pub merge_op_in : List Record → Result MergeOp OpFault
+merge_op_in rs = do
   inputs ← each merge_input_of (all 1 rs)
   if within_limits (1 ∷ []) rs then Ok (record {
     inputs = inputs;
     extra = unnamed merge_op_shape rs;
   }) else Err OverLimit
 
+abbrev pub merge_op_of : List ℕ → Result MergeOp OpFault
+merge_op_of = message_of merge_op_shape merge_op_in
+
 -- key, value
 abbrev pub attribute_entry_shape : Shape
 attribute_entry_shape = (1, Text) ∷ (2, Text) ∷ []
 
-unfoldable pub attribute_entry_of : List ℕ → Result AttributeEntry OpFault
-attribute_entry_of bytes = do
-  rs ← parts attribute_entry_shape bytes
-  Ok (record { key = payload (all 1 rs); value = payload (all 2 rs); extra = unnamed attribute_entry_shape rs })
+unfoldable pub attribute_entry_in : List Record → Result AttributeEntry OpFault
+attribute_entry_in rs = Ok (record { key = payload (all 1 rs); value = payload (all 2 rs); extra = unnamed attribute_entry_shape rs })
+
+abbrev pub attribute_entry_of : List ℕ → Result AttributeEntry OpFault
+attribute_entry_of = message_of attribute_entry_shape attribute_entry_in
 
 -- identifier; attrs, a map
 abbrev pub source_op_shape : Shape
 source_op_shape = (1, Text) ∷ (2, Bytes) ∷ []
 
-unfoldable pub source_op_of : List ℕ → Result SourceOp OpFault
-source_op_of bytes = do
-  rs ← parts source_op_shape bytes
+unfoldable pub source_op_in : List Record → Result SourceOp OpFault
+source_op_in rs = do
   entries ← each attribute_entry_of (all 2 rs)
   if within_limits (2 ∷ []) rs then Ok (record {
     identifier = payload (all 1 rs);
     attrs = settled entries;
     extra = unnamed source_op_shape rs;
   }) else Err OverLimit
+
+abbrev pub source_op_of : List ℕ → Result SourceOp OpFault
+source_op_of = message_of source_op_shape source_op_in
 
 -- inputs, repeated; exec, source, file, build, merge, diff
 abbrev pub op_shape : Shape
@@ -328,12 +357,14 @@ kind_of n rs =
     else if n == 6 then (merge_op_of (joined rs) >>= λ m. Ok (Merge m))
     else Ok (Diff (joined rs))
 
-unfoldable pub op_message_of : List ℕ → Result Op OpFault
-op_message_of bytes = do
-  rs ← parts op_shape bytes
+unfoldable pub op_in : List Record → Result Op OpFault
+op_in rs = do
   inputs ← each input_of (all 1 rs)
   kind ← one_of kinds kind_of rs
   if within_limits (1 ∷ []) rs then Ok (record { inputs = inputs; kind = kind; extra = unnamed op_shape rs }) else Err OverLimit
+
+abbrev pub op_message_of : List ℕ → Result Op OpFault
+op_message_of = message_of op_shape op_in
 
 -- the op that an entry stands for
 unfoldable pub op_of : List ℕ → Result Op OpFault

@@ -1,6 +1,6 @@
 -- The records of a message, and what each kind of field is of them (the encoding guide of Protocol Buffers: "Message
 -- Structure", "Last One Wins", "Optional and Repeated Elements", "Oneofs"). A record stands without a place in the bytes.
-use Rattle.std.specs.Prelude.{ℕ, zero, suc, ◌-◌, List, [], ◌∷◌, ◌++◌, length, map, Option, Some, None, Result, Ok, Err, Bool, true, false, nat_le, ◌==◌, not, if◌then◌else◌, find, option_map, fold, ◌&&◌, filter, slice_get, is_none, ℤ, ◌%◌, ◌^◌}
+use Rattle.std.specs.Prelude.{◌≡◌, ◌<◌, ℕ, zero, suc, ◌-◌, List, [], ◌∷◌, ◌++◌, length, map, Option, Some, None, Result, Ok, Err, Bool, true, false, nat_le, ◌==◌, not, if◌then◌else◌, find, option_map, fold, ◌&&◌, filter, slice_get, is_none, ℤ, ◌%◌, ◌^◌}
 use Rattle.std.specs.List.{list_all, list_any, flat_map}
 use Rattle.std.specs.Str.{is_utf8}
 use Rattle.std.specs.Option.{option_map_or}
@@ -17,6 +17,7 @@ use Rattle.llb_ops.specs.declared.fault.OpFault.TheVariants.{Wire, WrongWireType
 use Rattle.llb_ops.specs.declared.shape.Form.{Form}
 use Rattle.llb_ops.specs.declared.shape.Form.TheVariants.{Number, Bytes, Text}
 use Rattle.llb_ops.specs.declared.records.Record.{Record as Held}
+use Rattle.llb_ops.specs.declared.records.Front.{Front}
 use Rattle.llb_ops.specs.Limits.{field_limit}
 
 -- the fields that a message names: their numbers, and their forms
@@ -64,6 +65,17 @@ records_from shape zero (b ∷ bytes) = do
   rs ← records_from shape (f.«end» - 1) bytes
   Ok (record_of (b ∷ bytes) f ∷ rs)
 
+-- the record in front of others
+pub record IsFront (shape : Shape) (bytes : List ℕ) (f : Front) : Type 0 where
+  pub reads : records_from shape 0 bytes ≡ (records_from shape 0 f.after.now >>= λ rs. Ok (view f.record ∷ rs))
+  pub shorter : length f.after.now < length bytes
+
+-- what the next record says of all: the first fault, the end, or a record in front of others
+abbrev pub Starts : Shape → List ℕ → Result (Option Front) OpFault → Type 0
+Starts shape bytes (Ok None) = records_from shape 0 bytes ≡ Ok []
+Starts shape bytes (Ok (Some f)) = IsFront shape bytes f
+Starts shape bytes (Err e) = records_from shape 0 bytes ≡ Err e
+
 -- ---- behind the last record: its texts are UTF-8
 
 abbrev pub text_ok : Option Form → List ℕ → Bool
@@ -79,6 +91,20 @@ texts_fit shape rs = list_all (text_fits shape) rs
 -- the records of a message whose fields have that shape
 unfoldable pub parts : Shape → List ℕ → Result (List Record) OpFault
 parts shape bytes = records_from shape 0 bytes >>= λ rs. if texts_fit shape rs then Ok rs else Err NotUtf8
+
+-- ---- the records that bytes spell
+
+-- each field that the message names has its wire type
+abbrev pub wires_fit : Shape → List Record → Bool
+wires_fit shape rs = list_all (λ r. wire_fits (form_of shape r.number) r.wire) rs
+
+-- records as those of a message
+abbrev pub fitting : Shape → List Record → Result (List Record) OpFault
+fitting shape rs = if wires_fit shape rs then (if texts_fit shape rs then Ok rs else Err NotUtf8) else Err WrongWireType
+
+-- a message is what it is of its records
+unfoldable pub message_of : {A : Type 0} → Shape → (List Record → Result A OpFault) → List ℕ → Result A OpFault
+message_of shape read bytes = parts shape bytes >>= read
 
 -- ---- what a field is of its records
 

@@ -1,22 +1,23 @@
 //! A definition: its entries, in order. What an entry says is read elsewhere.
 
-ghost use Rattle.std.specs.Prelude.{◌≡◌, ◌<◌, ◌≤◌, ◌==◌, ◌++◌, ◌∷◌, [], if◌then◌else◌, Ok, length, true, IfErr, OnOk};
+ghost use Rattle.std.specs.Prelude.{◌≡◌, ◌<◌, ◌≤◌, ◌==◌, ◌++◌, ◌∷◌, [], if◌then◌else◌, Ok, length, true, IfOk, OnOk};
 ghost use Rattle.llb_wire.specs.Answer.{MemoryLast};
 ghost use Rattle.llb_ops.specs.Faults.{Gives, is_memory};
 ghost use Rattle.llb_ops.specs.Records.{view};
 ghost use Rattle.llb_ops.specs.Definition.{definition_of, admission, entries_in, counted, one_more, definition_bytes};
+ghost use Rattle.llb_ops.specs.Within.{AreWithinLimits};
 ghost use Rattle.llb_ops.specs.Laws.{AreReadAgain};
 
 use crate::fault::OpFault;
-use crate::records::{Record, fits, take_record};
+use crate::records::{Record, next_part};
 use crate::shape::{DEFINITION_LIMIT, ENTRIES_LIMIT, ENTRY_LIMIT, Form, Named};
 use crate::writing::put_each_bytes;
-use llb_wire::{Bytes, next_record};
+use llb_wire::{Bytes, Memory};
 use std::alloc::Global;
 use std::marker::Model;
 
 /// The entries of a definition, in order. Contracts see the list of their bytes.
-#[derive(Debug, Drop)]
+#[derive(Drop)]
 pub struct Entries {
     entries: Vec<Bytes>,
 }
@@ -79,23 +80,18 @@ fn tally(bytes: &[u8]) -> Result<(usize, bool), OpFault>
     let mut rest = bytes;
     let mut count = 0;
     let mut short = true;
-    while let Some(field) = next_record(rest, 0)? {
-        if !fits(&DEFINITION, &field) {
-            return Err(OpFault::WrongWireType);
-        }
-        let (record, after) = take_record(rest, &field);
-        let (with_it, all_short) = with_record(count, short, &record);
+    while let Some(front) = next_part(&DEFINITION, rest)? {
+        let (with_it, all_short) = with_record(count, short, &front.record);
         count = with_it;
         short = all_short;
-        rest = after;
+        rest = front.after;
     }
     Ok((count, short))
 }
 
 // The entries with that of one record more, where it has one.
-fn put_entry(alloc: Global, entries: &mut Vec<Bytes>, part: &Record<'_>) -> Result<(), OpFault>
-    ensures kept { OnOk result (entries.new.items ≡ (if part.now.number == 1 then entries.old.items ++ part.now.payload.now ∷ [] else entries.old.items)) }
-    ensures refused { IfErr result (λ e. is_memory e ≡ true) }
+fn put_entry(alloc: Global, entries: &mut Vec<Bytes>, part: &Record<'_>) -> Result<(), Memory>
+    ensures { OnOk result (entries.new.items ≡ (if part.now.number == 1 then entries.old.items ++ part.now.payload.now ∷ [] else entries.old.items)) }
 {
     if part.number == 1 {
         let entry = Bytes::from_slice(alloc, part.payload)?;
@@ -110,13 +106,9 @@ fn gathered(alloc: Global, bytes: &[u8]) -> Result<Vec<Bytes>, OpFault>
 {
     let mut entries = Vec::new(alloc);
     let mut rest = bytes;
-    while let Some(field) = next_record(rest, 0)? {
-        if !fits(&DEFINITION, &field) {
-            return Err(OpFault::WrongWireType);
-        }
-        let (record, after) = take_record(rest, &field);
-        put_entry(alloc, &mut entries, &record)?;
-        rest = after;
+    while let Some(front) = next_part(&DEFINITION, rest)? {
+        put_entry(alloc, &mut entries, &front.record)?;
+        rest = front.after;
     }
     Ok(entries)
 }
@@ -147,6 +139,7 @@ fn admitted(bytes: &[u8]) -> Result<(), OpFault>
 pub fn read_definition(alloc: Global, bytes: &[u8]) -> Result<Entries, OpFault>
     ensures gives { Gives (λ e. e) result (definition_of bytes.now) }
     ensures last { MemoryLast is_memory result (definition_of bytes.now) }
+    ensures within { IfOk result AreWithinLimits }
 {
     admitted(bytes)?;
     let entries = gathered(alloc, bytes)?;

@@ -3,7 +3,7 @@
 use crate::fault::OpFault;
 use crate::message::{Message, each, one};
 use crate::records::{
-    each_bytes, each_text, last_flag, last_int32, last_int64, last_text, parts, unnamed,
+    Record, each_bytes, each_text, last_flag, last_int32, last_int64, last_text, unnamed,
     within_limits,
 };
 use crate::shape::{Form, Named};
@@ -11,11 +11,11 @@ use crate::writing::{
     put_bytes, put_each_bytes, put_each_text, put_extra, put_flag, put_message, put_messages,
     put_signed,
 };
-use llb_wire::{Bytes, Duplicate, Many, Memory, Text};
+use llb_wire::{Bytes, Many, Memory, Text};
 use std::alloc::Global;
 
 /// Commands that run with mounts.
-#[derive(Debug, Drop)]
+#[derive(Drop)]
 pub struct ExecOp {
     pub meta: Option<Meta>,
     pub mounts: Many<Mount>,
@@ -27,7 +27,7 @@ pub struct ExecOp {
 }
 
 /// What is run, and where.
-#[derive(Debug, Drop)]
+#[derive(Drop)]
 pub struct Meta {
     pub args: Many<Text>,
     pub env: Many<Text>,
@@ -37,7 +37,7 @@ pub struct Meta {
 }
 
 /// A tree under a path.
-#[derive(Debug, Drop)]
+#[derive(Drop)]
 pub struct Mount {
     pub input: i64,
     pub selector: Text,
@@ -53,14 +53,14 @@ pub struct Mount {
 }
 
 /// Of a tmpfs mount: its size in bytes.
-#[derive(Debug, Drop)]
+#[derive(Drop)]
 pub struct TmpfsOpt {
     pub size: i64,
     pub extra: Bytes,
 }
 
 /// Of a cache mount.
-#[derive(Debug, Drop)]
+#[derive(Drop)]
 pub struct CacheOpt {
     pub id: Text,
     /// 0 shared, 1 private, 2 locked.
@@ -77,27 +77,30 @@ const EXEC_OP: [Named; 5] = [
 ];
 
 impl Message for ExecOp {
-    ghost use Rattle.llb_ops.specs.Messages.{exec_op_of};
+    ghost use Rattle.llb_ops.specs.Messages.{exec_op_shape, exec_op_in};
 
-    ghost reading = { exec_op_of };
+    ghost shape = { exec_op_shape };
 
-    #[tactic(auto, unfolding(crate::specs::Messages::exec_op_of))]
-    fn read(alloc: Global, bytes: &[u8]) -> Result<ExecOp, OpFault> {
-        let records = parts(alloc, &EXEC_OP, bytes)?;
-        let meta = one::<Meta>(alloc, &records, 1)?;
-        let mounts = each::<Mount>(alloc, &records, 2)?;
-        let network = last_int32(&records, 3);
-        let security = last_int32(&records, 4);
-        let secretenv = each_bytes(alloc, &records, 5)?;
-        if !within_limits(&[2, 5], &records) {
+    fn named() -> &'static [Named] {
+        &EXEC_OP
+    }
+
+    ghost reading = { exec_op_in };
+
+    #[tactic(auto, unfolding(crate::specs::Messages::exec_op_in))]
+    fn read(alloc: Global, records: &[Record<'_>]) -> Result<ExecOp, OpFault> {
+        let meta = one::<Meta>(alloc, records, 1)?;
+        let mounts = each::<Mount>(alloc, records, 2)?;
+        if !within_limits(&[2, 5], records) {
             return Err(OpFault::OverLimit);
         }
-        let extra = unnamed(alloc, &EXEC_OP, &records)?;
+        let secretenv = each_bytes(alloc, records, 5)?;
+        let extra = unnamed(alloc, &EXEC_OP, records)?;
         Ok(ExecOp {
             meta,
             mounts,
-            network,
-            security,
+            network: last_int32(records, 3),
+            security: last_int32(records, 4),
             secretenv,
             extra,
         })
@@ -111,7 +114,7 @@ impl Message for ExecOp {
     fn write(&self, alloc: Global) -> Result<Vec<u8>, Memory> {
         let mut out = Vec::new(alloc);
         put_message(alloc, &mut out, 1, &self.meta)?;
-        put_messages(alloc, &mut out, 2, &self.mounts)?;
+        put_messages(alloc, &mut out, 2, self.mounts.as_slice())?;
         put_signed(&mut out, 3, i64::from(self.network))?;
         put_signed(&mut out, 4, i64::from(self.security))?;
         put_each_bytes(&mut out, 5, self.secretenv.as_slice())?;
@@ -128,21 +131,26 @@ const META: [Named; 4] = [
 ];
 
 impl Message for Meta {
-    ghost use Rattle.llb_ops.specs.Messages.{meta_of};
+    ghost use Rattle.llb_ops.specs.Messages.{meta_shape, meta_in};
 
-    ghost reading = { meta_of };
+    ghost shape = { meta_shape };
 
-    #[tactic(auto, unfolding(crate::specs::Messages::meta_of))]
-    fn read(alloc: Global, bytes: &[u8]) -> Result<Meta, OpFault> {
-        let records = parts(alloc, &META, bytes)?;
-        let args = each_text(alloc, &META, &records, 1)?;
-        let env = each_text(alloc, &META, &records, 2)?;
-        let cwd = last_text(alloc, &META, &records, 3)?;
-        let user = last_text(alloc, &META, &records, 4)?;
-        if !within_limits(&[1, 2], &records) {
+    fn named() -> &'static [Named] {
+        &META
+    }
+
+    ghost reading = { meta_in };
+
+    #[tactic(auto, unfolding(crate::specs::Messages::meta_in))]
+    fn read(alloc: Global, records: &[Record<'_>]) -> Result<Meta, OpFault> {
+        if !within_limits(&[1, 2], records) {
             return Err(OpFault::OverLimit);
         }
-        let extra = unnamed(alloc, &META, &records)?;
+        let args = each_text(alloc, &META, records, 1)?;
+        let env = each_text(alloc, &META, records, 2)?;
+        let cwd = last_text(alloc, &META, records, 3)?;
+        let user = last_text(alloc, &META, records, 4)?;
+        let extra = unnamed(alloc, &META, records)?;
         Ok(Meta {
             args,
             env,
@@ -159,8 +167,8 @@ impl Message for Meta {
     #[tactic(auto, unfolding(crate::specs::Writing::meta_bytes))]
     fn write(&self, alloc: Global) -> Result<Vec<u8>, Memory> {
         let mut out = Vec::new(alloc);
-        put_each_text(&mut out, 1, &self.args)?;
-        put_each_text(&mut out, 2, &self.env)?;
+        put_each_text(&mut out, 1, self.args.as_slice())?;
+        put_each_text(&mut out, 2, self.env.as_slice())?;
         put_bytes(&mut out, 3, self.cwd.as_str().as_bytes())?;
         put_bytes(&mut out, 4, self.user.as_str().as_bytes())?;
         put_extra(&mut out, &self.extra)?;
@@ -180,29 +188,30 @@ const MOUNT: [Named; 8] = [
 ];
 
 impl Message for Mount {
-    ghost use Rattle.llb_ops.specs.Messages.{mount_of};
+    ghost use Rattle.llb_ops.specs.Messages.{mount_shape, mount_in};
 
-    ghost reading = { mount_of };
+    ghost shape = { mount_shape };
 
-    #[tactic(auto, unfolding(crate::specs::Messages::mount_of))]
-    fn read(alloc: Global, bytes: &[u8]) -> Result<Mount, OpFault> {
-        let records = parts(alloc, &MOUNT, bytes)?;
-        let input = last_int64(&records, 1);
-        let selector = last_text(alloc, &MOUNT, &records, 2)?;
-        let dest = last_text(alloc, &MOUNT, &records, 3)?;
-        let output = last_int64(&records, 4);
-        let readonly = last_flag(&records, 5);
-        let mount_type = last_int32(&records, 6);
-        let tmpfs_opt = one::<TmpfsOpt>(alloc, &records, 19)?;
-        let cache_opt = one::<CacheOpt>(alloc, &records, 20)?;
-        let extra = unnamed(alloc, &MOUNT, &records)?;
+    fn named() -> &'static [Named] {
+        &MOUNT
+    }
+
+    ghost reading = { mount_in };
+
+    #[tactic(auto, unfolding(crate::specs::Messages::mount_in))]
+    fn read(alloc: Global, records: &[Record<'_>]) -> Result<Mount, OpFault> {
+        let tmpfs_opt = one::<TmpfsOpt>(alloc, records, 19)?;
+        let cache_opt = one::<CacheOpt>(alloc, records, 20)?;
+        let selector = last_text(alloc, &MOUNT, records, 2)?;
+        let dest = last_text(alloc, &MOUNT, records, 3)?;
+        let extra = unnamed(alloc, &MOUNT, records)?;
         Ok(Mount {
-            input,
+            input: last_int64(records, 1),
             selector,
             dest,
-            output,
-            readonly,
-            mount_type,
+            output: last_int64(records, 4),
+            readonly: last_flag(records, 5),
+            mount_type: last_int32(records, 6),
             tmpfs_opt,
             cache_opt,
             extra,
@@ -232,16 +241,23 @@ impl Message for Mount {
 const TMPFS_OPT: [Named; 1] = [(1, Form::Number)];
 
 impl Message for TmpfsOpt {
-    ghost use Rattle.llb_ops.specs.Messages.{tmpfs_opt_of};
+    ghost use Rattle.llb_ops.specs.Messages.{tmpfs_opt_shape, tmpfs_opt_in};
 
-    ghost reading = { tmpfs_opt_of };
+    ghost shape = { tmpfs_opt_shape };
 
-    #[tactic(auto, unfolding(crate::specs::Messages::tmpfs_opt_of))]
-    fn read(alloc: Global, bytes: &[u8]) -> Result<TmpfsOpt, OpFault> {
-        let records = parts(alloc, &TMPFS_OPT, bytes)?;
-        let size = last_int64(&records, 1);
-        let extra = unnamed(alloc, &TMPFS_OPT, &records)?;
-        Ok(TmpfsOpt { size, extra })
+    fn named() -> &'static [Named] {
+        &TMPFS_OPT
+    }
+
+    ghost reading = { tmpfs_opt_in };
+
+    #[tactic(auto, unfolding(crate::specs::Messages::tmpfs_opt_in))]
+    fn read(alloc: Global, records: &[Record<'_>]) -> Result<TmpfsOpt, OpFault> {
+        let extra = unnamed(alloc, &TMPFS_OPT, records)?;
+        Ok(TmpfsOpt {
+            size: last_int64(records, 1),
+            extra,
+        })
     }
 
     ghost use Rattle.llb_ops.specs.Writing.{tmpfs_opt_bytes};
@@ -260,17 +276,25 @@ impl Message for TmpfsOpt {
 const CACHE_OPT: [Named; 2] = [(1, Form::Text), (2, Form::Number)];
 
 impl Message for CacheOpt {
-    ghost use Rattle.llb_ops.specs.Messages.{cache_opt_of};
+    ghost use Rattle.llb_ops.specs.Messages.{cache_opt_shape, cache_opt_in};
 
-    ghost reading = { cache_opt_of };
+    ghost shape = { cache_opt_shape };
 
-    #[tactic(auto, unfolding(crate::specs::Messages::cache_opt_of))]
-    fn read(alloc: Global, bytes: &[u8]) -> Result<CacheOpt, OpFault> {
-        let records = parts(alloc, &CACHE_OPT, bytes)?;
-        let id = last_text(alloc, &CACHE_OPT, &records, 1)?;
-        let sharing = last_int32(&records, 2);
-        let extra = unnamed(alloc, &CACHE_OPT, &records)?;
-        Ok(CacheOpt { id, sharing, extra })
+    fn named() -> &'static [Named] {
+        &CACHE_OPT
+    }
+
+    ghost reading = { cache_opt_in };
+
+    #[tactic(auto, unfolding(crate::specs::Messages::cache_opt_in))]
+    fn read(alloc: Global, records: &[Record<'_>]) -> Result<CacheOpt, OpFault> {
+        let id = last_text(alloc, &CACHE_OPT, records, 1)?;
+        let extra = unnamed(alloc, &CACHE_OPT, records)?;
+        Ok(CacheOpt {
+            id,
+            sharing: last_int32(records, 2),
+            extra,
+        })
     }
 
     ghost use Rattle.llb_ops.specs.Writing.{cache_opt_bytes};
@@ -284,65 +308,5 @@ impl Message for CacheOpt {
         put_signed(&mut out, 2, i64::from(self.sharing))?;
         put_extra(&mut out, &self.extra)?;
         Ok(out)
-    }
-}
-
-impl Duplicate for ExecOp {
-    fn duplicate(&self) -> Result<ExecOp, Memory> {
-        Ok(ExecOp {
-            meta: self.meta.duplicate()?,
-            mounts: self.mounts.duplicate()?,
-            network: self.network,
-            security: self.security,
-            secretenv: self.secretenv.duplicate()?,
-            extra: self.extra.duplicate()?,
-        })
-    }
-}
-
-impl Duplicate for Meta {
-    fn duplicate(&self) -> Result<Meta, Memory> {
-        Ok(Meta {
-            args: self.args.duplicate()?,
-            env: self.env.duplicate()?,
-            cwd: self.cwd.duplicate()?,
-            user: self.user.duplicate()?,
-            extra: self.extra.duplicate()?,
-        })
-    }
-}
-
-impl Duplicate for Mount {
-    fn duplicate(&self) -> Result<Mount, Memory> {
-        Ok(Mount {
-            input: self.input,
-            selector: self.selector.duplicate()?,
-            dest: self.dest.duplicate()?,
-            output: self.output,
-            readonly: self.readonly,
-            mount_type: self.mount_type,
-            tmpfs_opt: self.tmpfs_opt.duplicate()?,
-            cache_opt: self.cache_opt.duplicate()?,
-            extra: self.extra.duplicate()?,
-        })
-    }
-}
-
-impl Duplicate for TmpfsOpt {
-    fn duplicate(&self) -> Result<TmpfsOpt, Memory> {
-        Ok(TmpfsOpt {
-            size: self.size,
-            extra: self.extra.duplicate()?,
-        })
-    }
-}
-
-impl Duplicate for CacheOpt {
-    fn duplicate(&self) -> Result<CacheOpt, Memory> {
-        Ok(CacheOpt {
-            id: self.id.duplicate()?,
-            sharing: self.sharing,
-            extra: self.extra.duplicate()?,
-        })
     }
 }

@@ -1,7 +1,7 @@
 //! Why bytes are not read as a message. A fault prints what stands behind the word `fault` in a refusal.
 
 use llb_wire::{Memory, WireFault};
-use std::alloc::{AllocError, AllocFailed};
+use std::alloc::AllocFailed;
 use thiserror::Error;
 
 /// Why a message could not be read: the first fault, in the order in which messages are looked at.
@@ -42,17 +42,6 @@ impl From<Memory> for OpFault {
     ghost from_gives = { λ _ e. e ≡ fault.Memory };
 
     fn from(_: Memory) -> OpFault {
-        OpFault::Memory
-    }
-}
-
-impl From<AllocError> for OpFault {
-    ghost use Rattle.std.specs.Prelude.{◌≡◌};
-    ghost use Rattle.llb_ops.specs.declared.fault.OpFault.TheVariants as fault;
-
-    ghost from_gives = { λ _ e. e ≡ fault.Memory };
-
-    fn from(_: AllocError) -> OpFault {
         OpFault::Memory
     }
 }

@@ -1,6 +1,7 @@
 //! Records are messages: an op is read from its records, and written in its canonical bytes.
 #![tactic(auto)]
 
+mod actions;
 mod definition;
 mod exec;
 mod fault;
@@ -8,6 +9,7 @@ mod file;
 mod merge;
 mod message;
 mod op;
+mod owners;
 mod records;
 mod shape;
 mod source;
@@ -16,10 +18,10 @@ mod writing;
 pub use definition::{Entries, definition_is_read_again, read_definition, write_definition};
 pub use exec::{CacheOpt, ExecOp, Meta, Mount, TmpfsOpt};
 pub use fault::OpFault;
-pub use file::{Action, ActionKind, ChownOpt, CopyFile, FileOp, MkDir, MkFile, Rm, User, UserOpt};
+pub use file::{
+    Action, ActionKind, Actions, ChownOpt, CopyFile, FileOp, MkDir, MkFile, Rm, User, UserOpt,
+};
+pub use llb_wire::{Bytes, Text};
 pub use merge::{MergeInput, MergeOp};
-pub use op::{Input, Kind, Op, op_is_read_again, read_op, write_op};
+pub use op::{Input, Kind, Op, op_is_read_again, op_is_read_of_records, read_op, write_op};
 pub use source::{Attribute, Attributes, SourceOp};
-
-#[cfg(test)]
-mod tests;

@@ -2,21 +2,21 @@
 
 use crate::fault::OpFault;
 use crate::message::{Message, each};
-use crate::records::{last_int64, parts, unnamed, within_limits};
+use crate::records::{Record, last_int64, unnamed, within_limits};
 use crate::shape::{Form, Named};
 use crate::writing::{put_extra, put_messages, put_signed};
-use llb_wire::{Bytes, Duplicate, Many, Memory};
+use llb_wire::{Bytes, Many, Memory};
 use std::alloc::Global;
 
 /// Trees that are laid one over the other, in their order.
-#[derive(Debug, Drop)]
+#[derive(Drop)]
 pub struct MergeOp {
     pub inputs: Many<MergeInput>,
     pub extra: Bytes,
 }
 
 /// One tree: an input of the op, or -1 for the empty tree.
-#[derive(Debug, Drop)]
+#[derive(Drop)]
 pub struct MergeInput {
     pub input: i64,
     pub extra: Bytes,
@@ -25,18 +25,23 @@ pub struct MergeInput {
 const MERGE_OP: [Named; 1] = [(1, Form::Bytes)];
 
 impl Message for MergeOp {
-    ghost use Rattle.llb_ops.specs.Messages.{merge_op_of};
+    ghost use Rattle.llb_ops.specs.Messages.{merge_op_shape, merge_op_in};
 
-    ghost reading = { merge_op_of };
+    ghost shape = { merge_op_shape };
 
-    #[tactic(auto, unfolding(crate::specs::Messages::merge_op_of))]
-    fn read(alloc: Global, bytes: &[u8]) -> Result<MergeOp, OpFault> {
-        let records = parts(alloc, &MERGE_OP, bytes)?;
-        let inputs = each::<MergeInput>(alloc, &records, 1)?;
-        if !within_limits(&[1], &records) {
+    fn named() -> &'static [Named] {
+        &MERGE_OP
+    }
+
+    ghost reading = { merge_op_in };
+
+    #[tactic(auto, unfolding(crate::specs::Messages::merge_op_in))]
+    fn read(alloc: Global, records: &[Record<'_>]) -> Result<MergeOp, OpFault> {
+        let inputs = each::<MergeInput>(alloc, records, 1)?;
+        if !within_limits(&[1], records) {
             return Err(OpFault::OverLimit);
         }
-        let extra = unnamed(alloc, &MERGE_OP, &records)?;
+        let extra = unnamed(alloc, &MERGE_OP, records)?;
         Ok(MergeOp { inputs, extra })
     }
 
@@ -47,7 +52,7 @@ impl Message for MergeOp {
     #[tactic(auto, unfolding(crate::specs::Writing::merge_op_bytes))]
     fn write(&self, alloc: Global) -> Result<Vec<u8>, Memory> {
         let mut out = Vec::new(alloc);
-        put_messages(alloc, &mut out, 1, &self.inputs)?;
+        put_messages(alloc, &mut out, 1, self.inputs.as_slice())?;
         put_extra(&mut out, &self.extra)?;
         Ok(out)
     }
@@ -56,16 +61,23 @@ impl Message for MergeOp {
 const MERGE_INPUT: [Named; 1] = [(1, Form::Number)];
 
 impl Message for MergeInput {
-    ghost use Rattle.llb_ops.specs.Messages.{merge_input_of};
+    ghost use Rattle.llb_ops.specs.Messages.{merge_input_shape, merge_input_in};
 
-    ghost reading = { merge_input_of };
+    ghost shape = { merge_input_shape };
 
-    #[tactic(auto, unfolding(crate::specs::Messages::merge_input_of))]
-    fn read(alloc: Global, bytes: &[u8]) -> Result<MergeInput, OpFault> {
-        let records = parts(alloc, &MERGE_INPUT, bytes)?;
-        let input = last_int64(&records, 1);
-        let extra = unnamed(alloc, &MERGE_INPUT, &records)?;
-        Ok(MergeInput { input, extra })
+    fn named() -> &'static [Named] {
+        &MERGE_INPUT
+    }
+
+    ghost reading = { merge_input_in };
+
+    #[tactic(auto, unfolding(crate::specs::Messages::merge_input_in))]
+    fn read(alloc: Global, records: &[Record<'_>]) -> Result<MergeInput, OpFault> {
+        let extra = unnamed(alloc, &MERGE_INPUT, records)?;
+        Ok(MergeInput {
+            input: last_int64(records, 1),
+            extra,
+        })
     }
 
     ghost use Rattle.llb_ops.specs.Writing.{merge_input_bytes};
@@ -78,23 +90,5 @@ impl Message for MergeInput {
         put_signed(&mut out, 1, self.input)?;
         put_extra(&mut out, &self.extra)?;
         Ok(out)
-    }
-}
-
-impl Duplicate for MergeOp {
-    fn duplicate(&self) -> Result<MergeOp, Memory> {
-        Ok(MergeOp {
-            inputs: self.inputs.duplicate()?,
-            extra: self.extra.duplicate()?,
-        })
-    }
-}
-
-impl Duplicate for MergeInput {
-    fn duplicate(&self) -> Result<MergeInput, Memory> {
-        Ok(MergeInput {
-            input: self.input,
-            extra: self.extra.duplicate()?,
-        })
     }
 }

@@ -1,22 +1,29 @@
-//! Messages by what they are of their bytes, and how one stands in another: once, repeated, or as a member of a oneof.
+//! Messages by what they are of their records, and how one stands in another: once, repeated, or as a member of a oneof.
 
-ghost use Rattle.std.specs.Prelude.{◌≡◌, List, ℕ, Result, IfOk};
+ghost use Rattle.std.specs.Prelude.{◌≡◌, List, ℕ, Result, IfOk, true};
 ghost use Rattle.llb_wire.specs.Records.{Record as Read};
 ghost use Rattle.llb_ops.specs.declared.fault.OpFault.{OpFault};
 ghost use Rattle.llb_ops.specs.Faults.{Gives};
-ghost use Rattle.llb_ops.specs.Records.{views, all, one as one_rule, each as each_rule, one_of as one_of_rule};
+ghost use Rattle.llb_ops.specs.Records.{Shape, views, all, texts_fit, message_of, joined as joined_of, one as one_rule, each as each_rule, one_of as one_of_rule};
 
 use crate::fault::OpFault;
-use crate::records::{Record, chosen, count, joined, since};
+use crate::records::{Record, chosen, count, joined, parts, since};
+use crate::shape::Named;
 use llb_wire::{Many, Memory};
 use std::alloc::Global;
 
-/// A message: what it is of its bytes, and its canonical bytes.
+/// A message: the fields that it names, what it is of its records, and its canonical bytes.
 pub trait Message: Drop {
-    ghost reading: { List ℕ → Result Self OpFault };
+    ghost shape: { Shape };
 
-    fn read(alloc: Global, bytes: &[u8]) -> Result<Self, OpFault>
-        ensures { Gives (λ m. m) result (reading bytes.now) };
+    fn named() -> &'static [Named]
+        ensures { result.now ≡ shape };
+
+    ghost reading: { List Read → Result Self OpFault };
+
+    fn read(alloc: Global, records: &[Record<'_>]) -> Result<Self, OpFault>
+        requires { texts_fit shape (views records.now) ≡ true }
+        ensures { Gives (λ m. m) result (reading (views records.now)) };
 
     ghost writing: { Self → List ℕ };
 
@@ -37,6 +44,27 @@ pub trait Member: Drop {
         ensures { IfOk result (λ v. v.items ≡ writing self.now) };
 }
 
+/// A message is read of the records that its bytes are split into.
+#[tactic(auto, unfolding(crate::specs::Records::message_of))]
+pub fn read_message<M: Message>(alloc: Global, bytes: &[u8]) -> Result<M, OpFault>
+    ensures { Gives (λ m. m) result (message_of M.shape M.reading bytes.now) }
+{
+    let records = parts(alloc, M::named(), bytes)?;
+    M::read(alloc, &records)
+}
+
+/// A message of the payloads of its records, one behind the other.
+pub fn joined_message<M: Message>(
+    alloc: Global,
+    records: &[Record<'_>],
+    number: u32,
+) -> Result<M, OpFault>
+    ensures { Gives (λ m. m) result (message_of M.shape M.reading (joined_of (all number (views records.now)))) }
+{
+    let bytes = joined(alloc, records, number)?;
+    read_message(alloc, &bytes)
+}
+
 /// A message that stands once: its payloads, one behind the other.
 #[tactic(auto, unfolding(crate::specs::Records::one))]
 pub fn one<M: Message>(
@@ -44,13 +72,12 @@ pub fn one<M: Message>(
     records: &[Record<'_>],
     number: u32,
 ) -> Result<Option<M>, OpFault>
-    ensures { Gives (λ m. m) result (one_rule M.reading (all number (views records.now))) }
+    ensures { Gives (λ m. m) result (one_rule (message_of M.shape M.reading) (all number (views records.now))) }
 {
     if count(records, number) == 0 {
         return Ok(None);
     }
-    let bytes = joined(alloc, records, number)?;
-    let message = M::read(alloc, &bytes)?;
+    let message = joined_message(alloc, records, number)?;
     Ok(Some(message))
 }
 
@@ -60,12 +87,12 @@ pub fn each<M: Message>(
     records: &[Record<'_>],
     number: u32,
 ) -> Result<Many<M>, OpFault>
-    ensures { Gives (λ ms. ms) result (each_rule M.reading (all number (views records.now))) }
+    ensures { Gives (λ ms. ms) result (each_rule (message_of M.shape M.reading) (all number (views records.now))) }
 {
     let mut messages = Vec::new(alloc);
     for part in records {
         if part.number == number {
-            let message = M::read(alloc, part.payload)?;
+            let message = read_message::<M>(alloc, part.payload)?;
             messages.push(message)?;
         }
     }

@@ -1,25 +1,26 @@
 //! An op and its inputs, as `ops.proto` of BuildKit names them, read from their bytes and written to them.
 
-ghost use Rattle.std.specs.Prelude.{◌≡◌, Ok};
+ghost use Rattle.std.specs.Prelude.{◌≡◌, Ok, IfOk};
 ghost use Rattle.llb_ops.specs.Faults.{Gives};
 ghost use Rattle.llb_ops.specs.Messages.{op_of};
 ghost use Rattle.llb_ops.specs.Writing.{op_bytes};
-ghost use Rattle.llb_ops.specs.Laws.{IsReadAgain};
+ghost use Rattle.llb_ops.specs.Within.{IsWithinLimits};
+ghost use Rattle.llb_ops.specs.Laws.{IsReadAgain, IsReadOfRecords};
 
 use crate::exec::ExecOp;
 use crate::fault::OpFault;
 use crate::file::FileOp;
 use crate::merge::MergeOp;
-use crate::message::{Member, Message, each, one_of};
-use crate::records::{Record, joined, last_int64, last_text, parts, unnamed, within_limits};
+use crate::message::{Member, Message, each, joined_message, one_of, read_message};
+use crate::records::{Record, joined, last_int64, last_text, unnamed, within_limits};
 use crate::shape::{ENTRY_LIMIT, Form, Named};
 use crate::source::SourceOp;
 use crate::writing::{put_bytes, put_extra, put_messages, put_one_of, put_set_bytes, put_signed};
-use llb_wire::{Bytes, Duplicate, Many, Memory, Text};
+use llb_wire::{Bytes, Many, Memory, Text};
 use std::alloc::Global;
 
 /// A vertex of the build graph as its entry tells it.
-#[derive(Debug, Drop)]
+#[derive(Drop)]
 pub struct Op {
     pub inputs: Many<Input>,
     /// The member that is set, if any.
@@ -29,7 +30,7 @@ pub struct Op {
 }
 
 /// What an op does. Builds and diffs are kept as their joined payloads.
-#[derive(Debug, Drop)]
+#[derive(Drop)]
 pub enum Kind {
     Exec(ExecOp),
     Source(SourceOp),
@@ -40,38 +41,33 @@ pub enum Kind {
 }
 
 /// An output of another op: the digest of that op's bytes, and which of its outputs.
-#[derive(Debug, Drop)]
+#[derive(Drop)]
 pub struct Input {
     pub digest: Text,
     pub index: i64,
     pub extra: Bytes,
 }
 
-impl Op {
-    /// An equal second owner. `Memory` (14) where memory is refused.
-    pub fn copy(&self) -> Result<Op, OpFault>
-        ensures { Gives (λ x. x) result (Ok self.now) }
-    {
-        Ok(self.duplicate()?)
-    }
-}
-
 const INPUT: [Named; 2] = [(1, Form::Text), (2, Form::Number)];
 
 impl Message for Input {
-    ghost use Rattle.llb_ops.specs.Messages.{input_of};
+    ghost use Rattle.llb_ops.specs.Messages.{input_shape, input_in};
 
-    ghost reading = { input_of };
+    ghost shape = { input_shape };
 
-    #[tactic(auto, unfolding(crate::specs::Messages::input_of))]
-    fn read(alloc: Global, bytes: &[u8]) -> Result<Input, OpFault> {
-        let records = parts(alloc, &INPUT, bytes)?;
-        let digest = last_text(alloc, &INPUT, &records, 1)?;
-        let index = last_int64(&records, 2);
-        let extra = unnamed(alloc, &INPUT, &records)?;
+    fn named() -> &'static [Named] {
+        &INPUT
+    }
+
+    ghost reading = { input_in };
+
+    #[tactic(auto, unfolding(crate::specs::Messages::input_in))]
+    fn read(alloc: Global, records: &[Record<'_>]) -> Result<Input, OpFault> {
+        let digest = last_text(alloc, &INPUT, records, 1)?;
+        let extra = unnamed(alloc, &INPUT, records)?;
         Ok(Input {
             digest,
-            index,
+            index: last_int64(records, 2),
             extra,
         })
     }
@@ -98,14 +94,13 @@ impl Member for Kind {
     ghost reading = { kind_of };
 
     fn read(alloc: Global, number: u32, records: &[Record<'_>]) -> Result<Kind, OpFault> {
-        let bytes = joined(alloc, records, number)?;
         match number {
-            2 => Ok(Kind::Exec(ExecOp::read(alloc, &bytes)?)),
-            3 => Ok(Kind::Source(SourceOp::read(alloc, &bytes)?)),
-            4 => Ok(Kind::File(FileOp::read(alloc, &bytes)?)),
-            5 => Ok(Kind::Build(Bytes::new(bytes))),
-            6 => Ok(Kind::Merge(MergeOp::read(alloc, &bytes)?)),
-            _ => Ok(Kind::Diff(Bytes::new(bytes))),
+            2 => Ok(Kind::Exec(joined_message(alloc, records, number)?)),
+            3 => Ok(Kind::Source(joined_message(alloc, records, number)?)),
+            4 => Ok(Kind::File(joined_message(alloc, records, number)?)),
+            5 => Ok(Kind::Build(Bytes::new(joined(alloc, records, number)?))),
+            6 => Ok(Kind::Merge(joined_message(alloc, records, number)?)),
+            _ => Ok(Kind::Diff(Bytes::new(joined(alloc, records, number)?))),
         }
     }
 
@@ -139,19 +134,24 @@ const OP: [Named; 7] = [
 ];
 
 impl Message for Op {
-    ghost use Rattle.llb_ops.specs.Messages.{op_message_of};
+    ghost use Rattle.llb_ops.specs.Messages.{op_shape, op_in};
 
-    ghost reading = { op_message_of };
+    ghost shape = { op_shape };
 
-    #[tactic(auto, unfolding(crate::specs::Messages::op_message_of))]
-    fn read(alloc: Global, bytes: &[u8]) -> Result<Op, OpFault> {
-        let records = parts(alloc, &OP, bytes)?;
-        let inputs = each::<Input>(alloc, &records, 1)?;
-        let kind = one_of::<Kind>(alloc, &records, &KINDS)?;
-        if !within_limits(&[1], &records) {
+    fn named() -> &'static [Named] {
+        &OP
+    }
+
+    ghost reading = { op_in };
+
+    #[tactic(auto, unfolding(crate::specs::Messages::op_in))]
+    fn read(alloc: Global, records: &[Record<'_>]) -> Result<Op, OpFault> {
+        let inputs = each::<Input>(alloc, records, 1)?;
+        let kind = one_of::<Kind>(alloc, records, &KINDS)?;
+        if !within_limits(&[1], records) {
             return Err(OpFault::OverLimit);
         }
-        let extra = unnamed(alloc, &OP, &records)?;
+        let extra = unnamed(alloc, &OP, records)?;
         Ok(Op {
             inputs,
             kind,
@@ -166,7 +166,7 @@ impl Message for Op {
     #[tactic(auto, unfolding(crate::specs::Writing::op_bytes))]
     fn write(&self, alloc: Global) -> Result<Vec<u8>, Memory> {
         let mut out = Vec::new(alloc);
-        put_messages(alloc, &mut out, 1, &self.inputs)?;
+        put_messages(alloc, &mut out, 1, self.inputs.as_slice())?;
         put_one_of(alloc, &mut out, &self.kind)?;
         put_extra(&mut out, &self.extra)?;
         Ok(out)
@@ -182,12 +182,13 @@ impl Message for Op {
 /// times. `Memory` (14) where memory is refused.
 #[tactic(auto, unfolding(crate::specs::Messages::op_of))]
 pub fn read_op(alloc: Global, bytes: &[u8]) -> Result<Op, OpFault>
-    ensures { Gives (λ op. op) result (op_of bytes.now) }
+    ensures gives { Gives (λ op. op) result (op_of bytes.now) }
+    ensures within { IfOk result IsWithinLimits }
 {
     if bytes.len() > ENTRY_LIMIT {
         return Err(OpFault::OverLimit);
     }
-    Op::read(alloc, bytes)
+    read_message(alloc, bytes)
 }
 
 /// The canonical bytes of an op. `Memory` (14) where memory is refused.
@@ -198,43 +199,18 @@ pub fn write_op(alloc: Global, op: &Op) -> Result<Bytes, OpFault>
     Ok(Bytes::new(bytes))
 }
 
+/// The records of a message are those that its bytes spell by the grammar of the wire, whatever the
+/// message names; and an op is read of the records that its entry spells, and of nothing else.
+pub fn op_is_read_of_records(bytes: &[u8])
+    ensures { IsReadOfRecords bytes.now }
+{
+    let _ = bytes;
+}
+
 /// What was read as an op is read as that op again of its canonical bytes, where these are within
 /// the limit of an entry.
 pub fn op_is_read_again(op: &Op)
     ensures { IsReadAgain op.now }
 {
     let _ = op;
-}
-
-impl Duplicate for Op {
-    fn duplicate(&self) -> Result<Op, Memory> {
-        Ok(Op {
-            inputs: self.inputs.duplicate()?,
-            kind: self.kind.duplicate()?,
-            extra: self.extra.duplicate()?,
-        })
-    }
-}
-
-impl Duplicate for Kind {
-    fn duplicate(&self) -> Result<Kind, Memory> {
-        Ok(match self {
-            Kind::Exec(x) => Kind::Exec(x.duplicate()?),
-            Kind::Source(x) => Kind::Source(x.duplicate()?),
-            Kind::File(x) => Kind::File(x.duplicate()?),
-            Kind::Build(x) => Kind::Build(x.duplicate()?),
-            Kind::Merge(x) => Kind::Merge(x.duplicate()?),
-            Kind::Diff(x) => Kind::Diff(x.duplicate()?),
-        })
-    }
-}
-
-impl Duplicate for Input {
-    fn duplicate(&self) -> Result<Input, Memory> {
-        Ok(Input {
-            digest: self.digest.duplicate()?,
-            index: self.index,
-            extra: self.extra.duplicate()?,
-        })
-    }
 }

@@ -5,11 +5,11 @@ ghost use Rattle.std.specs.Str.{IsUtf8, is_utf8};
 ghost use Rattle.llb_wire.specs.Records.{record_of};
 ghost use Rattle.llb_ops.specs.Faults.{Gives};
 ghost use Rattle.llb_ops.specs.declared.shape.Form.TheVariants as form;
-ghost use Rattle.llb_ops.specs.Records.{view, views, form_of, wire_fits, records_from, texts_fit, text_fits, parts as parts_of, all as all_of, last_of, number as number_of, payload as payload_of, payloads, uint32, int32, int64, flag, joined as joined_of, unnamed as unnamed_of, chosen as chosen_of, since as since_of, is_member as is_member_of, is_other as is_other_of, member as member_of, within_limits as within_limits_of};
+ghost use Rattle.llb_ops.specs.Records.{view, views, form_of, wire_fits, records_from, Starts, texts_fit, text_fits, parts as parts_of, all as all_of, last_of, number as number_of, payload as payload_of, payloads, uint32, int32, int64, flag, joined as joined_of, unnamed as unnamed_of, chosen as chosen_of, since as since_of, is_member as is_member_of, is_other as is_other_of, member as member_of, within_limits as within_limits_of};
 
 use crate::fault::OpFault;
 use crate::shape::{FIELD_LIMIT, Form, Named};
-use llb_wire::{Bytes, Field, Many, Text, Wire, next_record};
+use llb_wire::{Bytes, Field, Many, Memory, Text, Wire, next_record};
 use std::alloc::Global;
 use std::str::{from_utf8, from_utf8_unchecked};
 
@@ -23,6 +23,13 @@ pub struct Record<'a> {
     pub text: &'a [u8],
 }
 
+/// The record at the front of some bytes, and the bytes after it.
+#[derive(Clone, Copy)]
+pub struct Front<'a> {
+    pub record: Record<'a>,
+    pub after: &'a [u8],
+}
+
 /// The form of the field of that number, where the message names it.
 fn form(shape: &[Named], number: u32) -> Option<Form>
     ensures { result ≡ form_of shape.now number }
@@ -31,7 +38,7 @@ fn form(shape: &[Named], number: u32) -> Option<Form>
 }
 
 /// The record has the wire type of its field, where the message names it.
-pub fn fits(shape: &[Named], field: &Field) -> bool
+fn fits(shape: &[Named], field: &Field) -> bool
     ensures { result ≡ wire_fits (form_of shape.now field.now.number) field.now.wire }
 {
     match (form(shape, field.number), field.wire) {
@@ -43,12 +50,11 @@ pub fn fits(shape: &[Named], field: &Field) -> bool
     }
 }
 
-/// The record at the front, and the bytes after it.
-pub fn take_record<'a>(bytes: &'a [u8], field: &Field) -> (Record<'a>, &'a [u8])
+fn front_of<'a>(bytes: &'a [u8], field: &Field) -> Front<'a>
     requires ordered { field.now.start ≤ field.now.«end» }
     requires inside { field.now.«end» ≤ length bytes.now }
-    ensures record { view result.0 ≡ record_of bytes.now field.now }
-    ensures after { result.1.now ≡ drop field.now.«end» bytes.now }
+    ensures record { view result.record ≡ record_of bytes.now field.now }
+    ensures after { result.after.now ≡ drop field.now.«end» bytes.now }
 {
     let (text, after) = bytes.split_at(field.end);
     let (_, payload) = text.split_at(field.start);
@@ -59,7 +65,21 @@ pub fn take_record<'a>(bytes: &'a [u8], field: &Field) -> (Record<'a>, &'a [u8])
         payload,
         text,
     };
-    (record, after)
+    Front { record, after }
+}
+
+/// The record at the front of a message's bytes, and the bytes after it: `None` at the end. A field that the message
+/// names has its wire type.
+pub fn next_part<'a>(shape: &[Named], bytes: &'a [u8]) -> Result<Option<Front<'a>>, OpFault>
+    ensures { Starts shape.now bytes.now result }
+{
+    let Some(field) = next_record(bytes, 0)? else {
+        return Ok(None);
+    };
+    if !fits(shape, &field) {
+        return Err(OpFault::WrongWireType);
+    }
+    Ok(Some(front_of(bytes, &field)))
 }
 
 /// The records of a message from left to right.
@@ -72,13 +92,9 @@ pub fn split<'a>(
 {
     let mut records = Vec::new(alloc);
     let mut rest = bytes;
-    while let Some(field) = next_record(rest, 0)? {
-        if !fits(shape, &field) {
-            return Err(OpFault::WrongWireType);
-        }
-        let (record, after) = take_record(rest, &field);
-        records.push(record)?;
-        rest = after;
+    while let Some(front) = next_part(shape, rest)? {
+        records.push(front.record)?;
+        rest = front.after;
     }
     Ok(records)
 }
@@ -185,11 +201,10 @@ fn last_payload<'a>(records: &[Record<'a>], number: u32) -> &'a [u8]
     }
 }
 
-pub fn last_bytes(alloc: Global, records: &[Record<'_>], number: u32) -> Result<Bytes, OpFault>
-    ensures { Gives (λ b. b) result (Ok (payload_of (all_of number (views records.now)))) }
+pub fn last_bytes(alloc: Global, records: &[Record<'_>], number: u32) -> Result<Bytes, Memory>
+    ensures { IfOk result (λ b. b ≡ payload_of (all_of number (views records.now))) }
 {
-    let bytes = Bytes::from_slice(alloc, last_payload(records, number))?;
-    Ok(bytes)
+    Bytes::from_slice(alloc, last_payload(records, number))
 }
 
 /// A text, which was found to be UTF-8 when the records were read.
@@ -198,14 +213,13 @@ pub fn last_text(
     shape: &[Named],
     records: &[Record<'_>],
     number: u32,
-) -> Result<Text, OpFault>
+) -> Result<Text, Memory>
     requires named { form_of shape.now number ≡ Some form.Text }
     requires texts { texts_fit shape.now (views records.now) ≡ true }
-    ensures { Gives (λ t. t) result (Ok (payload_of (all_of number (views records.now)))) }
+    ensures { IfOk result (λ t. t ≡ payload_of (all_of number (views records.now))) }
 {
     let payload = last_payload(records, number);
-    let text = Text::from_str(alloc, unsafe { from_utf8_unchecked(payload) })?;
-    Ok(text)
+    Text::from_str(alloc, unsafe { from_utf8_unchecked(payload) })
 }
 
 /// The texts of a field that is repeated, in order.
@@ -214,10 +228,10 @@ pub fn each_text(
     shape: &[Named],
     records: &[Record<'_>],
     number: u32,
-) -> Result<Many<Text>, OpFault>
+) -> Result<Many<Text>, Memory>
     requires named { form_of shape.now number ≡ Some form.Text }
     requires texts { texts_fit shape.now (views records.now) ≡ true }
-    ensures { Gives (λ ts. ts) result (Ok (payloads (all_of number (views records.now)))) }
+    ensures { IfOk result (λ ts. ts ≡ payloads (all_of number (views records.now))) }
 {
     let mut items = Vec::new(alloc);
     for record in records {
@@ -230,8 +244,8 @@ pub fn each_text(
 }
 
 /// The payloads of a field, one behind the other.
-pub fn joined(alloc: Global, records: &[Record<'_>], number: u32) -> Result<Vec<u8>, OpFault>
-    ensures { Gives (λ v. v.items) result (Ok (joined_of (all_of number (views records.now)))) }
+pub fn joined(alloc: Global, records: &[Record<'_>], number: u32) -> Result<Vec<u8>, Memory>
+    ensures { IfOk result (λ v. v.items ≡ joined_of (all_of number (views records.now))) }
 {
     let mut out = Vec::new(alloc);
     for record in records {
@@ -243,12 +257,8 @@ pub fn joined(alloc: Global, records: &[Record<'_>], number: u32) -> Result<Vec<
 }
 
 /// The byte strings of a field that is repeated, in order.
-pub fn each_bytes(
-    alloc: Global,
-    records: &[Record<'_>],
-    number: u32,
-) -> Result<Many<Bytes>, OpFault>
-    ensures { Gives (λ bs. bs) result (Ok (payloads (all_of number (views records.now)))) }
+pub fn each_bytes(alloc: Global, records: &[Record<'_>], number: u32) -> Result<Many<Bytes>, Memory>
+    ensures { IfOk result (λ bs. bs ≡ payloads (all_of number (views records.now))) }
 {
     let mut items = Vec::new(alloc);
     for record in records {
@@ -319,8 +329,8 @@ fn is_unnamed(shape: &[Named], part: &Record<'_>) -> bool
 }
 
 /// The fields that the message doesn't name, as they stand.
-pub fn unnamed(alloc: Global, shape: &[Named], records: &[Record<'_>]) -> Result<Bytes, OpFault>
-    ensures { Gives (λ b. b) result (Ok (unnamed_of shape.now (views records.now))) }
+pub fn unnamed(alloc: Global, shape: &[Named], records: &[Record<'_>]) -> Result<Bytes, Memory>
+    ensures { IfOk result (λ b. b ≡ unnamed_of shape.now (views records.now)) }
 {
     let mut out = Vec::new(alloc);
     for record in records {

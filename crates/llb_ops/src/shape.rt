@@ -2,7 +2,7 @@
 //! What a message is of its fields stands beside the message.
 
 /// How the payload of a named field is read.
-#[derive(Clone, Copy, Debug, PartialEq, Eq)]
+#[derive(Clone, Copy)]
 pub enum Form {
     /// A varint.
     Number,

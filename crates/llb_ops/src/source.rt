@@ -6,16 +6,16 @@ ghost use Rattle.llb_ops.specs.Writing.{attribute_entry_bytes, messages_field};
 
 use crate::fault::OpFault;
 use crate::message::{Message, each};
-use crate::records::{last_text, parts, unnamed, within_limits};
+use crate::records::{Record, last_text, unnamed, within_limits};
 use crate::shape::{Form, Named};
 use crate::writing::{put_bytes, put_extra, put_set_bytes};
 use indexmap::IndexMap;
-use llb_wire::{Bytes, Duplicate, Many, Memory, Text};
+use llb_wire::{Bytes, Many, Memory, Text};
 use std::alloc::Global;
 use std::marker::Model;
 
 /// A tree from outside, named by its identifier.
-#[derive(Debug, Drop)]
+#[derive(Drop)]
 pub struct SourceOp {
     pub identifier: Text,
     pub attrs: Attributes,
@@ -24,20 +24,20 @@ pub struct SourceOp {
 
 /// The attributes of a source by their keys: the last entry for a key, at the place of the first. Contracts see the list
 /// of keys and attributes.
-#[derive(Debug, Drop)]
+#[derive(Drop)]
 pub struct Attributes {
     held: IndexMap<Text, Attribute>,
 }
 
 /// What stands behind a key.
-#[derive(Debug, Drop)]
+#[derive(Drop)]
 pub struct Attribute {
     pub value: Text,
     pub extra: Bytes,
 }
 
 /// An entry of the map of attributes, which is a message with key 1 and value 2.
-#[derive(Debug, Drop)]
+#[derive(Drop)]
 pub struct AttributeEntry {
     pub key: Text,
     pub value: Text,
@@ -89,16 +89,21 @@ impl Attributes {
 const ATTRIBUTE_ENTRY: [Named; 2] = [(1, Form::Text), (2, Form::Text)];
 
 impl Message for AttributeEntry {
-    ghost use Rattle.llb_ops.specs.Messages.{attribute_entry_of};
+    ghost use Rattle.llb_ops.specs.Messages.{attribute_entry_shape, attribute_entry_in};
 
-    ghost reading = { attribute_entry_of };
+    ghost shape = { attribute_entry_shape };
 
-    #[tactic(auto, unfolding(crate::specs::Messages::attribute_entry_of))]
-    fn read(alloc: Global, bytes: &[u8]) -> Result<AttributeEntry, OpFault> {
-        let records = parts(alloc, &ATTRIBUTE_ENTRY, bytes)?;
-        let key = last_text(alloc, &ATTRIBUTE_ENTRY, &records, 1)?;
-        let value = last_text(alloc, &ATTRIBUTE_ENTRY, &records, 2)?;
-        let extra = unnamed(alloc, &ATTRIBUTE_ENTRY, &records)?;
+    fn named() -> &'static [Named] {
+        &ATTRIBUTE_ENTRY
+    }
+
+    ghost reading = { attribute_entry_in };
+
+    #[tactic(auto, unfolding(crate::specs::Messages::attribute_entry_in))]
+    fn read(alloc: Global, records: &[Record<'_>]) -> Result<AttributeEntry, OpFault> {
+        let key = last_text(alloc, &ATTRIBUTE_ENTRY, records, 1)?;
+        let value = last_text(alloc, &ATTRIBUTE_ENTRY, records, 2)?;
+        let extra = unnamed(alloc, &ATTRIBUTE_ENTRY, records)?;
         Ok(AttributeEntry { key, value, extra })
     }
 
@@ -137,20 +142,25 @@ fn put_attributes(alloc: Global, out: &mut Vec<u8>, attrs: &Attributes) -> Resul
 const SOURCE_OP: [Named; 2] = [(1, Form::Text), (2, Form::Bytes)];
 
 impl Message for SourceOp {
-    ghost use Rattle.llb_ops.specs.Messages.{source_op_of};
+    ghost use Rattle.llb_ops.specs.Messages.{source_op_shape, source_op_in};
 
-    ghost reading = { source_op_of };
+    ghost shape = { source_op_shape };
 
-    #[tactic(auto, unfolding(crate::specs::Messages::source_op_of))]
-    fn read(alloc: Global, bytes: &[u8]) -> Result<SourceOp, OpFault> {
-        let records = parts(alloc, &SOURCE_OP, bytes)?;
-        let identifier = last_text(alloc, &SOURCE_OP, &records, 1)?;
-        let entries = each::<AttributeEntry>(alloc, &records, 2)?;
-        if !within_limits(&[2], &records) {
+    fn named() -> &'static [Named] {
+        &SOURCE_OP
+    }
+
+    ghost reading = { source_op_in };
+
+    #[tactic(auto, unfolding(crate::specs::Messages::source_op_in))]
+    fn read(alloc: Global, records: &[Record<'_>]) -> Result<SourceOp, OpFault> {
+        let entries = each::<AttributeEntry>(alloc, records, 2)?;
+        if !within_limits(&[2], records) {
             return Err(OpFault::OverLimit);
         }
         let attrs = Attributes::settled(alloc, entries)?;
-        let extra = unnamed(alloc, &SOURCE_OP, &records)?;
+        let identifier = last_text(alloc, &SOURCE_OP, records, 1)?;
+        let extra = unnamed(alloc, &SOURCE_OP, records)?;
         Ok(SourceOp {
             identifier,
             attrs,
@@ -169,34 +179,5 @@ impl Message for SourceOp {
         put_attributes(alloc, &mut out, &self.attrs)?;
         put_extra(&mut out, &self.extra)?;
         Ok(out)
-    }
-}
-
-impl Duplicate for SourceOp {
-    fn duplicate(&self) -> Result<SourceOp, Memory> {
-        Ok(SourceOp {
-            identifier: self.identifier.duplicate()?,
-            attrs: self.attrs.duplicate()?,
-            extra: self.extra.duplicate()?,
-        })
-    }
-}
-
-impl Duplicate for Attributes {
-    fn duplicate(&self) -> Result<Attributes, Memory> {
-        let mut held = IndexMap::new(*self.held.allocator());
-        for (key, attribute) in self.held.iter() {
-            held.insert(key.duplicate()?, attribute.duplicate()?)?;
-        }
-        Ok(Attributes { held })
-    }
-}
-
-impl Duplicate for Attribute {
-    fn duplicate(&self) -> Result<Attribute, Memory> {
-        Ok(Attribute {
-            value: self.value.duplicate()?,
-            extra: self.extra.duplicate()?,
-        })
     }
 }

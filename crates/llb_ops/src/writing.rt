@@ -4,7 +4,7 @@ ghost use Rattle.std.specs.Prelude.{◌≡◌, ◌<◌, ◌++◌, ◌≤◌, OnO
 ghost use Rattle.llb_ops.specs.Writing.{set_number, set_bytes, number_field, bytes_field, signed_field, flag_field, message_field, messages_field, each_field, one_of_field};
 
 use crate::message::{Member, Message};
-use llb_wire::{Bytes, Many, Memory, Text, Wire, write_record};
+use llb_wire::{Bytes, Memory, Text, Wire, write_record};
 use std::alloc::Global;
 
 /// A number, also where it is 0.
@@ -91,13 +91,13 @@ pub fn put_messages<M: Message>(
     alloc: Global,
     out: &mut Vec<u8>,
     number: u32,
-    messages: &Many<M>,
+    messages: &[M],
 ) -> Result<(), Memory>
     requires some { 0 < number }
     requires small { number ≤ 536_870_911 }
     ensures { OnOk result (out.new.items ≡ out.old.items ++ messages_field M.writing number messages.now) }
 {
-    for message in messages.as_slice() {
+    for message in messages {
         let bytes = message.write(alloc)?;
         put_set_bytes(out, number, &bytes)?;
     }
@@ -117,12 +117,12 @@ pub fn put_each_bytes(out: &mut Vec<u8>, number: u32, items: &[Bytes]) -> Result
 }
 
 /// Texts that are repeated.
-pub fn put_each_text(out: &mut Vec<u8>, number: u32, items: &Many<Text>) -> Result<(), Memory>
+pub fn put_each_text(out: &mut Vec<u8>, number: u32, items: &[Text]) -> Result<(), Memory>
     requires some { 0 < number }
     requires small { number ≤ 536_870_911 }
     ensures { OnOk result (out.new.items ≡ out.old.items ++ each_field number items.now) }
 {
-    for text in items.as_slice() {
+    for text in items {
         put_set_bytes(out, number, text.as_str().as_bytes())?;
     }
     Ok(())

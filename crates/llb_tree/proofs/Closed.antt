@@ -1,13 +1,13 @@
 -- Edits keep the parents of every path.
-use Rattle.std.proofs.Common.{◌≡◌, ℕ, List, [], ◌∷◌, map, Option, Some, None, IsSome, is_some, Bool, true, false, cond, Ok, refl, sym, ap, subst, ◌∙◌, true≢false}
+use Rattle.std.proofs.Common.{◌≡◌, ℕ, List, [], ◌∷◌, map, Option, Some, None, IsSome, is_some, Bool, true, false, cond, Ok, refl, sym, ap, subst, ◌∙◌, true≢false, arith}
 use Rattle.std.specs.declared.cmp.Ordering.{Ordering}
 use Rattle.std.specs.declared.cmp.Ordering.TheVariants.{Less, Equal, Greater}
 use Rattle.std.specs.Ordering.{is_eq, eq_by_cmp}
 use Rattle.std.specs.FinMap as finite
-use Rattle.llb_tree.specs.Meta.{MetaValue}
-use Rattle.llb_tree.specs.Path.{path_cmp}
+use Rattle.llb_tree.specs.Meta.{MetaValue, IsMeta}
+use Rattle.llb_tree.specs.Path.{path_cmp, IsPath}
 use Rattle.llb_tree.specs.PathOrder.{path_cmp-IsTotalOrder, path_cmp-IsAntisymmetric}
-use Rattle.llb_tree.specs.Tree.{Entry, Dir, File, Look, TreeMap, parents, all_dirs, walk, file_fits, IsDirAt, IsTree}
+use Rattle.llb_tree.specs.Tree.{Entry, Dir, File, Look, TreeMap, parents, all_dirs, walk, file_fits, IsDirAt, CanStand, IsTree}
 use Rattle.llb_tree.proofs.Walks.{walk-cons}
 
 tied : (o : Ordering) → is_eq o ≡ true → o ≡ Equal
@@ -36,23 +36,27 @@ walk_more f g more (n ∷ p) walks =
         let own = more [] (m, is) in
         walk-cons g n p ∙ ap (λ e. all_dirs (e ∷ map (λ q. g (n ∷ q)) (parents p))) own.1 ∙ rest walks
 
+stands_there : (p : List (List ℕ)) (e : Entry) → CanStand p e → (q : List (List ℕ)) (d : Entry) → q ≡ p → Some e ≡ Some d → CanStand q d
+stands_there p e can q d same is = let own : e ≡ d = cc in subst (λ x. CanStand x d) (sym same) (subst (CanStand p) own can)
+
 module _ (t : TreeMap) (tree : IsTree t) (p : List (List ℕ)) (walks : walk (finite.get t) p ≡ Ok tt) where
   -- an entry that takes no directory's place keeps the tree
-  pub IsTree-insert : (e : Entry) → ((q : List (List ℕ)) → IsDirAt (finite.get t) q → q ≡ p → (m : MetaValue) × (Some e ≡ Some (Dir m))) → IsTree (finite.insert t p e)
-  IsTree-insert e dirs =
+  pub IsTree-insert : (e : Entry) → CanStand p e → ((q : List (List ℕ)) → IsDirAt (finite.get t) q → q ≡ p → (m : MetaValue) × (Some e ≡ Some (Dir m))) → IsTree (finite.insert t p e)
+  IsTree-insert e can dirs =
       let more : (q : List (List ℕ)) → IsDirAt (finite.get t) q → IsDirAt (finite.get (finite.insert t p e)) q =
       λ q dir. get-insert_cases (λ o. (m : MetaValue) × (o ≡ Some (Dir m))) t p e q (dirs q dir) dir in
       record {
         root = more [] tree.root;
         closed = λ q there. walk_more (finite.get t) (finite.get (finite.insert t p e)) more q
             (get-insert_cases (λ o. IsSome o → walk (finite.get t) q ≡ Ok tt) t p e q (λ same _. ap (walk (finite.get t)) same ∙ walks) (tree.closed q) there);
+        stands = λ q d. get-insert_cases (λ o. o ≡ Some d → CanStand q d) t p e q (stands_there p e can q d) (tree.stands q d);
       }
 
-  pub IsTree-insert_dir : (m : MetaValue) → IsTree (finite.insert t p (Dir m))
-  IsTree-insert_dir m = IsTree-insert (Dir m) (λ q dir same. (m, refl))
+  pub IsTree-insert_dir : (m : MetaValue) → IsPath p → IsMeta m → IsTree (finite.insert t p (Dir m))
+  IsTree-insert_dir m path is = IsTree-insert (Dir m) (record { path = path; meta = is }) (λ q dir same. (m, refl))
 
-  pub IsTree-insert_file : (m : MetaValue) (b : List ℕ) → file_fits (finite.get t p) ≡ Ok tt → IsTree (finite.insert t p (File m b))
-  IsTree-insert_file m b fits = IsTree-insert (File m b) (λ q dir same. let e = sym (ap file_fits (ap (finite.get t) (sym same) ∙ dir.1)) ∙ fits in absurd (cc))
+  pub IsTree-insert_file : (m : MetaValue) (b : List ℕ) → IsPath p → IsMeta m → file_fits (finite.get t p) ≡ Ok tt → IsTree (finite.insert t p (File m b))
+  IsTree-insert_file m b path is fits = IsTree-insert (File m b) (record { path = path; meta = is }) (λ q dir same. let e = sym (ap file_fits (ap (finite.get t) (sym same) ∙ dir.1)) ∙ fits in absurd (cc))
 
 abbrev single : MetaValue → TreeMap
 single m = finite.insert finite.empty [] (Dir m)
@@ -60,9 +64,16 @@ single m = finite.insert finite.empty [] (Dir m)
 none_there : {C : Type 0} (q : List (List ℕ)) → IsSome (finite.get (finite.empty {X = Entry} {R = path_cmp}) q) → C
 none_there q some = absurd (true≢false (sym some ∙ ap is_some (finite.get-empty path_cmp q)))
 
-pub IsTree-empty : (m : MetaValue) → IsTree (single m)
-IsTree-empty m = record {
+none_stands : (q : List (List ℕ)) (d : Entry) → finite.get (finite.empty {X = Entry} {R = path_cmp}) q ≡ Some d → CanStand q d
+none_stands q d is = none_there q (ap is_some is)
+
+root_path : IsPath []
+root_path = record { short = omega arith; named = λ k d lt. absurd (omega arith) }
+
+pub IsTree-empty : (m : MetaValue) → IsMeta m → IsTree (single m)
+IsTree-empty m is = record {
   root = (m, finite.get-insert path_cmp-IsTotalOrder finite.empty [] (Dir m) []);
   closed = λ q. get-insert_cases (λ o. IsSome o → walk (finite.get (single m)) q ≡ Ok tt) finite.empty [] (Dir m) q
       (λ same _. ap (walk (finite.get (single m))) same) (none_there q);
+  stands = λ q d. get-insert_cases (λ o. o ≡ Some d → CanStand q d) finite.empty [] (Dir m) q (stands_there [] (Dir m) (record { path = root_path; meta = is }) q d) (none_stands q d);
 }

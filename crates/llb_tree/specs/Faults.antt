@@ -18,3 +18,7 @@ is_memory BadName = false
 -- what a call answers, seen by view, is what the rule gives
 abbrev pub Gives : {X Y : Type 0} → (X → Y) → Result X TreeFault → Result Y TreeFault → Type 0
 Gives = answer.Gives is_memory
+
+-- and want of memory comes last: it is answered only where the rule has no refusal
+abbrev pub MemoryLast : {X Y : Type 0} → Result X TreeFault → Result Y TreeFault → Type 0
+MemoryLast = answer.MemoryLast is_memory

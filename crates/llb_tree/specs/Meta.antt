@@ -1,11 +1,17 @@
 -- The mode and the owner of an entry, as numbers. A mode is at most 4095 (twelve bits), and owners are below 2 ^ 32;
 -- the type of the code keeps both.
-use Rattle.std.specs.Prelude.{ℕ, Option, Some, None, nat_lt, if◌then◌else◌}
+use Rattle.std.specs.Prelude.{ℕ, ◌≤◌, ◌<◌, ◌^◌, Option, Some, None, nat_lt, if◌then◌else◌}
 
 pub record MetaValue : Type 0 where
   pub mode : ℕ
   pub uid : ℕ
   pub gid : ℕ
+
+-- the numbers are a mode and owners
+pub record IsMeta (m : MetaValue) : Type 0 where
+  pub mode : m.mode ≤ 4095
+  pub uid : m.uid < 2 ^ 32
+  pub gid : m.gid < 2 ^ 32
 
 -- the mode and the owner of numbers, where the mode is one
 abbrev pub meta_of : ℕ → ℕ → ℕ → Option MetaValue

@@ -2,6 +2,7 @@
 -- list of its names from the root down, so the root is the empty list.
 use Rattle.std.specs.Prelude.{◌≡◌, ℕ, ◌-◌, ◌≤◌, ◌==◌, nat_eq, nat_le, nat_lt, Bool, ◌&&◌, ◌||◌, not, IsTrue, if◌then◌else◌, List, [], ◌∷◌, ◌++◌, length, take, Result, Ok, Err}
 use Rattle.std.specs.List.{All, list_all, slice_split, join_with_byte}
+use Rattle.std.specs.Str.{is_utf8}
 use Rattle.std.specs.declared.cmp.Ordering.{Ordering}
 use Rattle.std.specs.Ordering.{nat_cmp}
 use Rattle.std.specs.Cmp.Lexicographic.{slice_cmp, pointwise}
@@ -29,9 +30,9 @@ is_dots part = pointwise nat_eq part (46 ∷ 46 ∷ [])
 abbrev pub is_name_byte : ℕ → Bool
 is_name_byte b = nat_le 32 b && not (b == 127) && not (b == 47)
 
--- 1 to 255 such bytes, and neither `.` nor `..`
+-- 1 to 255 such bytes of UTF-8, and neither `.` nor `..`
 abbrev pub is_name : List ℕ → Bool
-is_name part = not (length part == 0) && nat_le (length part) 255 && not (is_dot part) && not (is_dots part) && list_all is_name_byte part
+is_name part = not (length part == 0) && nat_le (length part) 255 && not (is_dot part) && not (is_dots part) && list_all is_name_byte part && is_utf8 part
 
 -- at most 128 names
 pub record IsPath (path : List (List ℕ)) : Type 0 where
@@ -64,6 +65,11 @@ parts_of = slice_split (λ b. b == 47)
 -- the path that a text reads as, from the root
 abbrev pub path_of : List ℕ → Result (List (List ℕ)) TreeFault
 path_of text = follow [] (parts_of text)
+
+-- how many names the path has, where there is one
+abbrev pub depth : Result (List (List ℕ)) TreeFault → Result ℕ TreeFault
+depth (Ok path) = Ok (length path)
+depth (Err e) = Err e
 
 -- a path as a text: its names with `/` between them
 abbrev pub joined : List (List ℕ) → List ℕ

@@ -5,9 +5,9 @@ use Rattle.std.specs.FinMap as finite
 use Rattle.std.specs.FinMap.{FinMap}
 use Rattle.std.specs.Coded.{Coded, code_by, coded×, coded_ℕ, coded_list, coded_option}
 use Rattle.llb_wire.specs.Answer.{◌>>=◌}
-use Rattle.llb_tree.specs.Path.{path_cmp}
-pub use Rattle.llb_tree.specs.Meta.{MetaValue, root_meta}
-pub use Rattle.llb_tree.specs.Faults.{is_memory, Gives}
+use Rattle.llb_tree.specs.Path.{path_cmp, IsPath}
+pub use Rattle.llb_tree.specs.Meta.{MetaValue, IsMeta, root_meta}
+pub use Rattle.llb_tree.specs.Faults.{is_memory, Gives, MemoryLast}
 use Rattle.llb_tree.specs.declared.fault.TreeFault.{TreeFault}
 use Rattle.llb_tree.specs.declared.fault.TreeFault.TheVariants.{NotFound, NotDir, IsDir, Conflict, Root}
 
@@ -15,6 +15,11 @@ use Rattle.llb_tree.specs.declared.fault.TreeFault.TheVariants.{NotFound, NotDir
 pub data Entry : Type 0 where
   Dir : MetaValue → Entry
   File : MetaValue → List ℕ → Entry
+
+-- its mode and its owner
+abbrev pub meta_in : Entry → MetaValue
+meta_in (Dir m) = m
+meta_in (File m bytes) = m
 
 -- an entry is stored as its meta, and the content of a file
 abbrev pub packed : Entry → (ℕ × (ℕ × ℕ)) × Option (List ℕ)
@@ -89,7 +94,13 @@ empty_tree = finite.insert finite.empty [] (Dir root_meta)
 abbrev pub IsDirAt : Look → List (List ℕ) → Type 0
 IsDirAt look p = (m : MetaValue) × (look p ≡ Some (Dir m))
 
--- the root is a directory, and so is each proper prefix of a path that is there
+-- an entry that can stand at a path: this is a path, at most 128 names, and the entry has a mode and owners
+pub record CanStand (p : List (List ℕ)) (e : Entry) : Type 0 where
+  pub path : IsPath p
+  pub meta : IsMeta (meta_in e)
+
+-- the root is a directory, and so is each proper prefix of a path that is there; and what is there can stand there
 pub record IsTree (t : TreeMap) : Type 0 where
   pub root : IsDirAt (finite.get t) []
   pub closed : (p : List (List ℕ)) → IsSome (finite.get t p) → walk (finite.get t) p ≡ Ok tt
+  pub stands : (p : List (List ℕ)) (e : Entry) → finite.get t p ≡ Some e → CanStand p e

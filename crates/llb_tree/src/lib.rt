@@ -9,9 +9,7 @@ mod path;
 mod tree;
 
 pub use fault::TreeFault;
+pub use llb_wire::Bytes;
 pub use meta::Meta;
 pub use path::{Name, Path};
 pub use tree::{Entry, Tree};
-
-#[cfg(test)]
-mod tests;

@@ -2,12 +2,12 @@
 //! its three numbers. Nothing here takes memory.
 
 ghost use Rattle.std.specs.Prelude.{◌≡◌, ◌≤◌};
-ghost use Rattle.llb_tree.specs.Meta.{meta_of, root_meta};
+ghost use Rattle.llb_tree.specs.Meta.{IsMeta, meta_of, root_meta};
 
 use std::marker::Model;
 
 /// The mode and the owner of an entry. The mode is at most 4095, its permission bits and the three above them.
-#[derive(Clone, Copy, Debug, PartialEq, Eq)]
+#[derive(Clone, Copy)]
 pub struct Meta {
     mode: u16,
     uid: u32,
@@ -48,6 +48,14 @@ impl Meta {
             uid: 0,
             gid: 0,
         }
+    }
+
+    /// A law: the mode is at most 4095, and the owners are numbers of 32 bits.
+    pub fn is_meta(&self)
+        ensures { IsMeta self.now }
+    {
+        let _uid = self.uid;
+        let _gid = self.gid;
     }
 
     /// The mode, at most 4095.

@@ -1,10 +1,11 @@
 //! Names and paths. Contracts see a name as the list of its bytes and a path as the list of its names, from the
 //! root down. A text is read by the rule `path_of`: parts between `/`, where `.` stays and `..` goes up.
 
-ghost use Rattle.std.specs.Prelude.{◌≡◌, ◌↔◌, [], length, ◌≤◌, IsTrue, OnErr, Ok};
+ghost use Rattle.std.specs.Prelude.{◌≡◌, ◌↔◌, ℕ, List, [], length, ◌≤◌, IsTrue, OnErr, Ok};
 ghost use Rattle.std.specs.List.{list_all};
-ghost use Rattle.llb_tree.specs.Faults.{Gives};
-ghost use Rattle.llb_tree.specs.Path.{is_name, is_name_byte, name_of, below, enter, path_of, ReadsBack};
+ghost use Rattle.std.specs.Str.{IsUtf8};
+ghost use Rattle.llb_tree.specs.Faults.{Gives, MemoryLast};
+ghost use Rattle.llb_tree.specs.Path.{is_name, is_name_byte, name_of, below, enter, depth, path_of, IsPath, ReadsBack};
 
 use crate::fault::TreeFault;
 use std::alloc::Global;
@@ -12,7 +13,7 @@ use std::cmp::Ordering;
 use std::marker::Model;
 
 /// A name: 1 to 255 bytes of UTF-8 without `/`, none below 0x20 and none 0x7F, and neither `.` nor `..`.
-#[derive(Clone, Debug, Drop)]
+#[derive(Clone, Drop)]
 pub struct Name {
     text: String,
 }
@@ -50,9 +51,10 @@ impl Name {
         is_plain(bytes)
     }
 
-    /// The name that a text is; 26 `BadName` where it is none, 27 `Memory`.
+    /// The name that a text is; 26 `BadName` where it is none, else 27 `Memory`.
     pub fn new(alloc: Global, text: &str) -> Result<Name, TreeFault>
-        ensures { Gives (λ n. n) result (name_of text.now) }
+        ensures gives { Gives (λ n. n) result (name_of text.now) }
+        ensures last { MemoryLast result (name_of text.now) }
     {
         if !Name::is_name(text) {
             return Err(TreeFault::BadName);
@@ -65,6 +67,7 @@ impl Name {
     pub fn as_str(&self) -> &str
         ensures value { result.now ≡ self.now }
         ensures name { IsTrue (is_name self.now) }
+        ensures utf8 { IsUtf8 self.now }
     {
         self.text.as_str()
     }
@@ -138,7 +141,7 @@ impl Ord for Name {
 }
 
 /// A path: at most 128 names, from the root down. The root has none.
-#[derive(Clone, Debug, Drop)]
+#[derive(Clone, Drop)]
 pub struct Path {
     names: Vec<Name>,
 }
@@ -166,10 +169,12 @@ impl Path {
 
     /// The path that a text reads as, from the root: the text is split at `/`, empty parts and `.` are dropped, and
     /// `..` removes the last name and stops at the root. 26 `BadName` at the first part that is no name or is the
-    /// 129th name, also where a later `..` would remove it; 27 `Memory`.
+    /// 129th name, also where a later `..` would remove it; 27 `Memory` only where the text reads as a path.
     pub fn read(alloc: Global, text: &str) -> Result<Path, TreeFault>
-        ensures { Gives (λ p. p) result (path_of text.now) }
+        ensures gives { Gives (λ p. p) result (path_of text.now) }
+        ensures last { MemoryLast result (path_of text.now) }
     {
+        depth_of(text)?;
         let mut path = Path::root(alloc);
         for part in text.split('/') {
             path.enter(alloc, part)?;
@@ -200,6 +205,7 @@ impl Path {
     pub fn names(&self) -> &[Name]
         ensures all { result.now ≡ self.now }
         ensures short { length self.now ≤ 128 }
+        ensures path { IsPath self.now }
     {
         self.names.as_slice()
     }
@@ -211,9 +217,10 @@ impl Path {
         self.names.is_empty()
     }
 
-    /// Goes down to a name; 26 `BadName` where it would be the 129th, 27 `Memory`.
+    /// Goes down to a name; 26 `BadName` where it would be the 129th, else 27 `Memory`.
     pub fn push(&mut self, name: Name) -> Result<(), TreeFault>
         ensures gives { Gives (λ _. self.new) result (below self.old name) }
+        ensures last { MemoryLast result (below self.old name) }
         ensures err { OnErr result (self.new ≡ self.old) }
     {
         let _is_name = name.as_str();
@@ -245,6 +252,39 @@ impl Path {
     {
         let _ = &self.names;
     }
+}
+
+// How many names the path has that a text reads as, or why it reads as none. Takes no memory.
+fn depth_of(text: &str) -> Result<usize, TreeFault>
+    ensures { result ≡ depth (path_of text.now) }
+{
+    let mut names = 0;
+    for part in text.split('/') {
+        names = depth_after(names, part)?;
+    }
+    Ok(names)
+}
+
+// How many names there are behind a part, where so many are before it.
+fn depth_after(names: usize, part: &str) -> Result<usize, TreeFault>
+    ensures { (path : List (List ℕ)) → length path ≡ names → result ≡ depth (enter path part.now) }
+{
+    if part.is_empty() {
+        return Ok(names);
+    }
+    if part.as_bytes() == b".".as_slice() {
+        return Ok(names);
+    }
+    if part.as_bytes() == b"..".as_slice() {
+        return Ok(names.saturating_sub(1));
+    }
+    if !Name::is_name(part) {
+        return Err(TreeFault::BadName);
+    }
+    if names >= 128 {
+        return Err(TreeFault::BadName);
+    }
+    Ok(names + 1)
 }
 
 impl PartialEq for Path {

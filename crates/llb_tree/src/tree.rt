@@ -1,10 +1,10 @@
 //! The tree: a map from paths to entries, kept as the list of its entries in path order. The list is sorted and makes
 //! a tree by its type; a place in it is found by binary search. What a call answers is said of the map alone.
 
-ghost use Rattle.std.specs.Prelude.{◌≡◌, ◌<◌, ◌≤◌, length, IfOk, IfErr, Ok, OnOk, OnErr, map, option_map, slice_get};
+ghost use Rattle.std.specs.Prelude.{◌≡◌, ◌<◌, ◌≤◌, length, IfOk, IfErr, Ok, OnErr, false, map, option_map, slice_get};
 ghost use Rattle.std.specs.FinMap as finite;
 ghost use Rattle.llb_tree.specs.Path.{path_cmp};
-ghost use Rattle.llb_tree.specs.Tree.{Gives, IsTree, empty_tree, put_file, put_dir, walk, file_fits, dir_fits};
+ghost use Rattle.llb_tree.specs.Tree.{is_memory, Gives, MemoryLast, IsTree, empty_tree, put_file, put_dir, walk, file_fits, dir_fits};
 ghost use Rattle.llb_tree.specs.Rows.{seen, pair_seen, kept, pair_of, map_of, AreSorted, place};
 
 use crate::fault::TreeFault;
@@ -16,7 +16,7 @@ use std::cmp::Ordering;
 use std::marker::Model;
 
 /// What stands at a path: a directory, or a file with its content.
-#[derive(Clone, Copy, Debug, PartialEq, Eq)]
+#[derive(Clone, Copy)]
 pub enum Entry<'a> {
     Dir(Meta),
     File(Meta, &'a Bytes),
@@ -88,7 +88,8 @@ fn entry_at<'a>(rows: &'a [Row], names: &[Name]) -> Option<&'a Stored>
 // Whether each proper prefix of the names is a directory.
 fn walked(rows: &[Row], names: &[Name]) -> Result<(), TreeFault>
     requires { AreSorted rows.now }
-    ensures { result ≡ walk (finite.get (map_of rows.now)) names.now }
+    ensures walks { result ≡ walk (finite.get (map_of rows.now)) names.now }
+    ensures known { IfErr result (λ e. is_memory e ≡ false) }
 {
     for i in 0..names.len() {
         match entry_at(rows, &names[..i]) {
@@ -188,8 +189,10 @@ impl Tree {
     /// After a refusal the tree is unchanged.
     pub fn put_file(&mut self, path: &Path, meta: Meta, content: Bytes) -> Result<(), TreeFault>
         ensures gives { Gives (λ _. self.new) result (put_file self.old path.now meta content) }
+        ensures last { MemoryLast result (put_file self.old path.now meta content) }
         ensures err { OnErr result (self.new ≡ self.old) }
     {
+        meta.is_meta();
         if path.is_root() {
             return Err(TreeFault::Root);
         }
@@ -204,8 +207,10 @@ impl Tree {
     /// 27 `Memory`. After a refusal the tree is unchanged.
     pub fn put_dir(&mut self, path: &Path, meta: Meta) -> Result<(), TreeFault>
         ensures gives { Gives (λ _. self.new) result (put_dir self.old path.now meta) }
+        ensures last { MemoryLast result (put_dir self.old path.now meta) }
         ensures err { OnErr result (self.new ≡ self.old) }
     {
+        meta.is_meta();
         walked(&self.rows, path.names())?;
         dir_may_stand(&self.rows, path.names())?;
         put(&mut self.rows, path, Stored::Dir(meta))?;

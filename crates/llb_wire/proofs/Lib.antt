@@ -1,7 +1,5 @@
 pub mod Limits
-pub mod Prefix
-pub mod Grammar
-pub mod Spellings
+pub mod Faults
 pub mod RecordGrammar
 pub mod Written
 pub mod SinkLemmas

@@ -1,32 +1,19 @@
 -- Whatever the grammar spells as a record is read as that record.
-use Rattle.std.proofs.Common.{◌≡◌, ℕ, ◌+◌, ◌-◌, ◌*◌, ◌/◌, ◌%◌, ◌<◌, ◌≤◌, Bool, false, cond, ltb, ◌==◌, List, length, take, drop, Option, Some, None, Result, Ok, Err, refl, sym, ap, ◌∙◌, arith}
+use Rattle.std.proofs.Common.{◌≡◌, ℕ, ◌+◌, ◌-◌, ◌*◌, false, ltb, List, length, take, drop, Result, Ok, refl, sym, ap, ◌∙◌, arith}
 use Rattle.std.proofs.lemmas.Bool.{le-ltb}
-use Rattle.std.proofs.lemmas.Bool.Decides.{nat_tests}
 use Rattle.std.proofs.lemmas.List.{length-drop}
 use Rattle.std.specs.Int.{Width, w32, w64, byte_len, from_le_bytes}
 use Rattle.llb_wire.specs.declared.fault.WireFault.{WireFault}
 use Rattle.llb_wire.specs.declared.field.Wire.{Wire}
 use Rattle.llb_wire.specs.declared.field.Wire.TheVariants as wire
 use Rattle.llb_wire.specs.declared.field.Field.{Field}
-use Rattle.llb_wire.specs.Answer.{◌>>=◌}
-use Rattle.llb_wire.specs.Reading.{varint_at, number_of, wire_of, fixed_at, as_field, payload_at, field_at, next_field}
-use Rattle.llb_wire.specs.Spelling.{code_of, between, VarintAt, FixedAt, PayloadAt, RecordAt, IsFieldNumber}
-use Rattle.llb_wire.proofs.Grammar.{varint_only}
+use Rattle.llb_wire.specs.Reading.{fixed_at, as_field, payload_at, field_at}
+use Rattle.llb_wire.specs.Spelling.{code_of, FixedAt, PayloadAt, RecordAt}
+use Rattle.llb_wire.specs.Laws.Varints.{varint_only}
+use Rattle.llb_wire.specs.Laws.Records.{number_is, wire_is}
 
 abbrev ok_of : Field → Result Field WireFault
 ok_of f = Ok f
-
-pub number_is : (n : ℕ) (w : Wire) → IsFieldNumber n → number_of ((8 * n + code_of w) / 8) ≡ Ok n
-number_is n wire.Varint h = let e : (8 * n + 0) / 8 ≡ n = omega arith in rw e (grind (arith, nat_tests))
-number_is n wire.I64 h = let e : (8 * n + 1) / 8 ≡ n = omega arith in rw e (grind (arith, nat_tests))
-number_is n wire.Len h = let e : (8 * n + 2) / 8 ≡ n = omega arith in rw e (grind (arith, nat_tests))
-number_is n wire.I32 h = let e : (8 * n + 5) / 8 ≡ n = omega arith in rw e (grind (arith, nat_tests))
-
-pub wire_is : (n : ℕ) (w : Wire) → wire_of ((8 * n + code_of w) % 8) ≡ Ok w
-wire_is n wire.Varint = let e : (8 * n + 0) % 8 ≡ 0 = omega arith in rw e refl
-wire_is n wire.I64 = let e : (8 * n + 1) % 8 ≡ 1 = omega arith in rw e refl
-wire_is n wire.Len = let e : (8 * n + 2) % 8 ≡ 2 = omega arith in rw e refl
-wire_is n wire.I32 = let e : (8 * n + 5) % 8 ≡ 5 = omega arith in rw e refl
 
 fixed_is : (w : Width) (bytes : List ℕ) (at n last : ℕ) → FixedAt w bytes at n last → fixed_at w bytes at ≡ Ok (n, last)
 fixed_is w bytes at n last h =
@@ -53,10 +40,3 @@ unfolding field_at
 record_only bytes at f h =
     rw (varint_only bytes at (8 * f.number + code_of f.wire) h.tag_end h.tag.spelled, number_is f.number f.wire h.tag.named, wire_is f.number f.wire)
     (payload_is f.number f.wire bytes h.tag_end f refl refl h.payload)
-
-pub next_only : (bytes : List ℕ) (at : ℕ) (f : Field) → RecordAt bytes at f → next_field bytes at ≡ Ok (Some f)
-unfolding next_field
-next_only bytes at f h =
-    let inside : at < length bytes = omega (arith, h.tag.spelled.begins, h.tag.spelled.inside) in
-    let here : (at == length bytes) ≡ false = grind (arith, nat_tests) in
-    rw (here, record_only bytes at f h) refl

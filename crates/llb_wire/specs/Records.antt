@@ -1,7 +1,12 @@
--- A record with its bytes, and no place.
-use Rattle.std.specs.Prelude.{ℕ, List, take, drop}
+-- A record with its bytes, and no place; and which bytes spell a list of records.
+use Rattle.std.specs.Prelude.{◌≡◌, ℕ, ◌+◌, ◌-◌, ◌*◌, ◌≤◌, List, [], ◌∷◌, ◌++◌, length, take, drop, Some, None, Ok}
+use Rattle.std.specs.List.{AllByRecursion, flat_map}
+use Rattle.std.specs.Int.{Width, w32, w64, byte_len, to_le_bytes, from_le_bytes}
 use Rattle.llb_wire.specs.declared.field.Wire.{Wire}
+use Rattle.llb_wire.specs.declared.field.Wire.TheVariants.{Varint, I64, Len, I32}
 use Rattle.llb_wire.specs.declared.field.Field.{Field}
+use Rattle.llb_wire.specs.Spelling.{code_of, IsFieldNumber, IsVarint, AreBytes, varint_text, value_text, record_text}
+use Rattle.llb_wire.specs.Reading.{next_field}
 
 -- the payload, and the whole record's own bytes as they stand
 pub record Record : Type 0 where
@@ -14,3 +19,62 @@ pub record Record : Type 0 where
 -- the record that stands at the front of the bytes
 abbrev pub record_of : List ℕ → Field → Record
 record_of bytes f = record { number = f.number; wire = f.wire; value = f.value; payload = drop f.start (take f.«end» bytes); text = take f.«end» bytes }
+
+-- the record that stands at a place of the bytes
+abbrev pub record_at : List ℕ → ℕ → Field → Record
+record_at bytes at f = record { number = f.number; wire = f.wire; value = f.value; payload = drop f.start (take f.«end» bytes); text = drop at (take f.«end» bytes) }
+
+-- where a record lies whose bytes begin at a place
+abbrev pub placed : ℕ → Record → Field
+placed at r = record { number = r.number; wire = r.wire; value = r.value; start = at + (length r.text - length r.payload); «end» = at + length r.text }
+
+-- ---- the grammar of records, with no place
+
+-- a number of a fixed width, least significant byte first
+pub record IsFixed (w : Width) (bytes : List ℕ) (n : ℕ) : Type 0 where
+  pub size : length bytes ≡ byte_len w
+  pub value : n ≡ from_le_bytes w bytes
+
+-- the bytes behind the tag: the number of a LEN is the count of the bytes that follow it, else all are the number's
+abbrev pub IsPayload : Wire → List ℕ → ℕ → List ℕ → Type 0
+IsPayload Varint bytes value payload = (payload ≡ bytes) × IsVarint bytes value
+IsPayload I64 bytes value payload = (payload ≡ bytes) × IsFixed w64 bytes value
+IsPayload Len bytes value payload = (count : List ℕ) × (bytes ≡ count ++ payload) × IsVarint count value × (length payload ≡ value)
+IsPayload I32 bytes value payload = (payload ≡ bytes) × IsFixed w32 bytes value
+
+-- a record's own bytes: its tag, which is eight times the field's number and the wire type, and behind it the payload
+pub record IsRecord (r : Record) : Type 0 where
+  pub tag : List ℕ
+  pub behind : List ℕ
+  pub text : r.text ≡ tag ++ behind
+  pub named : IsFieldNumber r.number
+  pub tagged : IsVarint tag (8 * r.number + code_of r.wire)
+  pub payload : IsPayload r.wire behind r.value r.payload
+
+-- the records' own bytes, one behind the other, are the bytes, and each spells its record
+pub record SpellRecords (bytes : List ℕ) (rs : List Record) : Type 0 where
+  pub whole : bytes ≡ flat_map (λ r. r.text) rs
+  pub each : AllByRecursion IsRecord rs
+
+-- walking from record to record, from a place up to the end
+abbrev pub Walks : List ℕ → ℕ → List Record → Type 0
+Walks bytes at [] = next_field bytes at ≡ Ok None
+Walks bytes at (r ∷ rs) = (f : Field) × (next_field bytes at ≡ Ok (Some f)) × (r ≡ record_at bytes at f) × Walks bytes f.«end» rs
+
+-- ---- what is written
+
+-- the payload's own bytes
+abbrev pub own_text : Wire → ℕ → List ℕ → List ℕ
+own_text Varint value payload = varint_text value
+own_text I64 value payload = to_le_bytes w64 value
+own_text Len value payload = payload
+own_text I32 value payload = to_le_bytes w32 value
+
+abbrev pub written_record : ℕ → Wire → ℕ → List ℕ → Record
+written_record number wire value payload = record { number = number; wire = wire; value = value_text wire value payload; payload = own_text wire value payload; text = record_text number wire value payload }
+
+-- a record's bytes, than which no bytes that spell that number, wire type and value are fewer
+pub record IsShortestRecord (r : Record) : Type 0 where
+  pub is_one : IsRecord r
+  pub bytes : AreBytes r.text
+  pub least : (other : Record) → AreBytes other.text → IsRecord other → other.number ≡ r.number → other.wire ≡ r.wire → other.value ≡ r.value → length r.text ≤ length other.text

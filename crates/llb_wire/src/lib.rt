@@ -4,9 +4,9 @@
 #![tactic(auto)]
 
 mod bytes;
-mod duplicate;
 mod fault;
 mod field;
+mod laws;
 mod many;
 mod reading;
 mod sink;
@@ -14,14 +14,11 @@ mod text;
 mod writing;
 
 pub use bytes::Bytes;
-pub use duplicate::Duplicate;
 pub use fault::{Memory, WireFault};
 pub use field::{Field, Wire};
+pub use laws::{spells_one_list, walk_meets_what_is_spelled};
 pub use many::Many;
 pub use reading::{next_record, varint};
 pub use sink::{Failed, Over, Sink, write_all};
 pub use text::Text;
 pub use writing::{write_record, write_varint};
-
-#[cfg(test)]
-mod tests;

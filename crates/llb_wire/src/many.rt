@@ -1,9 +1,7 @@
 //! Lists of a public type, which contracts see as lists.
 
-ghost use Rattle.std.specs.Prelude.{◌≡◌, ◌==◌, length, IfOk};
+ghost use Rattle.std.specs.Prelude.{◌≡◌, ◌==◌, length};
 
-use crate::duplicate::Duplicate;
-use crate::fault::Memory;
 use std::marker::Model;
 
 /// A list that owns its items. Contracts see the list of their values.
@@ -51,16 +49,5 @@ impl<T> Many<T> {
         ensures { result.items ≡ self }
     {
         self.items
-    }
-}
-
-impl<T: Duplicate> Duplicate for Many<T> {
-    fn duplicate(&self) -> Result<Many<T>, Memory> {
-        let mut items = Vec::new(*self.items.allocator());
-        for item in &self.items {
-            let copy = item.duplicate()?;
-            items.push(copy)?;
-        }
-        Ok(Many { items })
     }
 }

@@ -6,13 +6,12 @@ ghost use Rattle.std.specs.Str.{IsUtf8};
 
 use crate::fault::Memory;
 use std::alloc::Global;
-use std::cmp::Ordering;
 use std::fmt;
 use std::hash::{Hash, Hasher};
 use std::marker::Model;
 
 /// A text in UTF-8 that owns its memory. Contracts see the list of its bytes.
-#[derive(Clone, Debug, Drop)]
+#[derive(Debug, Drop)]
 pub struct Text {
     content: String,
 }
@@ -114,36 +113,4 @@ impl Eq for Text {
     ghost use Rattle.std.specs.Cmp.Lexicographic.{nat_list_eq_equiv};
 
     ghost laws = { nat_list_eq_equiv };
-}
-
-impl PartialOrd for Text {
-    ghost use Rattle.std.specs.Prelude.{Some};
-    ghost use Rattle.std.specs.Ordering.{nat_cmp};
-    ghost use Rattle.std.specs.Cmp.Lexicographic.{slice_cmp, texts_po};
-
-    ghost partial_cmp = { λ x y. Some (slice_cmp nat_cmp x y) };
-
-    ghost laws = { texts_po };
-
-    fn partial_cmp(&self, other: &Self) -> Option<Ordering> {
-        Some(self.cmp(other))
-    }
-}
-
-impl Ord for Text {
-    ghost use Rattle.std.proofs.Common.{refl};
-    ghost use Rattle.std.specs.Ordering.{nat_cmp};
-    ghost use Rattle.std.specs.Cmp.Lexicographic.{slice_cmp, nat_list_cmp_total, texts_ties};
-
-    ghost cmp = { slice_cmp nat_cmp };
-
-    ghost total = { nat_list_cmp_total };
-
-    ghost matches_partial_cmp = { λ x y. refl };
-
-    ghost matches_eq = { texts_ties };
-
-    fn cmp(&self, other: &Self) -> Ordering {
-        self.as_str().as_bytes().cmp(other.as_str().as_bytes())
-    }
 }

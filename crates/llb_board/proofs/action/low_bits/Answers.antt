@@ -15,9 +15,13 @@ below (negsuc n) = omega arith
 
 pub returns-clause-value : goal.returns-clause-value
 returns-clause-value c =
-    ap unsigned_abs (to_z-of_z w32 c.rem_euclid.result (record { sfits = c.rem_euclid.type_inv }) ∙ c.rem_euclid.ensures.value ∙ ap (λ z. int_rem_euclid z (pos 4096)) (to_z-of_z w32 c.args.mode c.ranges.mode) ∙ low c.args.mode)
+    ap unsigned_abs
+    (to_z-of_z w32 c.rem_euclid.result (record { sfits = c.rem_euclid.type_inv }) ∙ c.rem_euclid.ensures.value
+    ∙ ap (λ z. int_rem_euclid z (pos 4096)) (to_z-of_z w32 c.args.mode c.ranges.mode) ∙ low c.args.mode)
 
 pub returns-clause-small : goal.returns-clause-small
 returns-clause-small c =
-    let is = ap unsigned_abs (to_z-of_z w32 c.rem_euclid.result (record { sfits = c.rem_euclid.type_inv }) ∙ c.rem_euclid.ensures.value ∙ ap (λ z. int_rem_euclid z (pos 4096)) (to_z-of_z w32 c.args.mode c.ranges.mode) ∙ low c.args.mode) in
+    let is = ap unsigned_abs
+    (to_z-of_z w32 c.rem_euclid.result (record { sfits = c.rem_euclid.type_inv }) ∙ c.rem_euclid.ensures.value
+    ∙ ap (λ z. int_rem_euclid z (pos 4096)) (to_z-of_z w32 c.args.mode c.ranges.mode) ∙ low c.args.mode) in
     subst (λ (n : ℕ). n ≤ 4095) (sym is) (below c.args.mode)

@@ -15,5 +15,6 @@ loop-v-preserved c =
     let low : c.loop-v.v < length g.vertices = rw c.vertices.ensures.all at c.loop-v-test.true in
     let over_is : c.is_over.result ≡ true = search rules in
     let over : is_over b S c.loop-v.v ≡ true
-    = ap (λ marks. is_settled (slice_get S c.loop-v.v) || (is_waiting (slice_get S c.loop-v.v) && unwrap_or (slice_get marks c.loop-v.v) false)) (sym c.requires) ∙ sym c.is_over.ensures ∙ over_is in
+    = ap (λ marks. is_settled (slice_get S c.loop-v.v) || (is_waiting (slice_get S c.loop-v.v) && unwrap_or (slice_get marks c.loop-v.v) false))
+    (sym c.requires) ∙ sym c.is_over.ensures ∙ over_is in
     each_later (is_over b S) (length g.vertices) c.loop-v.v c.loop-v.invariant low over

@@ -15,8 +15,11 @@ loop-v-preserved c =
     let S = map status_of c.args.stands.now in
     let low : c.loop-v.v < length g.vertices = rw c.vertices-vertices.ensures.all at c.loop-v-test.true in
     let at : slice_get g.vertices c.loop-v.v ≡ Some c.index-vertices-v.result
-    = ap (λ vs. slice_get vs c.loop-v.v) (sym c.vertices-vertices.ensures.all) ∙ slice_get_read c.vertices-vertices.result.now (length c.vertices-vertices.result.now) c.loop-v.v c.index-vertices-v.result refl c.loop-v-test.true c.index-vertices-v.is in
-    let ready : is_ready b S c.loop-v.v ≡ false = ap (λ vx. is_some (start_from S (slice_get S c.loop-v.v) vx)) at ∙ sym c.is_ready.ensures ∙ c.if-is_ready.false in
+    = ap (λ vs. slice_get vs c.loop-v.v) (sym c.vertices-vertices.ensures.all)
+    ∙ slice_get_read c.vertices-vertices.result.now (length c.vertices-vertices.result.now) c.loop-v.v c.index-vertices-v.result refl
+    c.loop-v-test.true c.index-vertices-v.is in
+    let ready : is_ready b S c.loop-v.v ≡ false
+    = ap (λ vx. is_some (start_from S (slice_get S c.loop-v.v) vx)) at ∙ sym c.is_ready.ensures ∙ c.if-is_ready.false in
     least_later (is_ready b S) (length g.vertices) c.loop-v.v c.loop-v.invariant low ready
 
 pub returns-then-is_ready : goal.returns-then-is_ready
@@ -26,6 +29,9 @@ returns-then-is_ready c =
     let S = map status_of c.args.stands.now in
     let low : c.loop-v.v < length g.vertices = rw c.vertices-vertices.ensures.all at c.loop-v-test.true in
     let at : slice_get g.vertices c.loop-v.v ≡ Some c.index-vertices-v.result
-    = ap (λ vs. slice_get vs c.loop-v.v) (sym c.vertices-vertices.ensures.all) ∙ slice_get_read c.vertices-vertices.result.now (length c.vertices-vertices.result.now) c.loop-v.v c.index-vertices-v.result refl c.loop-v-test.true c.index-vertices-v.is in
-    let ready : is_ready b S c.loop-v.v ≡ true = ap (λ vx. is_some (start_from S (slice_get S c.loop-v.v) vx)) at ∙ sym c.is_ready.ensures ∙ c.if-is_ready.true in
+    = ap (λ vs. slice_get vs c.loop-v.v) (sym c.vertices-vertices.ensures.all)
+    ∙ slice_get_read c.vertices-vertices.result.now (length c.vertices-vertices.result.now) c.loop-v.v c.index-vertices-v.result refl
+    c.loop-v-test.true c.index-vertices-v.is in
+    let ready : is_ready b S c.loop-v.v ≡ true
+    = ap (λ vx. is_some (start_from S (slice_get S c.loop-v.v) vx)) at ∙ sym c.is_ready.ensures ∙ c.if-is_ready.true in
     sym (ap (option_map {U = Event} (λ v. Claim 0 v)) (least_here (is_ready b S) (length g.vertices) c.loop-v.v c.loop-v.invariant low ready))

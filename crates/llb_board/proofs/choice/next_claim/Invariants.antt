@@ -5,4 +5,6 @@ use Rattle.llb_board.specs.Views.{status_of}
 use Rattle.llb_board.proofs.choice.next_claim.Given as goal
 
 abbrev pub invariant-loop-v : goal.invariant-loop-v
-invariant-loop-v l = least (is_ready (record { graph = l.graph }) (map status_of l.stands)) l.v (length l.graph.vertices - l.v) ≡ least (is_ready (record { graph = l.graph }) (map status_of l.stands)) 0 (length l.graph.vertices)
+invariant-loop-v l =
+    least (is_ready (record { graph = l.graph }) (map status_of l.stands)) l.v (length l.graph.vertices - l.v) ≡ least
+    (is_ready (record { graph = l.graph }) (map status_of l.stands)) 0 (length l.graph.vertices)

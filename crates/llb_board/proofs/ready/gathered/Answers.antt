@@ -17,13 +17,21 @@ loop-edge-init c =
 pub loop-edge-preserved : goal.loop-edge-preserved
 loop-edge-preserved c =
     record {
-      gathered = rw c.push_reserved.ensures.items (gathered_next (ending_at (map status_of c.args.stands.now)) c.args.inputs.now c.loop-edge.edge-index c.loop-edge.trees.items _ c.loop-edge.invariant.gathered c.loop-edge-test.true (search rules));
+      gathered = rw c.push_reserved.ensures.items
+          (gathered_next (ending_at (map status_of c.args.stands.now)) c.args.inputs.now c.loop-edge.edge-index c.loop-edge.trees.items _
+          c.loop-edge.invariant.gathered c.loop-edge-test.true (search rules));
       count = rw c.push_reserved.ensures.items (omega (arith, length-append c.loop-edge.trees.items, c.loop-edge.invariant.count));
       reserved = search rules;
     }
 
 pub returns : goal.returns
-returns c = ap or_not_ready (gathered_end (ending_at (map status_of c.args.stands.now)) c.args.inputs.now c.loop-edge.edge-index c.loop-edge.trees.items c.loop-edge.invariant.gathered c.loop-edge-test.false)
+returns c =
+    ap or_not_ready
+    (gathered_end (ending_at (map status_of c.args.stands.now)) c.args.inputs.now c.loop-edge.edge-index c.loop-edge.trees.items
+    c.loop-edge.invariant.gathered c.loop-edge-test.false)
 
 pub returns-in-None : goal.returns-in-None
-returns-in-None c = λ m. ap or_not_ready (gathered_missing (ending_at (map status_of c.args.stands.now)) c.args.inputs.now c.loop-edge.edge-index c.loop-edge.trees.items c.loop-edge.invariant.gathered c.loop-edge-test.true (search rules))
+returns-in-None c =
+    λ m. ap or_not_ready
+    (gathered_missing (ending_at (map status_of c.args.stands.now)) c.args.inputs.now c.loop-edge.edge-index c.loop-edge.trees.items
+    c.loop-edge.invariant.gathered c.loop-edge-test.true (search rules))

@@ -12,7 +12,8 @@ push_reserved-requires c =
 pub loop-i-preserved : goal.loop-i-preserved
 loop-i-preserved c =
     let tree : c.in_ok-empty.field-0 ≡ empty_tree = search rules in
-    let more : c.loop-i.trees.items ++ c.in_ok-empty.field-0 ∷ [] ≡ replicate c.loop-i._i empty_tree ++ empty_tree ∷ [] = λ i. c.loop-i.invariant.all i ++ tree i ∷ [] in
+    let more : c.loop-i.trees.items ++ c.in_ok-empty.field-0 ∷ [] ≡ replicate c.loop-i._i empty_tree ++ empty_tree ∷ []
+    = λ i. c.loop-i.invariant.all i ++ tree i ∷ [] in
     record {
       all = ◌∙◌ {A = List TreeMap} c.push_reserved.ensures.items (more ∙ replicate_more empty_tree c.loop-i._i);
       reserved = search rules;

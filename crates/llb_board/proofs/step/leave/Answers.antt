@@ -20,9 +20,11 @@ returns-in-Runs-replace-clause-gives c =
     let b : Build = record { graph = c.args.graph.now } in
     let ds = c.args.desks.now in
     let x = c.in-Runs.execution in
-    let looked : slice_get ds c.args.w ≡ Some (desk.Runs x) = slice_get-get_or ds c.args.w c.index-desks-w.result c.if-w-desks.false ∙ ap (λ d. Some d) c.in-Runs.is in
+    let looked : slice_get ds c.args.w ≡ Some (desk.Runs x)
+    = slice_get-get_or ds c.args.w c.index-desks-w.result c.if-w-desks.false ∙ ap (λ d. Some d) c.in-Runs.is in
     let taken : slice_get ds c.args.w ≡ Some (desk.Runs c.in-Runs-replace.execution)
     = slice_get-get_or ds c.args.w c.index-desks-w-2.result c.if-w-desks.false ∙ ap (λ d. Some d) (sym c.replace.ensures.value ∙ c.in-Runs-replace.is) in
     let finished : is_finished (program_in b (execution_of x)).steps (execution_of x) ≡ true
     = ap (λ steps. is_finished steps (execution_of x)) (sym c.actions_at.ensures.steps) ∙ sym c.is_finished.ensures ∙ c.if-not-is_finished.false in
-    leaves b ds c.args.w x c.in-Runs-replace.execution (map Act c.actions_at-in-Runs-replace.result.now) (status_of c.end.result) c.requires looked taken finished c.actions_at-in-Runs-replace.ensures.steps c.end.ensures
+    leaves b ds c.args.w x c.in-Runs-replace.execution (map Act c.actions_at-in-Runs-replace.result.now) (status_of c.end.result) c.requires looked
+    taken finished c.actions_at-in-Runs-replace.ensures.steps c.end.ensures

@@ -14,10 +14,12 @@ loop-tree-preserved c =
     let k : c.len.result ≡ length c.pop.new.self.items = search rules in
     let next : c.place.new.outputs.items ≡ placed_by (slice_get c.args.actions.now (length c.pop.new.self.items)) c.in-Some.tree c.loop-tree.outputs.items
     = c.place.ensures ∙ ap (λ n. placed_by (slice_get c.args.actions.now n) c.in-Some.tree c.loop-tree.outputs.items) k in
-    rw next (placed_next c.args.actions.now (results_in c.args.view) (length c.args.outputs.items) c.pop.new.self.items c.in-Some.tree c.loop-tree.outputs.items here)
+    rw next (placed_next c.args.actions.now (results_in c.args.view) (length c.args.outputs.items) c.pop.new.self.items c.in-Some.tree
+    c.loop-tree.outputs.items here)
 
 pub returns : goal.returns
 returns c =
     let len : vec_len c.loop-tree.results ≡ length c.loop-tree.results.items = search rules in
     let empty : c.loop-tree.results.items ≡ [] = no_items c.loop-tree.results.items (sym len ∙ c.in_default.ensures.cases.0) in
-    placed_end (map Act c.args.actions.now) c.args.view (length c.args.outputs.items) c.loop-tree.results.items c.loop-tree.outputs.items c.loop-tree.invariant empty
+    placed_end (map Act c.args.actions.now) c.args.view (length c.args.outputs.items) c.loop-tree.results.items c.loop-tree.outputs.items
+    c.loop-tree.invariant empty

@@ -16,7 +16,8 @@ returns-in_ok-push-in-Ok-clause-gives c =
     let x = c.args.execution.now in
     let more : false ≡ is_finished (map Act c.args.actions.now) (execution_of x) = search rules in
     let at : slice_get c.args.actions.now x.done ≡ Some c.index-actions-done.result
-    = slice_get_read c.args.actions.now (length c.args.actions.now) x.done c.index-actions-done.result refl (step_there c.args.actions.now (execution_of x) more) c.index-actions-done.is in
+    = slice_get_read c.args.actions.now (length c.args.actions.now) x.done c.index-actions-done.result refl
+    (step_there c.args.actions.now (execution_of x) more) c.index-actions-done.is in
     worked_acts c.args.actions.now x.vertex x.done x.fault x.view c.index-actions-done.result c.in-Ok.tree more at c.in-Ok.ensures
     ∙ (λ i. Ok (record { vertex = x.vertex; done = x.done + 1; fault = x.fault; own = sym c.in_ok-push-in-Ok.ensures.ok i }, Acted x.done))
 
@@ -25,7 +26,12 @@ returns-in-Err-clause-gives c =
     let x = c.args.execution.now in
     let more : false ≡ is_finished (map Act c.args.actions.now) (execution_of x) = search rules in
     let at : slice_get c.args.actions.now x.done ≡ Some c.index-actions-done.result
-    = slice_get_read c.args.actions.now (length c.args.actions.now) x.done c.index-actions-done.result refl (step_there c.args.actions.now (execution_of x) more) c.index-actions-done.is in
+    = slice_get_read c.args.actions.now (length c.args.actions.now) x.done c.index-actions-done.result refl
+    (step_there c.args.actions.now (execution_of x) more) c.index-actions-done.is in
     let is : act c.index-actions-done.result.kind (base_in c.index-actions-done.result.input (trees_in x.view)) ≡ Err c.in-Err.fault = search rules in
     worked_faults c.args.actions.now x.vertex x.done x.fault x.view c.index-actions-done.result c.in-Err.fault more at is
-    ∙ (λ i. Ok (record { vertex = x.vertex; done = x.done + 1; fault = Some (fault.Action x.done (sym c.number.ensures i)); own = x.view }, Faulted (fault.Action x.done (sym c.number.ensures i))))
+    ∙ (λ i. Ok (
+      record { vertex = x.vertex; done = x.done + 1; fault = Some (fault.Action x.done (sym c.number.ensures i)); own = x.view },
+      Faulted
+          (fault.Action x.done (sym c.number.ensures i)),
+    ))

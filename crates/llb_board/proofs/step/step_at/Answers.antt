@@ -13,14 +13,19 @@ pub returns-in_ok-stepped-in-Runs-clause-gives : goal.returns-in_ok-stepped-in-R
 returns-in_ok-stepped-in-Runs-clause-gives c =
     let b : Build = record { graph = c.args.graph.now } in
     let ds = c.args.desks.now in
-    let at : slice_get ds c.args.w ≡ Some (desk.Runs c.in-Runs.execution) = slice_get-get_or ds c.args.w c.index-desks-w.result c.if-w-desks.false ∙ ap (λ d. Some d) c.in-Runs.is in
-    stepped_as b (state_of [] ds) c.args.w (execution_of c.in-Runs.execution) (map Act c.actions_at.result.now) (execution_of c.step.new.execution, step_reply c.in_ok-stepped-in-Runs.stepped)
+    let at : slice_get ds c.args.w ≡ Some (desk.Runs c.in-Runs.execution)
+    = slice_get-get_or ds c.args.w c.index-desks-w.result c.if-w-desks.false ∙ ap (λ d. Some d) c.in-Runs.is in
+    stepped_as b (state_of [] ds) c.args.w (execution_of c.in-Runs.execution) (map Act c.actions_at.result.now)
+    (execution_of c.step.new.execution, step_reply c.in_ok-stepped-in-Runs.stepped)
     (get_map at_of ds c.args.w (desk.Runs c.in-Runs.execution) at) c.actions_at.ensures.steps c.in_ok-stepped-in-Runs.ensures.gives
-    ∙ (λ i. Ok (record { statuses = []; workers = sym (map_set at_of ds c.args.w (desk.Runs c.step.new.execution)) i }, step_reply c.in_ok-stepped-in-Runs.stepped))
+    ∙ (λ i. Ok
+    (record { statuses = []; workers = sym (map_set at_of ds c.args.w (desk.Runs c.step.new.execution)) i }, step_reply c.in_ok-stepped-in-Runs.stepped))
 
 pub returns-in_ok-stepped-in-Runs-clause-outputs : goal.returns-in_ok-stepped-in-Runs-clause-outputs
 returns-in_ok-stepped-in-Runs-clause-outputs c =
     let ds = c.args.desks.now in
-    let at : slice_get ds c.args.w ≡ Some (desk.Runs c.in-Runs.execution) = slice_get-get_or ds c.args.w c.index-desks-w.result c.if-w-desks.false ∙ ap (λ d. Some d) c.in-Runs.is in
-    map_set ready_made ds c.args.w (desk.Runs c.step.new.execution) ∙ ap (λ o. slice_set (map ready_made ds) c.args.w o.items) c.in_ok-stepped-in-Runs.ensures.outputs
+    let at : slice_get ds c.args.w ≡ Some (desk.Runs c.in-Runs.execution)
+    = slice_get-get_or ds c.args.w c.index-desks-w.result c.if-w-desks.false ∙ ap (λ d. Some d) c.in-Runs.is in
+    map_set ready_made ds c.args.w (desk.Runs c.step.new.execution)
+    ∙ ap (λ o. slice_set (map ready_made ds) c.args.w o.items) c.in_ok-stepped-in-Runs.ensures.outputs
     ∙ set_same (map ready_made ds) c.args.w c.in-Runs.execution.outputs.items (get_map ready_made ds c.args.w (desk.Runs c.in-Runs.execution) at)

@@ -1,12 +1,8 @@
-use Rattle.std.proofs.Common.{◌≡◌, ◌<◌, length, [], None, true, false, IsTrue, inr, sym, subst, arith}
-use Rattle.std.proofs.lemmas.List.{get_or_default}
+use Rattle.std.proofs.Common.{◌≡◌, true, false, IsTrue, inr, sym, subst}
 use Rattle.std.proofs.lemmas.Result.{err_from_is_err_and, MatchResult-weaker}
-use Rattle.llb_ops.specs.declared.op.Op.{Op}
 use Rattle.llb_loader.specs.declared.fault.LoadFault.{LoadFault}
-use Rattle.llb_loader.specs.Checks.{IsWithin}
-use Rattle.llb_loader.specs.Linking.{op_at, Refused}
-use Rattle.llb_loader.specs.Naming.{AllSame, row_at}
-use Rattle.llb_loader.proofs.Limited.{op_within}
+use Rattle.llb_loader.specs.Linking.{Refused}
+use Rattle.llb_loader.specs.Naming.{AllSame}
 use Rattle.llb_loader.proofs.linking.link.Goals as goal
 
 pub returns-in_err-index-clause-refused : goal.returns-in_err-index-clause-refused
@@ -16,12 +12,6 @@ returns-in_err-index-clause-refused c =
     rw (p.1, p.2) (λ m.
     let r = c.in_err-index.ensures.refused m in
     inr (c.in_ok-ops.ops.items, c.in_ok-ops.ensures.read, subst (λ (e : LoadFault). Refused c.args.rows.now c.in_ok-ops.ops.items e) (sym r.1) (several, r.2)))
-
-pub link_read-requires-clause-within : goal.link_read-requires-clause-within
-link_read-requires-clause-within c k d h =
-    let l : k < length c.args.rows.now = (let e = c.in_ok-ops.ensures.read.len in omega (arith, h, e)) in
-    subst (λ (o : Op). IsWithin o) (get_or_default c.in_ok-ops.ops.items k (record { inputs = []; kind = None; extra = [] }) d h)
-    (op_within (row_at c.args.rows.now k).bytes (op_at c.in_ok-ops.ops.items k) (c.in_ok-ops.ensures.read.each k l))
 
 pub returns-clause-graph : goal.returns-clause-graph
 returns-clause-graph c = MatchResult-weaker c.link_read.result c.link_read.ensures.graph (λ g x. (c.in_ok-ops.ops.items, c.in_ok-ops.ensures.read, x)) (λ e t. t)

@@ -1,18 +1,20 @@
 use Rattle.std.proofs.Common.{◌≡◌, ◌↔◌, ℕ, ◌<◌, ◌≤◌, Bool, length, map, List, Option, Some, None, sym, ◌∙◌, ap, subst, arith, IfSome}
+use Rattle.std.specs.Option.{IfNone}
 use Rattle.std.proofs.lemmas.List.{length-map}
 use Rattle.std.proofs.lemmas.Result.{err_from_is_err_and}
 use Rattle.std.specs.Global.{Vec}
 use Rattle.llb_ops.specs.declared.op.Op.{Op}
+use Rattle.llb_loader.specs.declared.fault.LoadFault.TheVariants.{Cycle}
 use Rattle.llb_loader.specs.Rows.{lists, inputs, InRange}
 use Rattle.llb_loader.specs.Placing.{IsMarked}
-use Rattle.llb_loader.specs.Numbering.{IsNumbering}
+use Rattle.llb_loader.specs.Numbering.{IsNumbering, HasCycle}
 use Rattle.llb_loader.specs.Naming.{rows_named}
 use Rattle.llb_loader.specs.Features.{feature_of}
 use Rattle.llb_loader.specs.Rules.{output_count, MeetsEach, rules}
 use Rattle.llb_loader.specs.Linking.{Plan, plan, op_at, links_in, ReachedRow, IsOrdered, IsTaken, IsValid, IsWhole}
 use Rattle.llb_loader.specs.Checks.{RefusesFeature, RefusesRule, RefusesIndex, FitsAll, asked_of}
 use Rattle.llb_loader.proofs.Plans.{in_range}
-use Rattle.llb_loader.proofs.Refusals.{started_below, refuses_feature, refuses_rule, refuses_index, asked_linked, indexes_fit}
+use Rattle.llb_loader.proofs.Refusals.{refuses_feature, refuses_rule, refuses_index, refused_by, asked_linked, indexes_fit}
 use Rattle.llb_loader.proofs.linking.link_named.Goals as goal
 
 links_len : (rows : List (Vec ℕ)) (p : Plan) → lists rows ≡ links_in p → length rows ≡ length p.ops
@@ -48,13 +50,12 @@ number-requires-clause-rows c =
     let p = plan c.args.rows.now c.args.ops.items c.args.terminal c.args.start in
     links_below c.args.links.now p (length c.args.links.now) c.requires.links (let e = links_len c.args.links.now p c.requires.links in let l = c.requires.ops in omega (arith, e, l))
 
-pub number-requires-clause-start : goal.number-requires-clause-start
-number-requires-clause-start c =
-    let p = plan c.args.rows.now c.args.ops.items c.args.terminal c.args.start in
-    let h = started_below p c.requires.named.started in
-    let e = links_len c.args.links.now p c.requires.links in
-    let l = c.requires.ops in
-    omega (arith, h, e, l)
+pub returns-in_default-clause-refused : goal.returns-in_default-clause-refused
+returns-in_default-clause-refused c = λ _.
+    refused_by c.args.rows.now c.args.ops.items (plan c.args.rows.now c.args.ops.items c.args.terminal c.args.start) Cycle c.requires.planned (
+      c.requires.named,
+      subst (λ (g : List (List ℕ)). HasCycle g c.args.start) c.requires.links (subst (λ (o : Option (Vec ℕ)). IfNone o (HasCycle (lists c.args.links.now) c.args.start)) c.in_default.is c.in_ok-order.ensures.cycle),
+    )
 
 pub returns-in_err-check_features-clause-refused : goal.returns-in_err-check_features-clause-refused
 returns-in_err-check_features-clause-refused c =
@@ -62,7 +63,7 @@ returns-in_err-check_features-clause-refused c =
     let p = plan c.args.rows.now c.args.ops.items c.args.terminal c.args.start in
     let ordered : IsOrdered p c.in-Some.order.items = record { named = c.requires.named; numbering = order_is c.args.links.now p _ c.in-Some.order c.requires.links c.in-Some.is c.in_ok-order.ensures.numbering } in
     let found = subst (λ (ops : List Op). RefusesFeature ops (IsMarked c.args.seen.now) c.in_err-check_features.field-0.0) c.deref.ensures.value c.in_err-check_features.ensures.refused in
-    rw (x.1, x.2) (λ _. refuses_feature c.args.rows.now c.args.ops.items c.args.terminal c.args.start c.in-Some.order.items (IsMarked c.args.seen.now) ordered c.requires.exact c.in_err-check_features.field-0.0 found)
+    rw (x.1, x.2) (λ _. refused_by c.args.rows.now c.args.ops.items p c.in_err-check_features.field-0.0 c.requires.planned (refuses_feature c.args.rows.now c.args.ops.items c.args.terminal c.args.start c.in-Some.order.items (IsMarked c.args.seen.now) ordered c.requires.exact c.in_err-check_features.field-0.0 found))
 
 pub returns-in_err-check_rules-clause-refused : goal.returns-in_err-check_rules-clause-refused
 returns-in_err-check_rules-clause-refused c =
@@ -70,8 +71,8 @@ returns-in_err-check_rules-clause-refused c =
     let p = plan c.args.rows.now c.args.ops.items c.args.terminal c.args.start in
     let ordered : IsOrdered p c.in-Some.order.items = record { named = c.requires.named; numbering = order_is c.args.links.now p _ c.in-Some.order c.requires.links c.in-Some.is c.in_ok-order.ensures.numbering } in
     let taken = taken_is p c.in-Some.order.items c.args.seen.now c.deref.result.now ordered c.requires.exact c.deref.ensures.value c.in_ok-check_features.ensures.free in
-    rw (x.1, x.2) (λ m. refuses_rule c.args.rows.now c.args.ops.items c.args.terminal c.args.start c.in-Some.order.items (IsMarked c.args.seen.now) taken c.requires.exact c.in_err-check_rules.field-0.0
-    (subst (λ (ops : List Op). RefusesRule ops (IsMarked c.args.seen.now) c.in_err-check_rules.field-0.0) c.deref-2.ensures.value (c.in_err-check_rules.ensures.refused m)))
+    rw (x.1, x.2) (λ m. refused_by c.args.rows.now c.args.ops.items p c.in_err-check_rules.field-0.0 c.requires.planned (refuses_rule c.args.rows.now c.args.ops.items c.args.terminal c.args.start c.in-Some.order.items (IsMarked c.args.seen.now) taken c.requires.exact c.in_err-check_rules.field-0.0
+    (subst (λ (ops : List Op). RefusesRule ops (IsMarked c.args.seen.now) c.in_err-check_rules.field-0.0) c.deref-2.ensures.value (c.in_err-check_rules.ensures.refused m))))
 
 pub check_indexes-requires-clause-asked : goal.check_indexes-requires-clause-asked
 check_indexes-requires-clause-asked c = λ k _.
@@ -95,7 +96,7 @@ returns-in_err-check_indexes-clause-refused c =
     let found = subst (λ (ops : List Op). RefusesIndex ops (links_in p) (map output_count c.args.ops.items) c.args.seen.now c.args.terminal c.in_err-check_indexes.field-0.0) c.deref-4.ensures.value
     (subst (λ (g : List (List ℕ)). RefusesIndex c.deref-4.result.now g (map output_count c.args.ops.items) c.args.seen.now c.args.terminal c.in_err-check_indexes.field-0.0) c.requires.links
     (subst (λ (ns : List ℕ). RefusesIndex c.deref-4.result.now (lists c.args.links.now) ns c.args.seen.now c.args.terminal c.in_err-check_indexes.field-0.0) counts c.in_err-check_indexes.ensures.refused)) in
-    rw (x.1, x.2) (λ _. refuses_index c.args.rows.now c.args.ops.items c.args.terminal c.args.start c.in-Some.order.items c.args.seen.now valid c.requires.ops c.requires.exact c.in_err-check_indexes.field-0.0 found)
+    rw (x.1, x.2) (λ _. refused_by c.args.rows.now c.args.ops.items p c.in_err-check_indexes.field-0.0 c.requires.planned (refuses_index c.args.rows.now c.args.ops.items c.args.terminal c.args.start c.in-Some.order.items c.args.seen.now valid c.requires.ops c.requires.exact c.in_err-check_indexes.field-0.0 found))
 
 pub link_whole-requires-clause-whole : goal.link_whole-requires-clause-whole
 link_whole-requires-clause-whole c =

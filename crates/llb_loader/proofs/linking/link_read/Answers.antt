@@ -4,6 +4,7 @@ use Rattle.std.proofs.lemmas.Result.{err_from_is_err_and}
 use Rattle.std.specs.Global.{Vec}
 use Rattle.llb_ops.specs.declared.op.Op.{Op}
 use Rattle.llb_ops.specs.declared.op.Input.{Input}
+use Rattle.llb_loader.specs.declared.fault.LoadFault.TheVariants.{UnknownDigest}
 use Rattle.llb_loader.specs.Rows.{lists, InRange, Reached}
 use Rattle.llb_loader.specs.Placing.{IsMarked}
 use Rattle.llb_loader.specs.Naming.{graph_of, rows_named, row_named}
@@ -11,7 +12,7 @@ use Rattle.llb_loader.specs.Linking.{plan, op_at, IsStarted, ReachedRow}
 use Rattle.llb_loader.specs.Checks.{RefusesUnknown}
 use Rattle.llb_loader.proofs.Plans.{in_range, named_below}
 use Rattle.llb_loader.proofs.Parts.{op_read, input_read}
-use Rattle.llb_loader.proofs.Refusals.{not_empty, refuses_unknown}
+use Rattle.llb_loader.proofs.Refusals.{not_empty, planned, unplanned, refused_by, refuses_unknown}
 use Rattle.llb_loader.proofs.linking.link_read.Goals as goal
 
 pub returns-in_default-clause-refused : goal.returns-in_default-clause-refused
@@ -21,19 +22,18 @@ returns-in_default-clause-refused c = λ _.
     let some : 0 < length c.index-last.result.now.inputs = not_empty _ c.if-is_empty.ensures in
     let first = input_read (op_at c.args.ops.items c.args.terminal) c.as_slice.result.now 0 c.index-as_slice-0.result (c.as_slice.ensures ∙ sym (ap (λ (o : Op). o.inputs) last))
     (let e = ap (λ (xs : List Input). length xs) c.as_slice.ensures in omega (arith, some, e)) c.index-as_slice-0.is in
-    inl (
-      plan c.args.rows.now c.args.ops.items c.args.terminal 0,
-      refl,
-      refl,
-      record {
+    let p = plan c.args.rows.now c.args.ops.items c.args.terminal 0 in
+    let none = ap (λ (i : Input). row_named c.args.rows.now c.args.terminal i.digest) first ∙ sym c.in_default.ensures in
+    refused_by c.args.rows.now c.args.ops.items p (UnknownDigest c.args.terminal 0) (unplanned c.args.rows.now c.args.ops.items c.args.terminal c.requires.found none) (inl (record {
+      result = record {
         apart = c.requires.apart;
         terminal = c.requires.terminal;
         input = (let e = ap (λ (o : Op). length o.inputs) last in omega (arith, some, e));
-      },
-      ap (λ (i : Input). row_named c.args.rows.now c.args.terminal i.digest) first ∙ sym c.in_default.ensures,
-      refl,
-      refl,
-    )
+      };
+      unknown = none;
+      row = refl;
+      input = refl;
+    }))
 
 pub reached-requires-clause-rows : goal.reached-requires-clause-rows
 reached-requires-clause-rows c =
@@ -83,7 +83,17 @@ returns-in_err-check_names-clause-refused c =
     let found : RefusesUnknown c.args.rows.now c.args.terminal c.args.ops.items (IsMarked c.in_ok-seen.seen.items) c.in_err-check_names.field-0.0 =
     subst (λ (ops : List Op). RefusesUnknown c.args.rows.now c.args.terminal ops (IsMarked c.in_ok-seen.seen.items) c.in_err-check_names.field-0.0) c.deref-3.ensures.value
     (subst (λ (seen : List Bool). RefusesUnknown c.args.rows.now c.args.terminal c.deref-3.result.now (IsMarked seen) c.in_err-check_names.field-0.0) c.deref-4.ensures.value c.in_err-check_names.ensures.refused) in
-    rw (p.1, p.2) (λ _. refuses_unknown c.args.rows.now c.args.ops.items c.args.terminal c.in-Some.start (IsMarked c.in_ok-seen.seen.items) started exact c.in_err-check_names.field-0.0 found)
+    rw (p.1, p.2) (λ _. refused_by c.args.rows.now c.args.ops.items (plan c.args.rows.now c.args.ops.items c.args.terminal c.in-Some.start) c.in_err-check_names.field-0.0
+    (planned c.args.rows.now c.args.ops.items c.args.terminal c.in-Some.start c.requires.found started.start) (refuses_unknown c.args.rows.now c.args.ops.items c.args.terminal c.in-Some.start (IsMarked c.in_ok-seen.seen.items) started exact c.in_err-check_names.field-0.0 found))
+
+pub link_named-requires-clause-planned : goal.link_named-requires-clause-planned
+link_named-requires-clause-planned c =
+    let h : c.args.terminal < length c.args.ops.items = (let t = c.requires.terminal.holds.0 in let l = c.requires.ops in omega (arith, t, l)) in
+    let last = op_read c.args.ops.items c.args.terminal c.index-last.result.now h c.index-last.ensures in
+    let some : 0 < length c.index-last.result.now.inputs = not_empty _ c.if-is_empty.ensures in
+    let first = input_read (op_at c.args.ops.items c.args.terminal) c.as_slice.result.now 0 c.index-as_slice-0.result (c.as_slice.ensures ∙ sym (ap (λ (o : Op). o.inputs) last))
+    (let e = ap (λ (xs : List Input). length xs) c.as_slice.ensures in omega (arith, some, e)) c.index-as_slice-0.is in
+    planned c.args.rows.now c.args.ops.items c.args.terminal c.in-Some.start c.requires.found (ap (λ (i : Input). row_named c.args.rows.now c.args.terminal i.digest) first ∙ sym c.in-Some.ensures)
 
 pub link_named-requires-clause-seen : goal.link_named-requires-clause-seen
 link_named-requires-clause-seen c =

@@ -9,7 +9,7 @@ use Rattle.llb_loader.specs.Rows.{lists, inputs, InRange}
 use Rattle.llb_loader.specs.Naming.{rows_named}
 use Rattle.llb_loader.specs.Rules.{IsBelow}
 use Rattle.llb_loader.specs.Graph.{Numbered}
-use Rattle.llb_loader.specs.Linking.{Plan, plan, links_in, op_at, input_at, numbered_of}
+use Rattle.llb_loader.specs.Linking.{Plan, plan, links_in, op_at, input_at, IsWhole, numbered_of}
 use Rattle.llb_loader.specs.Building.{IsBuildable, AreBuilt, edge_to}
 use Rattle.llb_loader.proofs.Parts.{op_read}
 use Rattle.llb_loader.proofs.Plans.{in_range}
@@ -45,6 +45,19 @@ first_edge-result-requires-clause-index c =
     let h : c.args.terminal < length c.args.ops.items = (let t = c.requires.whole.valid.taken.ordered.named.started.result.terminal.holds.0 in let l = c.requires.ops in omega (arith, t, l)) in
     let read = op_read c.args.ops.items c.args.terminal c.index-2.result.now h c.index-2.ensures in
     subst (λ (o : Op). IsBelow 1_025 (input_at o 0).index) read (whole.index_small p c.args.order.now c.requires.whole c.requires.ops c.requires.within c.args.terminal 0 (inr (refl, refl)))
+
+pub first_edge-result-requires-clause-vertex : goal.first_edge-result-requires-clause-vertex
+first_edge-result-requires-clause-vertex c =
+    let p = plan c.args.rows.now c.args.ops.items c.args.terminal c.args.start in
+    let s : c.args.start < length c.in_ok-ranks.ranks.items = (let b = started_below p c.requires.whole.valid.taken.ordered.named.started in let a = links_len c.args.links.now p c.requires.links in let n = c.in_ok-ranks.ensures.len in let l = c.requires.ops in omega (arith, a, b, n, l)) in
+    let small : All (λ r. r < 65_536) c.in_ok-ranks.ranks.items = c.in_ok-ranks.ensures.small 65_536 (omega arith) (let s = c.requires.short in let f = c.requires.few in omega (arith, s, f)) in
+    subst (λ (n : ℕ). n < 65_536) (sym c.index.ensures) (small c.args.start c.index.result.now s)
+
+pub vertices_of-requires-clause-links : goal.vertices_of-requires-clause-links
+vertices_of-requires-clause-links c =
+    let a = links_len c.args.links.now (plan c.args.rows.now c.args.ops.items c.args.terminal c.args.start) c.requires.links in
+    let l = c.requires.ops in
+    omega (arith, a, l)
 
 pub vertices_of-requires-clause-range : goal.vertices_of-requires-clause-range
 vertices_of-requires-clause-range c =
@@ -101,12 +114,10 @@ returns-clause-graph c =
     let vertices = whole.vertices_same p c.args.order.now c.requires.whole c.requires.ops c.requires.within c.in_ok-ranks.ranks.items c.in_ok-ranks.ensures.inverse c.in_ok-vertices.vertices.items c.in_ok-vertices.ensures.len built in
     let edge = whole.result_same p c.args.order.now c.requires.whole c.requires.ops c.requires.within c.in_ok-ranks.ranks.items c.in_ok-ranks.ensures.inverse c.in_ok-vertices.vertices.items c.in_ok-vertices.ensures.len built c.first_edge-result.result result in
     record {
-      plan = p;
       order = c.args.order.now;
-      same_rows = refl;
-      same_ops = refl;
-      whole = c.requires.whole;
+      whole = subst (λ (q : Plan). IsWhole q c.args.order.now) c.requires.planned.same c.requires.whole;
       graph = c.of_parts.ensures
           ∙ ap (λ (vs : List Vertex). let g : Numbered = record { vertices = vs; result = c.first_edge-result.result } in g) vertices
-          ∙ ap (λ (x : Edge). let g : Numbered = record { vertices = (numbered_of p c.args.order.now).vertices; result = x } in g) edge;
+          ∙ ap (λ (x : Edge). let g : Numbered = record { vertices = (numbered_of p c.args.order.now).vertices; result = x } in g) edge
+          ∙ ap (λ (q : Plan). numbered_of q c.args.order.now) c.requires.planned.same;
     }

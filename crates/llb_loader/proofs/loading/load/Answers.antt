@@ -4,12 +4,11 @@ use Rattle.std.proofs.lemmas.Result.{MatchResult-weaker}
 use Rattle.llb_loader.specs.declared.row.Row.{Row}
 use Rattle.llb_loader.specs.Digest.{digest_text}
 use Rattle.llb_loader.specs.Link.{IsRefusalOf}
-use Rattle.llb_loader.proofs.Limited.{entries_few}
 use Rattle.llb_loader.proofs.loading.load.Goals as goal
 
 pub link-requires : goal.link-requires
 link-requires c =
-    let few = entries_few c.args.bytes.now c.in_ok-entries.entries c.in_ok-entries.ensures.gives in
+    let few = c.in_ok-entries.ensures.within.few in
     let rows = ap (λ (xs : List Row). length xs) (c.deref.ensures.value ∙ c.in_ok-rows.ensures) in
     let n = length-map c.in_ok-entries.entries (λ (bytes : List ℕ). let r : Row = record { digest = digest_text bytes; bytes = bytes } in r) in
     omega (arith, few, rows, n)

@@ -7,22 +7,20 @@ use Rattle.std.specs.BTreeSet.{contains}
 use Rattle.llb_loader.specs.declared.numbering.Waiter.{Waiter}
 use Rattle.std.specs.Global.{Vec}
 use Rattle.llb_loader.specs.Rows.{lists}
-use Rattle.llb_loader.specs.Placing.{IsPlacing}
-use Rattle.llb_loader.proofs.Rows.{mark_read, marked_below, unmarked-mark, unmarked-none}
+use Rattle.llb_loader.specs.Placing.{IsMarked, IsPlacing}
+use Rattle.llb_loader.proofs.Rows.{unmarked-mark, unmarked-none}
 use Rattle.llb_loader.proofs.Sets.{set_cut, set_least, set_drained}
 use Rattle.llb_loader.proofs.Turns.{IsFresh, WokenFrom, no_waiter, place_step, placed_weaker, woken_step, woken_end, fresh_all, order_start, order_step, turn_taken, taken_pending, reached_below, looked_placed, looked_past, cycle_from_stuck}
 use Rattle.llb_loader.proofs.numbering.number.Goals as goal
-use Rattle.llb_loader.proofs.numbering.number.Goals.{then-index+in_ok-place, else-index}
+use Rattle.llb_loader.proofs.numbering.number.Goals.{then-seen-row+in_ok-place, else-seen-row}
 
 pub placing-preserved : goal.placing-preserved
 placing-preserved c =
     let all = c.in_ok-done.ensures.items_if_clones_equal (λ y e. e) in
-    let len = c.in_ok-seen.ensures.len in
-    let h : c.placing.row < length c.in_ok-seen.seen.items = omega arith in
-    let read = mark_read c.in_ok-seen.seen.items c.placing.row c.index.result.now h c.index.ensures in
-    elim c.if-index.branch [
-      | then-index+in_ok-place w ↦ (
-          let reached = (c.in_ok-seen.ensures.exact c.placing.row).0 (read ∙ w.if-index.true) in
+    let len = c.requires.len in
+    elim c.if-seen-row.branch [
+      | then-seen-row+in_ok-place w ↦ (
+          let reached = (c.requires.exact c.placing.row).0 w.if-seen-row.true in
           let fresh : IsFresh c.in_ok-done.done.items c.placing.row = rw all (fresh_all (length c.args.rows.now) c.placing.row) in
           let placing = subst
           (λ (marks : List Bool). IsPlacing (lists c.args.rows.now) marks (record { row = c.placing.row; checked = 0 }) (contains nat_cmp c.placing.ready) (contains nat_cmp w.place.new.ready) (lists c.placing.waiting.items) (lists w.place.new.waiting.items))
@@ -35,9 +33,9 @@ placing-preserved c =
                 (record { reached = reached; fresh = fresh; checked = record { within = omega arith; passed = λ i l. absurd (omega arith) } })
                 placing c.placing.invariant.placed;
           }))
-      | else-index w ↦ rw (w.ready-is, w.waiting-is) (record {
+      | else-seen-row w ↦ rw (w.ready-is, w.waiting-is) (record {
         len_waiting = c.placing.invariant.len_waiting;
-        placed = placed_weaker _ _ _ _ _ _ _ (looked_past (lists c.args.rows.now) c.args.start c.in_ok-seen.seen.items c.in_ok-seen.ensures.exact c.placing.row (read ∙ w.if-index.false)) c.placing.invariant.placed;
+        placed = placed_weaker _ _ _ _ _ _ _ (looked_past (lists c.args.rows.now) c.args.start c.args.seen.now c.requires.exact c.placing.row w.if-seen-row.false) c.placing.invariant.placed;
       })
     ]
 
@@ -47,7 +45,7 @@ turns-init c =
     record {
       len_done = omega (arith, c.in_ok-done.ensures.len);
       len_waiting = c.placing.invariant.len_waiting;
-      placed = placed_weaker _ _ _ _ _ _ _ (λ k t l. let h = reached_below (lists c.args.rows.now) c.args.start (length c.args.rows.now) c.in_ok-seen.seen.items c.in_ok-seen.ensures.exact c.in_ok-seen.ensures.len k t in omega (arith, h, l)) c.placing.invariant.placed;
+      placed = placed_weaker _ _ _ _ _ _ _ (λ k t l. let h = reached_below (lists c.args.rows.now) c.args.start (length c.args.rows.now) c.args.seen.now c.requires.exact c.requires.len k t in omega (arith, h, l)) c.placing.invariant.placed;
       order = rw (all, c.new-order.ensures.items) (order_start (lists c.args.rows.now) c.args.start (length c.args.rows.now));
       counted = rw (all, c.new-order.ensures.items) (let u = unmarked-none (length c.args.rows.now) in omega (arith, u));
     }
@@ -55,19 +53,19 @@ turns-init c =
 pub index_mut-requires : goal.index_mut-requires
 index_mut-requires c =
     let t = (c.turns.invariant.placed.sound c.in-Some.next c.in-Some.ensures.member).reached in
-    let h = reached_below (lists c.args.rows.now) c.args.start (length c.args.rows.now) c.in_ok-seen.seen.items c.in_ok-seen.ensures.exact c.in_ok-seen.ensures.len c.in-Some.next t in
+    let h = reached_below (lists c.args.rows.now) c.args.start (length c.args.rows.now) c.args.seen.now c.requires.exact c.requires.len c.in-Some.next t in
     omega (arith, h)
 
 pub index_mut-requires-in-Some : goal.index_mut-requires-in-Some
 index_mut-requires-in-Some c =
     let t = (c.turns.invariant.placed.sound c.in-Some.next c.in-Some.ensures.member).reached in
-    let h = reached_below (lists c.args.rows.now) c.args.start (length c.args.rows.now) c.in_ok-seen.seen.items c.in_ok-seen.ensures.exact c.in_ok-seen.ensures.len c.in-Some.next t in
+    let h = reached_below (lists c.args.rows.now) c.args.start (length c.args.rows.now) c.args.seen.now c.requires.exact c.requires.len c.in-Some.next t in
     omega (arith, h)
 
 pub woken-init : goal.woken-init
 woken-init c =
     let t = (c.turns.invariant.placed.sound c.in-Some.next c.in-Some.ensures.member).reached in
-    let h = reached_below (lists c.args.rows.now) c.args.start (length c.args.rows.now) c.in_ok-seen.seen.items c.in_ok-seen.ensures.exact c.in_ok-seen.ensures.len c.in-Some.next t in
+    let h = reached_below (lists c.args.rows.now) c.args.start (length c.args.rows.now) c.args.seen.now c.requires.exact c.requires.len c.in-Some.next t in
     let hd : c.in-Some.next < length c.turns.done.items = omega (arith, h) in
     let hw : c.in-Some.next < length c.turns.waiting.items = omega (arith, h) in
     let e = c.deref-waiter-items.ensures.value ∙ ap (λ (v : Vec Waiter). v.items) c.replace-woken.ensures.value in
@@ -84,7 +82,7 @@ woken-init c =
 pub place-requires-in-woken-clause-row : goal.place-requires-in-woken-clause-row
 place-requires-in-woken-clause-row c =
     let t = (c.woken.invariant.pending _ (Contains-get_or c.deref-waiter-items.result.now c.woken.waiter-index no_waiter c.woken-test.true)).reached in
-    reached_below (lists c.args.rows.now) c.args.start (length c.args.rows.now) c.in_ok-seen.seen.items c.in_ok-seen.ensures.exact c.in_ok-seen.ensures.len _ t
+    reached_below (lists c.args.rows.now) c.args.start (length c.args.rows.now) c.args.seen.now c.requires.exact c.requires.len _ t
 
 pub place-requires-in-woken-clause-checked : goal.place-requires-in-woken-clause-checked
 place-requires-in-woken-clause-checked c =
@@ -109,7 +107,7 @@ woken-preserved c =
 pub turns-smaller : goal.turns-smaller
 turns-smaller c =
     let o = c.turns.invariant.placed.sound c.in-Some.next c.in-Some.ensures.member in
-    let h = reached_below (lists c.args.rows.now) c.args.start (length c.args.rows.now) c.in_ok-seen.seen.items c.in_ok-seen.ensures.exact c.in_ok-seen.ensures.len c.in-Some.next o.reached in
+    let h = reached_below (lists c.args.rows.now) c.args.start (length c.args.rows.now) c.args.seen.now c.requires.exact c.requires.len c.in-Some.next o.reached in
     let hd : c.in-Some.next < length c.turns.done.items = omega (arith, h) in
     let u = unmarked-mark c.turns.done.items c.in-Some.next hd o.fresh in
     omega (arith, u)
@@ -117,7 +115,7 @@ turns-smaller c =
 pub turns-preserved : goal.turns-preserved
 turns-preserved c =
     let o = c.turns.invariant.placed.sound c.in-Some.next c.in-Some.ensures.member in
-    let h = reached_below (lists c.args.rows.now) c.args.start (length c.args.rows.now) c.in_ok-seen.seen.items c.in_ok-seen.ensures.exact c.in_ok-seen.ensures.len c.in-Some.next o.reached in
+    let h = reached_below (lists c.args.rows.now) c.args.start (length c.args.rows.now) c.args.seen.now c.requires.exact c.requires.len c.in-Some.next o.reached in
     let hd : c.in-Some.next < length c.turns.done.items = omega (arith, h) in
     record {
       len_done = length-set c.turns.done.items c.in-Some.next true ∙ c.turns.invariant.len_done;
@@ -131,21 +129,16 @@ turns-preserved c =
           omega (arith, u, l, p, k));
     }
 
-pub returns-then-not-index-clause-cycle : goal.returns-then-not-index-clause-cycle
-returns-then-not-index-clause-cycle c =
-    let seen_len = c.in_ok-seen.ensures.len in
-    let h : c.whole.row < length c.in_ok-seen.seen.items = omega arith in
-    let hd : c.whole.row < length c.turns.done.items = omega arith in
-    let t = (c.in_ok-seen.ensures.exact c.whole.row).0 (mark_read c.in_ok-seen.seen.items c.whole.row c.index-in-whole.result.now h c.index-in-whole.ensures ∙ c.if-index-2.true) in
-    let f : IsFresh c.turns.done.items c.whole.row = mark_read c.turns.done.items c.whole.row c.index-then-index-2.result.now hd c.index-then-index-2.ensures ∙ c.if-not-index.true in
-    cycle_from_stuck (lists c.args.rows.now) c.args.start c.turns.done.items (contains nat_cmp c.turns.ready) (lists c.turns.waiting.items) c.whole.row
-    (set_drained c.turns.ready c.in_default.ensures.variant.1) c.turns.invariant.placed t f
+pub returns-in-Some-first_stuck-clause-cycle : goal.returns-in-Some-first_stuck-clause-cycle
+returns-in-Some-first_stuck-clause-cycle c =
+    let stuck = c.in-Some-first_stuck.ensures in
+    cycle_from_stuck (lists c.args.rows.now) c.args.start c.turns.done.items (contains nat_cmp c.turns.ready) (lists c.turns.waiting.items) c.in-Some-first_stuck.field-0
+    (set_drained c.turns.ready c.in_default.ensures.variant.1) c.turns.invariant.placed ((c.requires.exact c.in-Some-first_stuck.field-0).0 stuck.0)
+    (subst (λ (marks : List Bool). IsFresh marks c.in-Some-first_stuck.field-0) c.deref-2.ensures.value stuck.1)
 
 pub returns-clause-numbering : goal.returns-clause-numbering
 returns-clause-numbering c = record {
   each = c.turns.invariant.order.each;
   whole = λ k t.
-      let m = (c.in_ok-seen.ensures.exact k).1 t in
-      let h = marked_below c.in_ok-seen.seen.items k m in
-      c.turns.invariant.order.has k (c.whole.invariant k (omega (arith, h, c.in_ok-seen.ensures.len)) m);
+      c.turns.invariant.order.has k (subst (λ (marks : List Bool). IsMarked marks k) c.deref-2.ensures.value (c.in-None.ensures k ((c.requires.exact k).1 t)));
 }

@@ -1,10 +1,9 @@
-use Rattle.std.proofs.Common.{◌≡◌, ℕ, ◌+◌, ◌<◌, ◌≤◌, length, vec_len}
+use Rattle.std.proofs.Common.{◌≡◌, ◌+◌, ◌≤◌, length, vec_len}
 use Rattle.std.specs.List.{Contains}
 use Rattle.std.specs.Ordering.{nat_cmp}
 use Rattle.std.specs.BTreeSet.{contains}
 use Rattle.llb_loader.specs.declared.numbering.Waiter.{Waiter}
 use Rattle.llb_loader.specs.Rows.{lists}
-use Rattle.llb_loader.specs.Placing.{IsMarked}
 use Rattle.llb_loader.proofs.Rows.{unmarked}
 use Rattle.llb_loader.proofs.Searching.{NoRow}
 use Rattle.llb_loader.proofs.Turns.{IsPlaced, IsPending, IsOrder, WokenFrom}
@@ -31,9 +30,6 @@ invariant-woken l = record {
   pending : (w : Waiter) → Contains l.waiter-items w → IsPending (lists l.rows) l.start l.done.items w;
   placed : IsPlaced (lists l.rows) l.start l.done.items (contains nat_cmp l.ready) (lists l.waiting.items) (WokenFrom l.waiter-items l.waiter-index);
 }
-
-abbrev pub invariant-whole : goal.invariant-whole
-invariant-whole l = (k : ℕ) → k < l.row → IsMarked l.seen.items k → IsMarked l.done.items k
 
 abbrev pub decreases-turns : goal.decreases-turns
 decreases-turns l = unmarked l.done.items

@@ -1,11 +1,11 @@
-use Rattle.std.proofs.Common.{rules, ◌≡◌, ℕ, ◌<◌, length, get_or, false, List, [], arith, ap, sym, ◌∙◌, subst, refl}
-use Rattle.std.proofs.lemmas.List.{get_or_read, nil_from_length}
+use Rattle.std.proofs.Common.{rules, ◌≡◌, ℕ, ◌<◌, Bool, true, ◌∷◌, ◌++◌, set, length, get_or, false, List, [], arith, ap, sym, ◌∙◌, subst, refl}
+use Rattle.std.proofs.lemmas.List.{get_or_read, nil_from_length, length-set, length_push}
 use Rattle.std.proofs.lemmas.List.Elements.{All-from_get_or}
 use Rattle.std.specs.Global.{Vec}
 use Rattle.llb_loader.specs.Placing.{IsMarked}
 use Rattle.llb_loader.specs.Rows.{lists}
 use Rattle.llb_loader.proofs.Rows.{inputs_at}
-use Rattle.llb_loader.proofs.Searching.{IsSearching, NoRow, at_row_mark, at_row_skip, at_row_below, searching_pop, searching_leave, searching_whole, popped_marked, popped_below}
+use Rattle.llb_loader.proofs.Searching.{IsSearching, NoRow, searching_start, at_row_mark, at_row_skip, at_row_below, searching_pop, searching_leave, searching_whole, popped_marked, popped_below}
 use Rattle.llb_loader.proofs.reach.reached.Goals as goal
 use Rattle.llb_loader.proofs.reach.reached.Goals.{then-not-index+in_ok-push-2, else-not-index}
 
@@ -54,3 +54,28 @@ returns-clause-exact c k =
     let e : c.loop-row.open.items ≡ [] = nil_from_length _ (omega (arith, c.in_default.ensures.cases.0)) in
     let s = subst (λ (xs : List ℕ). IsSearching (lists c.args.rows.now) c.args.start c.loop-row.seen.items xs NoRow) e c.loop-row.invariant.holds in
     (c.loop-row.invariant.holds.sound k, searching_whole _ _ _ k s)
+
+pub loop-row-init : goal.loop-row-init
+loop-row-init c =
+    let all = c.in_ok-seen.ensures.items_if_clones_equal (λ y e. e) in
+    let pushed : c.push.new.self.items ≡ c.args.start ∷ [] = c.in_ok-push.ensures.items ∙ ap (λ (xs : List ℕ). xs ++ c.args.start ∷ []) c.new-open.ensures.items in
+    let marked = length-set c.in_ok-seen.seen.items c.args.start true in
+    record {
+      len = omega (arith, marked, c.in_ok-seen.ensures.len);
+      holds = subst (λ (xs : List ℕ). IsSearching (lists c.args.rows.now) c.args.start (set c.in_ok-seen.seen.items c.args.start true) xs NoRow) (sym pushed)
+          (subst (λ (marks : List Bool). IsSearching (lists c.args.rows.now) c.args.start (set marks c.args.start true) (c.args.start ∷ []) NoRow) (sym all)
+          (searching_start (lists c.args.rows.now) c.args.start (length c.args.rows.now) c.requires.start));
+    }
+
+pub index-requires : goal.index-requires
+index-requires c = let l = at_row_below _ _ _ _ _ _ _ _ _ c.requires.rows c.loop-input-test.true c.loop-input.invariant in omega (arith, l)
+
+pub index_mut-requires-then-not-index : goal.index_mut-requires-then-not-index
+index_mut-requires-then-not-index c = let l = at_row_below _ _ _ _ _ _ _ _ _ c.requires.rows c.loop-input-test.true c.loop-input.invariant in omega (arith, l)
+
+pub loop-row-smaller : goal.loop-row-smaller
+loop-row-smaller c =
+    let left = c.loop-input.invariant.left in
+    let popped = ap (λ (xs : List ℕ). length xs) c.in-Some.ensures.items in
+    let one = length_push c.pop.new.self.items c.in-Some.row in
+    omega (arith, left, popped, one)

@@ -1,7 +1,8 @@
-use Rattle.std.proofs.Common.{◌≡◌, true, false, Ok, sym, ap, ◌∙◌}
+use Rattle.std.proofs.Common.{◌≡◌, false, Ok, sym, ap, ◌∙◌}
 use Rattle.std.proofs.lemmas.Result.{err_from_is_err_and}
 use Rattle.llb_ops.specs.Faults.{is_memory}
 use Rattle.llb_ops.proofs.Admission.{definition_named, refused, admitted_is}
+use Rattle.llb_ops.proofs.Within.{entries_within}
 use Rattle.llb_ops.proofs.definition.read_definition.Goals as goal
 
 pub returns-in_err-admitted-clause-last : goal.returns-in_err-admitted-clause-last
@@ -17,3 +18,6 @@ returns-in_err-entries-clause-gives c =
 
 pub returns-clause-gives : goal.returns-clause-gives
 returns-clause-gives c = admitted_is c.args.bytes.now (sym c.in_ok-admitted.ensures) ∙ c.in_ok-entries.ensures ∙ ap (λ es. Ok es) (sym c.new.ensures)
+
+pub returns-clause-within : goal.returns-clause-within
+returns-clause-within c = entries_within c.args.bytes.now c.new.result (admitted_is c.args.bytes.now (sym c.in_ok-admitted.ensures) ∙ c.in_ok-entries.ensures ∙ ap (λ es. Ok es) (sym c.new.ensures))

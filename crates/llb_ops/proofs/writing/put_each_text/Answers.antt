@@ -1,4 +1,4 @@
-use Rattle.std.proofs.Common.{sym, ap, ◌∙◌, ◌<◌, length, get_or, arith}
+use Rattle.std.proofs.Common.{sym, ◌∙◌}
 use Rattle.std.proofs.lemmas.List.{append-nil}
 use Rattle.llb_ops.specs.Writing.{each_field}
 use Rattle.llb_ops.proofs.Written.{put_each_more}
@@ -12,6 +12,5 @@ pub loop-text-preserved : goal.loop-text-preserved
 loop-text-preserved c =
     let items = c.args.items.now in
     let i = c.loop-text.text-index in
-    let lt : i < length items = omega (arith, ap length c.as_slice-text-items.ensures) in
-    put_each_more c.args.number items i c.text-item.result c.args.out.now.items c.loop-text.out.items c.put_set_bytes.new.out.items c.as_bytes.result.now lt c.loop-text.invariant
-    (c.as_bytes.ensures.value ∙ c.as_str.ensures.value ∙ c.text-item.is ∙ ap (λ xs. get_or xs i c.text-item.result) c.as_slice-text-items.ensures) c.in_ok-put_set_bytes.ensures
+    put_each_more c.args.number items i c.text-item.result c.args.out.now.items c.loop-text.out.items c.put_set_bytes.new.out.items c.as_bytes.result.now c.loop-text-test.true c.loop-text.invariant
+    (c.as_bytes.ensures.value ∙ c.as_str.ensures.value ∙ c.text-item.is) c.in_ok-put_set_bytes.ensures

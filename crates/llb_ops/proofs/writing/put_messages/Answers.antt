@@ -1,4 +1,4 @@
-use Rattle.std.proofs.Common.{sym, ap, ◌∙◌, ◌<◌, length, get_or, arith}
+use Rattle.std.proofs.Common.{sym, ap, ◌∙◌}
 use Rattle.std.proofs.lemmas.List.{append-nil}
 use Rattle.llb_ops.specs.Writing.{messages_field}
 use Rattle.llb_ops.proofs.Written.{put_more}
@@ -12,6 +12,5 @@ pub loop-message-preserved : goal.loop-message-preserved
 loop-message-preserved g c =
     let ms = c.args.messages.now in
     let i = c.loop-message.message-index in
-    let lt : i < length ms = omega (arith, ap length c.as_slice-message-items.ensures) in
-    put_more g.M.Message.writing c.args.number ms i c.message-item.result c.args.out.now.items c.loop-message.out.items c.put_set_bytes.new.out.items c.deref.result.now lt c.loop-message.invariant
-    (c.deref.ensures.value ∙ c.in_ok-bytes.ensures ∙ ap g.M.Message.writing (c.message-item.is ∙ ap (λ xs. get_or xs i c.message-item.result) c.as_slice-message-items.ensures)) c.in_ok-put_set_bytes.ensures
+    put_more g.M.Message.writing c.args.number ms i c.message-item.result c.args.out.now.items c.loop-message.out.items c.put_set_bytes.new.out.items c.deref.result.now c.loop-message-test.true c.loop-message.invariant
+    (c.deref.ensures.value ∙ c.in_ok-bytes.ensures ∙ ap g.M.Message.writing c.message-item.is) c.in_ok-put_set_bytes.ensures

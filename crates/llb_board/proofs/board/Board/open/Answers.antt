@@ -17,5 +17,6 @@ pub returns-in-Ok-clause-gives : goal.returns-in-Ok-clause-gives
 returns-in-Ok-clause-gives c =
     let e = c.in-Ok.ensures in
     let one : c.args.workers ≡ 1 = search rules in
-    let open_is : (b : Bool) → Result Seen OpenFault = λ b. if b then Ok (opened (record { graph = c.args.graph }) (record { workers = c.args.workers })) else Err (Workers c.args.graph) in
+    let open_is : (b : Bool) → Result Seen OpenFault
+    = λ b. if b then Ok (opened (record { graph = c.args.graph }) (record { workers = c.args.workers })) else Err (Workers c.args.graph) in
     ap open_is (eq-eqb c.args.workers 1 one) ∙ ap (λ (s : Seen). Ok s) (sym (seen_open c.args.graph c.args.workers _ _ _ e.stands e.desks e.events))

@@ -14,7 +14,8 @@ use Rattle.llb_board.specs.Room.{seen}
 use Rattle.llb_board.specs.declared.stand.Desk.TheVariants as desk
 use Rattle.llb_board.proofs.Lists.{length_map}
 use Rattle.llb_board.proofs.Calls.{can_settle, settle_done}
-use Rattle.llb_board.proofs.Kept.{has_room, kept_after, kept_written, recorded_as, whole_written, settle_does, leaves_running, outputs_settled, reply_failed, reply_done, marks_kept}
+use Rattle.llb_board.proofs.Kept.{has_room, kept_after, kept_written, recorded_as, whole_written, settle_does, leaves_running, outputs_settled}
+use Rattle.llb_board.proofs.Kept.{reply_failed, reply_done, marks_kept}
 use Rattle.llb_board.proofs.board.Board.settle.Goals as goal
 
 pub index_mut-requires : goal.index_mut-requires
@@ -45,7 +46,8 @@ push_reserved-requires c =
 pub mark_stopped-requires : goal.mark_stopped-requires
 mark_stopped-requires c =
     let b = c.self.inside in
-    ap length c.deref_mut-then-failed.ensures.value ∙ ap length c.self.invariant.halted_are ∙ stopped_length (record { graph = b.graph }) (map status_of b.stands.items) ∙ ap length (sym c.vertices.ensures.all)
+    ap length c.deref_mut-then-failed.ensures.value ∙ ap length c.self.invariant.halted_are
+    ∙ stopped_length (record { graph = b.graph }) (map status_of b.stands.items) ∙ ap length (sym c.vertices.ensures.all)
 
 pub invariant_of-self-then-failed : goal.invariant_of-self-then-failed
 invariant_of-self-then-failed c =
@@ -63,10 +65,14 @@ invariant_of-self-then-failed c =
     let marks : c.mark_stopped.new.halted ≡ stopped build (map status_of (slice_set ss v stand))
     = c.mark_stopped.ensures ∙ (λ i. by_number (next_stopped (map status_of (c.deref.ensures.value i))) [] (c.vertices.ensures.all i)) in
     let same : length c.mark_stopped.new.halted ≡ length b.halted.items
-    = ap length marks ∙ stopped_length build (map status_of (slice_set ss v stand)) ∙ sym (ap length c.self.invariant.halted_are ∙ stopped_length build (map status_of ss)) in
-    let marked : take b.halted.len (c.mark_stopped.new.halted ++ drop (length c.mark_stopped.new.halted) b.halted.items) ≡ c.mark_stopped.new.halted = whole_written b.halted.len c.mark_stopped.new.halted b.halted.items same (search rules) in
-    rw (c.push_reserved.ensures.list, c.push_reserved.ensures.room) (kept_written b.graph (slice_set ss v stand) (slice_set ds c.args.w desk.Idle) _ _ c.mark_stopped.new.halted _ b.events.room written marked
-    (kept_after b.graph ss (slice_set ss v stand) ds (slice_set ds c.args.w desk.Idle) b.events.list b.halted.items c.mark_stopped.new.halted b.events.room (Settle c.args.w) (settle_reply v can.ending) c.self.invariant granted
+    = ap length marks ∙ stopped_length build (map status_of (slice_set ss v stand))
+    ∙ sym (ap length c.self.invariant.halted_are ∙ stopped_length build (map status_of ss)) in
+    let marked : take b.halted.len (c.mark_stopped.new.halted ++ drop (length c.mark_stopped.new.halted) b.halted.items) ≡ c.mark_stopped.new.halted
+    = whole_written b.halted.len c.mark_stopped.new.halted b.halted.items same (search rules) in
+    rw (c.push_reserved.ensures.list, c.push_reserved.ensures.room)
+    (kept_written b.graph (slice_set ss v stand) (slice_set ds c.args.w desk.Idle) _ _ c.mark_stopped.new.halted _ b.events.room written marked
+    (kept_after b.graph ss (slice_set ss v stand) ds (slice_set ds c.args.w desk.Idle) b.events.list b.halted.items c.mark_stopped.new.halted
+    b.events.room (Settle c.args.w) (settle_reply v can.ending) c.self.invariant granted
     (length_set ds c.args.w desk.Idle) (outputs_settled build ds c.args.w c.self.invariant.outputs) marks))
 
 pub returns-then-failed-clause-gives : goal.returns-then-failed-clause-gives
@@ -83,7 +89,8 @@ returns-then-failed-clause-gives c =
     = whole_written b.desks.len c.leave.new.desks ds (ap length idle ∙ length_set ds c.args.w desk.Idle) (search rules) ∙ idle in
     let ends = ap (λ k. is_failed (ending_of (Some k))) (sym can.is) ∙ sym c.has_failed-failed.ensures ∙ c.if-failed.true in
     ap (λ (s : Seen). settle_of s c.args.w) (sym c.self.view_is)
-    ∙ recorded_as b.graph ss (slice_set ss v stand) ds (slice_set ds c.args.w desk.Idle) b.events.list (Settle c.args.w) settle_fault _ (settle_reply v can.ending) (settle_does b.graph ss ds c.args.w v stand can) (length_set ds c.args.w desk.Idle)
+    ∙ recorded_as b.graph ss (slice_set ss v stand) ds (slice_set ds c.args.w desk.Idle) b.events.list (Settle c.args.w) settle_fault _
+    (settle_reply v can.ending) (settle_does b.graph ss ds c.args.w v stand can) (length_set ds c.args.w desk.Idle)
     ∙ (λ i. Ok (seen b.graph (slice_set ss v stand) (sym written i) (sym c.push_reserved.ensures.list i), reply_failed v can.ending ends i))
 
 pub invariant_of-self-else-failed : goal.invariant_of-self-else-failed
@@ -101,8 +108,10 @@ invariant_of-self-else-failed c =
     let granted = settle_done build (state_of ss ds) c.args.w _ (settle_does b.graph ss ds c.args.w v stand can) in
     let running = leaves_running (seen b.graph ss ds b.events.list) c.args.w v (status_of stand) c.self.invariant.replays can in
     let stays = marks_kept build ss v stand (Running c.args.w) running refl (sym c.has_failed-failed.ensures ∙ c.if-failed.false) in
-    rw (c.push_reserved.ensures.list, c.push_reserved.ensures.room) (kept_written b.graph (slice_set ss v stand) (slice_set ds c.args.w desk.Idle) _ _ b.halted.items _ b.events.room written refl
-    (kept_after b.graph ss (slice_set ss v stand) ds (slice_set ds c.args.w desk.Idle) b.events.list b.halted.items b.halted.items b.events.room (Settle c.args.w) (settle_reply v can.ending) c.self.invariant granted
+    rw (c.push_reserved.ensures.list, c.push_reserved.ensures.room)
+    (kept_written b.graph (slice_set ss v stand) (slice_set ds c.args.w desk.Idle) _ _ b.halted.items _ b.events.room written refl
+    (kept_after b.graph ss (slice_set ss v stand) ds (slice_set ds c.args.w desk.Idle) b.events.list b.halted.items b.halted.items b.events.room
+    (Settle c.args.w) (settle_reply v can.ending) c.self.invariant granted
     (length_set ds c.args.w desk.Idle) (outputs_settled build ds c.args.w c.self.invariant.outputs) (c.self.invariant.halted_are ∙ sym stays)))
 
 pub returns-clause-gives : goal.returns-clause-gives
@@ -119,5 +128,6 @@ returns-clause-gives c =
     = whole_written b.desks.len c.leave.new.desks ds (ap length idle ∙ length_set ds c.args.w desk.Idle) (search rules) ∙ idle in
     let ends = ap (λ k. is_failed (ending_of (Some k))) (sym can.is) ∙ sym c.has_failed-failed.ensures ∙ c.if-failed.false in
     ap (λ (s : Seen). settle_of s c.args.w) (sym c.self.view_is)
-    ∙ recorded_as b.graph ss (slice_set ss v stand) ds (slice_set ds c.args.w desk.Idle) b.events.list (Settle c.args.w) settle_fault _ (settle_reply v can.ending) (settle_does b.graph ss ds c.args.w v stand can) (length_set ds c.args.w desk.Idle)
+    ∙ recorded_as b.graph ss (slice_set ss v stand) ds (slice_set ds c.args.w desk.Idle) b.events.list (Settle c.args.w) settle_fault _
+    (settle_reply v can.ending) (settle_does b.graph ss ds c.args.w v stand can) (length_set ds c.args.w desk.Idle)
     ∙ (λ i. Ok (seen b.graph (slice_set ss v stand) (sym written i) (sym c.push_reserved.ensures.list i), reply_done v can.ending ends i))

@@ -1,0 +1,6 @@
+pub mod Faults
+pub mod Items
+pub mod Matching
+pub mod Places
+pub mod Pattern
+pub mod Walk

@@ -1,0 +1,27 @@
+-- When a name matches a part of a pattern, and a path a pattern. A name is seen as the list of its characters.
+use Rattle.std.specs.Prelude.{◌≡◌, ℕ, List, [], ◌∷◌, drop}
+use Rattle.std.specs.Str.{chars}
+use Rattle.llb_glob.specs.declared.item.Item.{Item}
+use Rattle.llb_glob.specs.declared.item.Item.TheVariants.{Run, One}
+use Rattle.llb_glob.specs.declared.item.Letter.{Letter}
+use Rattle.llb_glob.specs.declared.item.Letter.TheVariants.{Any, Only}
+
+-- the characters that one item of a part may stand for
+abbrev pub Takes : Letter → ℕ → Type 0
+Takes Any c = Unit {0}
+Takes (Only only) c = c ≡ only
+
+-- a run and the rest match a name where the rest matches one of its suffixes
+abbrev pub MatchesName : List Item → List ℕ → Type 0
+MatchesName [] [] = Unit {0}
+MatchesName [] (c ∷ name) = ⊥
+MatchesName (Run ∷ items) name = (n : ℕ) × MatchesName items (drop n name)
+MatchesName (One letter ∷ items) [] = ⊥
+MatchesName (One letter ∷ items) (c ∷ name) = Takes letter c × MatchesName items name
+
+-- a path has as many names as the pattern has parts, and each matches the part at its place
+abbrev pub Matches : List (List Item) → List (List ℕ) → Type 0
+Matches [] [] = Unit {0}
+Matches [] (name ∷ path) = ⊥
+Matches (part ∷ parts) [] = ⊥
+Matches (part ∷ parts) (name ∷ path) = MatchesName part (chars name) × Matches parts path

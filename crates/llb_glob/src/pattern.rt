@@ -1,0 +1,135 @@
+//! Patterns. A text is read as that of a path is, and then each part is cut into items. Reading looks the text through
+//! once without memory, so that a bad pattern is told from the want of memory, and then makes the pattern.
+
+ghost use Rattle.std.specs.Prelude.{◌≡◌, ◌↔◌, List, ℕ, [], is_ok, IsTrue};
+ghost use Rattle.llb_tree.specs.Path.{enter};
+ghost use Rattle.llb_glob.specs.Faults.{Gives, MemoryLast};
+ghost use Rattle.llb_glob.specs.Matching.{Matches};
+ghost use Rattle.llb_glob.specs.Pattern.{each_cut, pattern_of};
+
+use crate::fault::PatternFault;
+use crate::part::{Part, is_part};
+use llb_tree::{Name, Path};
+use std::alloc::Global;
+use std::marker::Model;
+
+/// A pattern: at most 128 parts, from the root down. Contracts see the list of its parts, each as the list of its items.
+#[derive(Drop)]
+pub struct Pattern {
+    parts: Vec<Part>,
+}
+
+impl Model for Pattern {
+    ghost use Rattle.std.specs.Prelude.{List};
+    ghost use Rattle.llb_glob.specs.declared.item.Item.{Item};
+
+    ghost Value = { List (List Item) };
+
+    ghost view = { λ p. p.parts.items };
+}
+
+impl Pattern {
+    /// The pattern that a text reads as: the text is split at `/`, empty parts and `.` are dropped, `..` removes the last
+    /// part and stops at the root, and each part that is left is cut into items: `*` any run of characters, `?` any one
+    /// character, `\c` the character c, any other character itself. 41 `BadPattern` at a part that is no name or is the
+    /// 129th, also where a later `..` would remove it, and where a part that is left ends in a lone `\` or has a `[` that
+    /// is not behind a `\`; 42 `Memory`, where there is no other fault.
+    pub fn read(alloc: Global, text: &str) -> Result<Pattern, PatternFault>
+        ensures gives { Gives (λ p. p) result (pattern_of text.now) }
+        ensures last { MemoryLast result (pattern_of text.now) }
+    {
+        if !is_pattern(text) {
+            return Err(PatternFault::BadPattern);
+        }
+        let path = Path::read(alloc, text)?;
+        Pattern::cut(alloc, &path)
+    }
+
+    // Each name cut into items.
+    fn cut(alloc: Global, path: &Path) -> Result<Pattern, PatternFault>
+        ensures { Gives (λ p. p) result (each_cut path.now) }
+    {
+        let mut parts = Vec::new(alloc);
+        for name in path.names() {
+            let part = Part::read(alloc, name.as_str())?;
+            parts.push(part)?;
+        }
+        Ok(Pattern { parts })
+    }
+
+    /// Whether a path matches: it has as many names as the pattern has parts, and each matches the part at its place.
+    pub fn matches(&self, path: &Path) -> bool
+        ensures { IsTrue result ↔ Matches self.now path.now }
+    {
+        let parts = self.parts.as_slice();
+        let names = path.names();
+        if parts.len() != names.len() {
+            return false;
+        }
+        for (part, name) in parts.iter().zip(names) {
+            if !part.matches(name.as_str()) {
+                return false;
+            }
+        }
+        true
+    }
+
+    /// Whether the root alone matches.
+    pub fn has_no_parts(&self) -> bool
+        ensures { IsTrue result ↔ (self.now ≡ []) }
+    {
+        self.parts.is_empty()
+    }
+}
+
+// Whether a text reads as a pattern.
+fn is_pattern(text: &str) -> bool
+    ensures { result ≡ is_ok (pattern_of text.now) }
+{
+    let mut walk = Walk { depth: 0, sound: 0 };
+    for part in text.split('/') {
+        if !walk.enter(part) {
+            return false;
+        }
+    }
+    walk.sound == walk.depth
+}
+
+// Where a text has led so far: how many names there are, and how many of them, from the root down, are all parts.
+#[derive(Drop)]
+struct Walk {
+    depth: usize,
+    sound: usize,
+}
+
+impl Walk {
+    ghost use Rattle.llb_glob.specs.Walk.{Stands, Enters};
+
+    // Goes where a part of a text leads, or nowhere if it is no name or the 129th.
+    fn enter(&mut self, part: &str) -> bool
+        ensures { (path : List (List ℕ)) → Stands path self.old → Enters (enter path part.now) result self.new }
+    {
+        if part.is_empty() {
+            return true;
+        }
+        if part.as_bytes() == b".".as_slice() {
+            return true;
+        }
+        if part.as_bytes() == b"..".as_slice() {
+            self.depth = self.depth.saturating_sub(1);
+            self.sound = self.sound.min(self.depth);
+            return true;
+        }
+        if !Name::is_name(part) {
+            return false;
+        }
+        if self.depth >= 128 {
+            return false;
+        }
+        if self.sound == self.depth && is_part(part) {
+            self.sound += 1;
+        }
+        self.depth += 1;
+        true
+    }
+}

@@ -1,0 +1,58 @@
+//! Matching without a way back. The items are taken from the last to the first, and what is kept is the set of the places
+//! of the name from where the items taken so far match the rest of it: a flag for each place, on the stack.
+//! A name has at most 255 characters, so its places are 0 to 255. An item moves the set by one pass over the name.
+
+ghost use Rattle.std.specs.Prelude.{◌↔◌, ℕ, ◌+◌, ◌<◌, ◌≤◌, List, ◌∷◌, length, IsTrue, slice_index};
+ghost use Rattle.llb_glob.specs.Matching.{Takes, MatchesName};
+ghost use Rattle.llb_glob.specs.Places.{IsIn, Reaches, AreStarts};
+
+use crate::item::{Item, Letter};
+
+/// Whether items match the characters of a name, in at most as many steps as there are items times places.
+pub fn matches_letters(items: &[Item], name: &[char]) -> bool
+    requires { length name.now ≤ 255 }
+    ensures { IsTrue result ↔ MatchesName items.now name.now }
+{
+    let mut places = [false; 256];
+    places[name.len()] = true;
+    for k in (0..items.len()).rev() {
+        step_back(&items[k], name, &mut places);
+    }
+    places[0]
+}
+
+// The places before one more item.
+fn step_back(item: &Item, name: &[char], places: &mut [bool])
+    requires { length name.now < length places.old }
+    ensures { (rest : List Item) → AreStarts rest name.now places.old → AreStarts (item.now ∷ rest) name.now places.new }
+{
+    match item {
+        Item::Run => widen(name.len(), places),
+        Item::One(letter) => narrow(letter, name, places),
+    }
+}
+
+// Each place from where one of the set can be reached by going right.
+fn widen(last: usize, places: &mut [bool])
+    requires { last < length places.old }
+    ensures { (i : ℕ) → i ≤ last → IsIn places.new i ↔ Reaches places.old last i }
+{
+    for i in (0..last).rev() {
+        if places[i + 1] {
+            places[i] = true;
+        }
+    }
+}
+
+// Each place from where one of the set is reached by one character of these.
+fn narrow(letter: &Letter, name: &[char], places: &mut [bool])
+    requires { length name.now < length places.old }
+    ensures before { (i : ℕ) → i < length name.now
+        → IsIn places.new i ↔ (Takes letter.now (slice_index name.now i) × IsIn places.old (i + 1)) }
+    ensures end { IsIn places.new (length name.now) → ⊥ }
+{
+    for i in 0..name.len() {
+        places[i] = places[i + 1] && letter.takes(name[i]);
+    }
+    places[name.len()] = false;
+}

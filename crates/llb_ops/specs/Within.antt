@@ -1,0 +1,64 @@
+-- What the limits leave: how many values a repeated field has, and how many entries of what length a definition.
+use Rattle.std.specs.Prelude.{ℕ, ◌≤◌, List, length, Option, Some, None}
+use Rattle.std.specs.List.{All}
+use Rattle.llb_ops.specs.declared.op.Op.{Op}
+use Rattle.llb_ops.specs.declared.op.Kind.{Kind}
+use Rattle.llb_ops.specs.declared.op.Kind.TheVariants.{Exec, Source, File, Build, Merge, Diff}
+use Rattle.llb_ops.specs.declared.file.FileOp.{FileOp}
+use Rattle.llb_ops.specs.declared.file.ActionKind.{ActionKind}
+use Rattle.llb_ops.specs.declared.file.ActionKind.TheVariants as action
+use Rattle.llb_ops.specs.declared.file.CopyFile.{CopyFile}
+use Rattle.llb_ops.specs.declared.exec.ExecOp.{ExecOp}
+use Rattle.llb_ops.specs.declared.exec.Meta.{Meta}
+use Rattle.llb_ops.specs.Limits.{field_limit, entries_limit, entry_limit}
+
+-- the values of a repeated field
+abbrev pub IsFew : {A : Type 0} → List A → Type 0
+IsFew xs = length xs ≤ field_limit
+
+pub record IsMetaWithin (m : Meta) : Type 0 where
+  pub args : IsFew m.args
+  pub env : IsFew m.env
+
+abbrev pub IsMetaOptWithin : Option Meta → Type 0
+IsMetaOptWithin None = Unit {0}
+IsMetaOptWithin (Some m) = IsMetaWithin m
+
+pub record IsExecWithin (m : ExecOp) : Type 0 where
+  pub meta : IsMetaOptWithin m.meta
+  pub mounts : IsFew m.mounts
+  pub secretenv : IsFew m.secretenv
+
+pub record IsCopyWithin (m : CopyFile) : Type 0 where
+  pub include_patterns : IsFew m.include_patterns
+  pub exclude_patterns : IsFew m.exclude_patterns
+
+abbrev pub IsActionWithin : Option ActionKind → Type 0
+IsActionWithin None = Unit {0}
+IsActionWithin (Some (action.Copy m)) = IsCopyWithin m
+IsActionWithin (Some (action.MkFile m)) = Unit {0}
+IsActionWithin (Some (action.MkDir m)) = Unit {0}
+IsActionWithin (Some (action.Rm m)) = Unit {0}
+
+pub record IsFileWithin (m : FileOp) : Type 0 where
+  pub actions : IsFew m.actions
+  pub each : All (λ a. IsActionWithin a.kind) m.actions
+
+abbrev pub IsKindWithin : Option Kind → Type 0
+IsKindWithin None = Unit {0}
+IsKindWithin (Some (Exec m)) = IsExecWithin m
+IsKindWithin (Some (Source m)) = IsFew m.attrs
+IsKindWithin (Some (File m)) = IsFileWithin m
+IsKindWithin (Some (Build bytes)) = Unit {0}
+IsKindWithin (Some (Merge m)) = IsFew m.inputs
+IsKindWithin (Some (Diff bytes)) = Unit {0}
+
+-- an op, and each message in it
+pub record IsWithinLimits (op : Op) : Type 0 where
+  pub inputs : IsFew op.inputs
+  pub kind : IsKindWithin op.kind
+
+-- the entries of a definition
+pub record AreWithinLimits (entries : List (List ℕ)) : Type 0 where
+  pub few : length entries ≤ entries_limit
+  pub short : All (λ e. length e ≤ entry_limit) entries

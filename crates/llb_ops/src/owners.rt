@@ -1,0 +1,107 @@
+//! Owners of what a file action makes: users and groups by what they are of their records, and their canonical bytes.
+
+use crate::fault::OpFault;
+use crate::file::{ChownOpt, User, UserOpt};
+use crate::message::{Member, Message, one, one_of};
+use crate::records::{Record, joined, last_uint32, unnamed};
+use crate::shape::{Form, Named};
+use crate::writing::{put_extra, put_message, put_one_of, put_set_bytes, put_set_number};
+use llb_wire::{Bytes, Memory};
+use std::alloc::Global;
+
+const CHOWN_OPT: [Named; 2] = [(1, Form::Bytes), (2, Form::Bytes)];
+
+impl Message for ChownOpt {
+    ghost use Rattle.llb_ops.specs.Messages.{chown_opt_shape, chown_opt_in};
+
+    ghost shape = { chown_opt_shape };
+
+    fn named() -> &'static [Named] {
+        &CHOWN_OPT
+    }
+
+    ghost reading = { chown_opt_in };
+
+    #[tactic(auto, unfolding(crate::specs::Messages::chown_opt_in))]
+    fn read(alloc: Global, records: &[Record<'_>]) -> Result<ChownOpt, OpFault> {
+        let user = one::<UserOpt>(alloc, records, 1)?;
+        let group = one::<UserOpt>(alloc, records, 2)?;
+        let extra = unnamed(alloc, &CHOWN_OPT, records)?;
+        Ok(ChownOpt { user, group, extra })
+    }
+
+    ghost use Rattle.llb_ops.specs.Writing.{chown_opt_bytes};
+
+    ghost writing = { chown_opt_bytes };
+
+    #[tactic(auto, unfolding(crate::specs::Writing::chown_opt_bytes))]
+    fn write(&self, alloc: Global) -> Result<Vec<u8>, Memory> {
+        let mut out = Vec::new(alloc);
+        put_message(alloc, &mut out, 1, &self.user)?;
+        put_message(alloc, &mut out, 2, &self.group)?;
+        put_extra(&mut out, &self.extra)?;
+        Ok(out)
+    }
+}
+
+const USER_OPT: [Named; 2] = [(1, Form::Bytes), (2, Form::Number)];
+
+const USERS: [u32; 2] = [1, 2];
+
+impl Message for UserOpt {
+    ghost use Rattle.llb_ops.specs.Messages.{user_opt_shape, user_opt_in};
+
+    ghost shape = { user_opt_shape };
+
+    fn named() -> &'static [Named] {
+        &USER_OPT
+    }
+
+    ghost reading = { user_opt_in };
+
+    #[tactic(auto, unfolding(crate::specs::Messages::user_opt_in))]
+    fn read(alloc: Global, records: &[Record<'_>]) -> Result<UserOpt, OpFault> {
+        let user = one_of::<User>(alloc, records, &USERS)?;
+        let extra = unnamed(alloc, &USER_OPT, records)?;
+        Ok(UserOpt { user, extra })
+    }
+
+    ghost use Rattle.llb_ops.specs.Writing.{user_opt_bytes};
+
+    ghost writing = { user_opt_bytes };
+
+    #[tactic(auto, unfolding(crate::specs::Writing::user_opt_bytes))]
+    fn write(&self, alloc: Global) -> Result<Vec<u8>, Memory> {
+        let mut out = Vec::new(alloc);
+        put_one_of(alloc, &mut out, &self.user)?;
+        put_extra(&mut out, &self.extra)?;
+        Ok(out)
+    }
+}
+
+impl Member for User {
+    ghost use Rattle.llb_ops.specs.Messages.{user_of};
+
+    ghost reading = { user_of };
+
+    fn read(alloc: Global, number: u32, records: &[Record<'_>]) -> Result<User, OpFault> {
+        match number {
+            1 => Ok(User::ByName(Bytes::new(joined(alloc, records, number)?))),
+            _ => Ok(User::ById(last_uint32(records, number))),
+        }
+    }
+
+    ghost use Rattle.llb_ops.specs.Writing.{user_bytes};
+
+    ghost writing = { user_bytes };
+
+    #[tactic(auto, unfolding(crate::specs::Writing::user_bytes))]
+    fn write(&self, alloc: Global) -> Result<Vec<u8>, Memory> {
+        let mut out = Vec::new(alloc);
+        match self {
+            User::ByName(name) => put_set_bytes(&mut out, 1, name.as_slice())?,
+            User::ById(id) => put_set_number(&mut out, 2, u64::from(*id))?,
+        }
+        Ok(out)
+    }
+}

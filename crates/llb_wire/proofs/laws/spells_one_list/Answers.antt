@@ -1,0 +1,5 @@
+use Rattle.llb_wire.specs.Laws.Records.{one_list}
+use Rattle.llb_wire.proofs.laws.spells_one_list.Goals as goal
+
+pub returns : goal.returns
+returns c = one_list c.args.bytes.now

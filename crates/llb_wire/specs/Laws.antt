@@ -1,0 +1,4 @@
+-- Laws of the definitions beside this file, for whoever rests on them.
+pub mod Varints
+pub mod Own
+pub mod Records
