@@ -56,6 +56,10 @@ tells left e bytes read refused h =
     by_test true is h = absurd h
     by_test false is h = is
 
+-- what was read is the definition of the graph that was loaded
+pub reads_graph : (left : Option (List ℕ)) (g : Numbered) (bytes : List ℕ) → IfSome left (λ xs. bytes ≡ xs) → IsGraphIn bytes g → IfSome left (λ xs. IsGraphIn xs g)
+reads_graph left g bytes read loaded = some_map (λ xs. bytes ≡ xs) (λ xs. IsGraphIn xs g) left (λ xs same. subst (λ ys. IsGraphIn ys g) same loaded) read
+
 by_stand : (o : Option Status) (p : Option Outcome) (i : ℕ) → StandsPlainly o p → output_in (ending_of o) i ≡ output_in (ending_in p) i
 by_stand (Some (Settled e)) p i h = ap (λ q. output_in (ending_in q) i) (sym h)
 by_stand (Some Waiting) p i h = ap (λ q. output_in (ending_in q) i) (sym h)
