@@ -101,7 +101,7 @@ fn output(alloc: Global, board: &Board, v: u32, i: u32) -> Result<String, AllocE
 
 fn events(alloc: Global, board: &Board) -> Result<String, AllocError> {
     let mut text = String::new(alloc);
-    for event in board.events() {
+    for event in board.events().as_slice() {
         text.push_str(event_text(alloc, *event)?.as_str())?;
         text.push_str("|")?;
     }

@@ -21,9 +21,9 @@ use Rattle.llbm.specs.declared.fault.ProgramFault.{ProgramFault}
 use Rattle.llbm.specs.declared.fault.ProgramFault.TheVariants.{Refused, Loading, Print}
 use Rattle.llbm.specs.TreeText.{tree_text}
 use Rattle.llbm.specs.GraphText.{graph_text}
-use Rattle.llbm.specs.Answer.{result_of, Yields, YieldsNone, IsRefused, YieldsPart, DrawsPart}
+use Rattle.llbm.specs.Answer.{build_of, result_of, FailsBy, Yields, YieldsNone, IsRefused, YieldsPart, DrawsPart}
 use Rattle.llbm.specs.Answer.{Runs}
-use Rattle.llbm.proofs.Failing.{result_fails}
+use Rattle.llb_model.proofs.Outcomes.{result_failed}
 use Rattle.llbm.specs.Running.{passed_on, unread_as, IsRefusal, TellsRefusal, IsFinished, Shows, Answers}
 use Rattle.llbm.specs.Bounded.{ReadsAll}
 use Rattle.llbm.specs.declared.bounded.ReadFault.{ReadFault}
@@ -56,6 +56,10 @@ tells left e bytes read refused h =
     by_test true is h = absurd h
     by_test false is h = is
 
+-- what was read is the definition of the graph that was loaded
+pub reads_graph : (left : Option (List ℕ)) (g : Numbered) (bytes : List ℕ) → IfSome left (λ xs. bytes ≡ xs) → IsGraphIn bytes g → IfSome left (λ xs. IsGraphIn xs g)
+reads_graph left g bytes read loaded = some_map (λ xs. bytes ≡ xs) (λ xs. IsGraphIn xs g) left (λ xs same. subst (λ ys. IsGraphIn ys g) same loaded) read
+
 by_stand : (o : Option Status) (p : Option Outcome) (i : ℕ) → StandsPlainly o p → output_in (ending_of o) i ≡ output_in (ending_in p) i
 by_stand (Some (Settled e)) p i h = ap (λ q. output_in (ending_in q) i) (sym h)
 by_stand (Some Waiting) p i h = ap (λ q. output_in (ending_in q) i) (sym h)
@@ -64,7 +68,7 @@ by_stand None p i h = absurd h
 
 -- on a finished board the result's output is the graph's result
 pub result_is : (g : Numbered) → IsGraph g → (b : Seen) → IsFinished g b → output_in (ending_at b.state.statuses g.result.vertex) g.result.index ≡ result_of g
-result_is g graph b fin = by_stand (slice_get b.state.statuses g.result.vertex) (outcome g g.result.vertex) g.result.index (fin.plain g.result.vertex graph.result.lower)
+result_is g graph b fin = by_stand (slice_get b.state.statuses g.result.vertex) (outcome (build_of g) g.result.vertex) g.result.index (fin.plain g.result.vertex graph.result.lower)
 
 module _ (left : Option (List ℕ)) (g : Numbered) (graph : IsGraph g) (b : Seen) (fin : IsFinished g b) (loads : IfSome left (λ bytes. IsGraphIn bytes g)) where
   yields : (bytes : List ℕ) → IsGraphIn bytes g → (t : TreeMap) → output_in (ending_at b.state.statuses g.result.vertex) g.result.index ≡ Some t → Yields bytes (tree_text t)
@@ -78,10 +82,13 @@ module _ (left : Option (List ℕ)) (g : Numbered) (graph : IsGraph g) (b : Seen
   answers_part out out' t is part = some_map (λ bytes. IsGraphIn bytes g) (YieldsPart out out') left (λ bytes loaded. (tree_text t, yields bytes loaded t is, part)) loads
 
   pub answers_none : output_in (ending_at b.state.statuses g.result.vertex) g.result.index ≡ None → IfSome left YieldsNone
-  answers_none none = some_map (λ bytes. IsGraphIn bytes g) YieldsNone left (λ bytes loaded. record { graph = g; loaded = loaded; result = no_tree; fails = result_fails g graph no_tree }) loads
+  answers_none none = some_map (λ bytes. IsGraphIn bytes g) YieldsNone left (λ bytes loaded. record { graph = g; loaded = loaded; result = no_tree; fails = fails }) loads
     where
       no_tree : result_of g ≡ None
       no_tree = sym (result_is g graph b fin) ∙ none
+
+      fails : FailsBy g g.result.vertex
+      fails = let f = result_failed (build_of g) graph no_tree in record { vertex = f.vertex; before = f.before; fault = f.fault; failed = f.failed }
 
 -- ---- what the parts answered, where the answer is known
 

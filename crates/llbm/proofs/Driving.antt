@@ -1,42 +1,32 @@
 -- What a driver's events do to a board.
-use Rattle.std.proofs.Common.{◌≡◌, ℕ, zero, suc, ◌+◌, ◌≤◌, List, [], ◌∷◌, ◌++◌, length, map, Option, Some, None, option_map, Result, Ok, Err, inl, inr, refl, sym, ap, subst, ◌∙◌, append_assoc, arith}
-use Rattle.std.proofs.lemmas.List.{append-nil, length-append}
-use Rattle.llb_loader.specs.Graph.{IsGraph}
-use Rattle.llb_model.specs.State.{State, At, opening}
-use Rattle.std.specs.Prelude.{slice_get, slice_index, replicate, is_ok, Bool, true, false}
+use Rattle.std.proofs.Common.{◌≡◌, ◌≢◌, ℕ, zero, suc, ◌+◌, ◌<◌, ◌≤◌, ◌==◌, Bool, true, false, cond, List, [], ◌∷◌, ◌++◌, length, map, take, get_or, get_or-set_same, get_or-set_other, Some, None, is_some, Result, Ok, Err, inl, inr, refl, sym, ap, subst, ◌∙◌, append_assoc, arith}
+use Rattle.std.proofs.Math.ListN.{set}
+use Rattle.std.proofs.lemmas.Bool.{cases_eq, eq-eqb, ne_eqb}
+use Rattle.std.proofs.lemmas.List.{append-nil, length-append, length-set}
+use Rattle.std.proofs.lemmas.List.Sums.{count_by_more_yes, count_by_more_no, sum_by-cons}
+use Rattle.std.specs.Prelude.{slice_index, replicate, is_ok}
 use Rattle.std.specs.Bool.{OnTrue, OnFalse}
-use Rattle.llb_model.specs.Table.{Event, Claim, Step, Settle, Reply, table}
-use Rattle.llb_model.specs.Run.{run, chosen}
-use Rattle.llb_model.proofs.Sound.{IsSound, opening_sound, run_sound}
-use Rattle.llb_model.proofs.Alone.{Ascends, alone_step, chosen_is, chosen_granted}
-use Rattle.llb_board.specs.Board.{Seen, Replays, after_event, on_grant}
-use Rattle.llb_board.specs.Rules.{GivesClaim, claim_of, claim_cause, GivesStep, step_of, step_cause, GivesSettle, settle_of, settle_cause}
-use Rattle.llb_board.specs.Views.{claim_reply, step_reply, settle_reply}
-use Rattle.llb_board.specs.declared.job.Job.{Job}
+use Rattle.std.specs.List.{count_by}
+use Rattle.std.specs.Result.{result_ok}
+use Rattle.llb_loader.specs.Graph.{IsGraph}
+use Rattle.llb_model.specs.Consistent.{IsConsistent}
+use Rattle.llb_model.specs.SettleCause.{SettleCause}
+use Rattle.llb_model.specs.State.{State}
+use Rattle.llb_model.specs.Table.{Event, Claim, Step, Settle, Reply, worker_of, claim_grant, step_grant, settle_grant, table}
+use Rattle.llb_model.specs.Run.{run, events_by, chosen}
+use Rattle.llb_model.proofs.Runs.{run_more}
+use Rattle.llb_model.proofs.Alone.{Ascends, alone_step}
+use Rattle.llb_board.specs.Board.{Seen, ChosenIsGranted, after_event, recorded}
+use Rattle.llb_board.specs.Rules.{GivesClaim, claim_of, claim_fault, GivesStep, step_of, step_fault, GivesSettle, settle_of, settle_fault}
+use Rattle.llb_board.specs.Views.{event_of, claim_reply, step_reply, settle_reply}
+use Rattle.llb_board.specs.declared.event.Event as event
 use Rattle.llb_board.specs.declared.event.Stepped.{Stepped}
 use Rattle.llb_board.specs.declared.event.Settled.{Settled}
 use Rattle.llb_board.specs.declared.fault.ClaimFault.{ClaimFault}
 use Rattle.llb_board.specs.declared.fault.StepFault.{StepFault}
 use Rattle.llb_board.specs.declared.fault.SettleFault.{SettleFault}
-use Rattle.llb_board.proofs.Runs.{run_append, run_one, joined}
-use Rattle.std.specs.List.{count_by}
-use Rattle.std.proofs.Common.{◌≢◌, ◌<◌, cond, take, get_or, get_or-set_same, get_or-set_other}
-use Rattle.std.proofs.Math.ListN.{set}
-use Rattle.std.proofs.lemmas.Bool.{cases_eq, eq-eqb, ne_eqb}
-use Rattle.std.proofs.lemmas.List.Sums.{count_by_more_yes, count_by_more_no, sum_by-cons}
-use Rattle.std.proofs.lemmas.List.{length-set}
-use Rattle.llb_board.specs.declared.event.Event as event
-use Rattle.llb_board.specs.Views.{event_of}
-use Rattle.llbm.specs.Alone.{Takes, IsLeft, Goes, TakesMemory, worker_of, is_of}
-
-pub sound_of : (b : Seen) → IsGraph b.graph → Replays b → IsSound b.graph b.state
-sound_of b graph here = run_sound b.graph graph (opening b.graph (length b.state.workers)) b.state b.events here.replies (opening_sound b.graph (length b.state.workers)) here.leads
-
-abbrev some_pair : {B : Type 0} → State → B → Option (State × B)
-some_pair s r = Some (s, r)
-
-abbrev ok_pair : {F : Type 0} → Seen → Reply → Result (Seen × Reply) F
-ok_pair b r = Ok (b, r)
+use Rattle.llb_board.specs.declared.job.Job.{Job}
+use Rattle.llbm.specs.Alone.{Takes, IsLeft, Goes, TakesMemory}
 
 abbrev ok_of : {A F : Type 0} → A → Result A F
 ok_of x = Ok x
@@ -45,36 +35,34 @@ inside : {A F : Type 0} {x y : A} → ok_of {F = F} x ≡ ok_of y → x ≡ y
 inside e = cc
 
 -- a call that is granted takes its event
-pub takes_of : {F : Type 0} (b : Seen) (e : Event) (f : F) (o : Option (State × Reply)) (n : Seen) (r : Reply) → table b.graph b.state e ≡ o → on_grant b e f o ≡ Ok (n, r) → Takes b e n
-takes_of {F} b e f None n r is given = absurd cc
-takes_of {F} b e f (Some (s, q)) n r is given =
-    let same : after_event b e s ≡ n = ap (λ (x : Seen × Reply). x.0) (inside given) in
-    subst (Takes b e) same (record { graph = refl; reply = q; given = is; events = refl })
+pub takes_of : {C F : Type 0} (b : Seen) (e : Event) (fault : C → F) (o : Result (State × Reply) C) (n : Seen) (r : Reply) → table b.build b.state e ≡ result_ok o → recorded b e fault o ≡ Ok (n, r) → Takes b e n
+takes_of {C} {F} b e fault (Err cause) n r is given = absurd cc
+takes_of {C} {F} b e fault (Ok (s, q)) n r is given =
+    let same : after_event b e s ≡ n = ap (λ (x : Seen × Reply). x.0) (inside {F = F} given) in
+    subst (Takes b e) same (record { build = refl; opening = refl; reply = q; given = is; events = refl })
 
 pub goes_nil : (b : Seen) → Goes b b
 unfolding run
-goes_nil b = record { graph = refl; more = []; replies = []; leads = refl; events = sym (append-nil b.events) }
+goes_nil b = record { build = refl; opening = refl; more = []; replies = []; leads = refl; events = sym (append-nil b.events) }
 
 pub goes_on : (a b c : Seen) (e : Event) → Goes a b → Takes b e c → Goes a c
 goes_on a b c e goes takes = record {
-  graph = takes.graph ∙ goes.graph;
+  build = takes.build ∙ goes.build;
+  opening = takes.opening ∙ goes.opening;
   more = goes.more ++ e ∷ [];
   replies = goes.replies ++ takes.reply ∷ [];
-  leads =
-      run_append a.graph a.state goes.more (e ∷ [])
-      ∙ ap (λ o. joined o (λ t. run a.graph t (e ∷ []))) goes.leads
-      ∙ ap (option_map {U = State × List Reply} (λ (t : State × List Reply). (t.0, goes.replies ++ t.1))) (run_one a.graph b.state c.state e takes.reply given);
+  leads = run_more a.build a.state b.state c.state goes.more goes.replies e takes.reply goes.leads given;
   events = takes.events ∙ ap (λ es. es ++ e ∷ []) goes.events ∙ append_assoc a.events goes.more (e ∷ []);
 }
   where
-    given : table a.graph b.state e ≡ Some (c.state, takes.reply)
-    given = ap (λ g. table g b.state e) (sym goes.graph) ∙ takes.given
+    given : table a.build b.state e ≡ Some (c.state, takes.reply)
+    given = ap (λ x. table x b.state e) (sym goes.build) ∙ takes.given
 
 -- the claims so far ascend, and go on to
-pub ascends_on : (b c : Seen) (e : Event) → IsGraph b.graph → Replays b → chosen b.graph b.state ≡ Some e → Takes b e c → Ascends b.graph b.state b.events → Ascends c.graph c.state c.events
+pub ascends_on : (b c : Seen) (e : Event) → IsGraph b.build.graph → IsConsistent b.build b.state → chosen b.build b.state ≡ Some e → Takes b e c → Ascends b.build b.state b.events → Ascends c.build c.state c.events
 ascends_on b c e graph here is takes up =
-    subst (λ g. Ascends g c.state c.events) (sym takes.graph) (subst (Ascends b.graph c.state) (sym takes.events)
-    (alone_step b.graph graph b.state c.state e takes.reply b.events (sound_of b graph here) is takes.given up))
+    subst (λ x. Ascends x c.state c.events) (sym takes.build) (subst (Ascends b.build c.state) (sym takes.events)
+    (alone_step b.build graph b.state c.state e takes.reply b.events here is takes.given up))
 
 pub longer : (b c : Seen) (e : Event) → Takes b e c → length c.events ≡ length b.events + 1
 longer b c e takes = ap length takes.events ∙ length-append b.events (e ∷ [])
@@ -82,46 +70,38 @@ longer b c e takes = ap length takes.events ∙ length-append b.events (e ∷ []
 -- ---- the three calls
 
 pub claim_takes : (b n : Seen) (w v : ℕ) (r : Result Job ClaimFault) → GivesClaim (λ job. (n, claim_reply job)) r (claim_of b w v) → is_ok r ≡ true → Takes b (Claim w v) n
-claim_takes b n w v (Ok job) gives ok = takes_of b (Claim w v) (claim_cause (slice_get b.state.workers w) (slice_get b.graph.vertices v)) (table b.graph b.state (Claim w v)) n (claim_reply job) refl gives
+unfolding table
+claim_takes b n w v (Ok job) gives ok = takes_of b (Claim w v) claim_fault (claim_grant b.build b.state w v) n (claim_reply job) refl gives
 claim_takes b n w v (Err e) gives ok = absurd cc
 
 pub step_takes : (b n : Seen) (w : ℕ) (r : Result Stepped StepFault) → GivesStep (λ s. (n, step_reply s)) r (step_of b w) → is_ok r ≡ true → Takes b (Step w) n
-step_takes b n w (Ok s) gives ok = takes_of b (Step w) (step_cause (slice_get b.state.workers w)) (table b.graph b.state (Step w)) n (step_reply s) refl gives
+unfolding table
+step_takes b n w (Ok s) gives ok = takes_of b (Step w) step_fault (step_grant b.build b.state w) n (step_reply s) refl gives
 step_takes b n w (Err e) gives ok = absurd cc
 
 pub settle_takes : (b n : Seen) (w : ℕ) (r : Result Settled SettleFault) → GivesSettle (λ s. (n, settle_reply s)) r (settle_of b w) → is_ok r ≡ true → Takes b (Settle w) n
-settle_takes b n w (Ok s) gives ok = takes_of b (Settle w) (settle_cause (slice_get b.state.workers w)) (table b.graph b.state (Settle w)) n (settle_reply s) refl gives
+unfolding table
+settle_takes b n w (Ok s) gives ok = takes_of b (Settle w) settle_fault (settle_grant b.build b.state w) n (settle_reply s) refl gives
 settle_takes b n w (Err e) gives ok = absurd cc
 
 -- a settle that is refused is not granted
 pub settle_left : (b n : Seen) (w : ℕ) (r : Result Settled SettleFault) → GivesSettle (λ s. (n, settle_reply s)) r (settle_of b w) → is_ok r ≡ false → IsLeft b (Settle w)
+unfolding table
 settle_left b n w (Ok s) gives refused = absurd cc
-settle_left b n w (Err e) gives refused = by_grant (table b.graph b.state (Settle w)) (settle_cause (slice_get b.state.workers w)) (gives refl)
+settle_left b n w (Err e) gives refused = by_grant (settle_grant b.build b.state w) (gives refl)
   where
-    by_grant : (o : Option (State × Reply)) (f : SettleFault) → on_grant b (Settle w) f o ≡ Err e → o ≡ None
-    by_grant None f is = refl
-    by_grant (Some p) f is = absurd cc
+    by_grant : (o : Result (State × Reply) SettleCause) → recorded b (Settle w) settle_fault o ≡ Err e → result_ok o ≡ None
+    by_grant (Err cause) is = refl
+    by_grant (Ok p) is = absurd cc
 
 -- a chosen event that was not done takes memory
-pub left_over : (b : Seen) (e : Event) → IsGraph b.graph → chosen b.graph b.state ≡ Some e → IsLeft b e → TakesMemory (chosen b.graph b.state)
-left_over b e graph is left = subst TakesMemory (sym is) (by_event e is left)
+pub left_over : (b : Seen) (e : Event) → ChosenIsGranted b → chosen b.build b.state ≡ Some e → IsLeft b e → TakesMemory (chosen b.build b.state)
+left_over b e granted is left = subst TakesMemory (sym is) (by_event e is left)
   where
-    first_worker : (ws : List At) (u : ℕ) (a : At) → slice_get ws u ≡ Some a → (x : At) × (slice_get ws 0 ≡ Some x)
-    first_worker [] zero a there = absurd cc
-    first_worker [] (suc u) a there = absurd cc
-    first_worker (x ∷ ws) u a there = (x, refl)
-
-    by_event : (e : Event) → chosen b.graph b.state ≡ Some e → IsLeft b e → TakesMemory (Some e)
+    by_event : (e : Event) → chosen b.build b.state ≡ Some e → IsLeft b e → TakesMemory (Some e)
     by_event (Claim w v) is left = tt
     by_event (Step w) is left = tt
-    by_event (Settle w) is left = elim (chosen_is b.graph graph b.state (Settle w) is) [
-      | inl n ↦
-          let first = first_worker b.state.workers n.worker _ n.there in
-          let granted = chosen_granted b.graph graph b.state (Settle w) first.0 first.1 is in
-          let both : some_pair granted.later granted.reply ≡ None = sym granted.given ∙ left in
-          absurd cc
-      | inr c ↦ absurd (let bad : Settle w ≡ Claim 0 c.0 = c.1 in cc)
-    ]
+    by_event (Settle w) is left = let none : is_some (table b.build b.state (Settle w)) ≡ false = ap is_some left in absurd (cc (none, granted (Settle w) is))
 
 -- a fact where a test is true, or false
 pub on_true : (b : Bool) (P : Type 0) → (b ≡ true → P) → OnTrue b P
@@ -141,20 +121,16 @@ zeros zero w = refl
 zeros (suc k) zero = refl
 zeros (suc k) (suc w) = zeros k w
 
-pub length_seen : {A B : Type 0} (f : A → B) (xs : List A) → length (map f xs) ≡ length xs
-length_seen f [] = refl
-length_seen f (x ∷ xs) = ap suc (length_seen f xs)
-
 -- ---- each worker's events
 
 abbrev pub of_worker : ℕ → event.Event → Bool
-of_worker w e = is_of w (event_of e)
+of_worker w e = worker_of (event_of e) == w
 
 -- what is counted of seen events is counted of the events
-pub count_seen : (w : ℕ) (es : List event.Event) → count_by (is_of w) (map event_of es) ≡ count_by (of_worker w) es
+pub count_seen : (w : ℕ) (es : List event.Event) → events_by w (map event_of es) ≡ count_by (of_worker w) es
 count_seen w [] = refl
 count_seen w (e ∷ es) =
-    sum_by-cons (λ x. cond (is_of w x) 1 0) (event_of e) (map event_of es) ∙ ap (λ n. cond (of_worker w e) 1 0 + n) (count_seen w es) ∙ sym (sum_by-cons (λ x. cond (of_worker w x) 1 0) e es)
+    sum_by-cons (λ x. cond (worker_of x == w) 1 0) (event_of e) (map event_of es) ∙ ap (λ n. cond (of_worker w e) 1 0 + n) (count_seen w es) ∙ sym (sum_by-cons (λ x. cond (of_worker w x) 1 0) e es)
 
 -- the counts of so many events
 abbrev pub Counts : List ℕ → List event.Event → ℕ → Type 0

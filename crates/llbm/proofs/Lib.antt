@@ -2,4 +2,3 @@ pub mod Printing
 pub mod Driving
 pub mod Answering
 pub mod Entering
-pub mod Failing

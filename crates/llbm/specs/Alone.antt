@@ -1,37 +1,29 @@
 -- What a driver does to a board.
-use Rattle.std.specs.Prelude.{◌≡◌, ℕ, ◌<◌, ◌==◌, Bool, List, [], ◌∷◌, ◌++◌, length, drop, slice_index, Option, Some, None, ⊤}
-use Rattle.std.specs.List.{count_by}
+use Rattle.std.specs.Prelude.{◌≡◌, ℕ, ◌<◌, List, [], ◌∷◌, ◌++◌, length, drop, slice_index, Option, Some, None, ⊤}
 use Rattle.llb_model.specs.Table.{Event, Claim, Step, Settle, Reply, table}
-use Rattle.llb_model.specs.Run.{run}
+use Rattle.llb_model.specs.Run.{run, events_by}
 use Rattle.llb_board.specs.Board.{Seen}
 
 -- one event that the table grants, at the end of the record
 pub record Takes (old : Seen) (e : Event) (new : Seen) : Type 0 where
-  pub graph : new.graph ≡ old.graph
+  pub build : new.build ≡ old.build
+  pub opening : new.opening ≡ old.opening
   pub reply : Reply
-  pub given : table old.graph old.state e ≡ Some (new.state, reply)
+  pub given : table old.build old.state e ≡ Some (new.state, reply)
   pub events : new.events ≡ old.events ++ e ∷ []
 
 -- events that are granted one after another, at the end of the record
 pub record Goes (old new : Seen) : Type 0 where
-  pub graph : new.graph ≡ old.graph
+  pub build : new.build ≡ old.build
+  pub opening : new.opening ≡ old.opening
   pub more : List Event
   pub replies : List Reply
-  pub leads : run old.graph old.state more ≡ Some (new.state, replies)
+  pub leads : run old.build old.state more ≡ Some (new.state, replies)
   pub events : new.events ≡ old.events ++ more
-
--- the worker whose event it is
-abbrev pub worker_of : Event → ℕ
-worker_of (Claim w v) = w
-worker_of (Step w) = w
-worker_of (Settle w) = w
-
-abbrev pub is_of : ℕ → Event → Bool
-is_of w e = worker_of e == w
 
 -- of each worker, how many of the events that were added are its own
 abbrev pub MadeBy : Seen → Seen → List ℕ → Type 0
-MadeBy old new made = (w : ℕ) → w < 64 → slice_index made w ≡ count_by (is_of w) (drop (length old.events) new.events)
+MadeBy old new made = (w : ℕ) → w < 64 → slice_index made w ≡ events_by w (drop (length old.events) new.events)
 
 -- an event whose want of memory may end a run: a settle takes none
 abbrev pub TakesMemory : Option Event → Type 0
@@ -44,4 +36,4 @@ TakesMemory None = ⊥
 abbrev pub IsLeft : Seen → Event → Type 0
 IsLeft b (Claim w v) = ⊤
 IsLeft b (Step w) = ⊤
-IsLeft b (Settle w) = table b.graph b.state (Settle w) ≡ None
+IsLeft b (Settle w) = table b.build b.state (Settle w) ≡ None

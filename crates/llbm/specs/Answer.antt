@@ -7,15 +7,20 @@ use Rattle.llb_loader.specs.declared.fault.LoadFault.{LoadFault}
 use Rattle.llb_loader.specs.Graph.{Numbered}
 use Rattle.llb_loader.specs.Load.{IsGraphIn, IsRefusalIn}
 use Rattle.llb_model.specs.declared.fault.VertexFault.{VertexFault}
+use Rattle.llb_model.specs.Program.{Build}
 use Rattle.llb_model.specs.Outcome.{Ended, Failed, outcome, ending_in, output_in}
 use Rattle.llbm.specs.TreeText.{tree_text}
 use Rattle.llbm.specs.GraphText.{graph_text}
 use Rattle.llbm.specs.declared.words.Command.{Command}
 use Rattle.llbm.specs.declared.words.Command.TheVariants.{Run, Show}
 
+-- a run is over a graph, and nothing else
+abbrev pub build_of : Numbered → Build
+build_of g = record { graph = g }
+
 -- the tree that a graph's result is, by the plain outcome of its vertex: none where that failed or is blocked
 abbrev pub result_of : Numbered → Option TreeMap
-result_of g = output_in (ending_in (outcome g g.result.vertex)) g.result.index
+result_of g = output_in (ending_in (outcome (build_of g) g.result.vertex)) g.result.index
 
 -- bytes that are the definition of a graph whose result is a tree of that text
 pub record Yields (bytes text : List ℕ) : Type 0 where
@@ -30,7 +35,7 @@ pub record FailsBy (g : Numbered) (v : ℕ) : Type 0 where
   pub vertex : ℕ
   pub before : vertex ≤ v
   pub fault : VertexFault
-  pub failed : outcome g vertex ≡ Some (Ended (Failed fault))
+  pub failed : outcome (build_of g) vertex ≡ Some (Ended (Failed fault))
 
 -- bytes that are the definition of a graph whose result is no tree, since a vertex fails
 pub record YieldsNone (bytes : List ℕ) : Type 0 where

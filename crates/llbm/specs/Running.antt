@@ -9,7 +9,7 @@ use Rattle.llb_model.specs.Outcome.{outcome}
 use Rattle.llb_model.specs.Run.{StandsPlainly}
 use Rattle.llb_board.specs.Board.{Seen}
 use Rattle.llbm.specs.TreeText.{tree_text}
-use Rattle.llbm.specs.Answer.{Yields, YieldsNone, IsRefused, YieldsPart, DrawsAll, DrawsPart}
+use Rattle.llbm.specs.Answer.{build_of, Yields, YieldsNone, IsRefused, YieldsPart, DrawsAll, DrawsPart}
 use Rattle.llbm.specs.declared.fault.ProgramFault.{ProgramFault}
 use Rattle.llbm.specs.declared.fault.ProgramFault.TheVariants.{Refused, Loading, Read, Memory}
 use Rattle.llbm.specs.declared.bounded.ReadFault.{ReadFault}
@@ -46,8 +46,8 @@ Loads input (Err e) = TellsRefusal input e
 
 -- a board on which every vertex of the graph stands as its plain outcome
 pub record IsFinished (g : Numbered) (b : Seen) : Type 0 where
-  pub graph : b.graph ≡ g
-  pub plain : (v : ℕ) → v < length g.vertices → StandsPlainly (slice_get b.state.statuses v) (outcome g v)
+  pub build : b.build ≡ build_of g
+  pub plain : (v : ℕ) → v < length g.vertices → StandsPlainly (slice_get b.state.statuses v) (outcome (build_of g) v)
 
 -- a tree is out where there is one
 abbrev pub Shows : Option (List ℕ) → Option (List ℕ) → Option TreeMap → Result Bool ProgramFault → Type 0

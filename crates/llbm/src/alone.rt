@@ -1,15 +1,15 @@
 //! One driver: the chosen events, one after another, on the caller's own thread, until the run is complete.
 
-ghost use Rattle.std.specs.Prelude.{◌≡◌, ◌<◌, ◌↔◌, ℕ, None, [], length, slice_get, slice_index, IfSome, true};
+ghost use Rattle.std.specs.Prelude.{◌≡◌, ◌<◌, ◌==◌, ◌↔◌, ℕ, None, [], length, slice_get, slice_index, IfSome, true};
 ghost use Rattle.std.specs.Bool.{OnTrue, OnFalse};
-ghost use Rattle.llb_model.specs.Table.{Claim, Step, Settle};
+ghost use Rattle.llb_model.specs.Table.{Claim, Step, Settle, worker_of};
 ghost use Rattle.llb_board.specs.Views.{event_of};
 ghost use Rattle.llb_model.specs.Outcome.{outcome};
 ghost use Rattle.llb_model.specs.Run.{chosen, is_complete, claims_of, AreAscending, StandsPlainly};
 ghost use Rattle.std.specs.List.{count_by};
-ghost use Rattle.llbm.specs.Alone.{Takes, IsLeft, Goes, TakesMemory, MadeBy, worker_of, is_of};
+ghost use Rattle.llbm.specs.Alone.{Takes, IsLeft, Goes, TakesMemory, MadeBy};
 
-use llb_board::laws::{chosen_until_complete, complete_is_plain};
+use llb_board::laws::{chosen_is_granted, chosen_until_complete, complete_is_plain, is_consistent};
 use llb_board::{Board, Event};
 use thiserror::Error;
 
@@ -68,13 +68,14 @@ fn do_event(board: &mut Board, event: Event) -> bool
 // Does the chosen events until none is left, or one is refused, and tells whether none is left.
 fn go_alone(board: &mut Board) -> bool
     ensures goes { Goes board.old board.new }
-    ensures ends { OnTrue result (chosen board.new.graph board.new.state ≡ None) }
-    ensures stops { OnFalse result (TakesMemory (chosen board.new.graph board.new.state)) }
+    ensures ends { OnTrue result (chosen board.new.build board.new.state ≡ None) }
+    ensures stops { OnFalse result (TakesMemory (chosen board.new.build board.new.state)) }
     ensures claims { board.old.events ≡ [] → AreAscending (claims_of board.new.events) }
 {
     while let Some(event) = board.chosen() {
         board.is_graph();
-        board.replays();
+        is_consistent(board);
+        chosen_is_granted(board);
         if !do_event(board, event) {
             return false;
         }
@@ -94,7 +95,7 @@ fn worker_of(event: Event) -> u32
 
 // How many of the events are each worker's.
 fn made_by(events: &[Event]) -> [u64; 64]
-    ensures { (w : ℕ) → w < 64 → slice_index result w ≡ count_by (λ e. is_of w (event_of e)) events.now }
+    ensures { (w : ℕ) → w < 64 → slice_index result w ≡ count_by (λ e. worker_of (event_of e) == w) events.now }
 {
     let mut made = [0; 64];
     for event in events {
@@ -110,17 +111,17 @@ fn made_by(events: &[Event]) -> [u64; 64]
 /// every vertex stands as its plain outcome.
 pub fn run_alone(board: Board) -> RunEnd
     ensures goes { Goes board result.board }
-    ensures ends { (result.fault ≡ None) ↔ (is_complete result.board.graph result.board.state ≡ true) }
-    ensures stops { IfSome result.fault (λ _. TakesMemory (chosen result.board.graph result.board.state)) }
+    ensures ends { (result.fault ≡ None) ↔ (is_complete result.board.build result.board.state ≡ true) }
+    ensures stops { IfSome result.fault (λ _. TakesMemory (chosen result.board.build result.board.state)) }
     ensures claims { board.events ≡ [] → AreAscending (claims_of result.board.events) }
-    ensures plain { result.fault ≡ None → (v : ℕ) → v < length result.board.graph.vertices
-        → StandsPlainly (slice_get result.board.state.statuses v) (outcome result.board.graph v) }
+    ensures plain { result.fault ≡ None → (v : ℕ) → v < length result.board.build.graph.vertices
+        → StandsPlainly (slice_get result.board.state.statuses v) (outcome result.board.build v) }
     ensures made { MadeBy board result.board result.made }
 {
     let mut board = board;
     let before = board.events().len();
     let whole = go_alone(&mut board);
-    let (_, added) = board.events().split_at(before);
+    let (_, added) = board.events().as_slice().split_at(before);
     let made = made_by(added);
     chosen_until_complete(&board);
     complete_is_plain(&board);

@@ -1,7 +1,4 @@
-use Rattle.std.proofs.Common.{rules, ◌≡◌, ◌<◌, ◌≤◌, ◌+◌, ℕ, List, length, refl, sym, subst, ap, ◌∙◌, arith}
-use Rattle.std.proofs.Math.ListN.{set}
-use Rattle.std.proofs.lemmas.List.{length-set}
-use Rattle.std.specs.Prelude.{slice_index}
+use Rattle.std.proofs.Common.{◌+◌, refl, sym, subst, arith}
 use Rattle.llb_board.specs.declared.event.Event.TheVariants as event
 use Rattle.llbm.proofs.alone.made_by.Goals.{then-w-lt64, else-w-lt64}
 use Rattle.llbm.proofs.Driving.{zeros, Counts, counted, not_counted}
