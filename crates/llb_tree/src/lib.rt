@@ -9,7 +9,7 @@ mod path;
 mod tree;
 
 pub use fault::TreeFault;
-pub use llb_wire::Bytes;
+pub use llb_wire::{Bytes, Text};
 pub use meta::Meta;
 pub use path::{Name, Path};
 pub use tree::{Entry, Tree};

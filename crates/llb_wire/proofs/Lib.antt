@@ -2,4 +2,3 @@ pub mod Limits
 pub mod Faults
 pub mod RecordGrammar
 pub mod Written
-pub mod SinkLemmas
