@@ -3,7 +3,6 @@
 use llb_board::{At, Board, Event, OpenFault, Settled, Status, Stepped};
 use llb_loader::{Graph, load};
 use std::alloc::{AllocError, Global};
-use std::test::Fail;
 
 // A file `/a` on nothing, and a directory `/d` on it.
 const IN_A_ROW: &str =
@@ -99,11 +98,16 @@ fn output(alloc: Global, board: &Board, v: u32, i: u32) -> Result<String, AllocE
     }
 }
 
+fn push_event(alloc: Global, text: &mut String, event: Event) -> Result<(), AllocError> {
+    let told = event_text(alloc, event)?;
+    text.push_str(told.as_str())?;
+    text.push_str("|")
+}
+
 fn events(alloc: Global, board: &Board) -> Result<String, AllocError> {
     let mut text = String::new(alloc);
     for event in board.events().as_slice() {
-        text.push_str(event_text(alloc, *event)?.as_str())?;
-        text.push_str("|")?;
+        push_event(alloc, &mut text, *event)?;
     }
     Ok(text)
 }
@@ -122,26 +126,49 @@ fn answer(alloc: Global, board: &mut Board, call: Call) -> Result<String, AllocE
     }
 }
 
-fn graph_of(alloc: Global, definition: &str) -> Result<Graph, Fail> {
-    let bytes = hex::decode(alloc, definition)?;
-    Ok(load(alloc, &bytes)?)
+fn graph_of(alloc: Global, definition: &str) -> Option<Graph> {
+    match hex::decode(alloc, definition) {
+        Ok(bytes) => load(alloc, &bytes).ok(),
+        Err(_) => None,
+    }
 }
 
-// The number of the first call of a story that has another answer on a new board.
-fn astray(alloc: Global, definition: &str, story: &[(Call, &str)]) -> Result<Option<usize>, Fail> {
-    let graph = graph_of(alloc, definition)?;
-    let mut board = Board::open(alloc, graph, 1)?;
-    for (k, (call, wanted)) in story.iter().enumerate() {
-        let told = answer(alloc, &mut board, *call)?;
-        if told.as_str() != *wanted {
-            return Ok(Some(k));
-        }
+fn opened(alloc: Global, definition: &str) -> Option<Board> {
+    match graph_of(alloc, definition) {
+        Some(graph) => Board::open(alloc, graph, 1).ok(),
+        None => None,
     }
-    Ok(None)
+}
+
+fn is_answered(alloc: Global, board: &mut Board, call: Call, wanted: &str) -> bool {
+    match answer(alloc, board, call) {
+        Ok(told) => told.as_str() == wanted,
+        Err(_) => false,
+    }
+}
+
+// How many calls of a story have their answers on a board, up to the first that has another one.
+fn answered(alloc: Global, board: Option<Board>, story: &[(Call, &str)]) -> usize {
+    let Some(mut board) = board else {
+        return 0;
+    };
+    let mut count = 0;
+    for (call, wanted) in story {
+        if !is_answered(alloc, &mut board, *call, wanted) {
+            break;
+        }
+        count += 1;
+    }
+    count
+}
+
+// Whether all calls of a story have their answers on a new board.
+fn is_told(alloc: Global, definition: &str, story: &[(Call, &str)]) -> bool {
+    answered(alloc, opened(alloc, definition), story) == story.len()
 }
 
 #[test]
-fn an_idle_worker_is_refused_by_the_first_cause(rt: HostRuntime) -> Result<(), Fail> {
+fn an_idle_worker_is_refused_by_the_first_cause(rt: HostRuntime) {
     let story = [
         (Call::Claim(5, 9), "131"),
         (Call::Claim(0, 9), "133"),
@@ -152,12 +179,11 @@ fn an_idle_worker_is_refused_by_the_first_cause(rt: HostRuntime) -> Result<(), F
         (Call::Settle(0), "136"),
         (Call::Events, ""),
     ];
-    assert_eq!(rt; astray(rt.alloc(), THREE_VERTICES, &story)?, None);
-    Ok(())
+    assert!(rt; is_told(rt.alloc(), THREE_VERTICES, &story));
 }
 
 #[test]
-fn a_running_worker_is_refused_by_the_first_cause(rt: HostRuntime) -> Result<(), Fail> {
+fn a_running_worker_is_refused_by_the_first_cause(rt: HostRuntime) {
     let story = [
         (Call::Claim(0, 0), "worker 0, vertex 0, 0 done"),
         (Call::Claim(0, 1), "132"),
@@ -170,12 +196,11 @@ fn a_running_worker_is_refused_by_the_first_cause(rt: HostRuntime) -> Result<(),
         (Call::Claim(0, 2), "134"),
         (Call::Events, "claim 0 0|step 0|settle 0|"),
     ];
-    assert_eq!(rt; astray(rt.alloc(), THREE_VERTICES, &story)?, None);
-    Ok(())
+    assert!(rt; is_told(rt.alloc(), THREE_VERTICES, &story));
 }
 
 #[test]
-fn a_vertex_is_seen_to_wait_run_and_be_done(rt: HostRuntime) -> Result<(), Fail> {
+fn a_vertex_is_seen_to_wait_run_and_be_done(rt: HostRuntime) {
     let story = [
         (Call::Vertex(0), "ready"),
         (Call::Vertex(1), "waiting"),
@@ -194,12 +219,11 @@ fn a_vertex_is_seen_to_wait_run_and_be_done(rt: HostRuntime) -> Result<(), Fail>
         (Call::Output(0, 0), "2"),
         (Call::Output(0, 1), "none"),
     ];
-    assert_eq!(rt; astray(rt.alloc(), IN_A_ROW, &story)?, None);
-    Ok(())
+    assert!(rt; is_told(rt.alloc(), IN_A_ROW, &story));
 }
 
 #[test]
-fn the_chosen_events_lead_to_a_complete_board(rt: HostRuntime) -> Result<(), Fail> {
+fn the_chosen_events_lead_to_a_complete_board(rt: HostRuntime) {
     let story = [
         (Call::Complete, "false"),
         (Call::Chosen, "claim 0 0"),
@@ -223,12 +247,11 @@ fn the_chosen_events_lead_to_a_complete_board(rt: HostRuntime) -> Result<(), Fai
             "claim 0 0|step 0|settle 0|claim 0 1|step 0|settle 0|",
         ),
     ];
-    assert_eq!(rt; astray(rt.alloc(), IN_A_ROW, &story)?, None);
-    Ok(())
+    assert!(rt; is_told(rt.alloc(), IN_A_ROW, &story));
 }
 
 #[test]
-fn a_failed_vertex_blocks_what_stands_on_it(rt: HostRuntime) -> Result<(), Fail> {
+fn a_failed_vertex_blocks_what_stands_on_it(rt: HostRuntime) {
     let story = [
         (Call::Claim(0, 0), "worker 0, vertex 0, 0 done"),
         (Call::Step(0), "fault: action 0 fault 21"),
@@ -241,35 +264,58 @@ fn a_failed_vertex_blocks_what_stands_on_it(rt: HostRuntime) -> Result<(), Fail>
         (Call::Complete, "true"),
         (Call::Chosen, "none"),
     ];
-    assert_eq!(rt; astray(rt.alloc(), FAILED_INPUT, &story)?, None);
-    Ok(())
+    assert!(rt; is_told(rt.alloc(), FAILED_INPUT, &story));
 }
 
-// The graph that comes back where the number of workers is refused.
-fn refused(rt: &HostRuntime, graph: Graph, workers: u32) -> Option<Graph> {
-    match Board::open(rt.alloc(), graph, workers) {
-        Err(OpenFault::Workers(back)) => Some(back),
+// How many vertices the graph has that comes back where the number of workers is refused.
+fn given_back(alloc: Global, workers: u32) -> Option<usize> {
+    match Board::open(alloc, graph_of(alloc, THREE_VERTICES)?, workers) {
+        Err(OpenFault::Workers(back)) => Some(back.vertices().len()),
         _ => None,
     }
 }
 
 #[test]
-fn a_number_of_workers_other_than_one_gives_the_graph_back(rt: HostRuntime) -> Result<(), Fail> {
-    let mut graph = graph_of(rt.alloc(), THREE_VERTICES)?;
+fn a_number_of_workers_other_than_one_gives_the_graph_back(rt: HostRuntime) {
     for workers in [0, 2, 65] {
-        graph = refused(&rt, graph, workers).ok_or("opened")?;
-        assert_eq!(rt; graph.vertices().len(), 3);
+        assert!(rt;
+            given_back(rt.alloc(), workers) == Some(3),
+            "{workers} workers"
+        );
     }
-    let board = Board::open(rt.alloc(), graph, 1)?;
-    assert_eq!(rt; board.into_parts().vertices().len(), 3);
-    Ok(())
+    assert!(rt; given_back(rt.alloc(), 1).is_none());
+}
+
+// How many vertices the graph of a board has.
+fn parts(alloc: Global, definition: &str) -> Option<usize> {
+    match opened(alloc, definition) {
+        Some(board) => Some(board.into_parts().vertices().len()),
+        None => None,
+    }
 }
 
 #[test]
-fn a_refused_opening_prints_its_number(rt: HostRuntime) -> Result<(), Fail> {
-    let workers = OpenFault::Workers(graph_of(rt.alloc(), IN_A_ROW)?);
-    assert_eq!(rt; workers.to_string(rt.alloc())?.as_str(), "122");
-    let memory = OpenFault::Memory(graph_of(rt.alloc(), IN_A_ROW)?);
-    assert_eq!(rt; memory.to_string(rt.alloc())?.as_str(), "123");
-    Ok(())
+fn a_board_gives_its_graph_back(rt: HostRuntime) {
+    assert!(rt; parts(rt.alloc(), THREE_VERTICES) == Some(3));
+}
+
+fn prints(alloc: Global, fault: &OpenFault, number: &str) -> bool {
+    match fault.to_string(alloc) {
+        Ok(text) => text.as_str() == number,
+        Err(_) => false,
+    }
+}
+
+#[test]
+fn a_refused_opening_prints_its_number(rt: HostRuntime) {
+    let alloc = rt.alloc();
+    let workers = match graph_of(alloc, IN_A_ROW) {
+        Some(graph) => prints(alloc, &OpenFault::Workers(graph), "122"),
+        None => false,
+    };
+    let memory = match graph_of(alloc, IN_A_ROW) {
+        Some(graph) => prints(alloc, &OpenFault::Memory(graph), "123"),
+        None => false,
+    };
+    assert!(rt; workers && memory);
 }
