@@ -5,16 +5,45 @@ use llb_loader::{Graph, load};
 use std::alloc::{AllocError, Global};
 
 // A file `/a` on nothing, and a directory `/d` on it.
-const IN_A_ROW: &str =
-    "0a322230122e08ffffffffffffffffff0110ffffffffffffffffff012a160a022f6110a4031a02686928ffffffffffffffffff010a6e0a490a477368613235363a653030643635353937383935373930663764633236646266373234613431316264383363386531353838316162336565613138656137353039353738326461622221121f10ffffffffffffffffff0132120a022f6410ed0328ffffffffffffffffff010a4b0a490a477368613235363a31633261313035373763613536643138306634646130366332653034396536366135373138646262323839363038366161383838306330646361333031353266";
+const IN_A_ROW: &[u8] =
+    b"\x0A\x32\x22\x30\x12\x2E\x08\xFF\xFF\xFF\xFF\xFF\xFF\xFF\xFF\xFF\x01\x10\xFF\xFF\xFF\xFF\
+    \xFF\xFF\xFF\xFF\xFF\x01\x2A\x16\x0A\x02\x2F\x61\x10\xA4\x03\x1A\x02\x68\x69\x28\xFF\xFF\
+    \xFF\xFF\xFF\xFF\xFF\xFF\xFF\x01\
+    \x0A\x6E\x0A\x49\x0A\x47\
+    sha256:e00d65597895790f7dc26dbf724a411bd83c8e15881ab3eea18ea75095782dab\
+    \x22\x21\x12\x1F\x10\xFF\xFF\xFF\xFF\xFF\xFF\xFF\xFF\xFF\x01\x32\x12\x0A\x02\x2F\x64\x10\
+    \xED\x03\x28\xFF\xFF\xFF\xFF\xFF\xFF\xFF\xFF\xFF\x01\
+    \x0A\x4B\x0A\x49\x0A\x47\
+    sha256:1c2a10577ca56d180f4da06c2e049e66a5718dbb2896086aa8880c0dca30152f";
 
 // Files `/a` and `/b`, each on nothing, and a directory `/d` on the second, with both as inputs.
-const THREE_VERTICES: &str =
-    "0a322230122e08ffffffffffffffffff0110ffffffffffffffffff012a160a022f6110a4031a02686928ffffffffffffffffff010a322230122e08ffffffffffffffffff0110ffffffffffffffffff012a160a022f6210a4031a02686f28ffffffffffffffffff010abb010a490a477368613235363a653030643635353937383935373930663764633236646266373234613431316264383363386531353838316162336565613138656137353039353738326461620a490a477368613235363a3836306337653466373861613637323230386161376663396236623732396663623165383766356561633761303636366535346639636261393439386137303822231221080110ffffffffffffffffff0132120a022f6410ed0328ffffffffffffffffff010a4b0a490a477368613235363a30626565663566333033633535616538623937663338303161643763633037383762346131346561323430643335386230623437656238363065383264363665";
+const THREE_VERTICES: &[u8] =
+    b"\x0A\x32\x22\x30\x12\x2E\x08\xFF\xFF\xFF\xFF\xFF\xFF\xFF\xFF\xFF\x01\x10\xFF\xFF\xFF\xFF\
+    \xFF\xFF\xFF\xFF\xFF\x01\x2A\x16\x0A\x02\x2F\x61\x10\xA4\x03\x1A\x02\x68\x69\x28\xFF\xFF\
+    \xFF\xFF\xFF\xFF\xFF\xFF\xFF\x01\
+    \x0A\x32\x22\x30\x12\x2E\x08\xFF\xFF\xFF\xFF\xFF\xFF\xFF\xFF\xFF\x01\x10\xFF\xFF\xFF\xFF\
+    \xFF\xFF\xFF\xFF\xFF\x01\x2A\x16\x0A\x02\x2F\x62\x10\xA4\x03\x1A\x02\x68\x6F\x28\xFF\xFF\
+    \xFF\xFF\xFF\xFF\xFF\xFF\xFF\x01\
+    \x0A\xBB\x01\x0A\x49\x0A\x47\
+    sha256:e00d65597895790f7dc26dbf724a411bd83c8e15881ab3eea18ea75095782dab\
+    \x0A\x49\x0A\x47\
+    sha256:860c7e4f78aa672208aa7fc9b6b729fcb1e87f5eac7a0666e54f9cba9498a708\
+    \x22\x23\x12\x21\x08\x01\x10\xFF\xFF\xFF\xFF\xFF\xFF\xFF\xFF\xFF\x01\x32\x12\x0A\x02\x2F\
+    \x64\x10\xED\x03\x28\xFF\xFF\xFF\xFF\xFF\xFF\xFF\xFF\xFF\x01\
+    \x0A\x4B\x0A\x49\x0A\x47\
+    sha256:0beef5f303c55ae8b97f3801ad7cc0787b4a14ea240d358b0b47eb860e82d66e";
 
 // A file below a directory that is missing, and a directory on it.
-const FAILED_INPUT: &str =
-    "0a342232123008ffffffffffffffffff0110ffffffffffffffffff012a180a042f782f6110a4031a02686928ffffffffffffffffff010a6e0a490a477368613235363a383261346362613239343637313632636634393731373531653861343334613033313234663562313766643564353435663765333262393237636338646231652221121f10ffffffffffffffffff0132120a022f6410ed0328ffffffffffffffffff010a4b0a490a477368613235363a64653132323861363838646165653062313636383731643036353837313364373131656665333336656666626433386639336166313234373033336566643631";
+const FAILED_INPUT: &[u8] =
+    b"\x0A\x34\x22\x32\x12\x30\x08\xFF\xFF\xFF\xFF\xFF\xFF\xFF\xFF\xFF\x01\x10\xFF\xFF\xFF\xFF\
+    \xFF\xFF\xFF\xFF\xFF\x01\x2A\x18\x0A\x04\x2F\x78\x2F\x61\x10\xA4\x03\x1A\x02\x68\x69\x28\
+    \xFF\xFF\xFF\xFF\xFF\xFF\xFF\xFF\xFF\x01\
+    \x0A\x6E\x0A\x49\x0A\x47\
+    sha256:82a4cba29467162cf4971751e8a434a03124f5b17fd5d545f7e32b927cc8db1e\
+    \x22\x21\x12\x1F\x10\xFF\xFF\xFF\xFF\xFF\xFF\xFF\xFF\xFF\x01\x32\x12\x0A\x02\x2F\x64\x10\
+    \xED\x03\x28\xFF\xFF\xFF\xFF\xFF\xFF\xFF\xFF\xFF\x01\
+    \x0A\x4B\x0A\x49\x0A\x47\
+    sha256:de1228a688daee0b166871d0658713d711efe336effbd38f93af1247033efd61";
 
 #[derive(Clone, Copy)]
 enum Call {
@@ -126,14 +155,14 @@ fn answer(alloc: Global, board: &mut Board, call: Call) -> Result<String, AllocE
     }
 }
 
-fn graph_of(alloc: Global, definition: &str) -> Option<Graph> {
-    match hex::decode(alloc, definition) {
-        Ok(bytes) => load(alloc, &bytes).ok(),
+fn graph_of(alloc: Global, definition: &[u8]) -> Option<Graph> {
+    match load(alloc, definition) {
+        Ok(graph) => Some(graph),
         Err(_) => None,
     }
 }
 
-fn opened(alloc: Global, definition: &str) -> Option<Board> {
+fn opened(alloc: Global, definition: &[u8]) -> Option<Board> {
     match graph_of(alloc, definition) {
         Some(graph) => Board::open(alloc, graph, 1).ok(),
         None => None,
@@ -148,23 +177,21 @@ fn is_answered(alloc: Global, board: &mut Board, call: Call, wanted: &str) -> bo
 }
 
 // How many calls of a story have their answers on a board, up to the first that has another one.
-fn answered(alloc: Global, board: Option<Board>, story: &[(Call, &str)]) -> usize {
-    let Some(mut board) = board else {
-        return 0;
-    };
-    let mut count = 0;
-    for (call, wanted) in story {
-        if !is_answered(alloc, &mut board, *call, wanted) {
-            break;
+fn answered(alloc: Global, board: &mut Board, story: &[(Call, &str)]) -> usize {
+    for (k, (call, wanted)) in story.iter().enumerate() {
+        if !is_answered(alloc, board, *call, wanted) {
+            return k;
         }
-        count += 1;
     }
-    count
+    story.len()
 }
 
 // Whether all calls of a story have their answers on a new board.
-fn is_told(alloc: Global, definition: &str, story: &[(Call, &str)]) -> bool {
-    answered(alloc, opened(alloc, definition), story) == story.len()
+fn is_told(alloc: Global, definition: &[u8], story: &[(Call, &str)]) -> bool {
+    match opened(alloc, definition) {
+        Some(mut board) => answered(alloc, &mut board, story) == story.len(),
+        None => false,
+    }
 }
 
 #[test]
@@ -287,7 +314,7 @@ fn a_number_of_workers_other_than_one_gives_the_graph_back(rt: HostRuntime) {
 }
 
 // How many vertices the graph of a board has.
-fn parts(alloc: Global, definition: &str) -> Option<usize> {
+fn parts(alloc: Global, definition: &[u8]) -> Option<usize> {
     match opened(alloc, definition) {
         Some(board) => Some(board.into_parts().vertices().len()),
         None => None,
