@@ -3,19 +3,47 @@
 use llb_board::{At, Board, Event, OpenFault, Settled, Status, Stepped};
 use llb_loader::{Graph, load};
 use std::alloc::{AllocError, Global};
-use std::test::Fail;
 
 // A file `/a` on nothing, and a directory `/d` on it.
-const IN_A_ROW: &str =
-    "0a322230122e08ffffffffffffffffff0110ffffffffffffffffff012a160a022f6110a4031a02686928ffffffffffffffffff010a6e0a490a477368613235363a653030643635353937383935373930663764633236646266373234613431316264383363386531353838316162336565613138656137353039353738326461622221121f10ffffffffffffffffff0132120a022f6410ed0328ffffffffffffffffff010a4b0a490a477368613235363a31633261313035373763613536643138306634646130366332653034396536366135373138646262323839363038366161383838306330646361333031353266";
+const IN_A_ROW: &[u8] =
+    b"\x0A\x32\x22\x30\x12\x2E\x08\xFF\xFF\xFF\xFF\xFF\xFF\xFF\xFF\xFF\x01\x10\xFF\xFF\xFF\xFF\
+    \xFF\xFF\xFF\xFF\xFF\x01\x2A\x16\x0A\x02\x2F\x61\x10\xA4\x03\x1A\x02\x68\x69\x28\xFF\xFF\
+    \xFF\xFF\xFF\xFF\xFF\xFF\xFF\x01\
+    \x0A\x6E\x0A\x49\x0A\x47\
+    sha256:e00d65597895790f7dc26dbf724a411bd83c8e15881ab3eea18ea75095782dab\
+    \x22\x21\x12\x1F\x10\xFF\xFF\xFF\xFF\xFF\xFF\xFF\xFF\xFF\x01\x32\x12\x0A\x02\x2F\x64\x10\
+    \xED\x03\x28\xFF\xFF\xFF\xFF\xFF\xFF\xFF\xFF\xFF\x01\
+    \x0A\x4B\x0A\x49\x0A\x47\
+    sha256:1c2a10577ca56d180f4da06c2e049e66a5718dbb2896086aa8880c0dca30152f";
 
 // Files `/a` and `/b`, each on nothing, and a directory `/d` on the second, with both as inputs.
-const THREE_VERTICES: &str =
-    "0a322230122e08ffffffffffffffffff0110ffffffffffffffffff012a160a022f6110a4031a02686928ffffffffffffffffff010a322230122e08ffffffffffffffffff0110ffffffffffffffffff012a160a022f6210a4031a02686f28ffffffffffffffffff010abb010a490a477368613235363a653030643635353937383935373930663764633236646266373234613431316264383363386531353838316162336565613138656137353039353738326461620a490a477368613235363a3836306337653466373861613637323230386161376663396236623732396663623165383766356561633761303636366535346639636261393439386137303822231221080110ffffffffffffffffff0132120a022f6410ed0328ffffffffffffffffff010a4b0a490a477368613235363a30626565663566333033633535616538623937663338303161643763633037383762346131346561323430643335386230623437656238363065383264363665";
+const THREE_VERTICES: &[u8] =
+    b"\x0A\x32\x22\x30\x12\x2E\x08\xFF\xFF\xFF\xFF\xFF\xFF\xFF\xFF\xFF\x01\x10\xFF\xFF\xFF\xFF\
+    \xFF\xFF\xFF\xFF\xFF\x01\x2A\x16\x0A\x02\x2F\x61\x10\xA4\x03\x1A\x02\x68\x69\x28\xFF\xFF\
+    \xFF\xFF\xFF\xFF\xFF\xFF\xFF\x01\
+    \x0A\x32\x22\x30\x12\x2E\x08\xFF\xFF\xFF\xFF\xFF\xFF\xFF\xFF\xFF\x01\x10\xFF\xFF\xFF\xFF\
+    \xFF\xFF\xFF\xFF\xFF\x01\x2A\x16\x0A\x02\x2F\x62\x10\xA4\x03\x1A\x02\x68\x6F\x28\xFF\xFF\
+    \xFF\xFF\xFF\xFF\xFF\xFF\xFF\x01\
+    \x0A\xBB\x01\x0A\x49\x0A\x47\
+    sha256:e00d65597895790f7dc26dbf724a411bd83c8e15881ab3eea18ea75095782dab\
+    \x0A\x49\x0A\x47\
+    sha256:860c7e4f78aa672208aa7fc9b6b729fcb1e87f5eac7a0666e54f9cba9498a708\
+    \x22\x23\x12\x21\x08\x01\x10\xFF\xFF\xFF\xFF\xFF\xFF\xFF\xFF\xFF\x01\x32\x12\x0A\x02\x2F\
+    \x64\x10\xED\x03\x28\xFF\xFF\xFF\xFF\xFF\xFF\xFF\xFF\xFF\x01\
+    \x0A\x4B\x0A\x49\x0A\x47\
+    sha256:0beef5f303c55ae8b97f3801ad7cc0787b4a14ea240d358b0b47eb860e82d66e";
 
 // A file below a directory that is missing, and a directory on it.
-const FAILED_INPUT: &str =
-    "0a342232123008ffffffffffffffffff0110ffffffffffffffffff012a180a042f782f6110a4031a02686928ffffffffffffffffff010a6e0a490a477368613235363a383261346362613239343637313632636634393731373531653861343334613033313234663562313766643564353435663765333262393237636338646231652221121f10ffffffffffffffffff0132120a022f6410ed0328ffffffffffffffffff010a4b0a490a477368613235363a64653132323861363838646165653062313636383731643036353837313364373131656665333336656666626433386639336166313234373033336566643631";
+const FAILED_INPUT: &[u8] =
+    b"\x0A\x34\x22\x32\x12\x30\x08\xFF\xFF\xFF\xFF\xFF\xFF\xFF\xFF\xFF\x01\x10\xFF\xFF\xFF\xFF\
+    \xFF\xFF\xFF\xFF\xFF\x01\x2A\x18\x0A\x04\x2F\x78\x2F\x61\x10\xA4\x03\x1A\x02\x68\x69\x28\
+    \xFF\xFF\xFF\xFF\xFF\xFF\xFF\xFF\xFF\x01\
+    \x0A\x6E\x0A\x49\x0A\x47\
+    sha256:82a4cba29467162cf4971751e8a434a03124f5b17fd5d545f7e32b927cc8db1e\
+    \x22\x21\x12\x1F\x10\xFF\xFF\xFF\xFF\xFF\xFF\xFF\xFF\xFF\x01\x32\x12\x0A\x02\x2F\x64\x10\
+    \xED\x03\x28\xFF\xFF\xFF\xFF\xFF\xFF\xFF\xFF\xFF\x01\
+    \x0A\x4B\x0A\x49\x0A\x47\
+    sha256:de1228a688daee0b166871d0658713d711efe336effbd38f93af1247033efd61";
 
 #[derive(Clone, Copy)]
 enum Call {
@@ -99,11 +127,16 @@ fn output(alloc: Global, board: &Board, v: u32, i: u32) -> Result<String, AllocE
     }
 }
 
+fn push_event(alloc: Global, text: &mut String, event: Event) -> Result<(), AllocError> {
+    let told = event_text(alloc, event)?;
+    text.push_str(told.as_str())?;
+    text.push_str("|")
+}
+
 fn events(alloc: Global, board: &Board) -> Result<String, AllocError> {
     let mut text = String::new(alloc);
     for event in board.events().as_slice() {
-        text.push_str(event_text(alloc, *event)?.as_str())?;
-        text.push_str("|")?;
+        push_event(alloc, &mut text, *event)?;
     }
     Ok(text)
 }
@@ -122,26 +155,47 @@ fn answer(alloc: Global, board: &mut Board, call: Call) -> Result<String, AllocE
     }
 }
 
-fn graph_of(alloc: Global, definition: &str) -> Result<Graph, Fail> {
-    let bytes = hex::decode(alloc, definition)?;
-    Ok(load(alloc, &bytes)?)
+fn graph_of(alloc: Global, definition: &[u8]) -> Option<Graph> {
+    match load(alloc, definition) {
+        Ok(graph) => Some(graph),
+        Err(_) => None,
+    }
 }
 
-// The number of the first call of a story that has another answer on a new board.
-fn astray(alloc: Global, definition: &str, story: &[(Call, &str)]) -> Result<Option<usize>, Fail> {
-    let graph = graph_of(alloc, definition)?;
-    let mut board = Board::open(alloc, graph, 1)?;
+fn opened(alloc: Global, definition: &[u8]) -> Option<Board> {
+    match graph_of(alloc, definition) {
+        Some(graph) => Board::open(alloc, graph, 1).ok(),
+        None => None,
+    }
+}
+
+fn is_answered(alloc: Global, board: &mut Board, call: Call, wanted: &str) -> bool {
+    match answer(alloc, board, call) {
+        Ok(told) => told.as_str() == wanted,
+        Err(_) => false,
+    }
+}
+
+// How many calls of a story have their answers on a board, up to the first that has another one.
+fn answered(alloc: Global, board: &mut Board, story: &[(Call, &str)]) -> usize {
     for (k, (call, wanted)) in story.iter().enumerate() {
-        let told = answer(alloc, &mut board, *call)?;
-        if told.as_str() != *wanted {
-            return Ok(Some(k));
+        if !is_answered(alloc, board, *call, wanted) {
+            return k;
         }
     }
-    Ok(None)
+    story.len()
+}
+
+// Whether all calls of a story have their answers on a new board.
+fn is_told(alloc: Global, definition: &[u8], story: &[(Call, &str)]) -> bool {
+    match opened(alloc, definition) {
+        Some(mut board) => answered(alloc, &mut board, story) == story.len(),
+        None => false,
+    }
 }
 
 #[test]
-fn an_idle_worker_is_refused_by_the_first_cause(rt: HostRuntime) -> Result<(), Fail> {
+fn an_idle_worker_is_refused_by_the_first_cause(rt: HostRuntime) {
     let story = [
         (Call::Claim(5, 9), "131"),
         (Call::Claim(0, 9), "133"),
@@ -152,12 +206,11 @@ fn an_idle_worker_is_refused_by_the_first_cause(rt: HostRuntime) -> Result<(), F
         (Call::Settle(0), "136"),
         (Call::Events, ""),
     ];
-    assert_eq!(rt; astray(rt.alloc(), THREE_VERTICES, &story)?, None);
-    Ok(())
+    assert!(rt; is_told(rt.alloc(), THREE_VERTICES, &story));
 }
 
 #[test]
-fn a_running_worker_is_refused_by_the_first_cause(rt: HostRuntime) -> Result<(), Fail> {
+fn a_running_worker_is_refused_by_the_first_cause(rt: HostRuntime) {
     let story = [
         (Call::Claim(0, 0), "worker 0, vertex 0, 0 done"),
         (Call::Claim(0, 1), "132"),
@@ -170,12 +223,11 @@ fn a_running_worker_is_refused_by_the_first_cause(rt: HostRuntime) -> Result<(),
         (Call::Claim(0, 2), "134"),
         (Call::Events, "claim 0 0|step 0|settle 0|"),
     ];
-    assert_eq!(rt; astray(rt.alloc(), THREE_VERTICES, &story)?, None);
-    Ok(())
+    assert!(rt; is_told(rt.alloc(), THREE_VERTICES, &story));
 }
 
 #[test]
-fn a_vertex_is_seen_to_wait_run_and_be_done(rt: HostRuntime) -> Result<(), Fail> {
+fn a_vertex_is_seen_to_wait_run_and_be_done(rt: HostRuntime) {
     let story = [
         (Call::Vertex(0), "ready"),
         (Call::Vertex(1), "waiting"),
@@ -194,12 +246,11 @@ fn a_vertex_is_seen_to_wait_run_and_be_done(rt: HostRuntime) -> Result<(), Fail>
         (Call::Output(0, 0), "2"),
         (Call::Output(0, 1), "none"),
     ];
-    assert_eq!(rt; astray(rt.alloc(), IN_A_ROW, &story)?, None);
-    Ok(())
+    assert!(rt; is_told(rt.alloc(), IN_A_ROW, &story));
 }
 
 #[test]
-fn the_chosen_events_lead_to_a_complete_board(rt: HostRuntime) -> Result<(), Fail> {
+fn the_chosen_events_lead_to_a_complete_board(rt: HostRuntime) {
     let story = [
         (Call::Complete, "false"),
         (Call::Chosen, "claim 0 0"),
@@ -223,12 +274,11 @@ fn the_chosen_events_lead_to_a_complete_board(rt: HostRuntime) -> Result<(), Fai
             "claim 0 0|step 0|settle 0|claim 0 1|step 0|settle 0|",
         ),
     ];
-    assert_eq!(rt; astray(rt.alloc(), IN_A_ROW, &story)?, None);
-    Ok(())
+    assert!(rt; is_told(rt.alloc(), IN_A_ROW, &story));
 }
 
 #[test]
-fn a_failed_vertex_blocks_what_stands_on_it(rt: HostRuntime) -> Result<(), Fail> {
+fn a_failed_vertex_blocks_what_stands_on_it(rt: HostRuntime) {
     let story = [
         (Call::Claim(0, 0), "worker 0, vertex 0, 0 done"),
         (Call::Step(0), "fault: action 0 fault 21"),
@@ -241,35 +291,58 @@ fn a_failed_vertex_blocks_what_stands_on_it(rt: HostRuntime) -> Result<(), Fail>
         (Call::Complete, "true"),
         (Call::Chosen, "none"),
     ];
-    assert_eq!(rt; astray(rt.alloc(), FAILED_INPUT, &story)?, None);
-    Ok(())
+    assert!(rt; is_told(rt.alloc(), FAILED_INPUT, &story));
 }
 
-// The graph that comes back where the number of workers is refused.
-fn refused(rt: &HostRuntime, graph: Graph, workers: u32) -> Option<Graph> {
-    match Board::open(rt.alloc(), graph, workers) {
-        Err(OpenFault::Workers(back)) => Some(back),
+// How many vertices the graph has that comes back where the number of workers is refused.
+fn given_back(alloc: Global, workers: u32) -> Option<usize> {
+    match Board::open(alloc, graph_of(alloc, THREE_VERTICES)?, workers) {
+        Err(OpenFault::Workers(back)) => Some(back.vertices().len()),
         _ => None,
     }
 }
 
 #[test]
-fn a_number_of_workers_other_than_one_gives_the_graph_back(rt: HostRuntime) -> Result<(), Fail> {
-    let mut graph = graph_of(rt.alloc(), THREE_VERTICES)?;
+fn a_number_of_workers_other_than_one_gives_the_graph_back(rt: HostRuntime) {
     for workers in [0, 2, 65] {
-        graph = refused(&rt, graph, workers).ok_or("opened")?;
-        assert_eq!(rt; graph.vertices().len(), 3);
+        assert!(rt;
+            given_back(rt.alloc(), workers) == Some(3),
+            "{workers} workers"
+        );
     }
-    let board = Board::open(rt.alloc(), graph, 1)?;
-    assert_eq!(rt; board.into_parts().vertices().len(), 3);
-    Ok(())
+    assert!(rt; given_back(rt.alloc(), 1).is_none());
+}
+
+// How many vertices the graph of a board has.
+fn parts(alloc: Global, definition: &[u8]) -> Option<usize> {
+    match opened(alloc, definition) {
+        Some(board) => Some(board.into_parts().vertices().len()),
+        None => None,
+    }
 }
 
 #[test]
-fn a_refused_opening_prints_its_number(rt: HostRuntime) -> Result<(), Fail> {
-    let workers = OpenFault::Workers(graph_of(rt.alloc(), IN_A_ROW)?);
-    assert_eq!(rt; workers.to_string(rt.alloc())?.as_str(), "122");
-    let memory = OpenFault::Memory(graph_of(rt.alloc(), IN_A_ROW)?);
-    assert_eq!(rt; memory.to_string(rt.alloc())?.as_str(), "123");
-    Ok(())
+fn a_board_gives_its_graph_back(rt: HostRuntime) {
+    assert!(rt; parts(rt.alloc(), THREE_VERTICES) == Some(3));
+}
+
+fn prints(alloc: Global, fault: &OpenFault, number: &str) -> bool {
+    match fault.to_string(alloc) {
+        Ok(text) => text.as_str() == number,
+        Err(_) => false,
+    }
+}
+
+#[test]
+fn a_refused_opening_prints_its_number(rt: HostRuntime) {
+    let alloc = rt.alloc();
+    let workers = match graph_of(alloc, IN_A_ROW) {
+        Some(graph) => prints(alloc, &OpenFault::Workers(graph), "122"),
+        None => false,
+    };
+    let memory = match graph_of(alloc, IN_A_ROW) {
+        Some(graph) => prints(alloc, &OpenFault::Memory(graph), "123"),
+        None => false,
+    };
+    assert!(rt; workers && memory);
 }

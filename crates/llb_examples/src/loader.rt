@@ -1,7 +1,7 @@
 //! Definitions, and rows under digest texts of any kind. The answer is told in a line of text: the refusal as it is
 //! printed, or the vertices and the result.
 
-use llb_loader::{Graph, LoadFault, Row, link, load};
+use llb_loader::{Edge, Graph, LoadFault, Row, Vertex, link, load};
 use llb_wire::{Bytes, Memory, Text, write_varint};
 use std::alloc::{AllocError, Global};
 use std::test::Fail;
@@ -87,23 +87,28 @@ fn rows_of(alloc: Global, given: &[Given<'_>]) -> Result<Vec<Row>, Memory> {
     Ok(rows)
 }
 
+fn push_edge(text: &mut String, edge: Edge) -> Result<(), AllocError> {
+    let (vertex, index) = (edge.vertex, edge.index);
+    write!(text, " {vertex}.{index}")
+}
+
+fn push_vertex(text: &mut String, vertex: &Vertex) -> Result<(), AllocError> {
+    text.push_str(vertex.digest.as_str())?;
+    let (steps, outputs) = (vertex.steps, vertex.outputs);
+    write!(text, " {steps} {outputs}")?;
+    for edge in vertex.inputs.as_slice() {
+        push_edge(text, *edge)?;
+    }
+    text.push_str(",")
+}
+
 // The vertices with the counts of their steps and outputs and their inputs, and the result.
 fn graph_text(alloc: Global, graph: &Graph) -> Result<String, AllocError> {
     let mut text = String::new(alloc);
     for vertex in graph.vertices() {
-        let digest = vertex.digest.as_str();
-        let (steps, outputs) = (vertex.steps, vertex.outputs);
-        let line = format!(in alloc; "{digest} {steps} {outputs}")?;
-        text.push_str(line.as_str())?;
-        for edge in vertex.inputs.as_slice() {
-            let (vertex, index) = (edge.vertex, edge.index);
-            text.push_str(format!(in alloc; " {vertex}.{index}")?.as_str())?;
-        }
-        text.push_str(", ")?;
+        push_vertex(&mut text, vertex)?;
     }
-    let result = graph.result();
-    let (vertex, index) = (result.vertex, result.index);
-    text.push_str(format!(in alloc; "{vertex}.{index}")?.as_str())?;
+    push_edge(&mut text, graph.result())?;
     Ok(text)
 }
 
@@ -179,7 +184,7 @@ fn definitions_are_graphs(rt: HostRuntime) {
         is(loaded(alloc, &rows), one),
         "a diff op that is not reached"
     );
-    let two = "sha256:e00d65597895790f7dc26dbf724a411bd83c8e15881ab3eea18ea75095782dab 1 1, \
+    let two = "sha256:e00d65597895790f7dc26dbf724a411bd83c8e15881ab3eea18ea75095782dab 1 1,\
         sha256:4e29c5a52e728ace467fe0f424ab75841f037219d981e0548d8c26cf79e8c206 1 1 0.0, 1.0";
     let names_d = entry(&[(D_ON_A, b"")], b"");
     assert!(rt; is(loaded(alloc, &[d_on_a, makes_a, names_d]), two));
@@ -265,6 +270,11 @@ fn a_cycle_that_is_not_reached_is_no_fault(rt: HostRuntime) {
     assert!(rt; is(linked(rt.alloc(), &rows), "A 1 1, 0.0"));
 }
 
+// What is said of the one op that a terminal names.
+fn said_of(alloc: Global, op: &[u8]) -> Result<String, Memory> {
+    linked(alloc, &[row("A", &[], op), row("T", &[("A", b"")], b"")])
+}
+
 #[test]
 fn an_op_is_refused_by_its_feature_or_its_rule(rt: HostRuntime) {
     let ops: [(&[u8], &str); 13] = [
@@ -290,8 +300,7 @@ fn an_op_is_refused_by_its_feature_or_its_rule(rt: HostRuntime) {
         ),
     ];
     for (op, wanted) in ops {
-        let rows = [row("A", &[], op), row("T", &[("A", b"")], b"")];
-        assert!(rt; is(linked(rt.alloc(), &rows), wanted), "{wanted}: {op:?}");
+        assert!(rt; is(said_of(rt.alloc(), op), wanted), "{wanted}: {op:?}");
     }
 }
 

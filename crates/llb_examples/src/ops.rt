@@ -270,13 +270,17 @@ fn messages_are_read_field_by_field(rt: HostRuntime) {
     }
 }
 
+fn copied(op: &Op) -> &'static str {
+    match &op.kind {
+        Some(Kind::File(file)) => copy_told(file),
+        _ => "no file op",
+    }
+}
+
 // What the second owner of an entry's file op does.
 fn copy_seen(alloc: Global, entry: &[u8]) -> &'static str {
     match read_op(alloc, entry) {
-        Ok(op) => match &op.kind {
-            Some(Kind::File(file)) => copy_told(file),
-            _ => "no file op",
-        },
+        Ok(op) => copied(&op),
         Err(_) => "no op",
     }
 }

@@ -257,21 +257,20 @@ fn done(alloc: Global, tree: &mut Tree, step: Step) -> Result<String, TreeFault>
 }
 
 // The entry at a place behind its path.
-fn line_at(alloc: Global, tree: &Tree, at: usize) -> Result<String, AllocError> {
-    let mut text = String::new(alloc);
+fn push_line(alloc: Global, text: &mut String, tree: &Tree, at: usize) -> Result<(), AllocError> {
     if let Some((path, entry)) = tree.entry(at) {
-        push_path(&mut text, path)?;
+        push_path(text, path)?;
+        let told = entry_text(alloc, &entry)?;
         text.push_str(" ")?;
-        text.push_str(entry_text(alloc, &entry)?.as_str())?;
+        text.push_str(told.as_str())?;
     }
-    Ok(text)
+    text.push_str("|")
 }
 
 // The entries in their order, and what stands past the last one.
 fn push_tree(alloc: Global, text: &mut String, tree: &Tree) -> Result<(), AllocError> {
     for at in 0..=tree.len() {
-        text.push_str(line_at(alloc, tree, at)?.as_str())?;
-        text.push_str("|")?;
+        push_line(alloc, text, tree, at)?;
     }
     Ok(())
 }
