@@ -326,6 +326,21 @@ fn a_board_gives_its_graph_back(rt: HostRuntime) {
     assert!(rt; parts(rt.alloc(), THREE_VERTICES) == Some(3));
 }
 
+// How many events a copy of the record has, after a claim.
+fn copied(alloc: Global, definition: &[u8]) -> Option<usize> {
+    let mut board = opened(alloc, definition)?;
+    let _ = board.claim(0, 0);
+    match board.events().copy() {
+        Ok(record) => Some(record.len()),
+        Err(_) => None,
+    }
+}
+
+#[test]
+fn a_record_of_events_has_a_second_owner(rt: HostRuntime) {
+    assert!(rt; copied(rt.alloc(), THREE_VERTICES) == Some(1));
+}
+
 fn prints(alloc: Global, fault: &OpenFault, number: &str) -> bool {
     match fault.to_string(alloc) {
         Ok(text) => text.as_str() == number,
