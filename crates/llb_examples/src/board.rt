@@ -1,49 +1,82 @@
 //! The board of one worker. A story is a list of calls with their answers, printed: a fault by its number.
 
 use llb_board::{At, Board, Event, OpenFault, Settled, Status, Stepped};
-use llb_loader::{Graph, load};
+use llb_loader::{Graph, Row, link};
+use llb_wire::{Bytes, Memory, Text};
 use std::alloc::{AllocError, Global};
 
-// A file `/a` on nothing, and a directory `/d` on it.
-const IN_A_ROW: &[u8] =
-    b"\x0A\x32\x22\x30\x12\x2E\x08\xFF\xFF\xFF\xFF\xFF\xFF\xFF\xFF\xFF\x01\x10\xFF\xFF\xFF\xFF\
-    \xFF\xFF\xFF\xFF\xFF\x01\x2A\x16\x0A\x02\x2F\x61\x10\xA4\x03\x1A\x02\x68\x69\x28\xFF\xFF\
-    \xFF\xFF\xFF\xFF\xFF\xFF\xFF\x01\
-    \x0A\x6E\x0A\x49\x0A\x47\
-    sha256:e00d65597895790f7dc26dbf724a411bd83c8e15881ab3eea18ea75095782dab\
-    \x22\x21\x12\x1F\x10\xFF\xFF\xFF\xFF\xFF\xFF\xFF\xFF\xFF\x01\x32\x12\x0A\x02\x2F\x64\x10\
-    \xED\x03\x28\xFF\xFF\xFF\xFF\xFF\xFF\xFF\xFF\xFF\x01\
-    \x0A\x4B\x0A\x49\x0A\x47\
-    sha256:1c2a10577ca56d180f4da06c2e049e66a5718dbb2896086aa8880c0dca30152f";
+// A file `/a` with the content `hi` on nothing.
+const MAKES_A: &[u8] =
+    b"\x22\x1A\x12\x18\x08\xFF\xFF\xFF\xFF\xFF\xFF\xFF\xFF\xFF\x01\x2A\x0B\x0A\x02/a\x10\xA4\x03\x1A\x02hi";
 
-// Files `/a` and `/b`, each on nothing, and a directory `/d` on the second, with both as inputs.
-const THREE_VERTICES: &[u8] =
-    b"\x0A\x32\x22\x30\x12\x2E\x08\xFF\xFF\xFF\xFF\xFF\xFF\xFF\xFF\xFF\x01\x10\xFF\xFF\xFF\xFF\
-    \xFF\xFF\xFF\xFF\xFF\x01\x2A\x16\x0A\x02\x2F\x61\x10\xA4\x03\x1A\x02\x68\x69\x28\xFF\xFF\
-    \xFF\xFF\xFF\xFF\xFF\xFF\xFF\x01\
-    \x0A\x32\x22\x30\x12\x2E\x08\xFF\xFF\xFF\xFF\xFF\xFF\xFF\xFF\xFF\x01\x10\xFF\xFF\xFF\xFF\
-    \xFF\xFF\xFF\xFF\xFF\x01\x2A\x16\x0A\x02\x2F\x62\x10\xA4\x03\x1A\x02\x68\x6F\x28\xFF\xFF\
-    \xFF\xFF\xFF\xFF\xFF\xFF\xFF\x01\
-    \x0A\xBB\x01\x0A\x49\x0A\x47\
-    sha256:e00d65597895790f7dc26dbf724a411bd83c8e15881ab3eea18ea75095782dab\
-    \x0A\x49\x0A\x47\
-    sha256:860c7e4f78aa672208aa7fc9b6b729fcb1e87f5eac7a0666e54f9cba9498a708\
-    \x22\x23\x12\x21\x08\x01\x10\xFF\xFF\xFF\xFF\xFF\xFF\xFF\xFF\xFF\x01\x32\x12\x0A\x02\x2F\
-    \x64\x10\xED\x03\x28\xFF\xFF\xFF\xFF\xFF\xFF\xFF\xFF\xFF\x01\
-    \x0A\x4B\x0A\x49\x0A\x47\
-    sha256:0beef5f303c55ae8b97f3801ad7cc0787b4a14ea240d358b0b47eb860e82d66e";
+// The same below a directory that is missing.
+const MAKES_XA: &[u8] =
+    b"\x22\x1C\x12\x1A\x08\xFF\xFF\xFF\xFF\xFF\xFF\xFF\xFF\xFF\x01\x2A\x0D\x0A\x04/x/a\x10\xA4\x03\x1A\x02hi";
 
-// A file below a directory that is missing, and a directory on it.
-const FAILED_INPUT: &[u8] =
-    b"\x0A\x34\x22\x32\x12\x30\x08\xFF\xFF\xFF\xFF\xFF\xFF\xFF\xFF\xFF\x01\x10\xFF\xFF\xFF\xFF\
-    \xFF\xFF\xFF\xFF\xFF\x01\x2A\x18\x0A\x04\x2F\x78\x2F\x61\x10\xA4\x03\x1A\x02\x68\x69\x28\
-    \xFF\xFF\xFF\xFF\xFF\xFF\xFF\xFF\xFF\x01\
-    \x0A\x6E\x0A\x49\x0A\x47\
-    sha256:82a4cba29467162cf4971751e8a434a03124f5b17fd5d545f7e32b927cc8db1e\
-    \x22\x21\x12\x1F\x10\xFF\xFF\xFF\xFF\xFF\xFF\xFF\xFF\xFF\x01\x32\x12\x0A\x02\x2F\x64\x10\
-    \xED\x03\x28\xFF\xFF\xFF\xFF\xFF\xFF\xFF\xFF\xFF\x01\
-    \x0A\x4B\x0A\x49\x0A\x47\
-    sha256:de1228a688daee0b166871d0658713d711efe336effbd38f93af1247033efd61";
+// A file `/b` on nothing.
+const MAKES_B: &[u8] =
+    b"\x22\x1A\x12\x18\x08\xFF\xFF\xFF\xFF\xFF\xFF\xFF\xFF\xFF\x01\x2A\x0B\x0A\x02/b\x10\xA4\x03\x1A\x02ho";
+
+// A directory `/d` on what A is.
+const D_ON_A: &[u8] = b"\x0A\x03\x0A\x01A\x22\x0B\x12\x09\x32\x07\x0A\x02/d\x10\xED\x03";
+
+// A directory `/d` on what B is, with A and B as inputs.
+const D_ON_A_AND_B: &[u8] =
+    b"\x0A\x03\x0A\x01A\x0A\x03\x0A\x01B\x22\x0D\x12\x0B\x08\x01\x32\x07\x0A\x02/d\x10\xED\x03";
+
+// The result is what D is.
+const NAMES_D: &[u8] = b"\x0A\x03\x0A\x01D";
+
+fn push_row(rows: &mut Vec<Row>, digest: &str, entry: &[u8]) -> Result<(), Memory> {
+    let alloc = *rows.allocator();
+    let digest = Text::from_str(alloc, digest)?;
+    let bytes = Bytes::from_slice(alloc, entry)?;
+    rows.push(Row { digest, bytes })?;
+    Ok(())
+}
+
+fn rows_of(alloc: Global, given: &[(&str, &[u8])]) -> Result<Vec<Row>, Memory> {
+    let mut rows = Vec::new(alloc);
+    for (digest, entry) in given {
+        push_row(&mut rows, digest, entry)?;
+    }
+    Ok(rows)
+}
+
+fn linked(alloc: Global, rows: &[Row]) -> Option<Graph> {
+    if rows.len() > 65_536 {
+        return None;
+    }
+    match link(alloc, rows) {
+        Ok(graph) => Some(graph),
+        Err(_) => None,
+    }
+}
+
+fn graph_of(alloc: Global, given: &[(&str, &[u8])]) -> Option<Graph> {
+    match rows_of(alloc, given) {
+        Ok(rows) => linked(alloc, &rows),
+        Err(_) => None,
+    }
+}
+
+fn in_a_row(alloc: Global) -> Option<Graph> {
+    graph_of(alloc, &[("A", MAKES_A), ("D", D_ON_A), ("T", NAMES_D)])
+}
+
+fn three_vertices(alloc: Global) -> Option<Graph> {
+    let rows = [
+        ("A", MAKES_A),
+        ("B", MAKES_B),
+        ("D", D_ON_A_AND_B),
+        ("T", NAMES_D),
+    ];
+    graph_of(alloc, &rows)
+}
+
+fn failed_input(alloc: Global) -> Option<Graph> {
+    graph_of(alloc, &[("A", MAKES_XA), ("D", D_ON_A), ("T", NAMES_D)])
+}
 
 #[derive(Clone, Copy)]
 enum Call {
@@ -155,15 +188,8 @@ fn answer(alloc: Global, board: &mut Board, call: Call) -> Result<String, AllocE
     }
 }
 
-fn graph_of(alloc: Global, definition: &[u8]) -> Option<Graph> {
-    match load(alloc, definition) {
-        Ok(graph) => Some(graph),
-        Err(_) => None,
-    }
-}
-
-fn opened(alloc: Global, definition: &[u8]) -> Option<Board> {
-    match graph_of(alloc, definition) {
+fn opened(alloc: Global, graph: Option<Graph>) -> Option<Board> {
+    match graph {
         Some(graph) => Board::open(alloc, graph, 1).ok(),
         None => None,
     }
@@ -186,10 +212,15 @@ fn answered(alloc: Global, board: &mut Board, story: &[(Call, &str)]) -> usize {
     story.len()
 }
 
+fn are_all_answered(alloc: Global, board: Board, story: &[(Call, &str)]) -> bool {
+    let mut board = board;
+    answered(alloc, &mut board, story) == story.len()
+}
+
 // Whether all calls of a story have their answers on a new board.
-fn is_told(alloc: Global, definition: &[u8], story: &[(Call, &str)]) -> bool {
-    match opened(alloc, definition) {
-        Some(mut board) => answered(alloc, &mut board, story) == story.len(),
+fn is_told(alloc: Global, graph: Option<Graph>, story: &[(Call, &str)]) -> bool {
+    match opened(alloc, graph) {
+        Some(board) => are_all_answered(alloc, board, story),
         None => false,
     }
 }
@@ -206,7 +237,7 @@ fn an_idle_worker_is_refused_by_the_first_cause(rt: HostRuntime) {
         (Call::Settle(0), "136"),
         (Call::Events, ""),
     ];
-    assert!(rt; is_told(rt.alloc(), THREE_VERTICES, &story));
+    assert!(rt; is_told(rt.alloc(), three_vertices(rt.alloc()), &story));
 }
 
 #[test]
@@ -223,7 +254,7 @@ fn a_running_worker_is_refused_by_the_first_cause(rt: HostRuntime) {
         (Call::Claim(0, 2), "134"),
         (Call::Events, "claim 0 0|step 0|settle 0|"),
     ];
-    assert!(rt; is_told(rt.alloc(), THREE_VERTICES, &story));
+    assert!(rt; is_told(rt.alloc(), three_vertices(rt.alloc()), &story));
 }
 
 #[test]
@@ -246,7 +277,7 @@ fn a_vertex_is_seen_to_wait_run_and_be_done(rt: HostRuntime) {
         (Call::Output(0, 0), "2"),
         (Call::Output(0, 1), "none"),
     ];
-    assert!(rt; is_told(rt.alloc(), IN_A_ROW, &story));
+    assert!(rt; is_told(rt.alloc(), in_a_row(rt.alloc()), &story));
 }
 
 #[test]
@@ -274,7 +305,7 @@ fn the_chosen_events_lead_to_a_complete_board(rt: HostRuntime) {
             "claim 0 0|step 0|settle 0|claim 0 1|step 0|settle 0|",
         ),
     ];
-    assert!(rt; is_told(rt.alloc(), IN_A_ROW, &story));
+    assert!(rt; is_told(rt.alloc(), in_a_row(rt.alloc()), &story));
 }
 
 #[test]
@@ -291,12 +322,12 @@ fn a_failed_vertex_blocks_what_stands_on_it(rt: HostRuntime) {
         (Call::Complete, "true"),
         (Call::Chosen, "none"),
     ];
-    assert!(rt; is_told(rt.alloc(), FAILED_INPUT, &story));
+    assert!(rt; is_told(rt.alloc(), failed_input(rt.alloc()), &story));
 }
 
 // How many vertices the graph has that comes back where the number of workers is refused.
 fn given_back(alloc: Global, workers: u32) -> Option<usize> {
-    match Board::open(alloc, graph_of(alloc, THREE_VERTICES)?, workers) {
+    match Board::open(alloc, three_vertices(alloc)?, workers) {
         Err(OpenFault::Workers(back)) => Some(back.vertices().len()),
         _ => None,
     }
@@ -313,17 +344,15 @@ fn a_number_of_workers_other_than_one_gives_the_graph_back(rt: HostRuntime) {
     assert!(rt; given_back(rt.alloc(), 1).is_none());
 }
 
-// How many vertices the graph of a board has.
-fn parts(alloc: Global, definition: &[u8]) -> Option<usize> {
-    match opened(alloc, definition) {
-        Some(board) => Some(board.into_parts().vertices().len()),
-        None => None,
-    }
+fn parts(board: Board) -> usize {
+    let graph = board.into_parts();
+    graph.vertices().len()
 }
 
 #[test]
 fn a_board_gives_its_graph_back(rt: HostRuntime) {
-    assert!(rt; parts(rt.alloc(), THREE_VERTICES) == Some(3));
+    let count = opened(rt.alloc(), three_vertices(rt.alloc())).map(parts);
+    assert!(rt; count == Some(3));
 }
 
 // How many events a copy of the record has, after a claim.
@@ -351,11 +380,11 @@ fn prints(alloc: Global, fault: &OpenFault, number: &str) -> bool {
 #[test]
 fn a_refused_opening_prints_its_number(rt: HostRuntime) {
     let alloc = rt.alloc();
-    let workers = match graph_of(alloc, IN_A_ROW) {
+    let workers = match in_a_row(alloc) {
         Some(graph) => prints(alloc, &OpenFault::Workers(graph), "122"),
         None => false,
     };
-    let memory = match graph_of(alloc, IN_A_ROW) {
+    let memory = match in_a_row(alloc) {
         Some(graph) => prints(alloc, &OpenFault::Memory(graph), "123"),
         None => false,
     };

@@ -1,6 +1,7 @@
 //! What faults print: what stands behind the word `fault` in a refusal.
 
 use llb_board::{ClaimFault, SettleFault, StepFault};
+use llb_glob::PatternFault;
 use llb_loader::{Feature, LoadFault, Rule};
 use llb_model::VertexFault;
 use llb_ops::OpFault;
@@ -48,7 +49,7 @@ fn faults_of_records_and_messages(rt: HostRuntime) {
 }
 
 #[test]
-fn faults_of_trees_and_vertices(rt: HostRuntime) {
+fn faults_of_trees_patterns_and_vertices(rt: HostRuntime) {
     let alloc = rt.alloc();
     let tree = [
         TreeFault::NotFound,
@@ -60,6 +61,8 @@ fn faults_of_trees_and_vertices(rt: HostRuntime) {
         TreeFault::Memory,
     ];
     assert!(rt; print(alloc, &tree, "21\n22\n23\n24\n25\n26\n27\n"));
+    let patterns = [PatternFault::BadPattern, PatternFault::Memory];
+    assert!(rt; print(alloc, &patterns, "41\n42\n"));
     let vertices = [VertexFault::Action(3, 21), VertexFault::Exit(0, 1)];
     assert!(rt; print(alloc, &vertices, "action 3 fault 21\ncommand 0 status 1\n"));
 }

@@ -1,4 +1,4 @@
-//! Patterns. A row is the text of a pattern, the text of a path, and whether the path matches, or why the pattern is refused.
+//! Patterns. A row is the text of a pattern and the text of a path.
 
 use llb_glob::{Pattern, PatternFault};
 use llb_tree::Path;
@@ -10,74 +10,82 @@ fn answer(alloc: Global, pattern: &str, path: &str) -> Result<bool, PatternFault
     Ok(pattern.matches(&path))
 }
 
-fn answers(alloc: Global, pattern: &str, path: &str, wanted: Result<bool, PatternFault>) -> bool {
-    answer(alloc, pattern, path) == wanted
+// Whether each of these paths has that answer to the pattern before it.
+fn all_answer(alloc: Global, rows: &[(&str, &str)], wanted: Result<bool, PatternFault>) -> bool {
+    for (pattern, path) in rows {
+        if answer(alloc, pattern, path) != wanted {
+            return false;
+        }
+    }
+    true
 }
 
 #[test]
 fn a_name_matches_a_part(rt: HostRuntime) {
-    let yes = Ok(true);
-    let no = Ok(false);
-    let bad = Err(PatternFault::BadPattern);
     let rows = [
-        ("a*", "/ab", yes),
-        ("a*", "/a", yes),
-        ("a*", "/ba", no),
-        ("*", "/a", yes),
-        ("**", "/a", yes),
-        ("*ab", "/aab", yes),
-        ("*ab", "/aba", no),
-        ("a*b*c", "/abbcbc", yes),
-        ("a*b*c", "/acb", no),
-        ("?", "/é", yes),
-        ("??", "/é", no),
-        ("*??", "/漢", no),
-        ("?*", "/漢字", yes),
-        ("?", "/ab", no),
-        ("\\*", "/*", yes),
-        ("\\*", "/a", no),
-        ("\\?", "/a", no),
-        ("\\a\\é", "/aé", yes),
-        ("\\\\", "/\\", yes),
-        ("\\[a]", "/[a]", yes),
-        ("[a]", "/a", bad),
-        ("a\\", "/a", bad),
-        ("*a\\\\\\", "/a", bad),
+        ("a*", "/ab"),
+        ("a*", "/a"),
+        ("*", "/a"),
+        ("**", "/a"),
+        ("*ab", "/aab"),
+        ("a*b*c", "/abbcbc"),
+        ("?", "/é"),
+        ("?*", "/漢字"),
+        ("\\*", "/*"),
+        ("\\a\\é", "/aé"),
+        ("\\\\", "/\\"),
+        ("\\[a]", "/[a]"),
     ];
-    for (pattern, path, wanted) in rows {
-        assert!(rt;
-            answers(rt.alloc(), pattern, path, wanted),
-            "{pattern:?} {path:?}"
-        );
-    }
+    assert!(rt; all_answer(rt.alloc(), &rows, Ok(true)));
+}
+
+#[test]
+fn a_name_does_not_match_another_part(rt: HostRuntime) {
+    let rows = [
+        ("a*", "/ba"),
+        ("*ab", "/aba"),
+        ("a*b*c", "/acb"),
+        ("??", "/é"),
+        ("*??", "/漢"),
+        ("?", "/ab"),
+        ("\\*", "/a"),
+        ("\\?", "/a"),
+    ];
+    assert!(rt; all_answer(rt.alloc(), &rows, Ok(false)));
 }
 
 #[test]
 fn a_path_matches_part_by_part(rt: HostRuntime) {
-    let yes = Ok(true);
-    let no = Ok(false);
-    let bad = Err(PatternFault::BadPattern);
-    let rows = [
-        ("a*c", "/a/c", no),
-        ("", "/", yes),
-        ("/..", "/a", no),
-        ("*", "/", no),
-        ("a/*", "/a", no),
-        ("a/*", "/a/b", yes),
-        ("a/*", "/a/b/c", no),
-        ("/a//./x/../?", "a/b", yes),
-        ("a\\/../b", "/b", yes),
-        ("[/../b", "/b", yes),
-        ("a\\/b", "/a/b", bad),
-        ("a/\u{1}/..", "/a", bad),
-        ("*\u{7f}", "/a", bad),
+    let alloc = rt.alloc();
+    let matching = [
+        ("", "/"),
+        ("a/*", "/a/b"),
+        ("/a//./x/../?", "a/b"),
+        ("a\\/../b", "/b"),
+        ("[/../b", "/b"),
     ];
-    for (pattern, path, wanted) in rows {
-        assert!(rt;
-            answers(rt.alloc(), pattern, path, wanted),
-            "{pattern:?} {path:?}"
-        );
-    }
+    assert!(rt; all_answer(alloc, &matching, Ok(true)));
+    let others = [
+        ("a*c", "/a/c"),
+        ("/..", "/a"),
+        ("*", "/"),
+        ("a/*", "/a"),
+        ("a/*", "/a/b/c"),
+    ];
+    assert!(rt; all_answer(alloc, &others, Ok(false)));
+}
+
+#[test]
+fn a_bad_pattern_is_refused(rt: HostRuntime) {
+    let rows = [
+        ("[a]", "/a"),
+        ("a\\", "/a"),
+        ("*a\\\\\\", "/a"),
+        ("a\\/b", "/a/b"),
+        ("a/\u{1}/..", "/a"),
+        ("*\u{7f}", "/a"),
+    ];
+    assert!(rt; all_answer(rt.alloc(), &rows, Err(PatternFault::BadPattern)));
 }
 
 fn repeated(alloc: Global, text: &str, count: usize, rest: &str) -> Result<String, AllocError> {
@@ -103,26 +111,20 @@ fn long(
 #[test]
 fn long_patterns_end(rt: HostRuntime) {
     let bad = Err(PatternFault::BadPattern);
-    assert_eq!(rt; long(rt.alloc(), ("*a", 127, "b"), ("a", 255)), Ok(false));
-    assert_eq!(rt; long(rt.alloc(), ("*a", 127, "*"), ("a", 255)), Ok(true));
-    assert_eq!(rt; long(rt.alloc(), ("?", 255, ""), ("a", 255)), Ok(true));
-    assert_eq!(rt; long(rt.alloc(), ("?", 256, ""), ("a", 255)), bad);
-    assert_eq!(rt; long(rt.alloc(), ("*/", 128, ".."), ("a/", 127)), Ok(true));
-    assert_eq!(rt; long(rt.alloc(), ("*/", 129, ".."), ("a/", 128)), bad);
-}
-
-fn printed(alloc: Global, fault: PatternFault) -> Result<String, AllocError> {
-    format!(in alloc; "{fault}")
-}
-
-#[test]
-fn faults_print_their_numbers(rt: HostRuntime) -> Result<(), AllocError> {
-    assert_eq!(rt;
-        printed(rt.alloc(), PatternFault::BadPattern)?.as_str(),
-        "41"
-    );
-    assert_eq!(rt; printed(rt.alloc(), PatternFault::Memory)?.as_str(), "42");
-    Ok(())
+    let rows = [
+        ("*a", 127, "b", "a", 255, Ok(false)),
+        ("*a", 127, "*", "a", 255, Ok(true)),
+        ("?", 255, "", "a", 255, Ok(true)),
+        ("?", 256, "", "a", 255, bad),
+        ("*/", 128, "..", "a/", 127, Ok(true)),
+        ("*/", 129, "..", "a/", 128, bad),
+    ];
+    for (part, count, rest, name, times, wanted) in rows {
+        assert!(rt;
+            long(rt.alloc(), (part, count, rest), (name, times)) == wanted,
+            "{part} {count} {rest}"
+        );
+    }
 }
 
 fn has_no_parts(alloc: Global, text: &str) -> Result<bool, PatternFault> {
