@@ -6,3 +6,6 @@ pub mod Names
 pub mod Searching
 pub mod Reading
 pub mod Joined
+pub mod Within
+pub mod Runs
+pub mod Outside

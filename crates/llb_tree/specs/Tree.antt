@@ -1,11 +1,11 @@
 -- A tree as a map from paths to entries: what makes it a tree, the walk over the parents of a path, and the edits, each
 -- the map after it or the first fault. Nothing here knows how a tree is kept.
-use Rattle.std.specs.Prelude.{◌≡◌, ℕ, List, [], ◌∷◌, map, Option, Some, None, IsSome, Result, Ok, Err, refl}
+use Rattle.std.specs.Prelude.{◌≡◌, ℕ, List, [], ◌∷◌, map, Option, Some, None, IsSome, not, Result, Ok, Err, refl}
 use Rattle.std.specs.FinMap as finite
 use Rattle.std.specs.FinMap.{FinMap}
 use Rattle.std.specs.Coded.{Coded, code_by, coded×, coded_ℕ, coded_list, coded_option}
 use Rattle.llb_wire.specs.Answer.{◌>>=◌}
-use Rattle.llb_tree.specs.Path.{path_cmp, IsPath}
+use Rattle.llb_tree.specs.Path.{path_cmp, IsPath, is_within}
 pub use Rattle.llb_tree.specs.Meta.{MetaValue, IsMeta, root_meta}
 pub use Rattle.llb_tree.specs.Faults.{is_memory, Gives, MemoryLast}
 use Rattle.llb_tree.specs.declared.fault.TreeFault.{TreeFault}
@@ -85,6 +85,19 @@ put_file t p m bytes = not_root p >>= λ _. walk (finite.get t) p >>= λ _. file
 
 abbrev pub put_dir : TreeMap → List (List ℕ) → MetaValue → Result TreeMap TreeFault
 put_dir t p m = walk (finite.get t) p >>= λ _. dir_fits (finite.get t p) >>= λ _. Ok (finite.insert t p (Dir m))
+
+-- something stands at the path
+abbrev pub found : Option Entry → Result (Unit {0}) TreeFault
+found (Some e) = Ok tt
+found None = Err NotFound
+
+-- the tree without what is at or below a path
+abbrev pub without : TreeMap → List (List ℕ) → TreeMap
+without t p = finite.retain_keys t (λ q. not (is_within p q))
+
+-- the tree after what is at or below a path goes, or why it stays
+abbrev pub remove : TreeMap → List (List ℕ) → Result TreeMap TreeFault
+remove t p = not_root p >>= λ _. found (finite.get t p) >>= λ _. Ok (without t p)
 
 -- the tree of a root directory 0755 0:0 alone
 abbrev pub empty_tree : TreeMap

@@ -1,11 +1,14 @@
 //! The tree: a map from paths to entries, kept as the list of its entries in path order. The list is sorted and makes
 //! a tree by its type; a place in it is found by binary search. What a call answers is said of the map alone.
 
-ghost use Rattle.std.specs.Prelude.{◌≡◌, ◌<◌, ◌≤◌, length, IfOk, IfErr, Ok, OnErr, false, map, option_map, slice_get};
+ghost use Rattle.std.specs.Prelude.{◌≡◌, ◌<◌, ◌≤◌, length, IfOk, IfErr, Ok, OnErr, true, false, not, map, option_map, slice_get};
 ghost use Rattle.std.specs.FinMap as finite;
-ghost use Rattle.llb_tree.specs.Path.{path_cmp};
-ghost use Rattle.llb_tree.specs.Tree.{is_memory, Gives, MemoryLast, IsTree, empty_tree, put_file, put_dir, walk, file_fits, dir_fits};
-ghost use Rattle.llb_tree.specs.Rows.{seen, pair_seen, kept, pair_of, map_of, AreSorted, place};
+ghost use Rattle.std.specs.FinMap.Entries.{where_key};
+ghost use Rattle.std.specs.List.Sorted.{IsPartitionedBy, IsPartitionPoint};
+ghost use Rattle.llb_tree.specs.declared.tree.Row.{Row};
+ghost use Rattle.llb_tree.specs.Path.{path_cmp, is_within};
+ghost use Rattle.llb_tree.specs.Tree.{is_memory, Gives, MemoryLast, IsTree, empty_tree, put_file, put_dir, remove, walk, file_fits, dir_fits, found};
+ghost use Rattle.llb_tree.specs.Rows.{seen, pair_seen, kept, pair_of, map_of, AreSorted, place, IsRun};
 
 use crate::fault::TreeFault;
 use crate::meta::Meta;
@@ -125,6 +128,56 @@ fn dir_may_stand(rows: &[Row], names: &[Name]) -> Result<(), TreeFault>
     }
 }
 
+// Whether something stands at the names.
+fn is_there(rows: &[Row], names: &[Name]) -> Result<(), TreeFault>
+    requires { AreSorted rows.now }
+    ensures there { result ≡ found (finite.get (map_of rows.now) names.now) }
+    ensures known { IfErr result (λ e. is_memory e ≡ false) }
+{
+    match entry_at(rows, names) {
+        Some(_) => Ok(()),
+        None => Err(TreeFault::NotFound),
+    }
+}
+
+// Whether a path is at or below the names.
+fn is_inside(path: &Path, names: &[Name]) -> bool
+    ensures { result ≡ is_within names.now path.now }
+{
+    path.names().starts_with(names)
+}
+
+// How many rows at the front are at or below the names, where they come before the others.
+fn inside_count(rows: &[Row], names: &[Name]) -> usize
+    requires { IsPartitionedBy (λ (r : Row). is_within names.now r.path) rows.now }
+    ensures bound { result ≤ length rows.now }
+    ensures parted { IsPartitionPoint (λ (r : Row). is_within names.now r.path ≡ true) (λ (r : Row). is_within names.now r.path ≡ false) rows.now result }
+{
+    rows.partition_point(|row| is_inside(&row.path, names))
+}
+
+// Where the rows at or below the names begin and end; they are neighbours.
+fn run_at(rows: &[Row], names: &[Name]) -> (usize, usize)
+    requires { AreSorted rows.now }
+    ensures { IsRun names.now rows.now result.0 result.1 }
+{
+    let start = rows.partition_point(|row| row.path.names().cmp(names).is_lt());
+    let (_, rest) = rows.split_at(start);
+    (start, start + inside_count(rest, names))
+}
+
+// Takes away the rows at or below the names.
+fn cut(rows: &mut Vec<Row>, names: &[Name])
+    requires { AreSorted rows.old.items }
+    ensures { map pair_of rows.new.items ≡ where_key path_cmp (λ q. not (is_within names.now q)) (map pair_of rows.old.items) }
+{
+    let (start, end) = run_at(rows, names);
+    let kept = rows.len() - (end - start);
+    rows.rotate_left(end);
+    rows.truncate(kept);
+    rows.rotate_right(start);
+}
+
 // Writes an entry at a path: over the row that is there, or in a row of its own.
 fn put(rows: &mut Vec<Row>, path: &Path, entry: Stored) -> Result<(), TreeFault>
     requires { AreSorted rows.old.items }
@@ -214,6 +267,21 @@ impl Tree {
         walked(&self.rows, path.names())?;
         dir_may_stand(&self.rows, path.names())?;
         put(&mut self.rows, path, Stored::Dir(meta))?;
+        Ok(())
+    }
+
+    /// Takes away what is at or below a path. In this order: 25 `Root` at the root, 21 `NotFound` where nothing is there,
+    /// also below a file. After a refusal the tree is unchanged. Takes no memory.
+    pub fn remove(&mut self, path: &Path) -> Result<(), TreeFault>
+        ensures gives { Gives (λ _. self.new) result (remove self.old path.now) }
+        ensures known { IfErr result (λ e. is_memory e ≡ false) }
+        ensures err { OnErr result (self.new ≡ self.old) }
+    {
+        if path.is_root() {
+            return Err(TreeFault::Root);
+        }
+        is_there(&self.rows, path.names())?;
+        cut(&mut self.rows, path.names());
         Ok(())
     }
 

@@ -15,9 +15,9 @@ returns-in_err-names-clause-depth c =
     let t = YieldsList-turn (YieldsList-from_str_split 47 c.args.text.now (lit< tt) (ap split_text same ∙ e.text) (ap split_has_more same ∙ e.has_more) (ap split_pattern same ∙ e.pattern)) c.loop-part.yielded _ c.loop-part.yielded_by _ _ c.in-Some.part c.in-Some.is c.next.ensures.steps in
     let p = err_from_is_err_and c.from_residual.result c.from_residual.ensures.1 in
     rw (p.1, p.2) (λ from starts.
-      let (path, names, so_far) = c.loop-part.invariant from starts in
-      let refused = depth_err _ _ (sym (c.in_err-names.ensures.depth path names)) in
-      sym (ap depth (follow_stops path (parts_of c.args.text.now) (length c.loop-part.yielded) c.in-Some.part.now _ t.0 t.1 so_far _ refused)))
+    let (path, names, so_far) = c.loop-part.invariant from starts in
+    let refused = depth_err _ _ (sym (c.in_err-names.ensures.depth path names)) in
+    sym (ap depth (follow_stops path (parts_of c.args.text.now) (length c.loop-part.yielded) c.in-Some.part.now _ t.0 t.1 so_far _ refused)))
 
 pub loop-part-preserved : goal.loop-part-preserved
 loop-part-preserved c from starts =
