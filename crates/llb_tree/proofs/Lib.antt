@@ -9,3 +9,4 @@ pub mod Joined
 pub mod Within
 pub mod Runs
 pub mod Outside
+pub mod Inside

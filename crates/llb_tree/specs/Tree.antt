@@ -1,8 +1,9 @@
 -- A tree as a map from paths to entries: what makes it a tree, the walk over the parents of a path, and the edits, each
 -- the map after it or the first fault. Nothing here knows how a tree is kept.
-use Rattle.std.specs.Prelude.{◌≡◌, ℕ, List, [], ◌∷◌, map, Option, Some, None, IsSome, not, Result, Ok, Err, refl}
+use Rattle.std.specs.Prelude.{◌≡◌, ℕ, List, [], ◌∷◌, ◌++◌, length, drop, map, Option, Some, None, IsSome, not, Result, Ok, Err, refl}
 use Rattle.std.specs.FinMap as finite
 use Rattle.std.specs.FinMap.{FinMap}
+use Rattle.std.specs.FinMap.Entries.{where_key}
 use Rattle.std.specs.Coded.{Coded, code_by, coded×, coded_ℕ, coded_list, coded_option}
 use Rattle.llb_wire.specs.Answer.{◌>>=◌}
 use Rattle.llb_tree.specs.Path.{path_cmp, IsPath, is_within}
@@ -98,6 +99,21 @@ without t p = finite.retain_keys t (λ q. not (is_within p q))
 -- the tree after what is at or below a path goes, or why it stays
 abbrev pub remove : TreeMap → List (List ℕ) → Result TreeMap TreeFault
 remove t p = not_root p >>= λ _. found (finite.get t p) >>= λ _. Ok (without t p)
+
+-- a directory is there
+abbrev pub dir_there : TreeMap → List (List ℕ) → Result (Unit {0}) TreeFault
+dir_there t p = all_dirs (finite.get t p ∷ [])
+
+-- an entry with other names in front of its path in place of so many
+abbrev pub moved : ℕ → List (List ℕ) → List (List ℕ) × Entry → List (List ℕ) × Entry
+moved n front e = (front ++ drop n e.0, e.1)
+
+-- the tree of what is at or below a path: what is at p ++ q stands at q
+abbrev pub tree_at : TreeMap → List (List ℕ) → TreeMap
+tree_at t p = finite.from_entries (map (moved (length p) []) (where_key path_cmp (is_within p) (finite.entries t)))
+
+abbrev pub subtree : TreeMap → List (List ℕ) → Result TreeMap TreeFault
+subtree t p = dir_there t p >>= λ _. Ok (tree_at t p)
 
 -- the tree of a root directory 0755 0:0 alone
 abbrev pub empty_tree : TreeMap

@@ -1,8 +1,8 @@
 //! Names and paths. Contracts see a name as the list of its bytes and a path as the list of its names, from the
 //! root down. A text is read by the rule `path_of`: parts between `/`, where `.` stays and `..` goes up.
 
-ghost use Rattle.std.specs.Prelude.{◌≡◌, ◌↔◌, ℕ, List, [], length, ◌≤◌, IsTrue, IfErr, OnErr, Ok, false};
-ghost use Rattle.std.specs.List.{list_all};
+ghost use Rattle.std.specs.Prelude.{◌≡◌, ◌↔◌, ℕ, ◌+◌, List, [], ◌++◌, length, ◌≤◌, IsTrue, IfErr, OnErr, Ok, false};
+ghost use Rattle.std.specs.List.{All, list_all};
 ghost use Rattle.std.specs.Str.{IsUtf8};
 ghost use Rattle.llb_tree.specs.Faults.{is_memory, Gives, MemoryLast};
 ghost use Rattle.llb_tree.specs.Path.{is_name, is_name_byte, name_of, below, enter, follow, parts_of, depth, path_of, path_from, IsPath, ReadsBack};
@@ -225,6 +225,17 @@ impl Path {
         self.push(name)
     }
 
+    // The path of the names of two lists.
+    pub(crate) fn joined(alloc: Global, front: &[Name], back: &[Name]) -> Result<Path, TreeFault>
+        requires { length front.now + length back.now ≤ 128 }
+        ensures { Gives (λ p. p) result (Ok (front.now ++ back.now)) }
+    {
+        let mut names = Vec::new(alloc);
+        push_names(&mut names, front)?;
+        push_names(&mut names, back)?;
+        Ok(Path { names })
+    }
+
     /// The names from the root down, at most 128.
     pub fn names(&self) -> &[Name]
         ensures all { result.now ≡ self.now }
@@ -276,6 +287,20 @@ impl Path {
     {
         let _ = &self.names;
     }
+}
+
+// Puts copies of names behind others.
+fn push_names(names: &mut Vec<Name>, more: &[Name]) -> Result<(), TreeFault>
+    requires { All (λ n. IsTrue (is_name n)) names.old.items }
+    ensures gives { Gives (λ _. names.new.items) result (Ok (names.old.items ++ more.now)) }
+    ensures named { All (λ n. IsTrue (is_name n)) names.new.items }
+{
+    for name in more {
+        let copied = name.copy()?;
+        let _is_name = copied.as_str();
+        names.push(copied)?;
+    }
+    Ok(())
 }
 
 // How many names there are where a text leads from a path of so many, or why it leads nowhere. Takes no memory.

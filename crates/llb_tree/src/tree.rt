@@ -1,13 +1,14 @@
 //! The tree: a map from paths to entries, kept as the list of its entries in path order. The list is sorted and makes
 //! a tree by its type; a place in it is found by binary search. What a call answers is said of the map alone.
 
-ghost use Rattle.std.specs.Prelude.{◌≡◌, ◌<◌, ◌≤◌, length, IfOk, IfErr, Ok, OnErr, true, false, not, map, option_map, slice_get};
+ghost use Rattle.std.specs.Prelude.{◌≡◌, ℕ, ◌+◌, ◌-◌, ◌<◌, ◌≤◌, List, ◌++◌, length, IfOk, IfErr, Ok, OnErr, true, false, not, map, option_map, slice_get};
 ghost use Rattle.std.specs.FinMap as finite;
 ghost use Rattle.std.specs.FinMap.Entries.{where_key};
+ghost use Rattle.std.specs.List.{All};
 ghost use Rattle.std.specs.List.Sorted.{IsPartitionedBy, IsPartitionPoint};
 ghost use Rattle.llb_tree.specs.declared.tree.Row.{Row};
 ghost use Rattle.llb_tree.specs.Path.{path_cmp, is_within};
-ghost use Rattle.llb_tree.specs.Tree.{is_memory, Gives, MemoryLast, IsTree, empty_tree, put_file, put_dir, remove, walk, file_fits, dir_fits, found};
+ghost use Rattle.llb_tree.specs.Tree.{is_memory, Gives, MemoryLast, IsTree, empty_tree, put_file, put_dir, remove, subtree, moved, dir_there, walk, file_fits, dir_fits, found};
 ghost use Rattle.llb_tree.specs.Rows.{seen, pair_seen, kept, pair_of, map_of, AreSorted, place, IsRun};
 
 use crate::fault::TreeFault;
@@ -178,6 +179,44 @@ fn cut(rows: &mut Vec<Row>, names: &[Name])
     rows.rotate_right(start);
 }
 
+// A copy of a row with other names in front of its path in place of so many.
+fn moved_row(alloc: Global, row: &Row, count: usize, front: &[Name]) -> Result<Row, TreeFault>
+    requires within { count ≤ length row.now.path }
+    requires short { length row.now.path ≤ 128 → length front.now + (length row.now.path - count) ≤ 128 }
+    ensures { Gives pair_of result (Ok (moved count front.now (pair_of row.now))) }
+{
+    let (_, rest) = row.path.names().split_at(count);
+    let path = Path::joined(alloc, front, rest)?;
+    let entry = row.entry.clone()?;
+    Ok(Row { path, entry })
+}
+
+// Copies of rows with other names in front of their paths in place of so many.
+fn moved_rows(alloc: Global, rows: &[Row], count: usize, front: &[Name]) -> Result<Vec<Row>, TreeFault>
+    requires within { All (λ (r : Row). count ≤ length r.path) rows.now }
+    requires short { All (λ (r : Row). length r.path ≤ 128 → length front.now + (length r.path - count) ≤ 128) rows.now }
+    ensures { Gives (λ v. map pair_of v.items) result (Ok (map (moved count front.now) (map pair_of rows.now))) }
+{
+    let mut copied = Vec::new(alloc);
+    for row in rows {
+        copied.push(moved_row(alloc, row, count, front)?)?;
+    }
+    Ok(copied)
+}
+
+// Whether a directory stands at the names.
+fn is_dir(rows: &[Row], names: &[Name]) -> Result<(), TreeFault>
+    requires { AreSorted rows.now }
+    ensures there { result ≡ dir_there (map_of rows.now) names.now }
+    ensures known { IfErr result (λ e. is_memory e ≡ false) }
+{
+    match entry_at(rows, names) {
+        None => Err(TreeFault::NotFound),
+        Some(Stored::File(..)) => Err(TreeFault::NotDir),
+        Some(Stored::Dir(_)) => Ok(()),
+    }
+}
+
 // Writes an entry at a path: over the row that is there, or in a row of its own.
 fn put(rows: &mut Vec<Row>, path: &Path, entry: Stored) -> Result<(), TreeFault>
     requires { AreSorted rows.old.items }
@@ -283,6 +322,21 @@ impl Tree {
         is_there(&self.rows, path.names())?;
         cut(&mut self.rows, path.names());
         Ok(())
+    }
+
+    /// The tree of what is at or below a path, as copies: what is at this path followed by another is there at the other.
+    /// 21 `NotFound` where nothing is there, also below a file, 22 `NotDir` where a file is; 27 `Memory`.
+    pub fn subtree(&self, path: &Path) -> Result<Tree, TreeFault>
+        ensures gives { Gives (λ t. t) result (subtree self.now path.now) }
+        ensures last { MemoryLast result (subtree self.now path.now) }
+        ensures places { IfOk result (λ t. (q : List (List ℕ)) → finite.get t q ≡ finite.get self.now (path.now ++ q)) }
+    {
+        is_dir(&self.rows, path.names())?;
+        let names = path.names();
+        let rows = self.rows.as_slice();
+        let (start, end) = run_at(rows, names);
+        let copied = moved_rows(*self.rows.allocator(), &rows[start..end], names.len(), &[])?;
+        Ok(Tree { rows: copied })
     }
 
     /// An equal second owner; 27 `Memory`.
