@@ -44,6 +44,7 @@ find_inside p q (e ∷ es) = by_test (is_within p e.0) refl (find_inside p q es)
         tied Less t = absurd (true≢false (sym t))
         tied Equal t = refl
         tied Greater t = absurd (true≢false (sym t))
+
         by_tie : (t : Bool) → eq_by_cmp path_cmp (p ++ q) e.0 ≡ t → cond t (Some e.1) (finite.find path_cmp (p ++ q) es) ≡ finite.find path_cmp (p ++ q) es
         by_tie false t = refl
         by_tie true t = absurd (true≢false (sym (within-append p q) ∙ ap (is_within p) (path_cmp-IsAntisymmetric (p ++ q) e.0 (tied _ t)) ∙ is))

@@ -2,7 +2,7 @@ pub mod Orders
 pub mod Walks
 pub mod Closed
 pub mod Placed
-pub mod Names
+pub mod NameTests
 pub mod Searching
 pub mod Reading
 pub mod Joined
@@ -10,3 +10,4 @@ pub mod Within
 pub mod Runs
 pub mod Outside
 pub mod Inside
+pub mod Listed

@@ -1,6 +1,7 @@
 -- A tree as a map from paths to entries: what makes it a tree, the walk over the parents of a path, and the edits, each
 -- the map after it or the first fault. Nothing here knows how a tree is kept.
-use Rattle.std.specs.Prelude.{◌≡◌, ℕ, List, [], ◌∷◌, ◌++◌, length, drop, map, Option, Some, None, IsSome, not, Result, Ok, Err, refl}
+use Rattle.std.specs.Prelude.{◌≡◌, ℕ, List, [], ◌∷◌, ◌++◌, ◌==◌, ◌&&◌, if◌then◌else◌, length, drop, map, Option, Some, None, IsSome, not, Result, Ok, Err, refl}
+use Rattle.std.specs.List.{flat_map}
 use Rattle.std.specs.FinMap as finite
 use Rattle.std.specs.FinMap.{FinMap}
 use Rattle.std.specs.FinMap.Entries.{where_key}
@@ -114,6 +115,14 @@ tree_at t p = finite.from_entries (map (moved (length p) []) (where_key path_cmp
 
 abbrev pub subtree : TreeMap → List (List ℕ) → Result TreeMap TreeFault
 subtree t p = dir_there t p >>= λ _. Ok (tree_at t p)
+
+-- the last name of a path that is one name below
+abbrev pub name_below : List (List ℕ) → List (List ℕ) → List (List ℕ)
+name_below p q = if is_within p q && (length (drop (length p) q) == 1) then drop (length p) q else []
+
+-- the names one below a path, in order
+abbrev pub list : TreeMap → List (List ℕ) → Result (List (List ℕ)) TreeFault
+list t p = dir_there t p >>= λ _. Ok (flat_map (name_below p) (finite.keys t))
 
 -- the tree of a root directory 0755 0:0 alone
 abbrev pub empty_tree : TreeMap

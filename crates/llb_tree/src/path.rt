@@ -290,10 +290,9 @@ impl Path {
 }
 
 // Puts copies of names behind others.
-fn push_names(names: &mut Vec<Name>, more: &[Name]) -> Result<(), TreeFault>
-    requires { All (λ n. IsTrue (is_name n)) names.old.items }
+pub(crate) fn push_names(names: &mut Vec<Name>, more: &[Name]) -> Result<(), TreeFault>
     ensures gives { Gives (λ _. names.new.items) result (Ok (names.old.items ++ more.now)) }
-    ensures named { All (λ n. IsTrue (is_name n)) names.new.items }
+    ensures named { All (λ n. IsTrue (is_name n)) names.old.items → All (λ n. IsTrue (is_name n)) names.new.items }
 {
     for name in more {
         let copied = name.copy()?;
@@ -301,6 +300,35 @@ fn push_names(names: &mut Vec<Name>, more: &[Name]) -> Result<(), TreeFault>
         names.push(copied)?;
     }
     Ok(())
+}
+
+/// Names in the order of their bytes, as a directory has them. Contracts see the list of them.
+#[derive(Drop)]
+pub struct Names {
+    names: Vec<Name>,
+}
+
+impl Model for Names {
+    ghost use Rattle.std.specs.Prelude.{ℕ, List};
+
+    ghost Value = { List (List ℕ) };
+
+    ghost view = { λ n. n.names.items };
+}
+
+impl Names {
+    pub(crate) fn new(names: Vec<Name>) -> Names
+        ensures { result ≡ names.items }
+    {
+        Names { names }
+    }
+
+    /// The names, one after another.
+    pub fn as_slice(&self) -> &[Name]
+        ensures { result.now ≡ self.now }
+    {
+        self.names.as_slice()
+    }
 }
 
 // How many names there are where a text leads from a path of so many, or why it leads nowhere. Takes no memory.

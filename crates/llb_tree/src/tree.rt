@@ -1,19 +1,19 @@
 //! The tree: a map from paths to entries, kept as the list of its entries in path order. The list is sorted and makes
 //! a tree by its type; a place in it is found by binary search. What a call answers is said of the map alone.
 
-ghost use Rattle.std.specs.Prelude.{◌≡◌, ℕ, ◌+◌, ◌-◌, ◌<◌, ◌≤◌, List, ◌++◌, length, IfOk, IfErr, Ok, OnErr, true, false, not, map, option_map, slice_get};
+ghost use Rattle.std.specs.Prelude.{◌≡◌, ◌↔◌, IsTrue, ℕ, ◌+◌, ◌-◌, ◌<◌, ◌≤◌, List, ◌++◌, length, IfOk, IfErr, Ok, OnErr, true, false, not, map, option_map, slice_get};
 ghost use Rattle.std.specs.FinMap as finite;
 ghost use Rattle.std.specs.FinMap.Entries.{where_key};
-ghost use Rattle.std.specs.List.{All};
+ghost use Rattle.std.specs.List.{All, flat_map};
 ghost use Rattle.std.specs.List.Sorted.{IsPartitionedBy, IsPartitionPoint};
 ghost use Rattle.llb_tree.specs.declared.tree.Row.{Row};
 ghost use Rattle.llb_tree.specs.Path.{path_cmp, is_within};
-ghost use Rattle.llb_tree.specs.Tree.{is_memory, Gives, MemoryLast, IsTree, empty_tree, put_file, put_dir, remove, subtree, moved, dir_there, walk, file_fits, dir_fits, found};
+ghost use Rattle.llb_tree.specs.Tree.{is_memory, Gives, MemoryLast, IsTree, empty_tree, put_file, put_dir, remove, subtree, list, name_below, moved, dir_there, walk, file_fits, dir_fits, found};
 ghost use Rattle.llb_tree.specs.Rows.{seen, pair_seen, kept, pair_of, map_of, AreSorted, place, IsRun};
 
 use crate::fault::TreeFault;
 use crate::meta::Meta;
-use crate::path::{Name, Path};
+use crate::path::{Name, Names, Path, push_names};
 use llb_wire::Bytes;
 use std::alloc::Global;
 use std::cmp::Ordering;
@@ -39,6 +39,21 @@ impl Stored {
         match self {
             Stored::Dir(meta) => Entry::Dir(*meta),
             Stored::File(meta, content) => Entry::File(*meta, content),
+        }
+    }
+
+    fn same(&self, other: &Stored) -> bool
+        ensures { IsTrue result ↔ (kept self.now ≡ kept other.now) }
+    {
+        match self {
+            Stored::Dir(meta) => match other {
+                Stored::Dir(second) => meta.same(second),
+                Stored::File(..) => false,
+            },
+            Stored::File(meta, content) => match other {
+                Stored::Dir(_) => false,
+                Stored::File(second, other) => meta.same(second) && content.same(other),
+            },
         }
     }
 }
@@ -192,7 +207,12 @@ fn moved_row(alloc: Global, row: &Row, count: usize, front: &[Name]) -> Result<R
 }
 
 // Copies of rows with other names in front of their paths in place of so many.
-fn moved_rows(alloc: Global, rows: &[Row], count: usize, front: &[Name]) -> Result<Vec<Row>, TreeFault>
+fn moved_rows(
+    alloc: Global,
+    rows: &[Row],
+    count: usize,
+    front: &[Name],
+) -> Result<Vec<Row>, TreeFault>
     requires within { All (λ (r : Row). count ≤ length r.path) rows.now }
     requires short { All (λ (r : Row). length r.path ≤ 128 → length front.now + (length r.path - count) ≤ 128) rows.now }
     ensures { Gives (λ v. map pair_of v.items) result (Ok (map (moved count front.now) (map pair_of rows.now))) }
@@ -202,6 +222,54 @@ fn moved_rows(alloc: Global, rows: &[Row], count: usize, front: &[Name]) -> Resu
         copied.push(moved_row(alloc, row, count, front)?)?;
     }
     Ok(copied)
+}
+
+// Puts the last name of a path that is at or below the names behind others, where it is one name below.
+fn push_child(listed: &mut Vec<Name>, path: &Path, names: &[Name]) -> Result<(), TreeFault>
+    requires within { is_within names.now path.now ≡ true }
+    requires long { length names.now ≤ length path.now }
+    ensures { Gives (λ _. listed.new.items) result (Ok (listed.old.items ++ name_below names.now path.now)) }
+{
+    let (_, rest) = path.names().split_at(names.len());
+    if rest.len() != 1 {
+        return Ok(());
+    }
+    push_names(listed, rest)
+}
+
+// The names one below the names, where all rows are at or below them.
+fn children(alloc: Global, rows: &[Row], names: &[Name]) -> Result<Vec<Name>, TreeFault>
+    requires within { All (λ (r : Row). is_within names.now r.path ≡ true) rows.now }
+    requires long { All (λ (r : Row). length names.now ≤ length r.path) rows.now }
+    ensures { Gives (λ v. v.items) result (Ok (flat_map (name_below names.now) (map (λ e. e.0) (map pair_of rows.now)))) }
+{
+    let mut listed = Vec::new(alloc);
+    for row in rows {
+        push_child(&mut listed, &row.path, names)?;
+    }
+    Ok(listed)
+}
+
+// Whether both have the same path and the same entry.
+fn same_row(one: &Row, other: &Row) -> bool
+    ensures { IsTrue result ↔ (pair_of one.now ≡ pair_of other.now) }
+{
+    one.path.same(&other.path) && one.entry.same(&other.entry)
+}
+
+// Whether both have the same rows.
+fn same_rows(one: &[Row], other: &[Row]) -> bool
+    ensures { IsTrue result ↔ (map pair_of one.now ≡ map pair_of other.now) }
+{
+    if one.len() != other.len() {
+        return false;
+    }
+    for i in 0..one.len() {
+        if !same_row(&one[i], &other[i]) {
+            return false;
+        }
+    }
+    true
 }
 
 // Whether a directory stands at the names.
@@ -337,6 +405,27 @@ impl Tree {
         let (start, end) = run_at(rows, names);
         let copied = moved_rows(*self.rows.allocator(), &rows[start..end], names.len(), &[])?;
         Ok(Tree { rows: copied })
+    }
+
+    /// The names one below a path, in order. 21 `NotFound` where nothing is there, also below a file, 22 `NotDir` where a
+    /// file is; 27 `Memory`.
+    pub fn list(&self, path: &Path) -> Result<Names, TreeFault>
+        ensures gives { Gives (λ n. n) result (list self.now path.now) }
+        ensures last { MemoryLast result (list self.now path.now) }
+    {
+        is_dir(&self.rows, path.names())?;
+        let names = path.names();
+        let rows = self.rows.as_slice();
+        let (start, end) = run_at(rows, names);
+        let listed = children(*self.rows.allocator(), &rows[start..end], names)?;
+        Ok(Names::new(listed))
+    }
+
+    /// Whether both have the same entries at the same paths. Takes no memory.
+    pub fn same(&self, other: &Tree) -> bool
+        ensures { IsTrue result ↔ (self.now ≡ other.now) }
+    {
+        same_rows(&self.rows, &other.rows)
     }
 
     /// An equal second owner; 27 `Memory`.

@@ -13,5 +13,5 @@ loop-name-preserved c =
     record {
       so_far = pushed ∙ ap (λ x. x ++ c.in_ok-copied.copied ∷ []) c.loop-name.invariant.so_far ∙ append_assoc c.args.names.now.items (take c.loop-name.name-index c.args.more.now) (c.in_ok-copied.copied ∷ [])
           ∙ ap (λ x. c.args.names.now.items ++ x) (sym (take_more c.args.more.now c.loop-name.name-index c.name-item.result c.loop-name-test.true ∙ ap (λ n. take c.loop-name.name-index c.args.more.now ++ n ∷ []) at));
-      named = subst (All (λ n. is_name n ≡ true)) (sym pushed) (All-push (λ n. is_name n ≡ true) _ _ c.loop-name.invariant.named c.as_str-is_name.ensures.name);
+      named = λ all. subst (All (λ n. is_name n ≡ true)) (sym pushed) (All-push (λ n. is_name n ≡ true) _ _ (c.loop-name.invariant.named all) c.as_str-is_name.ensures.name);
     }
