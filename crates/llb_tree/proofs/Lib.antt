@@ -11,3 +11,4 @@ pub mod Runs
 pub mod Outside
 pub mod Inside
 pub mod Listed
+pub mod Grafted

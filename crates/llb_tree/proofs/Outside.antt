@@ -13,7 +13,7 @@ use Rattle.llb_wire.specs.Answer.{◌>>=◌}
 use Rattle.llb_tree.proofs.Walks.{walk-cons}
 
 -- what one path is not, a path that ties is not either
-alike : (p q x : List (List ℕ)) → path_cmp q x ≡ Equal → not (is_within p x) ≡ not (is_within p q)
+pub alike : (p q x : List (List ℕ)) → path_cmp q x ≡ Equal → not (is_within p x) ≡ not (is_within p q)
 alike p q x tie = ap (λ y. not (is_within p y)) (sym (path_cmp-IsAntisymmetric q x tie))
 
 pub get-without : (t : TreeMap) (p q : List (List ℕ)) → finite.get (without t p) q ≡ cond (not (is_within p q)) (finite.get t q) None

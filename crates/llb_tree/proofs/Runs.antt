@@ -16,7 +16,7 @@ use Rattle.llb_tree.proofs.Orders.{is_less, and_first, and_second}
 use Rattle.llb_tree.proofs.Searching.{below_later}
 use Rattle.llb_tree.proofs.Within.{within_between, before_outside}
 
-AreSorted-drop : (rows : List Row) (n : ℕ) → AreSorted rows → AreSorted (drop n rows)
+pub AreSorted-drop : (rows : List Row) (n : ℕ) → AreSorted rows → AreSorted (drop n rows)
 AreSorted-drop rows zero sorted = sorted
 AreSorted-drop [] (suc n) sorted = sorted
 AreSorted-drop (r ∷ rows) (suc n) sorted = AreSorted-drop rows n (and_second _ _ sorted)
@@ -107,6 +107,14 @@ module _ (p : List (List ℕ)) (rows : List Row) (s e : ℕ) (run : IsRun p rows
 
   pub run_after : All (λ (r : Row). is_within p r.path ≡ false) (drop e rows)
   run_after k d lt = ap (λ (r : Row). is_within p r.path) (get_or-drop e rows k d) ∙ run.outside (e + k) d (omega arith) (omega (arith, lt, length-drop e rows))
+
+  pub run_low : All (λ (r : Row). path_cmp r.path p ≡ Less) (take s rows)
+  run_low k d lt =
+      let low : k < s = omega (lt, arith, length-take-le s rows (omega (run.ends, run.in_range, arith))) in
+      is_less _ (subst T (sym (ap (λ (r : Row). is_lt (path_cmp r.path p)) (get_or-take s rows k d low) ∙ run.before k d (omega arith) low)) tt)
+
+  pub run_from : All (λ (r : Row). is_lt (path_cmp r.path p) ≡ false) (drop e rows)
+  run_from k d lt = ap (λ (r : Row). is_lt (path_cmp r.path p)) (get_or-drop e rows k d) ∙ run.from (e + k) d (omega arith) (omega (arith, lt, length-drop e rows))
 
   -- without the run
   pub without_run : map pair_of (take s rows ++ drop e rows) ≡ where_key path_cmp (λ q. not (is_within p q)) (map pair_of rows)

@@ -48,7 +48,7 @@ before_outside p q before = go (is_within p q) refl
     go false is = refl
 
 -- what is between a path and one below it is below it
-between : (p a q : List (List ℕ)) → is_lt (path_cmp a p) ≡ false → path_cmp a (p ++ q) ≡ Less → is_within p a ≡ true
+pub between : (p a q : List (List ℕ)) → is_lt (path_cmp a p) ≡ false → path_cmp a (p ++ q) ≡ Less → is_within p a ≡ true
 between [] a q from lt = refl
 between (n ∷ p) [] q from lt = absurd (true≢false from)
 between (n ∷ p) (m ∷ a) q from lt = go (name_cmp m n) refl (between p a q) from lt

@@ -1,6 +1,6 @@
 -- A tree as a map from paths to entries: what makes it a tree, the walk over the parents of a path, and the edits, each
 -- the map after it or the first fault. Nothing here knows how a tree is kept.
-use Rattle.std.specs.Prelude.{◌≡◌, ℕ, List, [], ◌∷◌, ◌++◌, ◌==◌, ◌&&◌, if◌then◌else◌, length, drop, map, Option, Some, None, IsSome, not, Result, Ok, Err, refl}
+use Rattle.std.specs.Prelude.{◌≡◌, ℕ, List, [], ◌∷◌, ◌++◌, ◌==◌, ◌+◌, ◌&&◌, nat_lt, if◌then◌else◌, length, drop, map, Option, Some, None, IsSome, not, Result, Ok, Err, refl}
 use Rattle.std.specs.List.{flat_map}
 use Rattle.std.specs.FinMap as finite
 use Rattle.std.specs.FinMap.{FinMap}
@@ -11,7 +11,7 @@ use Rattle.llb_tree.specs.Path.{path_cmp, IsPath, is_within}
 pub use Rattle.llb_tree.specs.Meta.{MetaValue, IsMeta, root_meta}
 pub use Rattle.llb_tree.specs.Faults.{is_memory, Gives, MemoryLast}
 use Rattle.llb_tree.specs.declared.fault.TreeFault.{TreeFault}
-use Rattle.llb_tree.specs.declared.fault.TreeFault.TheVariants.{NotFound, NotDir, IsDir, Conflict, Root}
+use Rattle.llb_tree.specs.declared.fault.TreeFault.TheVariants.{NotFound, NotDir, IsDir, Conflict, Root, BadName}
 
 -- what stands at a path
 pub data Entry : Type 0 where
@@ -123,6 +123,18 @@ name_below p q = if is_within p q && (length (drop (length p) q) == 1) then drop
 -- the names one below a path, in order
 abbrev pub list : TreeMap → List (List ℕ) → Result (List (List ℕ)) TreeFault
 list t p = dir_there t p >>= λ _. Ok (flat_map (name_below p) (finite.keys t))
+
+-- each of the paths can stand below a path: there is no 129th name
+abbrev pub places_fit : List (List ℕ) → List (List (List ℕ)) → Result (Unit {0}) TreeFault
+places_fit p [] = Ok tt
+places_fit p (q ∷ qs) = if nat_lt 128 (length p + length q) then Err BadName else places_fit p qs
+
+-- the tree with another one at a path, in place of what is at or below it: what is at q in the other is at p ++ q
+abbrev pub with_tree : TreeMap → List (List ℕ) → TreeMap → TreeMap
+with_tree t p other = finite.from_entries (map (moved 0 p) (finite.entries other) ++ finite.entries (without t p))
+
+abbrev pub graft : TreeMap → List (List ℕ) → TreeMap → Result TreeMap TreeFault
+graft t p other = walk (finite.get t) p >>= λ _. places_fit p (finite.keys other) >>= λ _. Ok (with_tree t p other)
 
 -- the tree of a root directory 0755 0:0 alone
 abbrev pub empty_tree : TreeMap

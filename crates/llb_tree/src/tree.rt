@@ -1,14 +1,14 @@
 //! The tree: a map from paths to entries, kept as the list of its entries in path order. The list is sorted and makes
 //! a tree by its type; a place in it is found by binary search. What a call answers is said of the map alone.
 
-ghost use Rattle.std.specs.Prelude.{◌≡◌, ◌↔◌, IsTrue, ℕ, ◌+◌, ◌-◌, ◌<◌, ◌≤◌, List, ◌++◌, length, IfOk, IfErr, Ok, OnErr, true, false, not, map, option_map, slice_get};
+ghost use Rattle.std.specs.Prelude.{◌≡◌, ◌↔◌, IsTrue, ℕ, ◌+◌, ◌-◌, ◌<◌, ◌≤◌, List, ◌++◌, length, IfOk, IfErr, Ok, OnOk, OnErr, true, false, not, map, option_map, slice_get};
 ghost use Rattle.std.specs.FinMap as finite;
 ghost use Rattle.std.specs.FinMap.Entries.{where_key};
-ghost use Rattle.std.specs.List.{All, flat_map};
+ghost use Rattle.std.specs.List.{All, flat_map, splice};
 ghost use Rattle.std.specs.List.Sorted.{IsPartitionedBy, IsPartitionPoint};
 ghost use Rattle.llb_tree.specs.declared.tree.Row.{Row};
 ghost use Rattle.llb_tree.specs.Path.{path_cmp, is_within};
-ghost use Rattle.llb_tree.specs.Tree.{is_memory, Gives, MemoryLast, IsTree, empty_tree, put_file, put_dir, remove, subtree, list, name_below, moved, dir_there, walk, file_fits, dir_fits, found};
+ghost use Rattle.llb_tree.specs.Tree.{is_memory, Gives, MemoryLast, IsTree, empty_tree, put_file, put_dir, remove, subtree, list, name_below, places_fit, graft, moved, dir_there, walk, file_fits, dir_fits, found};
 ghost use Rattle.llb_tree.specs.Rows.{seen, pair_seen, kept, pair_of, map_of, AreSorted, place, IsRun};
 
 use crate::fault::TreeFault;
@@ -272,6 +272,31 @@ fn same_rows(one: &[Row], other: &[Row]) -> bool
     true
 }
 
+// Whether the rows' paths can stand below so many names.
+fn places_may_be(rows: &[Row], names: &[Name]) -> Result<(), TreeFault>
+    requires { AreSorted rows.now }
+    ensures fit { result ≡ places_fit names.now (finite.keys (map_of rows.now)) }
+    ensures known { IfErr result (λ e. is_memory e ≡ false) }
+{
+    for row in rows {
+        if names.len() + row.path.names().len() > 128 {
+            return Err(TreeFault::BadName);
+        }
+    }
+    Ok(())
+}
+
+// Puts rows in the place of those from start up to end.
+fn replace(rows: &mut Vec<Row>, start: usize, end: usize, new: Vec<Row>) -> Result<(), TreeFault>
+    requires order { start ≤ end }
+    requires in_range { end ≤ length rows.old.items }
+    ensures gives { Gives (λ _. rows.new.items) result (Ok (splice rows.old.items start end new.items)) }
+    ensures err { OnErr result (rows.new.items ≡ rows.old.items) }
+{
+    rows.splice(start..end, new)?;
+    Ok(())
+}
+
 // Whether a directory stands at the names.
 fn is_dir(rows: &[Row], names: &[Name]) -> Result<(), TreeFault>
     requires { AreSorted rows.now }
@@ -389,6 +414,26 @@ impl Tree {
         }
         is_there(&self.rows, path.names())?;
         cut(&mut self.rows, path.names());
+        Ok(())
+    }
+
+    /// Puts copies of another tree's entries at and below a path, in place of what is there. In this order: 21 `NotFound`
+    /// or 22 `NotDir` at the first parent that is missing or a file, 26 `BadName` where an entry's path would have more
+    /// than 128 names; 27 `Memory`. After a refusal the tree is unchanged.
+    pub fn graft(&mut self, path: &Path, other: &Tree) -> Result<(), TreeFault>
+        ensures gives { Gives (λ _. self.new) result (graft self.old path.now other.now) }
+        ensures last { MemoryLast result (graft self.old path.now other.now) }
+        ensures inside { OnOk result ((q : List (List ℕ)) → finite.get self.new (path.now ++ q) ≡ finite.get other.now q) }
+        ensures outside { OnOk result ((q : List (List ℕ)) → is_within path.now q ≡ false → finite.get self.new q ≡ finite.get self.old q) }
+        ensures err { OnErr result (self.new ≡ self.old) }
+    {
+        let names = path.names();
+        walked(&self.rows, names)?;
+        let others = other.rows.as_slice();
+        places_may_be(others, names)?;
+        let copied = moved_rows(*self.rows.allocator(), others, 0, names)?;
+        let (start, end) = run_at(&self.rows, names);
+        replace(&mut self.rows, start, end, copied)?;
         Ok(())
     }
 
