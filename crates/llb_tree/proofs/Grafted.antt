@@ -1,12 +1,12 @@
 -- A tree with another one at a path.
-use Rattle.std.proofs.Common.{◌≡◌, ℕ, zero, suc, ◌+◌, ◌≤◌, ◌<◌, nat_lt, ltb, nat_eq, Bool, true, false, not, cond, ◌&&◌, List, [], ◌∷◌, ◌++◌, length, drop, take, map, Option, Some, None, IsSome, is_some, Result, Ok, Err, T, refl, sym, ap, subst, ◌∙◌, true≢false, arith, length-append}
+use Rattle.std.proofs.Common.{◌≡◌, ℕ, zero, suc, ◌+◌, ◌≤◌, nat_lt, Bool, true, false, not, cond, ◌&&◌, List, [], ◌∷◌, ◌++◌, length, drop, take, map, Option, Some, None, IsSome, is_some, Result, Ok, Err, T, refl, sym, ap, subst, ◌∙◌, true≢false, arith, length-append}
 use Rattle.std.proofs.lemmas.List.{map-append}
 use Rattle.std.proofs.lemmas.Bool.{ltb-false}
 use Rattle.std.proofs.lemmas.List.Elements.{All-head, All-tail, All-append, All-map, All-weaker, All-cons}
 use Rattle.std.specs.declared.cmp.Ordering.{Ordering}
 use Rattle.std.specs.declared.cmp.Ordering.TheVariants.{Less, Equal, Greater}
 use Rattle.std.specs.Ordering.{is_lt, is_eq, eq_by_cmp}
-use Rattle.std.specs.Cmp.Lexicographic.{pointwise, bytes_decides}
+use Rattle.std.specs.Cmp.Lexicographic.{bytes_decides}
 use Rattle.std.specs.List.{All, splice}
 use Rattle.std.specs.FinMap as finite
 use Rattle.std.specs.FinMap.Entries.{below_all, find-where_key}
@@ -19,13 +19,13 @@ use Rattle.llb_tree.specs.declared.tree.Row.{Row}
 use Rattle.llb_tree.specs.declared.fault.TreeFault.{TreeFault}
 use Rattle.llb_tree.specs.declared.fault.TreeFault.TheVariants.{BadName}
 use Rattle.llb_wire.specs.Answer.{◌>>=◌}
-use Rattle.llb_tree.proofs.Orders.{is_less, less_is, and_first, and_second, and_both}
+use Rattle.llb_tree.proofs.Orders.{less_is, and_first, and_second, and_both}
 use Rattle.llb_tree.proofs.Walks.{walk-cons}
 use Rattle.llb_tree.proofs.Within.{turned, within_not_before, within_split, within-append, cmp-append, between}
 use Rattle.llb_tree.proofs.Runs.{run_before, run_after, run_low, run_from, without_run, AreSorted-drop}
 use Rattle.llb_tree.proofs.Outside.{alike, get-without, walk_beside}
 use Rattle.llb_tree.proofs.Inside.{Pair}
-use Rattle.llb_tree.proofs.Placed.{same_Ok, entries_of}
+use Rattle.llb_tree.proofs.Placed.{same_Ok}
 
 tied : (o : Ordering) → is_eq o ≡ true → o ≡ Equal
 tied Less t = absurd (true≢false (sym t))

@@ -1,5 +1,5 @@
 -- The tree of what is at or below a path.
-use Rattle.std.proofs.Common.{◌≡◌, ℕ, ◌+◌, ◌≤◌, ◌<◌, Bool, true, false, not, cond, List, [], ◌∷◌, ◌++◌, length, drop, take, get_or, map, Option, Some, None, IsSome, Result, Ok, T, refl, sym, ap, subst, ◌∙◌, true≢false, arith, length-append, length-drop}
+use Rattle.std.proofs.Common.{◌≡◌, ℕ, ◌≤◌, Bool, true, false, cond, List, [], ◌∷◌, ◌++◌, length, drop, take, get_or, map, Option, Some, None, IsSome, Result, Ok, T, refl, sym, ap, subst, ◌∙◌, true≢false, arith, length-append}
 use Rattle.std.proofs.lemmas.List.{drop_at, map-append, append-nil}
 use Rattle.std.proofs.lemmas.List.Elements.{All-head, All-tail, All-drop, filter-append}
 use Rattle.std.specs.declared.cmp.Ordering.TheVariants.{Less, Equal, Greater}
@@ -12,10 +12,10 @@ use Rattle.std.specs.FinMap.Entries.{where_key, below_all}
 use Rattle.llb_tree.specs.Path.{is_name, path_cmp, is_within, IsPath}
 use Rattle.llb_tree.specs.PathOrder.{path_cmp-IsTotalOrder, path_cmp-IsAntisymmetric}
 use Rattle.llb_tree.specs.Rows.{pair_of, map_of, AreSorted, IsRun}
-use Rattle.llb_tree.specs.Tree.{Entry, Dir, File, Look, TreeMap, parents, all_dirs, walk, moved, tree_at, subtree, dir_there, IsDirAt, CanStand, IsTree}
+use Rattle.llb_tree.specs.Tree.{Entry, Dir, File, Look, TreeMap, parents, all_dirs, walk, moved, tree_at, subtree, dir_there, IsTree}
 use Rattle.llb_tree.specs.declared.tree.Row.{Row}
 use Rattle.llb_wire.specs.Answer.{◌>>=◌}
-use Rattle.llb_tree.proofs.Orders.{is_less, less_is, and_first, and_second, and_both}
+use Rattle.llb_tree.proofs.Orders.{and_first, and_second, and_both}
 use Rattle.llb_tree.proofs.Walks.{walk-cons}
 use Rattle.llb_tree.proofs.Within.{within_split, within-append, cmp-append}
 use Rattle.llb_tree.proofs.Placed.{same_Ok}

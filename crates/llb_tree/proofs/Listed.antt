@@ -1,5 +1,5 @@
 -- The names one below a path, and rows that are the same.
-use Rattle.std.proofs.Common.{◌≡◌, ◌↔◌, ℕ, ◌<◌, ◌==◌, Bool, true, false, cond, ◌&&◌, ◌++◌, List, [], ◌∷◌, length, drop, get_or, map, Option, Some, unwrap_or, Result, Ok, refl, sym, ap, subst, ◌∙◌}
+use Rattle.std.proofs.Common.{◌≡◌, ◌↔◌, ℕ, ◌<◌, ◌==◌, Bool, true, false, cond, ◌&&◌, ◌++◌, List, [], ◌∷◌, length, drop, get_or, map, Some, unwrap_or, Result, Ok, refl, sym, ap, ◌∙◌}
 use Rattle.std.proofs.lemmas.Option.{slice_get-map, slice_get-get_or}
 use Rattle.std.specs.Option.{option_map}
 use Rattle.std.specs.List.{flat_map, slice_get, slice_range}

@@ -1,9 +1,8 @@
 -- The rows at or below a path are neighbours.
-use Rattle.std.proofs.Common.{◌≡◌, ℕ, zero, suc, ◌+◌, ◌-◌, ◌<◌, ◌≤◌, Bool, true, false, not, cond, List, [], ◌∷◌, ◌++◌, length, take, drop, get_or, map, T, refl, sym, ap, subst, ◌∙◌, arith, append_assoc, take-append-drop, length-drop, length-take}
+use Rattle.std.proofs.Common.{◌≡◌, ℕ, zero, suc, ◌+◌, ◌-◌, ◌<◌, ◌≤◌, true, false, not, cond, List, [], ◌∷◌, ◌++◌, length, take, drop, get_or, map, T, refl, sym, ap, subst, ◌∙◌, arith, take-append-drop, length-drop}
 use Rattle.std.proofs.lemmas.List.{take-take, take_at, drop_at, drop-drop, get_or-take, get_or-drop, length-take-le, map-append, length-append}
 use Rattle.std.proofs.lemmas.List.Elements.{All-head, All-tail, filter-append}
-use Rattle.std.specs.declared.cmp.Ordering.{Ordering}
-use Rattle.std.specs.declared.cmp.Ordering.TheVariants.{Less, Equal, Greater}
+use Rattle.std.specs.declared.cmp.Ordering.TheVariants.{Less}
 use Rattle.std.specs.List.{All, AllWithin, slice_range}
 use Rattle.std.specs.List.Sorted.{IsPartitionedBy}
 use Rattle.std.specs.Ordering.{is_lt}

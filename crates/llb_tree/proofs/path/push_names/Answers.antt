@@ -1,4 +1,4 @@
-use Rattle.std.proofs.Common.{◌≡◌, ◌++◌, ◌∷◌, [], get_or, take, true, sym, ap, subst, ◌∙◌, append_assoc, Ok}
+use Rattle.std.proofs.Common.{◌≡◌, ◌++◌, ◌∷◌, [], take, true, sym, ap, subst, ◌∙◌, append_assoc}
 use Rattle.std.proofs.lemmas.List.{take_more, get_or_read}
 use Rattle.std.proofs.lemmas.List.Elements.{All-push}
 use Rattle.std.specs.List.{All}

@@ -1,4 +1,4 @@
-use Rattle.std.proofs.Common.{◌-◌, ap, sym, ◌∙◌, map}
+use Rattle.std.proofs.Common.{◌-◌, ap, ◌∙◌, map}
 use Rattle.llb_tree.specs.Rows.{pair_of}
 use Rattle.llb_tree.proofs.Runs.{turned_rows, without_run}
 use Rattle.llb_tree.proofs.tree.cut.Goals as goal
