@@ -10,7 +10,7 @@ use Rattle.std.proofs.lemmas.List.Splits.{slice_split_none, slice_split_at}
 use Rattle.llb_wire.specs.Answer.{◌>>=◌}
 use Rattle.llb_tree.specs.declared.fault.TreeFault.TheVariants.{BadName}
 use Rattle.llb_tree.specs.Path.{is_name, is_name_byte, IsPath, below, enter, follow, parts_of, path_of, joined, ReadsBack}
-use Rattle.llb_tree.proofs.Names.{passes_tests, no_slash}
+use Rattle.llb_tree.proofs.NameTests.{passes_tests, no_slash}
 
 abbrev Named : List ℕ → Type 0
 Named name = is_name name ≡ true

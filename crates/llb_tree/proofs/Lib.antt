@@ -2,7 +2,13 @@ pub mod Orders
 pub mod Walks
 pub mod Closed
 pub mod Placed
-pub mod Names
+pub mod NameTests
 pub mod Searching
 pub mod Reading
 pub mod Joined
+pub mod Within
+pub mod Runs
+pub mod Outside
+pub mod Inside
+pub mod Listed
+pub mod Grafted

@@ -1,10 +1,8 @@
 -- Reading a path from a text: parts that are followed one at a time, and the text of a path, which reads as the path.
-use Rattle.std.proofs.Common.{◌≡◌, ℕ, suc, ◌+◌, ◌-◌, ◌<◌, Bool, true, false, cond, ltb, List, [], ◌∷◌, ◌++◌, length, take, drop, get_or, Result, Ok, Err, refl, sym, ap, ◌∙◌, add-one, drop-cons}
+use Rattle.std.proofs.Common.{◌≡◌, ℕ, suc, ◌+◌, ◌<◌, List, [], ◌∷◌, length, drop, get_or, Result, Ok, Err, refl, sym, ap, ◌∙◌, add-one, drop-cons}
 use Rattle.llb_wire.specs.Answer.{◌>>=◌}
 use Rattle.llb_tree.specs.declared.fault.TreeFault.{TreeFault}
-use Rattle.llb_tree.specs.declared.fault.TreeFault.TheVariants.{BadName}
-use Rattle.llb_tree.specs.Faults.{is_memory}
-use Rattle.llb_tree.specs.Path.{is_name, enter, follow, parts_of, path_of, depth}
+use Rattle.llb_tree.specs.Path.{enter, follow, depth}
 
 module _ (path : List (List ℕ)) (parts : List (List ℕ)) (i : ℕ) (part : List ℕ) (r : Result (List (List ℕ)) TreeFault) (lt : i < length parts) (is : part ≡ get_or parts i part) (so_far : follow path (drop i parts) ≡ r) where
   -- the part at hand decides
@@ -37,26 +35,3 @@ depth_ok (Err d) n e = absurd cc
 pub depth_err : (r : Result (List (List ℕ)) TreeFault) (e : TreeFault) → depth r ≡ Err e → r ≡ Err e
 depth_err (Ok path) e is = absurd cc
 depth_err (Err d) e is = let same : d ≡ e = cc in ap (λ x. Err x) same
-
--- ---- a text is refused for its names alone
-
-enter_refuses : (path : List (List ℕ)) (part : List ℕ) (e : TreeFault) → enter path part ≡ Err e → e ≡ BadName
-enter_refuses path part e is = go _ _ (is_name part) (ltb (length path) 128) is where
-  go : (stays rises named room : Bool) → cond {A = Result (List (List ℕ)) TreeFault} stays (Ok path) (cond rises (Ok (take (length path - 1) path))
-      (cond {A = Result (List ℕ) TreeFault} named (Ok part) (Err BadName) >>= λ name. cond room (Ok (path ++ name ∷ [])) (Err BadName))) ≡ Err e → e ≡ BadName
-  go true rises named room is = absurd cc
-  go false true named room is = absurd cc
-  go false false true true is = absurd cc
-  go false false true false is = sym cc
-  go false false false room is = sym cc
-
-follow_refuses : (path parts : List (List ℕ)) (e : TreeFault) → follow path parts ≡ Err e → e ≡ BadName
-follow_refuses path [] e is = absurd cc
-follow_refuses path (part ∷ parts) e is = go (enter path part) refl (λ next. follow_refuses next parts e) is where
-  go : (r : Result (List (List ℕ)) TreeFault) → enter path part ≡ r → ((next : List (List ℕ)) → follow next parts ≡ Err e → e ≡ BadName) → (r >>= λ next. follow next parts) ≡ Err e → e ≡ BadName
-  go (Ok next) enters rest is = rest next is
-  go (Err d) enters rest is = let same : d ≡ e = cc in sym same ∙ enter_refuses path part d enters
-
--- what the rule refuses is not want of memory
-pub path_of-refuses : (text : List ℕ) (e : TreeFault) → path_of text ≡ Err e → is_memory e ≡ false
-path_of-refuses text e is = ap is_memory (follow_refuses [] (parts_of text) e is)

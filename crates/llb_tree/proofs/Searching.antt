@@ -1,11 +1,10 @@
 -- A binary search over rows in path order finds the place of a path: the place is where the search says, and the rows
 -- stand in the order that the search asks for.
 use Rattle.std.proofs.Common.{◌≡◌, ℕ, zero, suc, ◌<◌, ◌≤◌, List, [], ◌∷◌, length, get_or, map, Result, Ok, Err, T, sym, ap, ◌∙◌, arith, add-one}
-use Rattle.std.specs.declared.cmp.Ordering.{Ordering}
 use Rattle.std.specs.declared.cmp.Ordering.TheVariants.{Less, Equal, Greater}
 use Rattle.std.specs.List.{AllWithin}
 use Rattle.std.specs.List.Sorted.{IsNonDecreasingBy, IsBinarySearchResult, IsSearchInRange}
-use Rattle.std.specs.Ordering.{is_lt, ordering_index, ordering_reverse}
+use Rattle.std.specs.Ordering.{is_lt, ordering_index}
 use Rattle.std.specs.FinMap.Entries.{by_order, below_all}
 use Rattle.std.proofs.lemmas.List.Sorted.{searchable_from_sorted}
 use Rattle.llb_tree.specs.Path.{path_cmp}
@@ -13,13 +12,10 @@ use Rattle.llb_tree.specs.PathOrder.{path_cmp-IsTotalOrder}
 use Rattle.llb_tree.specs.Rows.{place, later, pair_of, AreSorted}
 use Rattle.llb_tree.specs.declared.tree.Row.{Row}
 use Rattle.llb_tree.proofs.Orders.{is_less, and_first, and_second}
-
--- the other way round
-turned : (p q : List (List ℕ)) (o : Ordering) → path_cmp p q ≡ o → path_cmp q p ≡ ordering_reverse o
-turned p q o is = path_cmp-IsTotalOrder.antisymm q p ∙ ap ordering_reverse is
+use Rattle.llb_tree.proofs.Within.{turned}
 
 -- the first row is below each later one
-below_later : (p : List (List ℕ)) (rows : List Row) (i : ℕ) (d : Row) → T (below_all path_cmp p (map pair_of rows)) → i < length rows → path_cmp p (get_or rows i d).path ≡ Less
+pub below_later : (p : List (List ℕ)) (rows : List Row) (i : ℕ) (d : Row) → T (below_all path_cmp p (map pair_of rows)) → i < length rows → path_cmp p (get_or rows i d).path ≡ Less
 below_later p [] i d h lt = absurd (omega arith)
 below_later p (r ∷ rows) zero d h lt = is_less _ (and_first _ _ h)
 below_later p (r ∷ rows) (suc i) d h lt = below_later p rows i d (and_second _ _ h) (omega arith)

@@ -1,7 +1,7 @@
 -- Names and paths: which byte strings are names, the order of paths, and the path that a text reads as. A path is the
 -- list of its names from the root down, so the root is the empty list.
 use Rattle.std.specs.Prelude.{◌≡◌, ℕ, ◌-◌, ◌≤◌, ◌==◌, nat_eq, nat_le, nat_lt, Bool, ◌&&◌, ◌||◌, not, IsTrue, if◌then◌else◌, List, [], ◌∷◌, ◌++◌, length, take, Result, Ok, Err}
-use Rattle.std.specs.List.{All, list_all, slice_split, join_with_byte}
+use Rattle.std.specs.List.{All, list_all, slice_split, join_with_byte, starts_with}
 use Rattle.std.specs.Str.{is_utf8}
 use Rattle.std.specs.declared.cmp.Ordering.{Ordering}
 use Rattle.std.specs.Ordering.{nat_cmp}
@@ -66,6 +66,10 @@ parts_of = slice_split (λ b. b == 47)
 abbrev pub path_of : List ℕ → Result (List (List ℕ)) TreeFault
 path_of text = follow [] (parts_of text)
 
+-- the path that a text reads as from another: one that begins with `/` from the root
+abbrev pub path_from : List (List ℕ) → List ℕ → Result (List (List ℕ)) TreeFault
+path_from start text = if starts_with nat_eq text (47 ∷ []) then path_of text else follow start (parts_of text)
+
 -- how many names the path has, where there is one
 abbrev pub depth : Result (List (List ℕ)) TreeFault → Result ℕ TreeFault
 depth (Ok path) = Ok (length path)
@@ -79,3 +83,7 @@ joined = join_with_byte 47
 pub record ReadsBack (path : List (List ℕ)) : Type 0 where
   pub relative : path_of (joined path) ≡ Ok path
   pub absolute : path_of (47 ∷ joined path) ≡ Ok path
+
+-- the path is at or below the first
+abbrev pub is_within : List (List ℕ) → List (List ℕ) → Bool
+is_within p path = starts_with (pointwise nat_eq) path p

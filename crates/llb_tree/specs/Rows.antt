@@ -1,10 +1,12 @@
 -- What the rows of a tree stand for: a tree is kept as the list of its entries in path order. Only this file and the
 -- proofs know that; the clauses of the calls speak of the map.
-use Rattle.std.specs.Prelude.{ℕ, ◌+◌, List, [], ◌∷◌, map, Result, Ok, Err, T}
+use Rattle.std.specs.Prelude.{ℕ, ◌≡◌, true, false, ◌+◌, ◌≤◌, List, [], ◌∷◌, map, length, Result, Ok, Err, T}
+use Rattle.std.specs.List.{AllWithin}
+use Rattle.std.specs.Ordering.{is_lt}
 use denote.Ref.{Bor}
 use Rattle.std.specs.FinMap as finite
 use Rattle.std.specs.FinMap.Entries.{by_order}
-use Rattle.llb_tree.specs.Path.{path_cmp}
+use Rattle.llb_tree.specs.Path.{path_cmp, is_within}
 use Rattle.llb_tree.specs.Tree as base
 use Rattle.llb_tree.specs.Tree.{TreeMap}
 use Rattle.llb_tree.specs.declared.tree.Entry.{Entry}
@@ -49,6 +51,15 @@ place p (r ∷ rows) = by_order (path_cmp p r.path) (Err 0) (Ok 0) (later (place
 abbrev pub shifted : ℕ → Result ℕ ℕ → Result ℕ ℕ
 shifted n (Ok i) = Ok (n + i)
 shifted n (Err i) = Err (n + i)
+
+-- the rows at or below a path are those from start up to end: before them are those of less paths
+pub record IsRun (p : List (List ℕ)) (rows : List Row) (start end : ℕ) : Type 0 where
+  pub ends : start ≤ end
+  pub in_range : end ≤ length rows
+  pub before : AllWithin (λ (r : Row). is_lt (path_cmp r.path p) ≡ true) rows 0 start
+  pub inside : AllWithin (λ (r : Row). is_within p r.path ≡ true) rows start end
+  pub from : AllWithin (λ (r : Row). is_lt (path_cmp r.path p) ≡ false) rows end (length rows)
+  pub outside : AllWithin (λ (r : Row). is_within p r.path ≡ false) rows end (length rows)
 
 -- rows in path order that make a tree
 pub record AreTree (rows : List Row) : Type 0 where

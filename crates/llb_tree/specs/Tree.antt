@@ -1,15 +1,17 @@
 -- A tree as a map from paths to entries: what makes it a tree, the walk over the parents of a path, and the edits, each
 -- the map after it or the first fault. Nothing here knows how a tree is kept.
-use Rattle.std.specs.Prelude.{◌≡◌, ℕ, List, [], ◌∷◌, map, Option, Some, None, IsSome, Result, Ok, Err, refl}
+use Rattle.std.specs.Prelude.{◌≡◌, ℕ, List, [], ◌∷◌, ◌++◌, ◌==◌, ◌+◌, ◌&&◌, nat_lt, if◌then◌else◌, length, drop, map, Option, Some, None, IsSome, not, Result, Ok, Err, refl}
+use Rattle.std.specs.List.{flat_map}
 use Rattle.std.specs.FinMap as finite
 use Rattle.std.specs.FinMap.{FinMap}
+use Rattle.std.specs.FinMap.Entries.{where_key}
 use Rattle.std.specs.Coded.{Coded, code_by, coded×, coded_ℕ, coded_list, coded_option}
 use Rattle.llb_wire.specs.Answer.{◌>>=◌}
-use Rattle.llb_tree.specs.Path.{path_cmp, IsPath}
+use Rattle.llb_tree.specs.Path.{path_cmp, IsPath, is_within}
 pub use Rattle.llb_tree.specs.Meta.{MetaValue, IsMeta, root_meta}
 pub use Rattle.llb_tree.specs.Faults.{is_memory, Gives, MemoryLast}
 use Rattle.llb_tree.specs.declared.fault.TreeFault.{TreeFault}
-use Rattle.llb_tree.specs.declared.fault.TreeFault.TheVariants.{NotFound, NotDir, IsDir, Conflict, Root}
+use Rattle.llb_tree.specs.declared.fault.TreeFault.TheVariants.{NotFound, NotDir, IsDir, Conflict, Root, BadName}
 
 -- what stands at a path
 pub data Entry : Type 0 where
@@ -85,6 +87,54 @@ put_file t p m bytes = not_root p >>= λ _. walk (finite.get t) p >>= λ _. file
 
 abbrev pub put_dir : TreeMap → List (List ℕ) → MetaValue → Result TreeMap TreeFault
 put_dir t p m = walk (finite.get t) p >>= λ _. dir_fits (finite.get t p) >>= λ _. Ok (finite.insert t p (Dir m))
+
+-- something stands at the path
+abbrev pub found : Option Entry → Result (Unit {0}) TreeFault
+found (Some e) = Ok tt
+found None = Err NotFound
+
+-- the tree without what is at or below a path
+abbrev pub without : TreeMap → List (List ℕ) → TreeMap
+without t p = finite.retain_keys t (λ q. not (is_within p q))
+
+-- the tree after what is at or below a path goes, or why it stays
+abbrev pub remove : TreeMap → List (List ℕ) → Result TreeMap TreeFault
+remove t p = not_root p >>= λ _. found (finite.get t p) >>= λ _. Ok (without t p)
+
+-- a directory is there
+abbrev pub dir_there : TreeMap → List (List ℕ) → Result (Unit {0}) TreeFault
+dir_there t p = all_dirs (finite.get t p ∷ [])
+
+-- an entry with other names in front of its path in place of so many
+abbrev pub moved : ℕ → List (List ℕ) → List (List ℕ) × Entry → List (List ℕ) × Entry
+moved n front e = (front ++ drop n e.0, e.1)
+
+-- the tree of what is at or below a path: what is at p ++ q stands at q
+abbrev pub tree_at : TreeMap → List (List ℕ) → TreeMap
+tree_at t p = finite.from_entries (map (moved (length p) []) (where_key path_cmp (is_within p) (finite.entries t)))
+
+abbrev pub subtree : TreeMap → List (List ℕ) → Result TreeMap TreeFault
+subtree t p = dir_there t p >>= λ _. Ok (tree_at t p)
+
+-- the last name of a path that is one name below
+abbrev pub name_below : List (List ℕ) → List (List ℕ) → List (List ℕ)
+name_below p q = if is_within p q && (length (drop (length p) q) == 1) then drop (length p) q else []
+
+-- the names one below a path, in order
+abbrev pub list : TreeMap → List (List ℕ) → Result (List (List ℕ)) TreeFault
+list t p = dir_there t p >>= λ _. Ok (flat_map (name_below p) (finite.keys t))
+
+-- each of the paths can stand below a path: there is no 129th name
+abbrev pub places_fit : List (List ℕ) → List (List (List ℕ)) → Result (Unit {0}) TreeFault
+places_fit p [] = Ok tt
+places_fit p (q ∷ qs) = if nat_lt 128 (length p + length q) then Err BadName else places_fit p qs
+
+-- the tree with another one at a path, in place of what is at or below it: what is at q in the other is at p ++ q
+abbrev pub with_tree : TreeMap → List (List ℕ) → TreeMap → TreeMap
+with_tree t p other = finite.from_entries (map (moved 0 p) (finite.entries other) ++ finite.entries (without t p))
+
+abbrev pub graft : TreeMap → List (List ℕ) → TreeMap → Result TreeMap TreeFault
+graft t p other = walk (finite.get t) p >>= λ _. places_fit p (finite.keys other) >>= λ _. Ok (with_tree t p other)
 
 -- the tree of a root directory 0755 0:0 alone
 abbrev pub empty_tree : TreeMap

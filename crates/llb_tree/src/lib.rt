@@ -11,5 +11,5 @@ mod tree;
 pub use fault::TreeFault;
 pub use llb_wire::{Bytes, Text};
 pub use meta::Meta;
-pub use path::{Name, Path};
+pub use path::{Name, Names, Path};
 pub use tree::{Entry, Tree};

@@ -1,7 +1,7 @@
 //! The mode and the owner of an entry. A value has a mode of at most 4095 by its type, and contracts see
 //! its three numbers. Nothing here takes memory.
 
-ghost use Rattle.std.specs.Prelude.{◌≡◌, ◌≤◌};
+ghost use Rattle.std.specs.Prelude.{◌≡◌, ◌≤◌, ◌↔◌, IsTrue};
 ghost use Rattle.llb_tree.specs.Meta.{IsMeta, meta_of, root_meta};
 
 use std::marker::Model;
@@ -48,6 +48,13 @@ impl Meta {
             uid: 0,
             gid: 0,
         }
+    }
+
+    // Whether the mode and the owner are the same.
+    pub(crate) fn same(&self, other: &Meta) -> bool
+        ensures { IsTrue result ↔ (self.now ≡ other.now) }
+    {
+        self.mode == other.mode && self.uid == other.uid && self.gid == other.gid
     }
 
     /// A law: the mode is at most 4095, and the owners are numbers of 32 bits.

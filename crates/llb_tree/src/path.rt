@@ -1,11 +1,11 @@
 //! Names and paths. Contracts see a name as the list of its bytes and a path as the list of its names, from the
 //! root down. A text is read by the rule `path_of`: parts between `/`, where `.` stays and `..` goes up.
 
-ghost use Rattle.std.specs.Prelude.{◌≡◌, ◌↔◌, ℕ, List, [], length, ◌≤◌, IsTrue, OnErr, Ok};
-ghost use Rattle.std.specs.List.{list_all};
+ghost use Rattle.std.specs.Prelude.{◌≡◌, ◌↔◌, ℕ, ◌+◌, List, [], ◌++◌, length, ◌≤◌, IsTrue, IfErr, OnErr, Ok, false};
+ghost use Rattle.std.specs.List.{All, list_all};
 ghost use Rattle.std.specs.Str.{IsUtf8};
-ghost use Rattle.llb_tree.specs.Faults.{Gives, MemoryLast};
-ghost use Rattle.llb_tree.specs.Path.{is_name, is_name_byte, name_of, below, enter, depth, path_of, IsPath, ReadsBack};
+ghost use Rattle.llb_tree.specs.Faults.{is_memory, Gives, MemoryLast};
+ghost use Rattle.llb_tree.specs.Path.{is_name, is_name_byte, name_of, below, enter, follow, parts_of, depth, path_of, path_from, IsPath, ReadsBack};
 
 use crate::fault::TreeFault;
 use std::alloc::Global;
@@ -174,12 +174,36 @@ impl Path {
         ensures gives { Gives (λ p. p) result (path_of text.now) }
         ensures last { MemoryLast result (path_of text.now) }
     {
-        depth_of(text)?;
+        depth_of(0, text)?;
         let mut path = Path::root(alloc);
-        for part in text.split('/') {
-            path.enter(alloc, part)?;
-        }
+        path.follow(alloc, text)?;
         Ok(path)
+    }
+
+    /// The path that a text reads as from another one: a text that begins with `/` is read as by `read`, and any other
+    /// from `start`, in the same way. 26 `BadName` and 27 `Memory` as there.
+    pub fn read_from(alloc: Global, start: &Path, text: &str) -> Result<Path, TreeFault>
+        ensures gives { Gives (λ p. p) result (path_from start.now text.now) }
+        ensures last { MemoryLast result (path_from start.now text.now) }
+    {
+        let names = start.names();
+        if text.as_bytes().starts_with(b"/".as_slice()) {
+            return Path::read(alloc, text);
+        }
+        depth_of(names.len(), text)?;
+        let mut path = start.copy()?;
+        path.follow(alloc, text)?;
+        Ok(path)
+    }
+
+    // Goes where the parts of a text lead, one after another. What came before a refusal is done.
+    fn follow(&mut self, alloc: Global, text: &str) -> Result<(), TreeFault>
+        ensures { Gives (λ _. self.new) result (follow self.old (parts_of text.now)) }
+    {
+        for part in text.split('/') {
+            self.enter(alloc, part)?;
+        }
+        Ok(())
     }
 
     // Goes where a part of a text leads.
@@ -199,6 +223,17 @@ impl Path {
         }
         let name = Name::new(alloc, part)?;
         self.push(name)
+    }
+
+    // The path of the names of two lists.
+    pub(crate) fn joined(alloc: Global, front: &[Name], back: &[Name]) -> Result<Path, TreeFault>
+        requires { length front.now + length back.now ≤ 128 }
+        ensures { Gives (λ p. p) result (Ok (front.now ++ back.now)) }
+    {
+        let mut names = Vec::new(alloc);
+        push_names(&mut names, front)?;
+        push_names(&mut names, back)?;
+        Ok(Path { names })
     }
 
     /// The names from the root down, at most 128.
@@ -254,11 +289,54 @@ impl Path {
     }
 }
 
-// How many names the path has that a text reads as, or why it reads as none. Takes no memory.
-fn depth_of(text: &str) -> Result<usize, TreeFault>
-    ensures { result ≡ depth (path_of text.now) }
+// Puts copies of names behind others.
+pub(crate) fn push_names(names: &mut Vec<Name>, more: &[Name]) -> Result<(), TreeFault>
+    ensures gives { Gives (λ _. names.new.items) result (Ok (names.old.items ++ more.now)) }
+    ensures named { All (λ n. IsTrue (is_name n)) names.old.items → All (λ n. IsTrue (is_name n)) names.new.items }
 {
-    let mut names = 0;
+    for name in more {
+        let copied = name.copy()?;
+        let _is_name = copied.as_str();
+        names.push(copied)?;
+    }
+    Ok(())
+}
+
+/// Names in the order of their bytes, as a directory has them. Contracts see the list of them.
+#[derive(Drop)]
+pub struct Names {
+    names: Vec<Name>,
+}
+
+impl Model for Names {
+    ghost use Rattle.std.specs.Prelude.{ℕ, List};
+
+    ghost Value = { List (List ℕ) };
+
+    ghost view = { λ n. n.names.items };
+}
+
+impl Names {
+    pub(crate) fn new(names: Vec<Name>) -> Names
+        ensures { result ≡ names.items }
+    {
+        Names { names }
+    }
+
+    /// The names, one after another.
+    pub fn as_slice(&self) -> &[Name]
+        ensures { result.now ≡ self.now }
+    {
+        self.names.as_slice()
+    }
+}
+
+// How many names there are where a text leads from a path of so many, or why it leads nowhere. Takes no memory.
+fn depth_of(start: usize, text: &str) -> Result<usize, TreeFault>
+    ensures depth { (path : List (List ℕ)) → length path ≡ start → result ≡ depth (follow path (parts_of text.now)) }
+    ensures known { IfErr result (λ e. is_memory e ≡ false) }
+{
+    let mut names = start;
     for part in text.split('/') {
         names = depth_after(names, part)?;
     }
@@ -267,7 +345,8 @@ fn depth_of(text: &str) -> Result<usize, TreeFault>
 
 // How many names there are behind a part, where so many are before it.
 fn depth_after(names: usize, part: &str) -> Result<usize, TreeFault>
-    ensures { (path : List (List ℕ)) → length path ≡ names → result ≡ depth (enter path part.now) }
+    ensures depth { (path : List (List ℕ)) → length path ≡ names → result ≡ depth (enter path part.now) }
+    ensures known { IfErr result (λ e. is_memory e ≡ false) }
 {
     if part.is_empty() {
         return Ok(names);

@@ -2,7 +2,7 @@ use Rattle.std.proofs.Common.{◌≡◌, sym, ap, ◌∙◌, false, length, ◌=
 use Rattle.std.specs.Cmp.Lexicographic.{pointwise}
 use Rattle.std.specs.List.{list_all}
 use Rattle.llb_tree.specs.Path.{is_dot, is_dots, is_name_byte}
-use Rattle.llb_tree.proofs.Names.{name_by_bytes}
+use Rattle.llb_tree.proofs.NameTests.{name_by_bytes}
 use Rattle.llb_tree.proofs.path.Name.is_name.Goals as goal
 
 pub returns : goal.returns
