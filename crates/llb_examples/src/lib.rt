@@ -13,6 +13,8 @@ mod loader;
 #[cfg(test)]
 mod ops;
 #[cfg(test)]
+mod subtrees;
+#[cfg(test)]
 mod tree;
 #[cfg(test)]
 mod wire;
