@@ -356,8 +356,7 @@ fn a_board_gives_its_graph_back(rt: HostRuntime) {
 }
 
 // How many events a copy of the record has, after a claim.
-fn copied(alloc: Global, definition: &[u8]) -> Option<usize> {
-    let mut board = opened(alloc, definition)?;
+fn copied(mut board: Board) -> Option<usize> {
     let _ = board.claim(0, 0);
     match board.events().copy() {
         Ok(record) => Some(record.len()),
@@ -367,7 +366,8 @@ fn copied(alloc: Global, definition: &[u8]) -> Option<usize> {
 
 #[test]
 fn a_record_of_events_has_a_second_owner(rt: HostRuntime) {
-    assert!(rt; copied(rt.alloc(), THREE_VERTICES) == Some(1));
+    let count = opened(rt.alloc(), three_vertices(rt.alloc())).and_then(copied);
+    assert!(rt; count == Some(1));
 }
 
 fn prints(alloc: Global, fault: &OpenFault, number: &str) -> bool {
