@@ -1,5 +1,5 @@
 -- When a name matches a part of a pattern, and a path a pattern. A name is seen as the list of its characters.
-use Rattle.std.specs.Prelude.{◌≡◌, ℕ, List, [], ◌∷◌, drop}
+use Rattle.std.specs.Prelude.{◌≡◌, ◌==◌, ℕ, Bool, true, false, ◌&&◌, ◌||◌, List, [], ◌∷◌, drop}
 use Rattle.std.specs.Str.{chars}
 use Rattle.llb_glob.specs.declared.item.Item.{Item}
 use Rattle.llb_glob.specs.declared.item.Item.TheVariants.{Run, One}
@@ -25,3 +25,26 @@ Matches [] [] = Unit {0}
 Matches [] (name ∷ path) = ⊥
 Matches (part ∷ parts) [] = ⊥
 Matches (part ∷ parts) (name ∷ path) = MatchesName part (chars name) × Matches parts path
+
+-- the relation as tests, for what has to name all paths that match
+abbrev pub takes : Letter → ℕ → Bool
+takes Any c = true
+takes (Only only) c = c == only
+
+-- a list or one of its suffixes passes
+abbrev pub any_suffix : (List ℕ → Bool) → List ℕ → Bool
+any_suffix test [] = test []
+any_suffix test (c ∷ cs) = test (c ∷ cs) || any_suffix test cs
+
+abbrev pub name_matches : List Item → List ℕ → Bool
+name_matches [] [] = true
+name_matches [] (c ∷ name) = false
+name_matches (Run ∷ items) name = any_suffix (name_matches items) name
+name_matches (One letter ∷ items) [] = false
+name_matches (One letter ∷ items) (c ∷ name) = takes letter c && name_matches items name
+
+abbrev pub path_matches : List (List Item) → List (List ℕ) → Bool
+path_matches [] [] = true
+path_matches [] (name ∷ path) = false
+path_matches (part ∷ parts) [] = false
+path_matches (part ∷ parts) (name ∷ path) = name_matches part (chars name) && path_matches parts path

