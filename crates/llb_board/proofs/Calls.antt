@@ -57,7 +57,7 @@ pub record CanClaim (b : Build) (s : State) (w v : ℕ) (x : Vertex) : Type 0 wh
   pub waits : slice_get s.statuses v ≡ Some Waiting
   pub trees : List TreeMap
   pub inputs : inputs_from (ending_at s.statuses) x.inputs ≡ Some trees
-  pub grants : claim_grant b s w v ≡ Ok (claim_with s w v x (work_on trees))
+  pub grants : claim_grant b s w v ≡ Ok (claim_with s w v x (work_on b x trees))
 
 pub can_claim : (b : Build) (s : State) (w v : ℕ) (x : Vertex) → is_ok (start_for b s w v) ≡ true → slice_get b.graph.vertices v ≡ Some x → CanClaim b s w v x
 unfolding table
@@ -71,7 +71,7 @@ can_claim b s w v x ok there = by_start (start_for b s w v) refl ok
           waits = c.begins.waits;
           trees = c.start.inputs;
           inputs = ap (λ (y : Vertex). inputs_from (ending_at s.statuses) y.inputs) (sym same) ∙ c.begins.inputs;
-          grants = ap (claimed b s w v) is ∙ (λ i. Ok (c.gives i)) ∙ (λ i. Ok (claim_with s w v (same i) (work_on c.start.inputs)));
+          grants = ap (claimed b s w v) is ∙ (λ i. Ok (c.gives i)) ∙ (λ i. Ok (claim_with s w v (same i) (work_on b (same i) c.start.inputs)));
         }
 
     by_start : (r : Result Start ClaimCause) → start_for b s w v ≡ r → is_ok r ≡ true → CanClaim b s w v x
@@ -81,18 +81,18 @@ can_claim b s w v x ok there = by_start (start_for b s w v) refl ok
 
 -- what a claim that is granted gives: the board's execution at the worker, and the job
 pub begins : (b : Build) (s : State) (w v : ℕ) (x : Vertex) (p : Execution × Reply) → CanClaim b s w v x
-    → begun w v x (inputs_from (ending_at s.statuses) x.inputs) ≡ Ok p
+    → begun b w v x (inputs_from (ending_at s.statuses) x.inputs) ≡ Ok p
     → claim_grant b s w v ≡ Ok (record s { statuses = slice_set s.statuses v (Running w); workers = slice_set s.workers w (Runs p.0) }, p.1)
 begins b s w v x p can is =
-    let starts : ok_of {E = ClaimFault} (begun_on w v x can.trees) ≡ Ok p = ap (begun w v x) (sym can.inputs) ∙ is in
+    let starts : ok_of {E = ClaimFault} (begun_on b w v x can.trees) ≡ Ok p = ap (begun b w v x) (sym can.inputs) ∙ is in
     can.grants
     ∙ (λ i. Ok
     (record s { statuses = slice_set s.statuses v (Running w); workers = slice_set s.workers w (Runs (inside_ok starts i).0) }, (inside_ok starts i).1))
 
 pub begins_at : (b : Build) (s : State) (w v : ℕ) (x : Vertex) (p : Execution × Reply) → CanClaim b s w v x
-    → begun w v x (inputs_from (ending_at s.statuses) x.inputs) ≡ Ok p → p.0.vertex ≡ v
+    → begun b w v x (inputs_from (ending_at s.statuses) x.inputs) ≡ Ok p → p.0.vertex ≡ v
 begins_at b s w v x p can is =
-    let starts : ok_of {E = ClaimFault} (begun_on w v x can.trees) ≡ Ok p = ap (begun w v x) (sym can.inputs) ∙ is in
+    let starts : ok_of {E = ClaimFault} (begun_on b w v x can.trees) ≡ Ok p = ap (begun b w v x) (sym can.inputs) ∙ is in
     sym (ap (λ q. q.0.vertex) (inside_ok starts))
 
 -- ---- a micro-step

@@ -2,7 +2,6 @@
 use Rattle.std.proofs.Common.{◌≡◌, ℕ, ◌<◌, List, [], ◌∷◌, ◌++◌, map, length, refl, sym, ap, subst, ◌∙◌, arith, take, drop}
 use Rattle.std.specs.Prelude.{Bool, true, false, Some, Result, Ok, slice_get, slice_set, replicate}
 use Rattle.std.proofs.lemmas.List.{length_push, length-replicate, drop_all, take_all, append-nil}
-use Rattle.llb_loader.specs.Graph.{Numbered}
 use Rattle.llb_tree.specs.Tree.{empty_tree}
 use Rattle.llb_loader.specs.declared.graph.Vertex.{Vertex}
 use Rattle.llb_model.specs.Program.{Build, MicroStep, program_at, step_on}
@@ -15,6 +14,7 @@ use Rattle.llb_model.proofs.Lists.{inside}
 use Rattle.llb_model.proofs.Events.{Answer, IsStep, step_is}
 use Rattle.llb_model.proofs.Runs.{run_more}
 use Rattle.llb_model.proofs.Rooms.{event_room}
+use Rattle.llb_board.specs.Jobs.{view_of}
 use Rattle.llb_board.specs.Views.{status_of, at_of, execution_of, state_of}
 use Rattle.llb_board.specs.Board.{Seen, Replays, recorded}
 use Rattle.llb_board.specs.Rules.{faulted, step_fault, begun, left_at}
@@ -34,13 +34,12 @@ pub has_room : (b : Seen) (desks : List Desk) (halted : List Bool) (capacity : �
     → table b.build b.state e ≡ Some a → length b.events < capacity
 has_room b desks halted capacity e a kept granted = omega (arith, event_room b.build b.state e a granted, kept.room)
 
-pub kept_after : (g : Numbered) (ss ss' : List Stand) (ds ds' : List Desk) (es : List Event) (halted halted' : List Bool) (capacity : ℕ) (e : Event)
-    (r : Reply) → IsKept (seen g ss ds es) ds halted capacity
-    → table (record { graph = g }) (state_of ss ds) e ≡ Some (state_of ss' ds', r) → length ds' ≡ length ds
-    → map ready_made ds' ≡ map (needed (record { graph = g })) (map at_of ds')
-    → halted' ≡ stopped (record { graph = g }) (map status_of ss') → IsKept (seen g ss' ds' (es ++ e ∷ [])) ds' halted' capacity
-kept_after g ss ss' ds ds' es halted halted' capacity e r kept granted same outputs marks =
-    let b : Build = record { graph = g } in
+pub kept_after : (b : Build) (ss ss' : List Stand) (ds ds' : List Desk) (es : List Event) (halted halted' : List Bool) (capacity : ℕ) (e : Event)
+    (r : Reply) → IsKept (seen b ss ds es) ds halted capacity
+    → table b (state_of ss ds) e ≡ Some (state_of ss' ds', r) → length ds' ≡ length ds
+    → map ready_made ds' ≡ map (needed b) (map at_of ds')
+    → halted' ≡ stopped b (map status_of ss') → IsKept (seen b ss' ds' (es ++ e ∷ [])) ds' halted' capacity
+kept_after b ss ss' ds ds' es halted halted' capacity e r kept granted same outputs marks =
     let leads : run b (opening b (record { workers = length ds })) (es ++ e ∷ []) ≡ Some (state_of ss' ds', kept.replays.replies ++ r ∷ [])
     = run_more b (opening b (record { workers = length ds })) (state_of ss ds) (state_of ss' ds') es kept.replays.replies e r kept.replays.leads granted in
     let less = event_room b (state_of ss ds) e (state_of ss' ds', r) granted in
@@ -57,24 +56,24 @@ kept_after g ss ss' ds ds' es halted halted' capacity e r kept granted same outp
     }
 
 -- what is recorded of an event that is granted
-pub recorded_as : {C F : Type 0} (g : Numbered) (ss ss' : List Stand) (ds ds' : List Desk) (es : List Event) (e : Event) (fault : C → F)
+pub recorded_as : {C F : Type 0} (b : Build) (ss ss' : List Stand) (ds ds' : List Desk) (es : List Event) (e : Event) (fault : C → F)
     (answer : Result Answer C) (r : Reply)
-    → answer ≡ Ok (state_of ss' ds', r) → length ds' ≡ length ds → recorded (seen g ss ds es) e fault answer ≡ Ok (seen g ss' ds' (es ++ e ∷ []), r)
-recorded_as g ss ss' ds ds' es e fault answer r is same =
-    ap (recorded (seen g ss ds es) e fault) is
-    ∙ (λ i. Ok (record { build = record { graph = g }; opening = record { workers = sym same i }; state = state_of ss' ds'; events = es ++ e ∷ [] }, r))
+    → answer ≡ Ok (state_of ss' ds', r) → length ds' ≡ length ds → recorded (seen b ss ds es) e fault answer ≡ Ok (seen b ss' ds' (es ++ e ∷ []), r)
+recorded_as b ss ss' ds ds' es e fault answer r is same =
+    ap (recorded (seen b ss ds es) e fault) is
+    ∙ (λ i. Ok (record { build = b; opening = record { workers = sym same i }; state = state_of ss' ds'; events = es ++ e ∷ [] }, r))
 
 -- a list that is written whole
 pub whole_written : {A : Type 0} (n : ℕ) (new old : List A) → length new ≡ length old → n ≡ length old → take n (new ++ drop (length new) old) ≡ new
 whole_written n new old same is =
     ap (λ l. take n (new ++ l)) (drop_all (length new) old (omega (arith, same))) ∙ ap (take n) (append-nil new) ∙ take_all n new (omega (arith, same, is))
 
-pub kept_written : (g : Numbered) (ss : List Stand) (ds ds' : List Desk) (es : List Event) (halted halted' : List Bool) (capacity : ℕ) → ds' ≡ ds
-    → halted' ≡ halted → IsKept (seen g ss ds es) ds halted capacity
-    → IsKept (seen g ss ds' es) ds' halted' capacity
-kept_written g ss ds ds' es halted halted' capacity d h kept =
-    subst (λ (l : List Desk). IsKept (seen g ss l es) l halted' capacity) (sym d)
-    (subst (λ (m : List Bool). IsKept (seen g ss ds es) ds m capacity) (sym h) kept)
+pub kept_written : (b : Build) (ss : List Stand) (ds ds' : List Desk) (es : List Event) (halted halted' : List Bool) (capacity : ℕ) → ds' ≡ ds
+    → halted' ≡ halted → IsKept (seen b ss ds es) ds halted capacity
+    → IsKept (seen b ss ds' es) ds' halted' capacity
+kept_written b ss ds ds' es halted halted' capacity d h kept =
+    subst (λ (l : List Desk). IsKept (seen b ss l es) l halted' capacity) (sym d)
+    (subst (λ (m : List Bool). IsKept (seen b ss ds es) ds m capacity) (sym h) kept)
 
 -- ---- a claim
 
@@ -85,15 +84,15 @@ pub state_claimed : (ss : List Stand) (ds : List Desk) (w v : ℕ) (x : own.Exec
 state_claimed ss ds w v x = λ i. record { statuses = map_set status_of ss v (stand.Running w) i; workers = map_set at_of ds w (desk.Runs x) i }
 
 -- the machine's claim is what the board does
-pub claim_does : (g : Numbered) (ss : List Stand) (ds : List Desk) (w v : ℕ) (x : Vertex) (own : own.Execution) (r : Reply)
-    → CanClaim (record { graph = g }) (state_of ss ds) w v x
-    → begun w v x (inputs_from (ending_at (map status_of ss)) x.inputs) ≡ Ok (execution_of own, r)
-    → claim_grant (record { graph = g }) (state_of ss ds) w v ≡ Ok (state_of (slice_set ss v (stand.Running w)) (slice_set ds w (desk.Runs own)), r)
-claim_does g ss ds w v x own r can is =
-    begins (record { graph = g }) (state_of ss ds) w v x (execution_of own, r) can is ∙ (λ i. Ok (sym (state_claimed ss ds w v own) i, r))
+pub claim_does : (b : Build) (ss : List Stand) (ds : List Desk) (w v : ℕ) (x : Vertex) (own : own.Execution) (r : Reply)
+    → CanClaim b (state_of ss ds) w v x
+    → begun b w v x (inputs_from (ending_at (map status_of ss)) x.inputs) ≡ Ok (execution_of own, r)
+    → claim_grant b (state_of ss ds) w v ≡ Ok (state_of (slice_set ss v (stand.Running w)) (slice_set ds w (desk.Runs own)), r)
+claim_does b ss ds w v x own r can is =
+    begins b (state_of ss ds) w v x (execution_of own, r) can is ∙ (λ i. Ok (sym (state_claimed ss ds w v own) i, r))
 
-pub made_for : (g : Numbered) (x : Vertex) (v n : ℕ) → slice_get g.vertices v ≡ Some x → n ≡ v → x.outputs ≡ (program_at (slice_get g.vertices n)).outputs
-made_for g x v n there same = sym (ap (λ k. (program_at (slice_get g.vertices k)).outputs) same ∙ ap (λ o. (program_at o).outputs) there)
+pub made_for : (b : Build) (x : Vertex) (v n : ℕ) → slice_get b.graph.vertices v ≡ Some x → n ≡ v → x.outputs ≡ (program_at (slice_get b.graph.vertices n)).outputs
+made_for b x v n there same = sym (ap (λ k. (program_at (slice_get b.graph.vertices k)).outputs) same ∙ ap (λ o. (program_at o).outputs) there)
 
 pub outputs_claimed : (b : Build) (ds : List Desk) (w : ℕ) (x : own.Execution) → map ready_made ds ≡ map (needed b) (map at_of ds)
     → x.outputs.items ≡ replicate (program_at (slice_get b.graph.vertices x.vertex)).outputs empty_tree
@@ -105,10 +104,10 @@ outputs_claimed b ds w x kept made =
 -- ---- a micro-step
 
 -- the machine's micro-step is what the board does
-pub step_does : (g : Numbered) (ss : List Stand) (ds ds' : List Desk) (w : ℕ) (r : Reply)
-    → faulted step_fault (step_grant (record { graph = g }) (state_of [] ds) w) ≡ Ok (state_of [] ds', r)
-    → step_grant (record { graph = g }) (state_of ss ds) w ≡ Ok (state_of ss ds', r)
-step_does g ss ds ds' w r is = steps (record { graph = g }) (state_of ss ds) w (map at_of ds') r is
+pub step_does : (b : Build) (ss : List Stand) (ds ds' : List Desk) (w : ℕ) (r : Reply)
+    → faulted step_fault (step_grant b (state_of [] ds) w) ≡ Ok (state_of [] ds', r)
+    → step_grant b (state_of ss ds) w ≡ Ok (state_of ss ds', r)
+step_does b ss ds ds' w r is = steps b (state_of ss ds) w (map at_of ds') r is
 
 -- a worker goes on with its vertex
 needs_stay : (b : Build) (s : State) (w : ℕ) (a : Answer) → IsStep b s w a → map (needed b) a.0.workers ≡ map (needed b) s.workers
@@ -118,14 +117,14 @@ needs_stay b s w a step =
     ∙ map_set (needed b) s.workers w (Runs (with_step step.x left))
     ∙ set_same (map (needed b) s.workers) w (needed b (Runs step.x)) (get_map (needed b) s.workers w (Runs step.x) step.there)
 
-pub outputs_stepped : (g : Numbered) (ss : List Stand) (ds ds' : List Desk) (w : ℕ) (r : Reply)
-    → map ready_made ds ≡ map (needed (record { graph = g })) (map at_of ds)
-    → table (record { graph = g }) (state_of ss ds) (Step w) ≡ Some (state_of ss ds', r) → map ready_made ds' ≡ map ready_made ds
-    → map ready_made ds' ≡ map (needed (record { graph = g })) (map at_of ds')
-outputs_stepped g ss ds ds' w r kept granted same =
+pub outputs_stepped : (b : Build) (ss : List Stand) (ds ds' : List Desk) (w : ℕ) (r : Reply)
+    → map ready_made ds ≡ map (needed b) (map at_of ds)
+    → table b (state_of ss ds) (Step w) ≡ Some (state_of ss ds', r) → map ready_made ds' ≡ map ready_made ds
+    → map ready_made ds' ≡ map (needed b) (map at_of ds')
+outputs_stepped b ss ds ds' w r kept granted same =
     same ∙ kept
-    ∙ sym (needs_stay (record { graph = g }) (state_of ss ds) w (state_of ss ds', r)
-    (step_is (record { graph = g }) (state_of ss ds) w (state_of ss ds', r) granted))
+    ∙ sym (needs_stay b (state_of ss ds) w (state_of ss ds', r)
+    (step_is b (state_of ss ds) w (state_of ss ds', r) granted))
 
 pub same_length : (ds ds' : List Desk) → map ready_made ds' ≡ map ready_made ds → length ds' ≡ length ds
 same_length ds ds' same = sym (length_map ready_made ds') ∙ ap length same ∙ length_map ready_made ds
@@ -155,7 +154,7 @@ pub leaves : (b : Build) (ds : List Desk) (w : ℕ) (x y : own.Execution) (steps
     → map ready_made ds ≡ map (needed b) (map at_of ds)
     → slice_get ds w ≡ Some (desk.Runs x) → slice_get ds w ≡ Some (desk.Runs y)
     → is_finished (program_in b (execution_of x)).steps (execution_of x) ≡ true → steps ≡ (program_in b (execution_of y)).steps
-    → stands ≡ Settled (ended (record { steps = steps; outputs = length y.outputs.items }) y.view y.fault)
+    → stands ≡ Settled (ended (record { steps = steps; outputs = length y.outputs.items }) (view_of y.view) y.fault)
     → left_at b (slice_get (map at_of ds) w) ≡ Ok (y.vertex, stands)
 unfolding finished_at
 leaves b ds w x y steps stands kept looked taken finished same ends =
@@ -164,7 +163,7 @@ leaves b ds w x y steps stands kept looked taken finished same ends =
     let is : finished_at b (desk.Runs y) ≡ true = ap (finished_at b) (inside (sym taken ∙ looked)) ∙ finished in
     ap (left_at b) (get_map at_of ds w (desk.Runs y) taken)
     ∙ ap (left_if b (execution_of y)) is
-    ∙ (λ i. Ok (y.vertex, Settled (ended (record { steps = sym same i; outputs = sym count i }) y.view y.fault)))
+    ∙ (λ i. Ok (y.vertex, Settled (ended (record { steps = sym same i; outputs = sym count i }) (view_of y.view) y.fault)))
     ∙ ap (λ s. Ok (y.vertex, s)) (sym ends)
 
 pub state_settled : (ss : List Stand) (ds : List Desk) (w v : ℕ) (s : Stand) (e : Ending) → status_of s ≡ Settled e
@@ -174,10 +173,10 @@ state_settled ss ds w v s e is =
     λ i. record { statuses = (map_set status_of ss v s ∙ ap (slice_set (map status_of ss) v) is) i; workers = map_set at_of ds w desk.Idle i }
 
 -- the machine's settle is what the board does
-pub settle_does : (g : Numbered) (ss : List Stand) (ds : List Desk) (w v : ℕ) (s : Stand)
-    (can : CanSettle (record { graph = g }) (state_of ss ds) w v (status_of s))
-    → settle_grant (record { graph = g }) (state_of ss ds) w ≡ Ok (state_of (slice_set ss v s) (slice_set ds w desk.Idle), settle_reply v can.ending)
-settle_does g ss ds w v s can = can.grants ∙ (λ i. Ok (sym (state_settled ss ds w v s can.ending can.is) i, settle_reply v can.ending))
+pub settle_does : (b : Build) (ss : List Stand) (ds : List Desk) (w v : ℕ) (s : Stand)
+    (can : CanSettle b (state_of ss ds) w v (status_of s))
+    → settle_grant b (state_of ss ds) w ≡ Ok (state_of (slice_set ss v s) (slice_set ds w desk.Idle), settle_reply v can.ending)
+settle_does b ss ds w v s can = can.grants ∙ (λ i. Ok (sym (state_settled ss ds w v s can.ending can.is) i, settle_reply v can.ending))
 
 -- the vertex that a worker leaves was Running by it
 pub leaves_running : (b : Seen) (w v : ℕ) (stands : Status) → Replays b → CanSettle b.build b.state w v stands → slice_get b.state.statuses v ≡ Some (Running w)

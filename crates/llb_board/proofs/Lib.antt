@@ -1,6 +1,5 @@
 pub mod Lists
 pub mod Inputs
-pub mod Parents
 pub mod Stopped
 pub mod Counted
 pub mod Steps

@@ -23,14 +23,14 @@ map_replicate : {A B : Type 0} (f : A → B) (n : ℕ) (x : A) → map f (replic
 map_replicate f zero x = refl
 map_replicate f (suc n) x = ap (λ l. f x ∷ l) (map_replicate f n x)
 
-pub seen_open : (g : Numbered) (workers : ℕ) (ss : List Stand) (ds : List Desk) (es : List Event) → ss ≡ replicate (length g.vertices) Waiting
+pub seen_open : (b : Build) (workers : ℕ) (ss : List Stand) (ds : List Desk) (es : List Event) → ss ≡ replicate (length b.graph.vertices) Waiting
     → ds ≡ replicate workers Idle → es ≡ []
-    → seen g ss ds es ≡ opened (record { graph = g }) (record { workers = workers })
-seen_open g workers ss ds es s d e = λ i. record {
-  build = record { graph = g };
+    → seen b ss ds es ≡ opened b (record { workers = workers })
+seen_open b workers ss ds es s d e = λ i. record {
+  build = b;
   opening = record { workers = (ap length d ∙ length-replicate workers Idle) i };
   state = record {
-    statuses = (ap (map status_of) s ∙ map_replicate status_of (length g.vertices) Waiting) i;
+    statuses = (ap (map status_of) s ∙ map_replicate status_of (length b.graph.vertices) Waiting) i;
     workers = (ap (map at_of) d ∙ map_replicate at_of workers Idle) i;
   };
   events = e i;
@@ -40,11 +40,10 @@ opened_replays : (b : Build) (o : Opening) → Replays (opened b o)
 unfolding run
 opened_replays b o = record { replies = []; leads = refl }
 
-pub kept_open : (g : Numbered) (workers capacity : ℕ) (ss : List Stand) (ds : List Desk) (es : List Event) (halted : List Bool)
-    → ss ≡ replicate (length g.vertices) Waiting → ds ≡ replicate workers Idle → es ≡ []
-    → halted ≡ replicate (length g.vertices) false → most_events (record { graph = g }) ≤ capacity → workers ≡ 1 → IsKept (seen g ss ds es) ds halted capacity
-kept_open g workers capacity ss ds es halted s d e h room one =
-    let b : Build = record { graph = g } in
+pub kept_open : (b : Build) (workers capacity : ℕ) (ss : List Stand) (ds : List Desk) (es : List Event) (halted : List Bool)
+    → ss ≡ replicate (length b.graph.vertices) Waiting → ds ≡ replicate workers Idle → es ≡ []
+    → halted ≡ replicate (length b.graph.vertices) false → most_events b ≤ capacity → workers ≡ 1 → IsKept (seen b ss ds es) ds halted capacity
+kept_open b workers capacity ss ds es halted s d e h room one =
     let o : Opening = record { workers = workers } in
     let kept : IsKept (opened b o) ds halted capacity = record {
       replays = opened_replays b o;
@@ -52,6 +51,6 @@ kept_open g workers capacity ss ds es halted s d e h room one =
       outputs = ap (map ready_made) d ∙ map_replicate ready_made workers Idle ∙ sym (map_replicate (needed b) workers model.Idle);
       some = omega (arith, length-replicate workers model.Idle, one);
       few = omega (arith, length-replicate workers model.Idle, one);
-      halted_are = h ∙ sym (unmarked g.vertices);
+      halted_are = h ∙ sym (unmarked b.graph.vertices);
     } in
-    subst (λ b. IsKept b ds halted capacity) (sym (seen_open g workers ss ds es s d e)) kept
+    subst (λ b. IsKept b ds halted capacity) (sym (seen_open b workers ss ds es s d e)) kept

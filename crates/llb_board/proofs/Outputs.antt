@@ -8,8 +8,11 @@ use Rattle.std.proofs.lemmas.Bool.{eq-eqb, ne_eqb}
 use Rattle.std.proofs.lemmas.Option.{slice_get_within, get_or_from_slice_get}
 use Rattle.llb_ops.specs.declared.file.Action.{Action}
 use Rattle.llb_tree.specs.Tree.{TreeMap, empty_tree}
-use Rattle.llb_model.specs.Program.{MicroStep, Act, View, Files, result_for, is_output, outputs_of}
-use Rattle.llb_board.specs.Jobs.{placed, placed_by, results_in}
+use Rattle.llb_ops.specs.declared.op.Kind.{Kind}
+use Rattle.llb_ops.specs.declared.op.Kind.TheVariants as kind
+use Rattle.llb_ops.specs.declared.merge.MergeInput.{MergeInput}
+use Rattle.llb_model.specs.Program.{MicroStep, Act, LayInput, View, LocalTree, Files, Layers, result_for, is_output, output_from, outputs_of, steps_of}
+use Rattle.llb_board.specs.Jobs.{placed, placed_by, first_placed, actions_in}
 use Rattle.llb_board.proofs.Lists.{get_map, length_map}
 
 -- what an output has once the results from number k on have taken their places
@@ -22,7 +25,7 @@ pub record PlacedSoFar (steps : List MicroStep) (all : List TreeMap) (n : ℕ) (
 
 no_result : (i : ℕ) (steps : List MicroStep) → result_for i steps [] ≡ empty_tree
 no_result i [] = refl
-no_result i (Act a ∷ steps) = refl
+no_result i (m ∷ steps) = refl
 
 same_map : (f g : ℕ → TreeMap) → ((i : ℕ) → f i ≡ g i) → (is : List ℕ) → map f is ≡ map g is
 same_map f g same [] = refl
@@ -108,10 +111,9 @@ placed_past steps all n rs t outs here past =
       front = ap (λ l. rs ++ l) rest ∙ whole;
     }
 
-pub placed_end : (steps : List MicroStep) (view : View) (n : ℕ) (rs outs : List TreeMap) → PlacedSoFar steps (results_in view) n rs outs → rs ≡ []
-    → outs ≡ outputs_of (record { steps = steps; outputs = n }) view
-unfolding outputs_of
-placed_end steps (Files inputs results) n rs outs here is = here.outputs ∙ ap (λ l. map (from_on steps results (length l)) (range_with_len 0 n)) is
+pub placed_end : (steps : List MicroStep) (all : List TreeMap) (n : ℕ) (rs outs : List TreeMap) → PlacedSoFar steps all n rs outs → rs ≡ []
+    → outs ≡ map (λ i. result_for i steps all) (range_with_len 0 n)
+placed_end steps all n rs outs here is = here.outputs ∙ ap (λ l. map (from_on steps all (length l)) (range_with_len 0 n)) is
 
 past : (actions : List Action) (k : ℕ) → slice_get actions k ≡ None → length actions ≤ k
 past [] k at = omega arith
@@ -132,3 +134,47 @@ placed_next actions all n rs t outs here =
 pub no_items : {A : Type 0} (xs : List A) → length xs ≡ 0 → xs ≡ []
 no_items [] e = refl
 no_items (x ∷ xs) e = absurd (omega (arith, e))
+
+-- ---- the outputs of a view
+
+laid_none : (i : ℕ) (inputs : List MergeInput) (rs : List TreeMap) → result_for i (map (λ (n : MergeInput). LayInput n.input) inputs) rs ≡ empty_tree
+laid_none i [] rs = refl
+laid_none i (n ∷ inputs) [] = refl
+laid_none i (n ∷ inputs) (t ∷ rs) = laid_none i inputs rs
+
+-- only actions have results
+pub by_actions : (i : ℕ) (k : Option Kind) (rs : List TreeMap) → result_for i (map Act (actions_in k)) rs ≡ result_for i (steps_of k) rs
+by_actions i (Some (kind.File f)) rs = refl
+by_actions i (Some (kind.Source s)) [] = refl
+by_actions i (Some (kind.Source s)) (t ∷ rs) = refl
+by_actions i (Some (kind.Merge m)) rs = sym (laid_none i m.inputs rs)
+by_actions i (Some (kind.Exec x)) rs = refl
+by_actions i (Some (kind.Build b)) rs = refl
+by_actions i (Some (kind.Diff d)) rs = refl
+by_actions i None rs = refl
+
+pub outputs_of_files : (k : Option Kind) (inputs results outs : List TreeMap) (n : ℕ) → outs ≡ map (λ i. result_for i (map Act (actions_in k)) results) (range_with_len 0 n)
+    → outs ≡ outputs_of (record { steps = steps_of k; outputs = n }) (Files inputs results)
+unfolding outputs_of
+outputs_of_files k inputs results outs n is =
+    is ∙ same_map (λ i. result_for i (map Act (actions_in k)) results) (output_from (steps_of k) (Files inputs results)) (λ i. by_actions i k results) (range_with_len 0 n)
+
+-- behind the first output all are empty
+behind_first : (f : ℕ → TreeMap) → ((i : ℕ) → f (suc i) ≡ empty_tree) → (n a : ℕ) → map f (range_with_len (a + 1) n) ≡ replicate n empty_tree
+behind_first f rest zero a = refl
+behind_first f rest (suc n) a = λ j. (ap f (add-one a) ∙ rest a) j ∷ behind_first f rest n (a + 1) j
+
+pub first_alone : (f : ℕ → TreeMap) (t : TreeMap) → f 0 ≡ t → ((i : ℕ) → f (suc i) ≡ empty_tree) → (n : ℕ) (outs : List TreeMap)
+    → outs ≡ replicate n empty_tree → first_placed t outs ≡ map f (range_with_len 0 n)
+first_alone f t first rest zero outs is = ap (first_placed t) is
+first_alone f t first rest (suc n) outs is = ap (first_placed t) is ∙ (λ j. sym first j ∷ sym (behind_first f rest n 0) j)
+
+pub outputs_of_local : (k : Option Kind) (t : TreeMap) (n : ℕ) (outs : List TreeMap) → outs ≡ replicate n empty_tree
+    → first_placed t outs ≡ outputs_of (record { steps = steps_of k; outputs = n }) (LocalTree t)
+unfolding outputs_of
+outputs_of_local k t n outs is = first_alone (output_from (steps_of k) (LocalTree t)) t refl (λ i. refl) n outs is
+
+pub outputs_of_layers : (k : Option Kind) (inputs : List TreeMap) (t : TreeMap) (n : ℕ) (outs : List TreeMap) → outs ≡ replicate n empty_tree
+    → first_placed t outs ≡ outputs_of (record { steps = steps_of k; outputs = n }) (Layers inputs t)
+unfolding outputs_of
+outputs_of_layers k inputs t n outs is = first_alone (output_from (steps_of k) (Layers inputs t)) t refl (λ i. refl) n outs is

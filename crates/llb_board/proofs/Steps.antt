@@ -1,79 +1,79 @@
 -- A micro-step of an execution, as it is done.
-use Rattle.std.proofs.Common.{◌≡◌, ℕ, ◌+◌, List, [], map, length, refl, ap, sym, ◌∙◌, ◌<◌, arith}
-use Rattle.std.specs.Prelude.{Bool, true, false, Option, Some, None, option_map, Result, Ok, Err, slice_get, nat_le, ◌||◌, is_some, if◌then◌else◌}
-use Rattle.std.proofs.lemmas.Option.{slice_get-map}
+use Rattle.std.proofs.Common.{◌≡◌, ℕ, ℤ, zero, suc, inl, inr, ◌+◌, ◌<◌, ◌≤◌, List, [], ◌∷◌, map, length, refl, ap, sym, ◌∙◌, arith}
+use Rattle.std.specs.Prelude.{Bool, true, false, Option, Some, None, Result, Ok, Err, slice_get, nat_le, if◌then◌else◌}
+use Rattle.std.proofs.lemmas.Bool.{le-leb, leb-true, cases_lt}
+use Rattle.llb_fileop.specs.declared.fault.ActFault.{ActFault}
+use Rattle.llb_ops.specs.declared.op.Kind.{Kind}
+use Rattle.llb_ops.specs.declared.op.Kind.TheVariants as kind
 use Rattle.llb_ops.specs.declared.file.Action.{Action}
 use Rattle.llb_tree.specs.Tree.{TreeMap}
-use Rattle.llb_tree.specs.declared.fault.TreeFault.{TreeFault}
+use Rattle.llb_loader.specs.declared.graph.Vertex.{Vertex}
 use Rattle.llb_model.specs.declared.fault.VertexFault.{VertexFault}
 use Rattle.llb_model.specs.declared.fault.VertexFault.TheVariants as fault
-use Rattle.llb_model.specs.Action.{act}
-use Rattle.llb_model.specs.Program.{MicroStep, Act, View, Files, Work, Left, base_in, micro_step, with_own, with_result, step_on, tried, fault_number}
-use Rattle.llb_model.specs.State.{Execution, is_finished}
-use Rattle.llb_model.specs.Table.{Acted, Faulted}
-use Rattle.std.proofs.lemmas.Bool.{leb-false}
-use Rattle.llb_board.proofs.Lists.{length_map}
-use Rattle.llb_board.specs.Jobs.{trees_in, with_tree}
+use Rattle.llb_model.specs.Program.{MicroStep, ReadLocal, Act, LayInput, View, Work, trees_in, with_tree, act_among, lay_on, micro_step, with_own, with_result, step_on, tried, fault_number, steps_of, program_at}
+use Rattle.llb_model.specs.State.{Execution, is_finished, next_step}
+use Rattle.llb_model.specs.Table.{Reply, HasRead, Acted, HasMerged, Faulted}
+use Rattle.llb_board.specs.Jobs.{kind_of}
 use Rattle.llb_board.specs.Rules.{worked, worked_by, stepped_to}
+use Rattle.llb_board.proofs.Lists.{length_map}
 
-abbrev pub execution : ℕ → ℕ → Option VertexFault → View → Execution
-execution v k f view = record { vertex = v; done = k; fault = f; own = view }
+-- an execution that has not faulted
+abbrev pub clean : ℕ → ℕ → View → Execution
+clean v k view = record { vertex = v; done = k; fault = None; own = view }
 
-abbrev pub work : View → Work
+-- the micro-steps of what is done at a vertex are its program's
+pub steps_by_kind : (o : Option Vertex) → steps_of (kind_of o) ≡ (program_at o).steps
+steps_by_kind None = refl
+steps_by_kind (Some v) = refl
+
+past_none : {A : Type 0} (xs : List A) (k : ℕ) → length xs ≤ k → slice_get xs k ≡ None
+past_none [] k past = refl
+past_none (x ∷ xs) k past = by_place k past
+  where
+    by_place : (k : ℕ) → length (x ∷ xs) ≤ k → slice_get (x ∷ xs) k ≡ None
+    by_place zero past = absurd (omega arith)
+    by_place (suc k) past = past_none xs k (omega arith)
+
+-- without a fault the next micro-step is the one at that place, where there is one
+pub next_clean : (steps : List MicroStep) (v k : ℕ) (view : View) → next_step steps (clean v k view) ≡ slice_get steps k
+next_clean steps v k view = elim (cases_lt k (length steps)) [
+  | inl lt ↦ ap (λ (b : Bool). if b then None else slice_get steps k) (not_le lt)
+  | inr le ↦ ap (λ (b : Bool). if b then None else slice_get steps k) (le-leb _ _ le) ∙ sym (past_none steps k le)
+]
+  where
+    not_le : k < length steps → nat_le (length steps) k ≡ false
+    not_le lt = by_test (nat_le (length steps) k) refl
+      where
+        by_test : (b : Bool) → nat_le (length steps) k ≡ b → b ≡ false
+        by_test false is = refl
+        by_test true is = let le : length steps ≤ k = leb-true _ _ is in absurd (omega arith)
+
+-- what a micro-step that is there gives
+pub worked_at : (steps : List MicroStep) (v k : ℕ) (view : View) (m : MicroStep) → slice_get steps k ≡ Some m
+    → worked steps (clean v k view) ≡ worked_by (clean v k view) (Some m)
+worked_at steps v k view m at = ap (worked_by (clean v k view)) (next_clean steps v k view ∙ at)
+
+pub worked_none : (steps : List MicroStep) (v k : ℕ) (view : View) → slice_get steps k ≡ None
+    → worked steps (clean v k view) ≡ worked_by (clean v k view) None
+worked_none steps v k view at = ap (worked_by (clean v k view)) (next_clean steps v k view ∙ at)
+
+abbrev work : View → Work
 work view = record { own = view; trees = [] }
 
--- what a micro-step leaves, from what its action gave
-abbrev pub by_action : ℕ → View → Result TreeMap TreeFault → Left
-by_action k (Files inputs results) r = tried (work (Files inputs results)) (with_own (work (Files inputs results)) (with_result k inputs results r))
-
-on_action : (k : ℕ) (view : View) (a : Action) (r : Result TreeMap TreeFault) → act a.kind (base_in a.input (trees_in view)) ≡ r
-    → step_on k (Some (Act a)) (work view) ≡ by_action k view r
+pub acted : (v k : ℕ) (view : View) (a : Action) (t : TreeMap) → act_among a (trees_in view) ≡ Ok t
+    → worked_by (clean v k view) (Some (Act a)) ≡ Ok (clean v (k + 1) (with_tree view t), Acted k)
 unfolding micro_step
-on_action k (Files inputs results) a r is =
-    ap (λ q. tried (work (Files inputs results)) (with_own (work (Files inputs results)) (with_result k inputs results q))) is
+acted v k view a t is = ap (λ r. Ok (stepped_to (clean v k view) (Act a) (tried (work view) (with_own (work view) (with_result k view r))))) is
 
-worked_on : (actions : List Action) (v k : ℕ) (f : Option VertexFault) (view : View) (a : Action) (r : Result TreeMap TreeFault)
-    → false ≡ is_finished (map Act actions) (execution v k f view)
-    → slice_get actions k ≡ Some a → act a.kind (base_in a.input (trees_in view)) ≡ r
-    → worked (map Act actions) (execution v k f view) ≡ Ok (stepped_to (execution v k f view) (Act a) (by_action k view r))
-worked_on actions v k f view a r more at is =
-    let x = execution v k f view in
-    ap (λ (b : Bool). worked_by x (if b then None else slice_get (map Act actions) k)) (sym more)
-    ∙ ap (worked_by x) (slice_get-map Act actions k ∙ ap (option_map Act) at)
-    ∙ (λ i. Ok (stepped_to x (Act a) (on_action k view a r is i)))
+pub act_failed : (v k : ℕ) (view : View) (a : Action) (e : ActFault) → act_among a (trees_in view) ≡ Err e
+    → worked_by (clean v k view) (Some (Act a)) ≡ Ok (record { vertex = v; done = k + 1; fault = Some (fault.Action k (fault_number e)); own = view }, Faulted (fault.Action k (fault_number e)))
+unfolding micro_step
+act_failed v k view a e is = ap (λ r. Ok (stepped_to (clean v k view) (Act a) (tried (work view) (with_own (work view) (with_result k view r))))) is
 
--- an execution that goes on has not faulted
-no_fault : (steps : List MicroStep) (v k : ℕ) (f : Option VertexFault) (view : View) → false ≡ is_finished steps (execution v k f view) → f ≡ None
-no_fault steps v k None view more = refl
-no_fault steps v k (Some f) view more = absurd (cc)
+pub merged : (v k : ℕ) (view : View) (i : ℤ) → worked_by (clean v k view) (Some (LayInput i)) ≡ Ok (clean v (k + 1) (lay_on i view), HasMerged k)
+unfolding micro_step
+merged v k view i = refl
 
-done_by : (v k : ℕ) (f : Option VertexFault) (view : View) (a : Action) (t : TreeMap)
-    → stepped_to (execution v k f view) (Act a) (by_action k view (Ok t)) ≡ (execution v (k + 1) None (with_tree view t), Acted k)
-done_by v k f (Files inputs results) a t = refl
-
-faulted_by : (v k : ℕ) (f : Option VertexFault) (view : View) (a : Action) (e : TreeFault)
-    → stepped_to (execution v k f view) (Act a) (by_action k view (Err e)) ≡
-    (execution v (k + 1) (Some (fault.Action k (fault_number e))) view, Faulted (fault.Action k (fault_number e)))
-faulted_by v k f (Files inputs results) a e = refl
-
-pub worked_acts : (actions : List Action) (v k : ℕ) (f : Option VertexFault) (view : View) (a : Action) (t : TreeMap)
-    → false ≡ is_finished (map Act actions) (execution v k f view)
-    → slice_get actions k ≡ Some a → act a.kind (base_in a.input (trees_in view)) ≡ Ok t
-    → worked (map Act actions) (execution v k f view) ≡ Ok (execution v (k + 1) f (with_tree view t), Acted k)
-worked_acts actions v k f view a t more at is =
-    worked_on actions v k f view a (Ok t) more at is ∙ ap (λ p. Ok p) (done_by v k f view a t)
-    ∙ (λ i. Ok (execution v (k + 1) (sym (no_fault (map Act actions) v k f view more) i) (with_tree view t), Acted k))
-
-pub worked_faults : (actions : List Action) (v k : ℕ) (f : Option VertexFault) (view : View) (a : Action) (e : TreeFault)
-    → false ≡ is_finished (map Act actions) (execution v k f view)
-    → slice_get actions k ≡ Some a → act a.kind (base_in a.input (trees_in view)) ≡ Err e
-    → worked (map Act actions) (execution v k f view) ≡ Ok
-    (execution v (k + 1) (Some (fault.Action k (fault_number e))) view, Faulted (fault.Action k (fault_number e)))
-worked_faults actions v k f view a e more at is = worked_on actions v k f view a (Err e) more at is ∙ ap (λ p. Ok p) (faulted_by v k f view a e)
-
-pub not_done : (f : Bool) (n k : ℕ) → (f || nat_le n k) ≡ false → k < n
-not_done true n k e = absurd (cc)
-not_done false n k e = leb-false n k e
-
-pub step_there : (actions : List Action) (x : Execution) → false ≡ is_finished (map Act actions) x → x.done < length actions
-step_there actions x more = omega (arith, not_done (is_some x.fault) (length (map Act actions)) x.done (sym more), length_map Act actions)
+pub read : (v k : ℕ) (view : View) → worked_by (clean v k view) (Some ReadLocal) ≡ Ok (clean v (k + 1) view, HasRead)
+unfolding micro_step
+read v k view = refl

@@ -1,4 +1,3 @@
-pub mod Actions
 pub mod Jobs
 pub mod Events
 pub mod Views

@@ -1,6 +1,5 @@
 -- What a board keeps so that no event to come needs memory for the record, nor a settle memory for its outputs.
 use Rattle.std.specs.Prelude.{◌≡◌, ℕ, ◌+◌, ◌<◌, ◌≤◌, Bool, List, [], map, replicate, length}
-use Rattle.llb_loader.specs.Graph.{Numbered}
 use Rattle.llb_tree.specs.Tree.{TreeMap, empty_tree}
 use Rattle.llb_model.specs.Program.{Build}
 use Rattle.llb_model.specs.State.{At, Idle, Runs, program_in, stopped}
@@ -21,9 +20,9 @@ abbrev pub needed : Build → At → List TreeMap
 needed b Idle = []
 needed b (Runs x) = replicate (program_in b x).outputs empty_tree
 
-abbrev pub seen : Numbered → List Stand → List Desk → List Event → Seen
-seen g stands desks events =
-    record { build = record { graph = g }; opening = record { workers = length desks }; state = state_of stands desks; events = events }
+abbrev pub seen : Build → List Stand → List Desk → List Event → Seen
+seen b stands desks events =
+    record { build = b; opening = record { workers = length desks }; state = state_of stands desks; events = events }
 
 pub record IsKept (b : Seen) (desks : List Desk) (halted : List Bool) (capacity : ℕ) : Type 0 where
   pub replays : Replays b

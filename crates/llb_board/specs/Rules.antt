@@ -1,11 +1,10 @@
 -- What each call answers: what the table gives, or the first cause of its refusal as a fault.
 use Rattle.std.specs.Prelude.{ℕ, ◌==◌, Bool, true, false, List, [], Option, Some, None, Result, Ok, Err, if◌then◌else◌}
 use Rattle.llb_wire.specs.Answer as answer
-use Rattle.llb_loader.specs.Graph.{Numbered}
 use Rattle.llb_loader.specs.declared.graph.Vertex.{Vertex}
 use Rattle.llb_tree.specs.Tree.{TreeMap}
-use Rattle.llb_model.specs.Program.{Build, MicroStep, Work, Left, view_on, step_on}
-use Rattle.llb_model.specs.State.{Status, Settled, At, Idle, Runs, Execution, program_in, is_finished, next_step, ending_from}
+use Rattle.llb_model.specs.Program.{Build, MicroStep, Work, Left, Start, start_with, begin, step_on}
+use Rattle.llb_model.specs.State.{missing_local, Status, Settled, At, Idle, Runs, Execution, program_in, is_finished, next_step, ending_from}
 use Rattle.llb_model.specs.ClaimCause as no_claim
 use Rattle.llb_model.specs.ClaimCause.{ClaimCause}
 use Rattle.llb_model.specs.StepCause as no_step
@@ -26,13 +25,29 @@ use Rattle.llb_board.specs.declared.fault.SettleFault.TheVariants as settle
 -- ---- what opening answers
 
 -- one worker, until more may be asked for
-abbrev pub open_of : Numbered → ℕ → Result Seen OpenFault
-open_of g workers = if workers == 1 then Ok (opened (record { graph = g }) (record { workers = workers })) else Err (opening.Workers g)
+abbrev pub open_with : Build → ℕ → Result Seen OpenFault
+open_with b workers = if workers == 1 then Ok (opened b (record { workers = workers })) else Err (opening.Workers b.graph b.locals)
 
--- the graph that comes back
-abbrev pub graph_in : OpenFault → Numbered
-graph_in (opening.Memory g) = g
-graph_in (opening.Workers g) = g
+-- first of all a local tree that is missing
+abbrev pub open_unless : Option (List ℕ) → Build → ℕ → Result Seen OpenFault
+open_unless (Some name) b workers = Err (opening.MissingLocal name b.graph b.locals)
+open_unless None b workers = open_with b workers
+
+abbrev pub open_of : Build → ℕ → Result Seen OpenFault
+open_of b workers = open_unless (missing_local b.locals b.graph.vertices) b workers
+
+-- where memory may be wanted: where nothing else stands in the way, or for the name of a local tree that is missing
+abbrev pub may_want_memory : Result Seen OpenFault → Bool
+may_want_memory (Ok b) = true
+may_want_memory (Err (opening.MissingLocal name g ts)) = true
+may_want_memory (Err (opening.Workers g ts)) = false
+may_want_memory (Err (opening.Memory g ts)) = false
+
+-- the graph and the local trees that come back
+abbrev pub build_in : OpenFault → Build
+build_in (opening.Memory g ts) = record { graph = g; locals = ts }
+build_in (opening.Workers g ts) = record { graph = g; locals = ts }
+build_in (opening.MissingLocal name g ts) = record { graph = g; locals = ts }
 
 -- ---- what an event answers
 
@@ -69,8 +84,9 @@ settle_of b w = recorded b (Settle w) settle_fault (settle_grant b.build b.state
 -- ---- want of memory, which no rule gives
 
 abbrev pub open_memory : OpenFault → Bool
-open_memory (opening.Memory g) = true
-open_memory (opening.Workers g) = false
+open_memory (opening.Memory g ts) = true
+open_memory (opening.Workers g ts) = false
+open_memory (opening.MissingLocal name g ts) = false
 
 abbrev pub claim_memory : ClaimFault → Bool
 claim_memory claim.Memory = true
@@ -108,16 +124,16 @@ or_not_ready (Some x) = Ok x
 or_not_ready None = Err claim.NotReady
 
 -- a work that holds no trees of instances
-abbrev pub work_on : List TreeMap → Work
-work_on trees = record { own = view_on trees; trees = [] }
+abbrev pub work_on : Build → Vertex → List TreeMap → Work
+work_on b vertex trees = begin b (start_with vertex trees) []
 
 -- what a claim begins on the trees of the inputs, and its reply
-abbrev pub begun_on : ℕ → ℕ → Vertex → List TreeMap → Execution × Reply
-begun_on w v vertex trees = (execution_on v (work_on trees), Claimed (job_on w v vertex (work_on trees)))
+abbrev pub begun_on : Build → ℕ → ℕ → Vertex → List TreeMap → Execution × Reply
+begun_on b w v vertex trees = (execution_on v (work_on b vertex trees), Claimed (job_on w v vertex (work_on b vertex trees)))
 
-abbrev pub begun : ℕ → ℕ → Vertex → Option (List TreeMap) → Result (Execution × Reply) ClaimFault
-begun w v vertex (Some trees) = Ok (begun_on w v vertex trees)
-begun w v vertex None = Err claim.NotReady
+abbrev pub begun : Build → ℕ → ℕ → Vertex → Option (List TreeMap) → Result (Execution × Reply) ClaimFault
+begun b w v vertex (Some trees) = Ok (begun_on b w v vertex trees)
+begun b w v vertex None = Err claim.NotReady
 
 abbrev pub stepped_to : Execution → MicroStep → Left → Execution × Reply
 stepped_to x m left = (with_step x left, step_reply x.done m left.fault)

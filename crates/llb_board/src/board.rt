@@ -1,37 +1,39 @@
 //! The board: what stands at each vertex, what each worker runs, and the record of events since it was opened. Its type
 //! keeps that the record is a run of the table to where the board is, and that it has room for every event to come.
 
-ghost use Rattle.std.specs.Prelude.{◌≡◌, ◌<◌, ◌≤◌, length, map, option_map, OnErr, IfErr};
+ghost use Rattle.std.specs.Prelude.{◌≡◌, ◌<◌, ◌≤◌, length, map, true, option_map, OnErr, IfErr, IfOk};
 ghost use Rattle.llb_model.specs.Outcome.{output_in};
-ghost use Rattle.llb_model.specs.State.{ending_at};
+ghost use Rattle.llb_model.specs.State.{ending_at, missing_local};
 ghost use Rattle.llb_model.specs.Room.{most_events};
 ghost use Rattle.llb_model.specs.Run.{chosen, is_complete};
 ghost use Rattle.llb_loader.specs.Graph.{IsGraph};
 ghost use Rattle.llb_board.specs.Board.{Seen, Replays};
 ghost use Rattle.llb_wire.specs.Answer.{MemoryLast};
-ghost use Rattle.llb_board.specs.Rules.{open_memory, claim_memory, step_memory, GivesOpen, open_of, graph_in};
+ghost use Rattle.llb_board.specs.Rules.{open_memory, claim_memory, step_memory, GivesOpen, open_of, open_with, build_in, may_want_memory};
 ghost use Rattle.llb_board.specs.Rules.{GivesClaim, claim_of, GivesStep, step_of, GivesSettle, settle_of};
 ghost use Rattle.llb_board.specs.Views.{event_of, claim_reply, step_reply, settle_reply, status_of, look, look_at, worker_look};
 
+use crate::build::Build;
 use crate::choice::{all_settled, next_claim, next_event};
 use crate::event::{At, Event, Settled, Status, Stepped};
 use crate::events::Events;
 use crate::fault::{ClaimFault, OpenFault, SettleFault, StepFault};
 use crate::fresh::opening;
 use crate::job::Job;
-use crate::ready::{actions_at, is_marked, is_ready, mark_stopped, output_at, stand_at};
+use crate::ready::{is_marked, is_ready, mark_stopped, output_at, stand_at};
 use crate::stand::{Desk, Stand};
 use crate::step::{Begun, begin, claimable, desk_at, is_finished, leave, step_at};
-use llb_loader::Graph;
+use llb_loader::{Graph, Locals};
 use llb_tree::Tree;
+use llb_wire::{Memory, Text};
 use std::alloc::Global;
 use std::marker::Model;
 
-/// A graph that is worked on, and the record of what was done.
+/// A graph that is worked on with its local trees, and the record of what was done.
 #[derive(Drop)]
 pub struct Board {
     alloc: Global,
-    graph: Graph,
+    build: Build,
     stands: Vec<Stand>,
     desks: Vec<Desk>,
     halted: Vec<bool>,
@@ -48,32 +50,62 @@ impl Model for Board {
 
     ghost coded = { Prim.hlevel (codes, coded_tree) };
 
-    ghost view = { λ b. seen b.graph b.stands.items b.desks.items b.events.list };
+    ghost view = { λ b. seen b.build b.stands.items b.desks.items b.events.list };
 
-    ghost invariant = { λ b. IsKept (seen b.graph b.stands.items b.desks.items b.events.list) b.desks.items b.halted.items b.events.room };
+    ghost invariant = { λ b. IsKept (seen b.build b.stands.items b.desks.items b.events.list) b.desks.items b.halted.items b.events.room };
 }
 
 impl Board {
-    /// A board on which nothing has happened. The number of workers is 1 (122); 123 is want of memory. The graph comes
-    /// back in the fault.
-    pub fn open(alloc: Global, graph: Graph, workers: u32) -> Result<Board, OpenFault>
-        ensures gives { GivesOpen (λ b. b) result (open_of graph workers) }
-        ensures last { MemoryLast open_memory result (open_of graph workers) }
-        ensures back { IfErr result (λ e. graph_in e ≡ graph) }
+    /// A board on which nothing has happened. In this order: 121 with the name of the least vertex's local source that
+    /// no tree is given for, 122 where the number of workers is not 1; 123 is want of memory. The graph and the local trees
+    /// come back in the fault.
+    pub fn open(
+        alloc: Global,
+        graph: Graph,
+        locals: Locals,
+        workers: u32,
+    ) -> Result<Board, OpenFault>
+        ensures gives { GivesOpen (λ b. b) result (open_of (record { graph = graph; locals = locals }) workers) }
+        ensures last { IfErr result (λ e. open_memory e ≡ true → may_want_memory (open_of (record { graph = graph; locals = locals }) workers) ≡ true) }
+        ensures back { IfErr result (λ e. build_in e ≡ record { graph = graph; locals = locals }) }
+    {
+        let build = Build::new(graph, locals);
+        match missing(alloc, &build) {
+            Ok(None) => Board::open_with(alloc, build, workers),
+            Ok(Some(name)) => {
+                let (graph, locals) = build.into_parts();
+                Err(OpenFault::MissingLocal(name, graph, locals))
+            }
+            Err(_) => {
+                let (graph, locals) = build.into_parts();
+                Err(OpenFault::Memory(graph, locals))
+            }
+        }
+    }
+
+    // Where all local trees are there.
+    fn open_with(alloc: Global, build: Build, workers: u32) -> Result<Board, OpenFault>
+        ensures gives { GivesOpen (λ b. b) result (open_with build workers) }
+        ensures last { MemoryLast open_memory result (open_with build workers) }
+        ensures back { IfErr result (λ e. build_in e ≡ build) }
     {
         if workers != 1 {
-            return Err(OpenFault::Workers(graph));
+            let (graph, locals) = build.into_parts();
+            return Err(OpenFault::Workers(graph, locals));
         }
-        match opening(alloc, &graph, workers) {
+        match opening(alloc, &build, workers) {
             Ok(fresh) => Ok(Board {
                 alloc,
-                graph,
+                build,
                 stands: fresh.stands,
                 desks: fresh.desks,
                 halted: fresh.halted,
                 events: fresh.events,
             }),
-            Err(_) => Err(OpenFault::Memory(graph)),
+            Err(_) => {
+                let (graph, locals) = build.into_parts();
+                Err(OpenFault::Memory(graph, locals))
+            }
         }
     }
 
@@ -83,8 +115,8 @@ impl Board {
         ensures last { MemoryLast claim_memory result (claim_of self.old w v) }
         ensures err { OnErr result (self.new ≡ self.old) }
     {
-        let vertex = claimable(&self.graph, &self.stands, &self.desks, w, v)?;
-        let Begun { job, execution } = begin(self.alloc, &self.stands, w, v, vertex)?;
+        let vertex = claimable(&self.build, &self.stands, &self.desks, w, v)?;
+        let Begun { job, execution } = begin(self.alloc, &self.build, &self.stands, w, v, vertex)?;
         self.events.push_reserved(Event::Claim(w, v));
         self.stands[v as usize] = Stand::Running(w);
         self.desks[w as usize] = Desk::Runs(execution);
@@ -97,7 +129,7 @@ impl Board {
         ensures last { MemoryLast step_memory result (step_of self.old w) }
         ensures err { OnErr result (self.new ≡ self.old) }
     {
-        let stepped = step_at(self.alloc, &self.graph, &mut self.desks, w)?;
+        let stepped = step_at(self.alloc, &self.build, &mut self.desks, w)?;
         self.events.push_reserved(Event::Step(w));
         Ok(stepped)
     }
@@ -107,12 +139,12 @@ impl Board {
         ensures gives { GivesSettle (λ r. (self.new, settle_reply r)) result (settle_of self.old w) }
         ensures err { OnErr result (self.new ≡ self.old) }
     {
-        let (v, stand) = leave(&self.graph, &mut self.desks, w)?;
+        let (v, stand) = leave(&self.build, &mut self.desks, w)?;
         let failed = stand.has_failed();
         self.stands[v as usize] = stand;
         self.events.push_reserved(Event::Settle(w));
         if failed {
-            mark_stopped(&mut self.halted, &self.stands, self.graph.vertices());
+            mark_stopped(&mut self.halted, &self.stands, self.build.vertices());
             return Ok(Settled::Failed(v));
         }
         Ok(Settled::Done(v))
@@ -123,7 +155,7 @@ impl Board {
         ensures { result ≡ look_at self.now.build self.now.state v }
     {
         let stand = stand_at(&self.stands, v)?;
-        let ready = match self.graph.vertices().get(v as usize) {
+        let ready = match self.build.vertices().get(v as usize) {
             Some(vertex) => is_ready(&self.stands, v, vertex),
             None => false,
         };
@@ -137,7 +169,7 @@ impl Board {
         match desk_at(&self.desks, w)? {
             Desk::Idle => Some(At::Idle),
             Desk::Runs(execution) => {
-                let finished = is_finished(execution, actions_at(&self.graph, execution.vertex));
+                let finished = is_finished(execution, self.build.steps(execution.vertex));
                 Some(At::Runs(execution.vertex, execution.done, finished))
             }
         }
@@ -162,9 +194,9 @@ impl Board {
     pub fn chosen(&self) -> Option<Event>
         ensures { option_map event_of result ≡ chosen self.now.build self.now.state }
     {
-        match next_event(&self.graph, &self.desks) {
+        match next_event(&self.build, &self.desks) {
             Some(event) => Some(event),
-            None => next_claim(&self.graph, &self.stands),
+            None => next_claim(&self.build, &self.stands),
         }
     }
 
@@ -172,21 +204,22 @@ impl Board {
     pub fn is_complete(&self) -> bool
         ensures { result ≡ is_complete self.now.build self.now.state }
     {
-        all_settled(&self.graph, &self.stands, &self.halted)
+        all_settled(&self.build, &self.stands, &self.halted)
     }
 
-    /// The graph comes back.
-    pub fn into_parts(self) -> Graph
-        ensures { result ≡ self.build.graph }
+    /// The graph and the local trees come back.
+    pub fn into_parts(self) -> (Graph, Locals)
+        ensures graph { result.0 ≡ self.build.graph }
+        ensures locals { result.1 ≡ self.build.locals }
     {
-        self.graph
+        self.build.into_parts()
     }
 
     /// What is true of every graph is true of the board's.
     pub fn is_graph(&self)
         ensures { IsGraph self.now.build.graph }
     {
-        self.graph.is_graph();
+        let _ = self.build.vertices();
     }
 
     /// There is a worker, and there are at most 64.
@@ -202,6 +235,16 @@ impl Board {
         ensures { Replays self.now }
     {
         let _ = &self.events;
+    }
+}
+
+// A copy of the first name that no local tree is given for.
+fn missing(alloc: Global, build: &Build) -> Result<Option<Text>, Memory>
+    ensures { IfOk result (λ o. o ≡ missing_local build.now.locals build.now.graph.vertices) }
+{
+    match build.missing() {
+        Some(name) => Ok(Some(Text::from_str(alloc, name)?)),
+        None => Ok(None),
     }
 }
 

@@ -6,22 +6,22 @@ ghost use Rattle.llb_model.specs.State.{stopped, is_waiting};
 ghost use Rattle.llb_model.specs.Run.{next_of, next_claim, is_settled, is_complete};
 ghost use Rattle.llb_board.specs.Views.{at_of, event_of, state_of, status_of};
 
+use crate::build::Build;
 use crate::event::Event;
-use crate::ready::{actions_at, is_marked, is_ready, stand_at};
+use crate::ready::{is_marked, is_ready, stand_at};
 use crate::stand::{Desk, Stand};
 use crate::step::is_finished;
-use llb_loader::Graph;
 
 /// The next event of the lowest running worker.
-pub(crate) fn next_event(graph: &Graph, desks: &[Desk]) -> Option<Event>
+pub(crate) fn next_event(build: &Build, desks: &[Desk]) -> Option<Event>
     requires { length desks.now ≤ 64 }
-    ensures { option_map event_of result ≡ next_of (record { graph = graph.now }) 0 (map at_of desks.now) }
+    ensures { option_map event_of result ≡ next_of build.now 0 (map at_of desks.now) }
 {
     for w in 0..desks.len() {
         match &desks[w] {
             Desk::Idle => {}
             Desk::Runs(execution) => {
-                if is_finished(execution, actions_at(graph, execution.vertex)) {
+                if is_finished(execution, build.steps(execution.vertex)) {
                     return Some(Event::Settle(w as u32));
                 }
                 return Some(Event::Step(w as u32));
@@ -32,10 +32,10 @@ pub(crate) fn next_event(graph: &Graph, desks: &[Desk]) -> Option<Event>
 }
 
 /// The claim of the least Ready vertex, by worker 0.
-pub(crate) fn next_claim(graph: &Graph, stands: &[Stand]) -> Option<Event>
-    ensures { option_map event_of result ≡ next_claim (record { graph = graph.now }) (state_of stands.now []) }
+pub(crate) fn next_claim(build: &Build, stands: &[Stand]) -> Option<Event>
+    ensures { option_map event_of result ≡ next_claim build.now (state_of stands.now []) }
 {
-    let vertices = graph.vertices();
+    let vertices = build.vertices();
     for v in 0..vertices.len() as u32 {
         if is_ready(stands, v, &vertices[v as usize]) {
             return Some(Event::Claim(0, v));
@@ -45,11 +45,11 @@ pub(crate) fn next_claim(graph: &Graph, stands: &[Stand]) -> Option<Event>
 }
 
 /// Whether every vertex is done, failed or blocked.
-pub(crate) fn all_settled(graph: &Graph, stands: &[Stand], halted: &[bool]) -> bool
-    requires { halted.now ≡ stopped (record { graph = graph.now }) (map status_of stands.now) }
-    ensures { result ≡ is_complete (record { graph = graph.now }) (state_of stands.now []) }
+pub(crate) fn all_settled(build: &Build, stands: &[Stand], halted: &[bool]) -> bool
+    requires { halted.now ≡ stopped build.now (map status_of stands.now) }
+    ensures { result ≡ is_complete build.now (state_of stands.now []) }
 {
-    for v in 0..graph.vertices().len() as u32 {
+    for v in 0..build.vertices().len() as u32 {
         if !is_over(stands, halted, v) {
             return false;
         }

@@ -16,8 +16,12 @@ pub enum Event {
 /// What a micro-step answers.
 #[derive(Clone, Copy, Debug, PartialEq, Eq)]
 pub enum Stepped {
+    /// The local tree is read.
+    Read,
     /// The action of that number is done.
     Acted(u32),
+    /// The input of that number among the merge's is laid over those before it.
+    Merged(u32),
     /// The micro-step faulted.
     Fault(VertexFault),
 }

@@ -1,8 +1,9 @@
 //! Why a call on a board is refused. A fault prints its number. What comes back from a refused call is in its fault.
 
-use llb_loader::Graph;
+use llb_loader::{Graph, Locals};
 use llb_ops::OpFault;
 use llb_tree::TreeFault;
+use llb_wire::Text;
 use std::alloc::{AllocError, AllocFailed};
 use std::fmt;
 use thiserror::Error;
@@ -12,15 +13,18 @@ use thiserror::Error;
 #[error("141")]
 pub struct Memory;
 
-/// Why a graph is not opened. The graph comes back.
+/// Why a graph is not opened. The graph and the local trees come back.
 #[derive(Drop, Error)]
 pub enum OpenFault {
+    /// 121: no tree is given for a local source, the least vertex's of those; its name.
+    #[error("121 {0}")]
+    MissingLocal(Text, Graph, Locals),
     /// 122: the number of workers is not 1.
     #[error("122")]
-    Workers(Graph),
+    Workers(Graph, Locals),
     /// 123: memory was refused.
     #[error("123")]
-    Memory(Graph),
+    Memory(Graph, Locals),
 }
 
 impl fmt::Debug for OpenFault {
@@ -135,6 +139,41 @@ impl From<OpFault> for ClaimFault {
 
     fn from(_: OpFault) -> ClaimFault {
         ClaimFault::Memory
+    }
+}
+
+impl<T: Drop> From<AllocFailed<T>> for StepFault {
+    ghost use Rattle.std.specs.Prelude.{◌≡◌};
+    ghost use Rattle.llb_board.specs.declared.fault.StepFault.TheVariants.{Memory};
+
+    ghost from_gives = { λ _ e. e ≡ Memory };
+
+    fn from(_: AllocFailed<T>) -> StepFault {
+        StepFault::Memory
+    }
+}
+
+/// Of a call on a tree that can only lack memory.
+impl From<TreeFault> for StepFault {
+    ghost use Rattle.std.specs.Prelude.{◌≡◌};
+    ghost use Rattle.llb_board.specs.declared.fault.StepFault.TheVariants.{Memory};
+
+    ghost from_gives = { λ _ e. e ≡ Memory };
+
+    fn from(_: TreeFault) -> StepFault {
+        StepFault::Memory
+    }
+}
+
+/// Of a laying, which can only lack memory.
+impl From<llb_merge::Memory> for StepFault {
+    ghost use Rattle.std.specs.Prelude.{◌≡◌};
+    ghost use Rattle.llb_board.specs.declared.fault.StepFault.TheVariants.{Memory};
+
+    ghost from_gives = { λ _ e. e ≡ Memory };
+
+    fn from(_: llb_merge::Memory) -> StepFault {
+        StepFault::Memory
     }
 }
 

@@ -5,10 +5,9 @@ ghost use Rattle.llb_model.specs.Room.{most_events};
 ghost use Rattle.llb_board.specs.declared.stand.Desk.TheVariants as desk;
 ghost use Rattle.llb_board.specs.declared.stand.Stand.TheVariants as stand;
 
+use crate::build::Build;
 use crate::events::Events;
-use crate::ready::actions_at;
 use crate::stand::{Desk, Stand};
-use llb_loader::Graph;
 use std::alloc::{AllocError, Global};
 
 /// The parts of a board on which nothing has happened.
@@ -21,19 +20,19 @@ pub(crate) struct Fresh {
 }
 
 /// For a graph and so many workers.
-pub(crate) fn opening(alloc: Global, graph: &Graph, workers: u32) -> Result<Fresh, AllocError>
-    ensures stands { IfOk result (λ f. f.stands.items ≡ replicate (length graph.now.vertices) stand.Waiting) }
+pub(crate) fn opening(alloc: Global, build: &Build, workers: u32) -> Result<Fresh, AllocError>
+    ensures stands { IfOk result (λ f. f.stands.items ≡ replicate (length build.now.graph.vertices) stand.Waiting) }
     ensures desks { IfOk result (λ f. f.desks.items ≡ replicate workers desk.Idle) }
-    ensures halted { IfOk result (λ f. f.halted.items ≡ replicate (length graph.now.vertices) false) }
+    ensures halted { IfOk result (λ f. f.halted.items ≡ replicate (length build.now.graph.vertices) false) }
     ensures events { IfOk result (λ f. f.events.list ≡ []) }
-    ensures room { IfOk result (λ f. most_events (record { graph = graph.now }) ≤ f.events.room) }
+    ensures room { IfOk result (λ f. most_events build.now ≤ f.events.room) }
 {
-    let count = graph.vertices().len();
+    let count = build.vertices().len();
     Ok(Fresh {
         stands: waiting(alloc, count)?,
         desks: idle(alloc, workers)?,
         halted: Vec::from_elem(alloc, false, count)?,
-        events: Events::with_room(alloc, room(graph))?,
+        events: Events::with_room(alloc, room(build))?,
     })
 }
 
@@ -58,13 +57,13 @@ fn idle(alloc: Global, count: u32) -> Result<Vec<Desk>, AllocError>
 }
 
 // How many events may come in all.
-fn room(graph: &Graph) -> usize
-    ensures { result ≡ most_events (record { graph = graph.now }) }
+fn room(build: &Build) -> usize
+    ensures { result ≡ most_events build.now }
 {
     let mut all: usize = 0;
-    let count = graph.vertices().len() as u32;
+    let count = build.vertices().len() as u32;
     for v in 0..count {
-        all += actions_at(graph, v).len() + 2;
+        all += build.steps(v) as usize + 2;
     }
     all
 }

@@ -2,15 +2,17 @@
 //! and the record of them. Stands on the graph and on trees; it starts no thread and takes no lock.
 #![tactic(auto)]
 
-mod action;
 mod board;
+mod build;
 mod choice;
+mod ending;
 mod event;
 mod events;
 mod fault;
 mod fresh;
 mod job;
 pub mod laws;
+mod micro_step;
 mod ready;
 mod stand;
 mod step;

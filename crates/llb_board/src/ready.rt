@@ -1,11 +1,9 @@
 //! Looks on what stands at the vertices: which inputs are there, which vertices are ready, and which are behind one that
 //! has failed.
 
-ghost use Rattle.std.specs.Prelude.{◌≡◌, ◌<◌, ◌^◌, [], map, length, option_map, is_some, slice_get, Some, None, false, unwrap_or};
+ghost use Rattle.std.specs.Prelude.{◌≡◌, [], map, length, option_map, is_some, slice_get, Some, None, false, unwrap_or};
 ghost use Rattle.std.specs.List.{list_any};
-ghost use Rattle.llb_loader.specs.Rules.{actions_of};
 ghost use Rattle.llb_model.specs.ByNumber.{by_number};
-ghost use Rattle.llb_model.specs.Program.{Act, program_at};
 ghost use Rattle.llb_model.specs.Outcome.{inputs_from, output_in};
 ghost use Rattle.llb_model.specs.State.{ending_at, is_failed, next_stopped, start_from};
 ghost use Rattle.llb_board.specs.Views.{status_of};
@@ -14,8 +12,7 @@ ghost use Rattle.llb_loader.specs.declared.graph.Edge as edge;
 
 use crate::fault::ClaimFault;
 use crate::stand::Stand;
-use llb_loader::{Edge, Graph, Vertex};
-use llb_ops::{Action, Kind};
+use llb_loader::{Edge, Vertex};
 use llb_tree::Tree;
 use llb_wire::Many;
 use std::alloc::Global;
@@ -76,28 +73,6 @@ pub(crate) fn gathered(
         }
     }
     Ok(trees)
-}
-
-/// The actions of a vertex, as many as its steps.
-pub(crate) fn actions_at(graph: &Graph, v: u32) -> &[Action]
-    ensures steps { map Act result.now ≡ (program_at (slice_get graph.now.vertices v)).steps }
-    ensures few { length result.now < 2 ^ 32 }
-{
-    match graph.vertices().get(v as usize) {
-        Some(vertex) => actions_of(vertex),
-        None => &[],
-    }
-}
-
-fn actions_of(vertex: &Vertex) -> &[Action]
-    ensures all { result.now ≡ actions_of vertex.now.op }
-    ensures few { vertex.now.steps < 2 ^ 32 }
-{
-    let _steps = vertex.steps;
-    match &vertex.op.kind {
-        Some(Kind::File(file)) => file.actions.as_slice(),
-        _ => &[],
-    }
 }
 
 /// Marks each vertex that has failed, or is behind one that has.

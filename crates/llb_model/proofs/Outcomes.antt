@@ -11,7 +11,7 @@ use Rattle.llb_loader.specs.declared.graph.Edge.{Edge}
 use Rattle.llb_loader.specs.declared.graph.Vertex.{Vertex}
 use Rattle.llb_tree.specs.Tree.{TreeMap}
 use Rattle.llb_model.specs.declared.fault.VertexFault.{VertexFault}
-use Rattle.llb_model.specs.Program.{Build, Program, View, Files, program_of, start_with, begin, whole, result_for, outputs_of}
+use Rattle.llb_model.specs.Program.{Build, Program, View, program_of, start_with, begin, whole, outputs_of, output_from}
 use Rattle.llb_model.specs.Outcome.{Ending, Done, Failed, Ended, ended, ending, output_in, both, all_there, inputs_from, outcome_on, ending_in, next_outcome, outcomes, outcome, has_cache, next_plain, is_plain}
 use Rattle.llb_model.specs.ByNumber.{by_number}
 use Rattle.llb_model.specs.State.{is_done}
@@ -179,7 +179,7 @@ module _ (b : Build) (graph : IsGraph b.graph) where
 
 outputs_count : (p : Program) (view : View) → length (outputs_of p view) ≡ p.outputs
 unfolding outputs_of
-outputs_count p (Files inputs results) = length-map-range_with_len (λ i. result_for i p.steps results) 0 p.outputs
+outputs_count p view = length-map-range_with_len (output_from p.steps view) 0 p.outputs
 
 pub ended_count : (p : Program) (view : View) (fault : Option VertexFault) (trees : List TreeMap) → ended p view fault ≡ Done trees → length trees ≡ p.outputs
 ended_count p view None trees e = let same : outputs_of p view ≡ trees = cc in ap length (sym same) ∙ outputs_count p view

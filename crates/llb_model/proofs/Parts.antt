@@ -3,7 +3,7 @@ use Rattle.std.proofs.Common.{◌≡◌, ℕ, zero, suc, ◌+◌, ◌-◌, ◌<�
 use Rattle.std.specs.Prelude.{slice_get, nat_le, Result, Ok, Err}
 use Rattle.std.proofs.lemmas.Bool.{leb-true, leb-false, le-leb, cases_lt}
 use Rattle.llb_model.specs.declared.fault.VertexFault.{VertexFault}
-use Rattle.llb_model.specs.Program.{MicroStep, Act, View, Work, Left, micro_step, with_own, tried, act_on, step_on, unless_faulted, go_on, part, whole}
+use Rattle.llb_model.specs.Program.{MicroStep, ReadLocal, Act, LayInput, View, Work, Left, micro_step, with_own, tried, act_on, step_on, unless_faulted, go_on, part, whole}
 use Rattle.llb_model.specs.State.{Execution, is_finished, next_step}
 use Rattle.llb_model.proofs.Lists.{some_of, get_past, get_within}
 
@@ -99,4 +99,6 @@ own_keeps work (Err f) = refl
 pub step_keeps : (k : ℕ) (m : Option MicroStep) (work : Work) → length (step_on k m work).work.trees ≡ length work.trees
 unfolding micro_step
 step_keeps k None work = refl
+step_keeps k (Some ReadLocal) work = refl
 step_keeps k (Some (Act action)) work = own_keeps work (act_on k action work.own)
+step_keeps k (Some (LayInput i)) work = refl

@@ -1,4 +1,3 @@
-pub mod Action
 pub mod ByNumber
 pub mod Program
 pub mod Outcome

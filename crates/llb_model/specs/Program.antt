@@ -2,32 +2,44 @@
 use Rattle.std.specs.Prelude.{ℕ, zero, suc, ◌==◌, ℤ, pos, negsuc, Bool, false, List, [], ◌∷◌, ◌++◌, length, map, Option, Some, None, unwrap_or, slice_get, Result, Ok, Err, if◌then◌else◌}
 use Rattle.std.specs.List.{range_with_len}
 use Rattle.llb_ops.specs.declared.file.Action.{Action}
+use Rattle.llb_ops.specs.declared.op.Kind.{Kind}
+use Rattle.llb_ops.specs.declared.op.Kind.TheVariants as kind
+use Rattle.llb_ops.specs.declared.merge.MergeInput.{MergeInput}
 use Rattle.llb_loader.specs.Graph.{Numbered}
-use Rattle.llb_loader.specs.Rules.{actions_of}
+use Rattle.llb_loader.specs.Locals.{Local, local_name, tree_of_local}
 use Rattle.llb_loader.specs.declared.graph.Vertex.{Vertex}
 use Rattle.llb_tree.specs.Tree.{TreeMap, empty_tree}
 use Rattle.llb_tree.specs.declared.fault.TreeFault.{TreeFault}
 use Rattle.llb_tree.specs.declared.fault.TreeFault.TheVariants.{NotFound, NotDir, IsDir, Conflict, Root, BadName, Memory}
+use Rattle.llb_fileop.specs.declared.fault.ActFault.{ActFault}
+use Rattle.llb_fileop.specs.declared.fault.ActFault.TheVariants as act_fault
+use Rattle.llb_fileop.specs.Act.{act}
+use Rattle.llb_merge.specs.Laying.{lay}
 use Rattle.llb_model.specs.declared.fault.VertexFault.{VertexFault}
 use Rattle.llb_model.specs.declared.fault.VertexFault.TheVariants as fault
-use Rattle.llb_model.specs.Action.{act}
 
--- what a run is over
+-- what a run is over: the graph, and the trees of local sources by name
 pub record Build : Type 0 where
   pub graph : Numbered
+  pub locals : List Local
 
--- one micro-step: an action of a file op
+-- one micro-step: the read of a source, an action of a file op, the laying of a merge's input over those before it
 pub data MicroStep : Type 0 where
+  ReadLocal : MicroStep
   Act : Action → MicroStep
+  LayInput : ℤ → MicroStep
 
 -- the micro-steps of a vertex, and how many outputs it has
 pub record Program : Type 0 where
   pub steps : List MicroStep
   pub outputs : ℕ
 
--- what a program has for itself: of a file op the trees of its inputs, and the results so far
+-- what a program has for itself: of a source its local tree, of a file op the trees of its inputs and the results so far, of
+-- a merge the trees of its inputs and what is laid so far
 pub data View : Type 0 where
+  LocalTree : TreeMap → View
   Files : List TreeMap → List TreeMap → View
+  Layers : List TreeMap → TreeMap → View
 
 -- what micro-steps work on: a view of its own, and the trees of the cache instances that it holds, of which there are none yet
 pub record Work : Type 0 where
@@ -47,43 +59,90 @@ pub record Start : Type 0 where
 abbrev pub start_with : Vertex → List TreeMap → Start
 start_with v trees = record { vertex = v; inputs = trees }
 
+abbrev pub steps_of : Option Kind → List MicroStep
+steps_of (Some (kind.Source s)) = ReadLocal ∷ []
+steps_of (Some (kind.File f)) = map Act f.actions
+steps_of (Some (kind.Merge m)) = map (λ (i : MergeInput). LayInput i.input) m.inputs
+steps_of (Some (kind.Exec x)) = []
+steps_of (Some (kind.Build b)) = []
+steps_of (Some (kind.Diff d)) = []
+steps_of None = []
+
 abbrev pub program_of : Vertex → Program
-program_of v = record { steps = map Act (actions_of v.op); outputs = v.outputs }
+program_of v = record { steps = steps_of v.op.kind; outputs = v.outputs }
 
 -- of a number that no vertex has: nothing to do
 abbrev pub program_at : Option Vertex → Program
 program_at (Some v) = program_of v
 program_at None = record { steps = []; outputs = 0 }
 
+-- the local tree of a source; a run begins only where it is there
+abbrev pub local_tree : List Local → Vertex → TreeMap
+local_tree locals v = unwrap_or (tree_of_local locals (unwrap_or (local_name v.op) [])) empty_tree
+
 -- a view before the first micro-step
-abbrev pub view_on : List TreeMap → View
-view_on inputs = Files inputs []
+abbrev pub view_on : List Local → Vertex → Option Kind → List TreeMap → View
+view_on locals v (Some (kind.Source s)) inputs = LocalTree (local_tree locals v)
+view_on locals v (Some (kind.File f)) inputs = Files inputs []
+view_on locals v (Some (kind.Merge m)) inputs = Layers inputs empty_tree
+view_on locals v (Some (kind.Exec x)) inputs = Files inputs []
+view_on locals v (Some (kind.Build b)) inputs = Files inputs []
+view_on locals v (Some (kind.Diff d)) inputs = Files inputs []
+view_on locals v None inputs = Files inputs []
 
 -- a work before the first micro-step, with these trees of instances
 abbrev pub begin : Build → Start → List TreeMap → Work
-begin b start trees = record { own = view_on start.inputs; trees = trees }
+begin b start trees = record { own = view_on b.locals start.vertex start.vertex.op.kind start.inputs; trees = trees }
 
--- the tree that an action begins with: an input of the op, or the result of an earlier action; -1 is the empty tree
+-- a tree by its number among those of an op's inputs and the results of earlier actions; -1 is the empty tree
 abbrev pub base_in : ℤ → List TreeMap → TreeMap
 base_in (pos n) trees = unwrap_or (slice_get trees n) empty_tree
 base_in (negsuc n) trees = empty_tree
 
-abbrev pub fault_number : TreeFault → ℕ
-fault_number NotFound = 21
-fault_number NotDir = 22
-fault_number IsDir = 23
-fault_number Conflict = 24
-fault_number Root = 25
-fault_number BadName = 26
-fault_number Memory = 27
+abbrev pub tree_fault_number : TreeFault → ℕ
+tree_fault_number NotFound = 21
+tree_fault_number NotDir = 22
+tree_fault_number IsDir = 23
+tree_fault_number Conflict = 24
+tree_fault_number Root = 25
+tree_fault_number BadName = 26
+tree_fault_number Memory = 27
 
-abbrev pub with_result : ℕ → List TreeMap → List TreeMap → Result TreeMap TreeFault → Result View VertexFault
-with_result a inputs results (Ok t) = Ok (Files inputs (results ++ t ∷ []))
-with_result a inputs results (Err f) = Err (fault.Action a (fault_number f))
+-- the number that tells why an action has failed
+abbrev pub fault_number : ActFault → ℕ
+fault_number (act_fault.File f) = tree_fault_number f
+fault_number act_fault.BadPattern = 52
+fault_number act_fault.Memory = 53
+
+-- the trees that actions can begin with, by number: those of the inputs, then the results so far
+abbrev pub trees_in : View → List TreeMap
+trees_in (Files inputs results) = inputs ++ results
+trees_in (LocalTree t) = []
+trees_in (Layers inputs t) = inputs
+
+-- one result more of a file op
+abbrev pub with_tree : View → TreeMap → View
+with_tree (Files inputs results) t = Files inputs (results ++ t ∷ [])
+with_tree (LocalTree own) t = LocalTree own
+with_tree (Layers inputs laid) t = Layers inputs laid
+
+abbrev pub with_result : ℕ → View → Result TreeMap ActFault → Result View VertexFault
+with_result a view (Ok t) = Ok (with_tree view t)
+with_result a view (Err f) = Err (fault.Action a (fault_number f))
+
+-- an action on one of the trees so far, with a second of them that a copy is made from
+abbrev pub act_among : Action → List TreeMap → Result TreeMap ActFault
+act_among action trees = act action.kind (base_in action.input trees) (base_in action.secondary_input trees)
 
 -- the view after action a, or its fault
 abbrev pub act_on : ℕ → Action → View → Result View VertexFault
-act_on a action (Files inputs results) = with_result a inputs results (act action.kind (base_in action.input (inputs ++ results)))
+act_on a action view = with_result a view (act_among action (trees_in view))
+
+-- the view after an input is laid over those before it
+abbrev pub lay_on : ℤ → View → View
+lay_on i (Layers inputs t) = Layers inputs (lay t (base_in i inputs))
+lay_on i (LocalTree t) = LocalTree t
+lay_on i (Files inputs results) = Files inputs results
 
 -- another view of its own
 abbrev pub with_own : Work → Result View VertexFault → Result Work VertexFault
@@ -92,7 +151,9 @@ with_own work (Err f) = Err f
 
 -- the work after micro-step k, or its fault
 unfoldable pub micro_step : ℕ → MicroStep → Work → Result Work VertexFault
+micro_step k ReadLocal work = Ok work
 micro_step k (Act action) work = with_own work (act_on k action work.own)
+micro_step k (LayInput i) work = with_own work (Ok (lay_on i work.own))
 
 -- a micro-step that faults changes nothing
 abbrev pub tried : Work → Result Work VertexFault → Left
@@ -128,9 +189,19 @@ is_output i (negsuc n) = false
 -- the result of the action whose output has number i
 abbrev pub result_for : ℕ → List MicroStep → List TreeMap → TreeMap
 result_for i [] results = empty_tree
-result_for i (Act a ∷ steps) [] = empty_tree
+result_for i (m ∷ steps) [] = empty_tree
 result_for i (Act a ∷ steps) (t ∷ results) = if is_output i a.output then t else result_for i steps results
+result_for i (ReadLocal ∷ steps) (t ∷ results) = result_for i steps results
+result_for i (LayInput n ∷ steps) (t ∷ results) = result_for i steps results
+
+-- output i of a view: of a file op the result of an action; of a source what is read, of a merge what is laid, their one output
+abbrev pub output_from : List MicroStep → View → ℕ → TreeMap
+output_from steps (Files inputs results) i = result_for i steps results
+output_from steps (LocalTree t) zero = t
+output_from steps (LocalTree t) (suc i) = empty_tree
+output_from steps (Layers inputs t) zero = t
+output_from steps (Layers inputs t) (suc i) = empty_tree
 
 -- the outputs that are taken from what all micro-steps leave
 unfoldable pub outputs_of : Program → View → List TreeMap
-outputs_of p (Files inputs results) = map (λ i. result_for i p.steps results) (range_with_len 0 p.outputs)
+outputs_of p view = map (output_from p.steps view) (range_with_len 0 p.outputs)

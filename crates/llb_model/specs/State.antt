@@ -1,8 +1,9 @@
 -- The state of the machine, and the tests on it.
-use Rattle.std.specs.Prelude.{ℕ, Bool, true, false, ◌&&◌, ◌||◌, List, [], length, Option, Some, None, is_some, option_map, unwrap_or, slice_get, nat_le, replicate, if◌then◌else◌}
+use Rattle.std.specs.Prelude.{ℕ, Bool, true, false, ◌&&◌, ◌||◌, List, [], ◌∷◌, length, Option, Some, None, is_some, option_map, unwrap_or, slice_get, nat_le, replicate, if◌then◌else◌}
 use Rattle.std.specs.List.{list_any}
 use Rattle.llb_loader.specs.declared.graph.Edge.{Edge}
 use Rattle.llb_loader.specs.declared.graph.Vertex.{Vertex}
+use Rattle.llb_loader.specs.Locals.{Local, local_name, tree_of_local}
 use Rattle.llb_model.specs.declared.fault.VertexFault.{VertexFault}
 use Rattle.llb_model.specs.ByNumber.{by_number}
 use Rattle.llb_model.specs.Program.{Build, MicroStep, Program, View, Work, Start, start_with, program_at}
@@ -33,6 +34,20 @@ pub record State : Type 0 where
 -- what a machine is opened with beside the build
 pub record Opening : Type 0 where
   pub workers : ℕ
+
+-- the name of a source whose local tree is not there
+abbrev pub lacks : List Local → Option (List ℕ) → Option (List ℕ)
+lacks locals None = None
+lacks locals (Some name) = if is_some (tree_of_local locals name) then None else Some name
+
+abbrev pub first_of : {A : Type 0} → Option A → Option A → Option A
+first_of (Some x) later = Some x
+first_of None later = later
+
+-- the first of the names that local trees are missing for, by vertex
+abbrev pub missing_local : List Local → List Vertex → Option (List ℕ)
+missing_local locals [] = None
+missing_local locals (v ∷ vs) = first_of (lacks locals (local_name v.op)) (missing_local locals vs)
 
 -- all vertices wait, and so many workers are idle
 abbrev pub opening : Build → Opening → State

@@ -3,7 +3,7 @@ use Rattle.std.specs.Prelude.{ℕ, ◌+◌, List, [], Option, Some, None, slice_
 use Rattle.std.specs.Result.{result_ok}
 use Rattle.llb_loader.specs.declared.graph.Vertex.{Vertex}
 use Rattle.llb_model.specs.declared.fault.VertexFault.{VertexFault}
-use Rattle.llb_model.specs.Program.{Build, MicroStep, Act, Program, Work, Left, Start, program_of, begin, step_on}
+use Rattle.llb_model.specs.Program.{Build, MicroStep, ReadLocal, Act, LayInput, Program, Work, Left, Start, program_of, begin, step_on}
 use Rattle.llb_model.specs.Outcome.{Ending, Done, Failed}
 use Rattle.llb_model.specs.State.{Status, Running, Settled, Execution, At, Idle, Runs, State, start_from, program_in, work_of, is_finished, next_step, ending_from}
 use Rattle.llb_model.specs.ClaimCause as claim
@@ -31,7 +31,9 @@ pub record Job : Type 0 where
 
 pub data Reply : Type 0 where
   Claimed : Job → Reply
+  HasRead : Reply
   Acted : ℕ → Reply
+  HasMerged : ℕ → Reply
   Faulted : VertexFault → Reply
   SettledDone : ℕ → Reply
   SettledFailed : ℕ → Reply
@@ -77,8 +79,10 @@ with_step x left = record x { done = x.done + 1; fault = left.fault; own = left.
 
 -- by the micro-step that was done
 abbrev pub step_reply : ℕ → MicroStep → Option VertexFault → Reply
+step_reply k m (Some f) = Faulted f
+step_reply k ReadLocal None = HasRead
 step_reply k (Act action) None = Acted k
-step_reply k (Act action) (Some f) = Faulted f
+step_reply k (LayInput i) None = HasMerged k
 
 abbrev pub after_step : State → ℕ → Execution → Left → State
 after_step s w x left = record s { workers = slice_set s.workers w (Runs (with_step x left)) }

@@ -1,6 +1,5 @@
 use Rattle.std.proofs.Common.{◌≡◌, ◌<◌, map, length, sym, ◌∙◌, ap, rules}
 use Rattle.std.specs.Prelude.{true, ◌||◌, ◌&&◌, unwrap_or, slice_get, false}
-use Rattle.llb_model.specs.Program.{Build}
 use Rattle.llb_model.specs.State.{is_waiting}
 use Rattle.llb_model.specs.Run.{is_settled}
 use Rattle.llb_board.specs.Views.{status_of}
@@ -9,8 +8,8 @@ use Rattle.llb_board.proofs.choice.all_settled.Goals as goal
 
 pub loop-v-preserved : goal.loop-v-preserved
 loop-v-preserved c =
-    let g = c.args.graph.now in
-    let b : Build = record { graph = g } in
+    let b = c.args.build.now in
+    let g = b.graph in
     let S = map status_of c.args.stands.now in
     let low : c.loop-v.v < length g.vertices = rw c.vertices.ensures.all at c.loop-v-test.true in
     let over_is : c.is_over.result ≡ true = search rules in

@@ -6,5 +6,5 @@ use Rattle.llb_board.proofs.choice.all_settled.Given as goal
 
 abbrev pub invariant-loop-v : goal.invariant-loop-v
 invariant-loop-v l =
-    each (is_over (record { graph = l.graph }) (map status_of l.stands)) l.v (length l.graph.vertices - l.v) ≡ each
-    (is_over (record { graph = l.graph }) (map status_of l.stands)) 0 (length l.graph.vertices)
+    each (is_over l.build (map status_of l.stands)) l.v (length l.build.graph.vertices - l.v) ≡ each
+    (is_over l.build (map status_of l.stands)) 0 (length l.build.graph.vertices)

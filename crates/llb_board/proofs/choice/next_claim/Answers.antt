@@ -1,7 +1,6 @@
 use Rattle.std.proofs.Common.{◌≡◌, ◌<◌, map, length, sym, ◌∙◌, ap, refl}
 use Rattle.std.specs.Prelude.{true, false, slice_get, Some, is_some, option_map}
 use Rattle.std.proofs.lemmas.Option.{slice_get_read}
-use Rattle.llb_model.specs.Program.{Build}
 use Rattle.llb_model.specs.State.{is_ready, start_from}
 use Rattle.llb_model.specs.Table.{Event, Claim}
 use Rattle.llb_board.specs.Views.{status_of}
@@ -10,8 +9,8 @@ use Rattle.llb_board.proofs.choice.next_claim.Goals as goal
 
 pub loop-v-preserved : goal.loop-v-preserved
 loop-v-preserved c =
-    let g = c.args.graph.now in
-    let b : Build = record { graph = g } in
+    let b = c.args.build.now in
+    let g = b.graph in
     let S = map status_of c.args.stands.now in
     let low : c.loop-v.v < length g.vertices = rw c.vertices-vertices.ensures.all at c.loop-v-test.true in
     let at : slice_get g.vertices c.loop-v.v ≡ Some c.index-vertices-v.result
@@ -24,8 +23,8 @@ loop-v-preserved c =
 
 pub returns-then-is_ready : goal.returns-then-is_ready
 returns-then-is_ready c =
-    let g = c.args.graph.now in
-    let b : Build = record { graph = g } in
+    let b = c.args.build.now in
+    let g = b.graph in
     let S = map status_of c.args.stands.now in
     let low : c.loop-v.v < length g.vertices = rw c.vertices-vertices.ensures.all at c.loop-v-test.true in
     let at : slice_get g.vertices c.loop-v.v ≡ Some c.index-vertices-v.result

@@ -6,5 +6,5 @@ use Rattle.llb_board.proofs.choice.next_claim.Given as goal
 
 abbrev pub invariant-loop-v : goal.invariant-loop-v
 invariant-loop-v l =
-    least (is_ready (record { graph = l.graph }) (map status_of l.stands)) l.v (length l.graph.vertices - l.v) ≡ least
-    (is_ready (record { graph = l.graph }) (map status_of l.stands)) 0 (length l.graph.vertices)
+    least (is_ready l.build (map status_of l.stands)) l.v (length l.build.graph.vertices - l.v) ≡ least
+    (is_ready l.build (map status_of l.stands)) 0 (length l.build.graph.vertices)

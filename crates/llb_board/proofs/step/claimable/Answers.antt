@@ -21,45 +21,38 @@ is_there (Some start) is = refl
 pub returns-in-None-clause-first : goal.returns-in-None-clause-first
 returns-in-None-clause-first c =
     ap (λ (o : Option At). faulted claim_fault
-    (claim_start (map status_of c.args.stands.now) c.args.v o (slice_get c.args.graph.now.vertices c.args.v))) (sym c.in-None.ensures)
+    (claim_start (map status_of c.args.stands.now) c.args.v o (slice_get c.args.build.now.graph.vertices c.args.v))) (sym c.in-None.ensures)
 
 pub returns-in-Some-Runs-clause-first : goal.returns-in-Some-Runs-clause-first
 returns-in-Some-Runs-clause-first c =
-    ap (λ (o : Option At). faulted claim_fault (claim_start (map status_of c.args.stands.now) c.args.v o (slice_get c.args.graph.now.vertices c.args.v)))
+    ap (λ (o : Option At). faulted claim_fault (claim_start (map status_of c.args.stands.now) c.args.v o (slice_get c.args.build.now.graph.vertices c.args.v)))
     (sym c.in-Some-Runs.ensures ∙ ap (λ d. Some (at_of d)) c.in-Some-Runs.field-0-is)
 
 pub returns-in_default-clause-first : goal.returns-in_default-clause-first
 returns-in_default-clause-first c =
     let idle : slice_get (map at_of c.args.desks.now) c.args.w ≡ Some Idle = sym c.in-Some-Idle.ensures ∙ ap (λ d. Some (at_of d)) c.in-Some-Idle.field-0-is in
-    let l = c.in_default.ensures.lookup in
-    let none : slice_get c.args.graph.now.vertices c.args.v ≡ None
-    = ap (λ vs. slice_get vs c.args.v) (sym c.vertices.ensures.all) ∙ slice_get_past c.vertices.result.now c.args.v l.3 in
+    let none : slice_get c.args.build.now.graph.vertices c.args.v ≡ None
+    = sym c.in_default.ensures in
     λ i. faulted claim_fault (claim_start (map status_of c.args.stands.now) c.args.v (idle i) (none i))
 
 pub returns-then-not-is_ready-clause-first : goal.returns-then-not-is_ready-clause-first
 returns-then-not-is_ready-clause-first c =
     let idle : slice_get (map at_of c.args.desks.now) c.args.w ≡ Some Idle = sym c.in-Some-Idle.ensures ∙ ap (λ d. Some (at_of d)) c.in-Some-Idle.field-0-is in
-    let l = c.in-Some.ensures.lookup in
-    let there : slice_get c.args.graph.now.vertices c.args.v ≡ Some c.in-Some.vertex.now
-    = ap (λ vs. slice_get vs c.args.v) (sym c.vertices.ensures.all)
-    ∙ slice_get_read c.vertices.result.now (length c.vertices.result.now) c.args.v c.in-Some.vertex.now refl l.3.0 l.1 in
+    let there : slice_get c.args.build.now.graph.vertices c.args.v ≡ Some c.in-Some.vertex.now
+    = sym c.in-Some.ensures in
     (λ i. faulted claim_fault (claim_start (map status_of c.args.stands.now) c.args.v (idle i) (there i)))
     ∙ not_ready _ (sym c.is_ready.ensures ∙ c.if-not-is_ready.true)
 
 pub returns-clause-there : goal.returns-clause-there
 returns-clause-there c =
-    let l = c.in-Some.ensures.lookup in
-    let there : slice_get c.args.graph.now.vertices c.args.v ≡ Some c.in-Some.vertex.now
-    = ap (λ vs. slice_get vs c.args.v) (sym c.vertices.ensures.all)
-    ∙ slice_get_read c.vertices.result.now (length c.vertices.result.now) c.args.v c.in-Some.vertex.now refl l.3.0 l.1 in
+    let there : slice_get c.args.build.now.graph.vertices c.args.v ≡ Some c.in-Some.vertex.now
+    = sym c.in-Some.ensures in
     there
 
 pub returns-clause-first : goal.returns-clause-first
 returns-clause-first c =
     let idle : slice_get (map at_of c.args.desks.now) c.args.w ≡ Some Idle = sym c.in-Some-Idle.ensures ∙ ap (λ d. Some (at_of d)) c.in-Some-Idle.field-0-is in
-    let l = c.in-Some.ensures.lookup in
-    let there : slice_get c.args.graph.now.vertices c.args.v ≡ Some c.in-Some.vertex.now
-    = ap (λ vs. slice_get vs c.args.v) (sym c.vertices.ensures.all)
-    ∙ slice_get_read c.vertices.result.now (length c.vertices.result.now) c.args.v c.in-Some.vertex.now refl l.3.0 l.1 in
+    let there : slice_get c.args.build.now.graph.vertices c.args.v ≡ Some c.in-Some.vertex.now
+    = sym c.in-Some.ensures in
     (λ i. is_ok (claim_start (map status_of c.args.stands.now) c.args.v (idle i) (there i)))
     ∙ is_there _ (sym c.is_ready.ensures ∙ c.if-not-is_ready.false)

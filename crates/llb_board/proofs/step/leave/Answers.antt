@@ -13,11 +13,11 @@ end-requires c =
     let ds = c.args.desks.now in
     let taken : slice_get ds c.args.w ≡ Some (desk.Runs c.in-Runs-replace.execution)
     = slice_get-get_or ds c.args.w c.index-desks-w-2.result c.if-w-desks.false ∙ ap (λ d. Some d) (sym c.replace.ensures.value ∙ c.in-Runs-replace.is) in
-    all_empty (record { graph = c.args.graph.now }) ds c.args.w c.in-Runs-replace.execution c.requires taken
+    all_empty c.args.build.now ds c.args.w c.in-Runs-replace.execution c.requires taken
 
 pub returns-in-Runs-replace-clause-gives : goal.returns-in-Runs-replace-clause-gives
 returns-in-Runs-replace-clause-gives c =
-    let b : Build = record { graph = c.args.graph.now } in
+    let b = c.args.build.now in
     let ds = c.args.desks.now in
     let x = c.in-Runs.execution in
     let looked : slice_get ds c.args.w ≡ Some (desk.Runs x)

@@ -11,7 +11,7 @@ use Rattle.llb_board.proofs.step.step_at.Goals as goal
 
 pub returns-in_ok-stepped-in-Runs-clause-gives : goal.returns-in_ok-stepped-in-Runs-clause-gives
 returns-in_ok-stepped-in-Runs-clause-gives c =
-    let b : Build = record { graph = c.args.graph.now } in
+    let b = c.args.build.now in
     let ds = c.args.desks.now in
     let at : slice_get ds c.args.w ≡ Some (desk.Runs c.in-Runs.execution)
     = slice_get-get_or ds c.args.w c.index-desks-w.result c.if-w-desks.false ∙ ap (λ d. Some d) c.in-Runs.is in

@@ -22,17 +22,17 @@ push_reserved-requires c =
     let b = c.self.inside in
     let s = state_of b.stands.items b.desks.items in
     let x = c.in_ok-vertex.vertex.now in
-    let can = can_claim (record { graph = b.graph }) s c.args.w c.args.v x
+    let can = can_claim b.build s c.args.w c.args.v x
     (rw (c.deref.ensures.value, c.deref-2.ensures.value) at c.in_ok-vertex.ensures.first) c.in_ok-vertex.ensures.there in
-    let does = claim_does b.graph b.stands.items b.desks.items c.args.w c.args.v x c.in_ok-job.field-0.execution
+    let does = claim_does b.build b.stands.items b.desks.items c.args.w c.args.v x c.in_ok-job.field-0.execution
     (claim_reply c.in_ok-job.field-0.job) can (rw c.deref-3.ensures.value at c.in_ok-job.ensures.gives) in
-    has_room (seen b.graph b.stands.items b.desks.items b.events.list) b.desks.items b.halted.items b.events.room (Claim c.args.w c.args.v) _
-    c.self.invariant (claim_done (record { graph = b.graph }) s c.args.w c.args.v _ does)
+    has_room (seen b.build b.stands.items b.desks.items b.events.list) b.desks.items b.halted.items b.events.room (Claim c.args.w c.args.v) _
+    c.self.invariant (claim_done b.build s c.args.w c.args.v _ does)
 
 pub index_mut-requires : goal.index_mut-requires
 index_mut-requires c =
     let b = c.self.inside in
-    let can = can_claim (record { graph = b.graph }) (state_of b.stands.items b.desks.items) c.args.w c.args.v c.in_ok-vertex.vertex.now
+    let can = can_claim b.build (state_of b.stands.items b.desks.items) c.args.w c.args.v c.in_ok-vertex.vertex.now
     (rw (c.deref.ensures.value, c.deref-2.ensures.value) at c.in_ok-vertex.ensures.first) c.in_ok-vertex.ensures.there in
     let len : vec_len b.stands ≡ length b.stands.items = search rules in
     omega (arith, slice_get_within (map status_of b.stands.items) c.args.v Waiting can.waits, length_map status_of b.stands.items, len)
@@ -40,7 +40,7 @@ index_mut-requires c =
 pub index_mut-requires-2 : goal.index_mut-requires-2
 index_mut-requires-2 c =
     let b = c.self.inside in
-    let can = can_claim (record { graph = b.graph }) (state_of b.stands.items b.desks.items) c.args.w c.args.v c.in_ok-vertex.vertex.now
+    let can = can_claim b.build (state_of b.stands.items b.desks.items) c.args.w c.args.v c.in_ok-vertex.vertex.now
     (rw (c.deref.ensures.value, c.deref-2.ensures.value) at c.in_ok-vertex.ensures.first) c.in_ok-vertex.ensures.there in
     let len : vec_len b.desks ≡ length b.desks.items = search rules in
     omega (arith, slice_get_within (map at_of b.desks.items) c.args.w Idle can.idle, length_map at_of b.desks.items, len)
@@ -48,7 +48,7 @@ index_mut-requires-2 c =
 pub invariant_of-self : goal.invariant_of-self
 invariant_of-self c =
     let b = c.self.inside in
-    let build : Build = record { graph = b.graph } in
+    let build = b.build in
     let ss = b.stands.items in
     let ds = b.desks.items in
     let x = c.in_ok-vertex.vertex.now in
@@ -57,12 +57,12 @@ invariant_of-self c =
     let begins = rw c.deref-3.ensures.value at c.in_ok-job.ensures.gives in
     let can = can_claim build (state_of ss ds) c.args.w c.args.v x
     (rw (c.deref.ensures.value, c.deref-2.ensures.value) at c.in_ok-vertex.ensures.first) c.in_ok-vertex.ensures.there in
-    let granted = claim_done build (state_of ss ds) c.args.w c.args.v _ (claim_does b.graph ss ds c.args.w c.args.v x own r can begins) in
-    let made = made_for b.graph x c.args.v own.vertex c.in_ok-vertex.ensures.there
+    let granted = claim_done build (state_of ss ds) c.args.w c.args.v _ (claim_does b.build ss ds c.args.w c.args.v x own r can begins) in
+    let made = made_for b.build x c.args.v own.vertex c.in_ok-vertex.ensures.there
     (begins_at build (state_of ss ds) c.args.w c.args.v x (execution_of own, r) can begins) in
     let stays = marks_kept build ss c.args.v (stand.Running c.args.w) Waiting can.waits refl refl in
     rw (c.push_reserved.ensures.list, c.push_reserved.ensures.room)
-    (kept_after b.graph ss (slice_set ss c.args.v (stand.Running c.args.w)) ds (slice_set ds c.args.w (desk.Runs own)) b.events.list b.halted.items
+    (kept_after b.build ss (slice_set ss c.args.v (stand.Running c.args.w)) ds (slice_set ds c.args.w (desk.Runs own)) b.events.list b.halted.items
     b.halted.items b.events.room (Claim c.args.w c.args.v) r c.self.invariant granted
     (length_set ds c.args.w (desk.Runs own))
     (outputs_claimed build ds c.args.w own c.self.invariant.outputs (c.in_ok-job.ensures.outputs ∙ ap (λ n. replicate n empty_tree) made))
@@ -71,7 +71,7 @@ invariant_of-self c =
 pub returns-clause-gives : goal.returns-clause-gives
 returns-clause-gives c =
     let b = c.self.inside in
-    let build : Build = record { graph = b.graph } in
+    let build = b.build in
     let ss = b.stands.items in
     let ds = b.desks.items in
     let x = c.in_ok-vertex.vertex.now in
@@ -79,8 +79,8 @@ returns-clause-gives c =
     let r = claim_reply c.in_ok-job.field-0.job in
     let can = can_claim build (state_of ss ds) c.args.w c.args.v x
     (rw (c.deref.ensures.value, c.deref-2.ensures.value) at c.in_ok-vertex.ensures.first) c.in_ok-vertex.ensures.there in
-    let does = claim_does b.graph ss ds c.args.w c.args.v x own r can (rw c.deref-3.ensures.value at c.in_ok-job.ensures.gives) in
+    let does = claim_does b.build ss ds c.args.w c.args.v x own r can (rw c.deref-3.ensures.value at c.in_ok-job.ensures.gives) in
     ap (λ (s : Seen). claim_of s c.args.w c.args.v) (sym c.self.view_is)
-    ∙ recorded_as b.graph ss (slice_set ss c.args.v (stand.Running c.args.w)) ds (slice_set ds c.args.w (desk.Runs own)) b.events.list
+    ∙ recorded_as b.build ss (slice_set ss c.args.v (stand.Running c.args.w)) ds (slice_set ds c.args.w (desk.Runs own)) b.events.list
     (Claim c.args.w c.args.v) claim_fault _ r does (length_set ds c.args.w (desk.Runs own))
-    ∙ (λ i. Ok (seen b.graph (slice_set ss c.args.v (stand.Running c.args.w)) (slice_set ds c.args.w (desk.Runs own)) (sym c.push_reserved.ensures.list i), r))
+    ∙ (λ i. Ok (seen b.build (slice_set ss c.args.v (stand.Running c.args.w)) (slice_set ds c.args.w (desk.Runs own)) (sym c.push_reserved.ensures.list i), r))

@@ -10,9 +10,9 @@ use Rattle.llb_board.proofs.board.Board.step.Goals as goal
 pub push_reserved-requires : goal.push_reserved-requires
 push_reserved-requires c =
     let b = c.self.inside in
-    let does = step_does b.graph b.stands.items b.desks.items c.step_at.new.desks c.args.w (step_reply c.in_ok-stepped.stepped)
+    let does = step_does b.build b.stands.items b.desks.items c.step_at.new.desks c.args.w (step_reply c.in_ok-stepped.stepped)
     (rw c.deref_mut.ensures.value at c.in_ok-stepped.ensures.gives) in
-    has_room (seen b.graph b.stands.items b.desks.items b.events.list) b.desks.items b.halted.items b.events.room (Step c.args.w) _ c.self.invariant
+    has_room (seen b.build b.stands.items b.desks.items b.events.list) b.desks.items b.halted.items b.events.room (Step c.args.w) _ c.self.invariant
     (step_done _ _ c.args.w _ does)
 
 pub invariant_of-self-2 : goal.invariant_of-self-2
@@ -21,13 +21,13 @@ invariant_of-self-2 c =
     let ds = b.desks.items in
     let new = c.step_at.new.desks in
     let r = step_reply c.in_ok-stepped.stepped in
-    let granted = step_done (record { graph = b.graph }) (state_of b.stands.items ds) c.args.w (state_of b.stands.items new, r)
-    (step_does b.graph b.stands.items ds new c.args.w r (rw c.deref_mut.ensures.value at c.in_ok-stepped.ensures.gives)) in
+    let granted = step_done b.build (state_of b.stands.items ds) c.args.w (state_of b.stands.items new, r)
+    (step_does b.build b.stands.items ds new c.args.w r (rw c.deref_mut.ensures.value at c.in_ok-stepped.ensures.gives)) in
     let outputs = rw c.deref_mut.ensures.value at c.in_ok-stepped.ensures.outputs in
     let same = same_length ds new outputs in
-    let kept = kept_after b.graph b.stands.items b.stands.items ds new b.events.list b.halted.items b.halted.items b.events.room (Step c.args.w) r
+    let kept = kept_after b.build b.stands.items b.stands.items ds new b.events.list b.halted.items b.halted.items b.events.room (Step c.args.w) r
     c.self.invariant granted same
-    (outputs_stepped b.graph b.stands.items ds new c.args.w r c.self.invariant.outputs granted outputs) c.self.invariant.halted_are in
+    (outputs_stepped b.build b.stands.items ds new c.args.w r c.self.invariant.outputs granted outputs) c.self.invariant.halted_are in
     let written : take b.desks.len (new ++ drop (length new) ds) ≡ new = whole_written b.desks.len new ds same (search rules) in
     rw (c.push_reserved.ensures.list, c.push_reserved.ensures.room)
-    (subst (λ (l : List Desk). IsKept (seen b.graph b.stands.items l (b.events.list ++ Step c.args.w ∷ [])) l b.halted.items b.events.room) (sym written) kept)
+    (subst (λ (l : List Desk). IsKept (seen b.build b.stands.items l (b.events.list ++ Step c.args.w ∷ [])) l b.halted.items b.events.room) (sym written) kept)

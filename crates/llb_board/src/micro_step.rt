@@ -1,0 +1,152 @@
+//! One micro-step of an execution, on its own view: the read of a local tree, an action, or the laying of an input.
+
+ghost use Rattle.std.specs.Prelude.{◌≡◌, ◌<◌, ◌^◌, ◌∷◌, [], map, option_map, length, None, OnErr};
+ghost use Rattle.llb_fileop.specs.Faults.{Gives};
+ghost use Rattle.llb_model.specs.Program.{ReadLocal, Act, LayInput, steps_of, trees_in, act_among, tree_fault_number, fault_number};
+ghost use Rattle.llb_wire.specs.Answer.{MemoryLast};
+ghost use Rattle.llb_board.specs.Views.{execution_of, step_reply};
+ghost use Rattle.llb_board.specs.Jobs.{view_of};
+ghost use Rattle.llb_board.specs.Rules.{step_memory, GivesStep, worked};
+ghost use Rattle.llb_ops.specs.declared.merge.MergeInput as merge_input;
+
+use crate::event::Stepped;
+use crate::fault::StepFault;
+use crate::job::View;
+use crate::stand::Execution;
+use llb_fileop::{ActFault, act};
+use llb_model::VertexFault;
+use llb_ops::{Action, Kind, MergeInput};
+use llb_tree::{Tree, TreeFault};
+use std::alloc::Global;
+
+/// The next micro-step of an execution.
+pub(crate) fn step(
+    alloc: Global,
+    execution: &mut Execution,
+    kind: Option<&Kind>,
+) -> Result<Stepped, StepFault>
+    requires { length (steps_of (option_map (λ k. k.now) kind)) < 2 ^ 32 }
+    ensures gives { GivesStep (λ r. (execution_of execution.new, step_reply r)) result
+        (worked (steps_of (option_map (λ k. k.now) kind.entry)) (execution_of execution.old)) }
+    ensures last { MemoryLast step_memory result (worked (steps_of (option_map (λ k. k.now) kind.entry)) (execution_of execution.old)) }
+    ensures outputs { execution.new.outputs ≡ execution.old.outputs }
+    ensures err { OnErr result (execution.new ≡ execution.old) }
+{
+    if execution.fault.is_some() {
+        return Err(StepFault::NothingLeft);
+    }
+    match kind {
+        Some(Kind::Source(_)) => read_step(execution),
+        Some(Kind::File(file)) => act_step(alloc, execution, file.actions.as_slice()),
+        Some(Kind::Merge(merge)) => lay_step(alloc, execution, merge.inputs.as_slice()),
+        _ => Err(StepFault::NothingLeft),
+    }
+}
+
+// The read of a source's local tree, which the view has from the claim on.
+fn read_step(execution: &mut Execution) -> Result<Stepped, StepFault>
+    requires { execution.old.fault ≡ None }
+    ensures gives { GivesStep (λ r. (execution_of execution.new, step_reply r)) result (worked (ReadLocal ∷ []) (execution_of execution.old)) }
+    ensures last { MemoryLast step_memory result (worked (ReadLocal ∷ []) (execution_of execution.old)) }
+    ensures outputs { execution.new.outputs ≡ execution.old.outputs }
+    ensures err { OnErr result (execution.new ≡ execution.old) }
+{
+    if execution.done > 0 {
+        return Err(StepFault::NothingLeft);
+    }
+    execution.done = 1;
+    Ok(Stepped::Read)
+}
+
+// The next of a file op's actions.
+fn act_step(
+    alloc: Global,
+    execution: &mut Execution,
+    actions: &[Action],
+) -> Result<Stepped, StepFault>
+    requires clean { execution.old.fault ≡ None }
+    requires few { length actions.now < 2 ^ 32 }
+    ensures gives { GivesStep (λ r. (execution_of execution.new, step_reply r)) result (worked (map Act actions.now) (execution_of execution.old)) }
+    ensures last { MemoryLast step_memory result (worked (map Act actions.now) (execution_of execution.old)) }
+    ensures outputs { execution.new.outputs ≡ execution.old.outputs }
+    ensures err { OnErr result (execution.new ≡ execution.old) }
+{
+    let done = execution.done;
+    let Some(action) = actions.get(done as usize) else {
+        return Err(StepFault::NothingLeft);
+    };
+    match act_in(alloc, action, &execution.view) {
+        Ok(tree) => {
+            execution.view.push(tree)?;
+            execution.done = done + 1;
+            Ok(Stepped::Acted(done))
+        }
+        Err(ActFault::Memory) => Err(StepFault::Memory),
+        Err(fault) => {
+            let fault = VertexFault::Action(done, number(fault));
+            execution.fault = Some(fault);
+            execution.done = done + 1;
+            Ok(Stepped::Fault(fault))
+        }
+    }
+}
+
+// The result of an action on a view's trees.
+fn act_in(alloc: Global, action: &Action, view: &View) -> Result<Tree, ActFault>
+    ensures { Gives (λ t. t) result (act_among action.now (trees_in (view_of view.now))) }
+{
+    let second = view.tree(action.secondary_input);
+    match view.tree(action.input) {
+        Some(base) => act(alloc, action, base, second),
+        None => act(alloc, action, &Tree::empty(alloc)?, second),
+    }
+}
+
+// The number of an action's fault.
+fn number(fault: ActFault) -> u32
+    ensures { result ≡ fault_number fault }
+{
+    match fault {
+        ActFault::File(fault) => tree_number(fault),
+        ActFault::BadPattern => 52,
+        ActFault::Memory => 53,
+    }
+}
+
+// The number of a tree's fault.
+fn tree_number(fault: TreeFault) -> u32
+    ensures { result ≡ tree_fault_number fault }
+{
+    match fault {
+        TreeFault::NotFound => 21,
+        TreeFault::NotDir => 22,
+        TreeFault::IsDir => 23,
+        TreeFault::Conflict => 24,
+        TreeFault::Root => 25,
+        TreeFault::BadName => 26,
+        TreeFault::Memory => 27,
+    }
+}
+
+// The laying of the next of a merge's inputs over those before it.
+fn lay_step(
+    alloc: Global,
+    execution: &mut Execution,
+    inputs: &[MergeInput],
+) -> Result<Stepped, StepFault>
+    requires clean { execution.old.fault ≡ None }
+    requires few { length inputs.now < 2 ^ 32 }
+    ensures gives { GivesStep (λ r. (execution_of execution.new, step_reply r)) result
+        (worked (map (λ (i : merge_input.MergeInput). LayInput i.input) inputs.now) (execution_of execution.old)) }
+    ensures last { MemoryLast step_memory result (worked (map (λ (i : merge_input.MergeInput). LayInput i.input) inputs.now) (execution_of execution.old)) }
+    ensures outputs { execution.new.outputs ≡ execution.old.outputs }
+    ensures err { OnErr result (execution.new ≡ execution.old) }
+{
+    let done = execution.done;
+    let Some(input) = inputs.get(done as usize) else {
+        return Err(StepFault::NothingLeft);
+    };
+    execution.view.lay(alloc, input.input)?;
+    execution.done = done + 1;
+    Ok(Stepped::Merged(done))
+}
