@@ -3,7 +3,7 @@ use Rattle.std.specs.Prelude.{◌==◌, Bool, true, false, not, ◌||◌, nat_eq
 use Rattle.std.specs.List.{list_any, find, starts_with}
 use Rattle.llb_ops.specs.declared.op.Op.{Op}
 use Rattle.llb_ops.specs.declared.op.Kind.{Kind}
-use Rattle.llb_ops.specs.declared.op.Kind.TheVariants.{Exec, Source, File, Build, Merge, Diff}
+use Rattle.llb_ops.specs.declared.op.Kind.TheVariants.{Exec, Source, Build, Diff}
 use Rattle.llb_ops.specs.declared.file.ActionKind.{ActionKind}
 use Rattle.llb_ops.specs.declared.file.ActionKind.TheVariants.{Copy}
 use Rattle.llb_ops.specs.declared.file.CopyFile.{CopyFile}
