@@ -35,6 +35,11 @@ const MAKES_D: &[u8] =
 // The digest text of that op on the one before.
 const D_ON_A: &str = "sha256:4e29c5a52e728ace467fe0f424ab75841f037219d981e0548d8c26cf79e8c206";
 
+// The input -1 of an action or of a merge, and the second input -1 of an action.
+const READS_NOTHING: &[u8] = b"\x08\xFF\xFF\xFF\xFF\xFF\xFF\xFF\xFF\xFF\x01";
+
+const COPIES_NOTHING: &[u8] = b"\x10\xFF\xFF\xFF\xFF\xFF\xFF\xFF\xFF\xFF\x01";
+
 const DIFF: &[u8] = b"\x3A\x00";
 
 const DIFF_DIGEST: &str = "sha256:7648eb81c4e9fef7b51879c6fcd6fb4b8863eea0cb2a978c508711dc52c80041";
@@ -42,12 +47,45 @@ const DIFF_DIGEST: &str = "sha256:7648eb81c4e9fef7b51879c6fcd6fb4b8863eea0cb2a97
 // A merge of input 0.
 const MERGE: &[u8] = b"\x32\x02\x0A\x00";
 
-// Puts the bytes of a message under field 1, behind their length.
-fn put_message(field: &mut Vec<u8>, bytes: &[u8]) -> Result<(), Memory> {
-    field.push(0x0A)?;
-    write_varint(bytes.len() as u64, field)?;
-    field.extend_from_slice(bytes)?;
+// Puts bytes behind a tag and their length.
+fn put_under(out: &mut Vec<u8>, tag: u8, bytes: &[u8]) -> Result<(), Memory> {
+    out.push(tag)?;
+    write_varint(bytes.len() as u64, out)?;
+    out.extend_from_slice(bytes)?;
     Ok(())
+}
+
+// Puts the bytes of a message under field 1.
+fn put_message(out: &mut Vec<u8>, bytes: &[u8]) -> Result<(), Memory> {
+    put_under(out, 0x0A, bytes)
+}
+
+// The bytes under a tag alone.
+fn message(alloc: Global, tag: u8, bytes: &[u8]) -> Result<Vec<u8>, Memory> {
+    let mut out = Vec::new(alloc);
+    put_under(&mut out, tag, bytes)?;
+    Ok(out)
+}
+
+// A source by its identifier.
+fn source_op(alloc: Global, identifier: &str) -> Result<Vec<u8>, Memory> {
+    let source = message(alloc, 0x0A, identifier.as_bytes())?;
+    message(alloc, 0x1A, &source)
+}
+
+// A file op of one action.
+fn file_op(alloc: Global, action: &[u8]) -> Result<Vec<u8>, Memory> {
+    let file = message(alloc, 0x12, action)?;
+    message(alloc, 0x22, &file)
+}
+
+// An action that copies from the empty tree to the empty tree: the fields of its member.
+fn copy_op(alloc: Global, copy: &[u8]) -> Result<Vec<u8>, Memory> {
+    let mut action = Vec::new(alloc);
+    action.extend_from_slice(READS_NOTHING)?;
+    action.extend_from_slice(COPIES_NOTHING)?;
+    put_under(&mut action, 0x22, copy)?;
+    file_op(alloc, &action)
 }
 
 fn input_of(alloc: Global, digest: &str, index: &[u8]) -> Result<Vec<u8>, Memory> {
@@ -94,6 +132,9 @@ fn push_edge(text: &mut String, edge: Edge) -> Result<(), AllocError> {
 
 fn push_vertex(text: &mut String, vertex: &Vertex) -> Result<(), AllocError> {
     text.push_str(vertex.digest.as_str())?;
+    if let Some(name) = vertex.local_name() {
+        write!(text, " local {name}")?;
+    }
     let (steps, outputs) = (vertex.steps, vertex.outputs);
     write!(text, " {steps} {outputs}")?;
     for edge in vertex.inputs.as_slice() {
@@ -277,13 +318,12 @@ fn said_of(alloc: Global, op: &[u8]) -> Result<String, Memory> {
 
 #[test]
 fn an_op_is_refused_by_its_feature_or_its_rule(rt: HostRuntime) {
-    let ops: [(&[u8], &str); 13] = [
+    let ops: [(&[u8], &str); 12] = [
         (b"\x12\x00", "88 0 NotYet"),
-        (b"\x1A\x00", "88 0 NotYet"),
-        (b"\x32\x00", "88 0 NotYet"),
-        (b"\x22\x04\x12\x02\x22\x00", "88 0 NotYet"),
+        (b"\x1A\x00", "88 0 Source"),
+        (b"\x22\x04\x12\x02\x22\x00", "89 0 ActionInput"),
         // A removal behind an action without a member.
-        (b"\x22\x06\x12\x00\x12\x02\x3A\x00", "88 0 NotYet"),
+        (b"\x22\x06\x12\x00\x12\x02\x3A\x00", "88 0 Action"),
         (DIFF, "88 0 DiffOp"),
         (b"\x2A\x00", "88 0 BuildOp"),
         (b"\x22\x02\x12\x00", "88 0 Action"),
@@ -302,6 +342,100 @@ fn an_op_is_refused_by_its_feature_or_its_rule(rt: HostRuntime) {
     for (op, wanted) in ops {
         assert!(rt; is(said_of(rt.alloc(), op), wanted), "{wanted}: {op:?}");
     }
+}
+
+// What is said of a source with that identifier.
+fn said_of_source(alloc: Global, identifier: &str) -> Result<String, Memory> {
+    let op = source_op(alloc, identifier)?;
+    said_of(alloc, &op)
+}
+
+#[test]
+fn a_source_is_local_and_has_a_name(rt: HostRuntime) {
+    let sources = [
+        ("docker-image://a", "88 0 Source"),
+        ("local:/a", "88 0 Source"),
+        ("local://", "89 0 LocalName"),
+        ("local://a", "A local a 1 1, 0.0"),
+        ("local://a/../b", "A local a/../b 1 1, 0.0"),
+        ("local://local://", "A local local:// 1 1, 0.0"),
+    ];
+    for (identifier, wanted) in sources {
+        assert!(rt; is(said_of_source(rt.alloc(), identifier), wanted), "{identifier}");
+    }
+}
+
+#[test]
+fn a_merge_takes_inputs_or_nothing(rt: HostRuntime) {
+    let b = row("B", &[], MAKES_A);
+    let names_a = row("T", &[("A", b"")], b"");
+    let merges: [(&[u8], &str); 5] = [
+        // No inputs, both the op's input and nothing, and then the input after the last and that below nothing.
+        (b"\x32\x00", "B 1 1,A 0 1 0.0, 1.0"),
+        (MERGE, "B 1 1,A 1 1 0.0, 1.0"),
+        (
+            b"\x32\x0F\x0A\x00\x0A\x0B\x08\xFF\xFF\xFF\xFF\xFF\xFF\xFF\xFF\xFF\x01",
+            "B 1 1,A 2 1 0.0, 1.0",
+        ),
+        (b"\x32\x04\x0A\x02\x08\x01", "89 1 MergeInput"),
+        (
+            b"\x32\x0D\x0A\x0B\x08\xFE\xFF\xFF\xFF\xFF\xFF\xFF\xFF\xFF\x01",
+            "89 1 MergeInput",
+        ),
+    ];
+    for (merge, wanted) in merges {
+        let a_on_b = row("A", &[("B", b"")], merge);
+        assert!(rt; is(linked(rt.alloc(), &[b, a_on_b, names_a]), wanted), "{wanted}: {merge:?}");
+    }
+    assert!(rt; is(said_of(rt.alloc(), MERGE), "89 0 MergeInput"));
+}
+
+// What is said of a copy with those fields.
+fn said_of_copy(alloc: Global, copy: &[u8]) -> Result<String, Memory> {
+    let op = copy_op(alloc, copy)?;
+    said_of(alloc, &op)
+}
+
+#[test]
+fn a_copy_is_taken_without_what_is_refused_of_it(rt: HostRuntime) {
+    let copies: [(&[u8], &str); 9] = [
+        (b"", "A 1 1, 0.0"),
+        (b"\x38\x01", "88 0 Unpack"),
+        (b"\x62\x01a", "88 0 Patterns"),
+        (b"\x6A\x00", "88 0 Patterns"),
+        // The user, and the group.
+        (b"\x1A\x04\x0A\x02\x0A\x00", "88 0 OwnerByName"),
+        (b"\x1A\x04\x12\x02\x0A\x00", "88 0 OwnerByName"),
+        (b"\x70\x01", "88 0 CopyField"),
+        (b"\x70\x01\x62\x01a", "88 0 Patterns"),
+        (b"\x62\x01a\x38\x01", "88 0 Unpack"),
+    ];
+    for (copy, wanted) in copies {
+        assert!(rt; is(said_of_copy(rt.alloc(), copy), wanted), "{wanted}: {copy:?}");
+    }
+}
+
+// What is said of an action that begins with the empty tree, with those fields behind.
+fn said_of_action(alloc: Global, fields: &[u8]) -> Result<String, Memory> {
+    let mut action = Vec::new(alloc);
+    action.extend_from_slice(READS_NOTHING)?;
+    action.extend_from_slice(fields)?;
+    let op = file_op(alloc, &action)?;
+    said_of(alloc, &op)
+}
+
+#[test]
+fn the_second_input_of_a_copy_alone_is_looked_at(rt: HostRuntime) {
+    let alloc = rt.alloc();
+    assert!(rt; is(said_of_action(alloc, b"\x22\x00"), "89 0 ActionInput"));
+    assert!(rt; is(said_of_action(alloc, b"\x3A\x00"), "A 1 1, 0.0"));
+    assert!(rt; is(said_of_action(alloc, b"\x32\x00"), "A 1 1, 0.0"));
+    // A directory that is no output, and a copy from it.
+    let copies_result = said_of(
+        alloc,
+        b"\x22\x1E\x12\x18\x08\xFF\xFF\xFF\xFF\xFF\xFF\xFF\xFF\xFF\x01\x18\xFF\xFF\xFF\xFF\xFF\xFF\xFF\xFF\xFF\x01\x32\x00\x12\x02\x22\x00",
+    );
+    assert!(rt; is(copies_result, "A 2 1, 0.0"));
 }
 
 // The op of a chain at a place: it stands on the next one, if there is one.

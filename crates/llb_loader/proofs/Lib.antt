@@ -13,5 +13,6 @@ pub mod Parts
 pub mod Plans
 pub mod Refusals
 pub mod Builds
+pub mod Trees
 pub mod Whole
 pub mod Single

@@ -1,10 +1,12 @@
 -- The vertices that are built of a whole plan are a graph, and the one that the plan says.
-use Rattle.std.proofs.Common.{◌≡◌, ℕ, zero, suc, ◌<◌, ◌≤◌, Bool, true, false, cond, ◌||◌, List, [], ◌∷◌, ◌⊎◌, inl, inr, Option, Some, None, length, get_or, map, refl, sym, ◌∙◌, ap, subst, arith, pos}
+use Rattle.std.proofs.Common.{◌≡◌, ◌≢◌, ℕ, zero, suc, ◌<◌, ◌≤◌, Bool, true, false, cond, not, ◌||◌, nat_eq, List, [], ◌∷◌, ◌++◌, ◌⊎◌, inl, inr, Option, Some, None, IsSome, length, get_or, drop, map, codes, refl, sym, ◌∙◌, ap, subst, arith, pos}
 use Rattle.std.proofs.lemmas.Bool.{cases_lt}
-use Rattle.std.proofs.lemmas.List.{get_or-map, get_or_past, get_or_default, get_or-take, length-map, length-take-le, same_lists}
+use Rattle.std.proofs.lemmas.Bool.Decides.{Decides-eqb}
+use Rattle.std.proofs.lemmas.Slice.Eq.{starts_is}
+use Rattle.std.proofs.lemmas.List.{get_or-map, get_or_past, get_or_default, get_or-take, length-map, length-take-le, same_lists, append-nil}
 use Rattle.std.proofs.lemmas.List.Elements.{All-get_or, All-nil, All-cons, Contains-get_or}
 use Rattle.std.proofs.lemmas.List.Sums.{count_by-le-length}
-use Rattle.std.specs.List.{All, Contains, filter_map, cons_option, list_any, find}
+use Rattle.std.specs.List.{All, Contains, filter_map, cons_option, list_any, find, starts_with}
 use Rattle.std.specs.Option.{unwrap_or}
 use Rattle.llb_ops.specs.declared.op.Op.{Op}
 use Rattle.llb_ops.specs.declared.op.Input.{Input}
@@ -12,20 +14,19 @@ use Rattle.llb_ops.specs.declared.op.Kind.{Kind}
 use Rattle.llb_ops.specs.declared.op.Kind.TheVariants.{Exec, Source, File, Build, Merge, Diff}
 use Rattle.llb_ops.specs.declared.file.Action.{Action}
 use Rattle.llb_ops.specs.declared.file.ActionKind.{ActionKind}
-use Rattle.llb_ops.specs.declared.file.ActionKind.TheVariants.{Copy, MkFile, MkDir, Rm}
 use Rattle.llb_ops.specs.declared.exec.Mount.{Mount}
 use Rattle.llb_ops.specs.Within.{IsKindWithin, IsWithinLimits}
-use Rattle.llb_loader.specs.declared.fault.Feature.TheVariants as feature
 use Rattle.llb_loader.specs.declared.graph.Edge.{Edge}
 use Rattle.llb_loader.specs.declared.graph.Vertex.{Vertex}
 use Rattle.llb_loader.specs.Numbering.{rank_in}
 use Rattle.llb_loader.specs.Rows.{inputs, HasEdge, Walk}
 use Rattle.llb_loader.specs.Naming.{row_at, row_named}
-use Rattle.llb_loader.specs.Features.{is_later, is_not_yet, is_diff, is_build, is_nameless, has, features, refused_features, feature_of}
-use Rattle.llb_loader.specs.Rules.{kind_actions, kind_steps, kind_outputs, actions_of, is_made, is_output, owner_of, owner_by_name, outputs_of, mount_outputs, count_outputs, step_count, output_count, IsBelow, ActionInputs, AreOutputs, MeetsAll, MeetsEach, rules}
-use Rattle.llb_loader.specs.Graph.{links, LeadsBelow, StandsFor, HasInputs, IsVertex, IsFileVertex, IsGraph}
+use Rattle.llb_loader.specs.Features.{is_nameless, has, features, feature_of}
+use Rattle.llb_loader.specs.Locals.{behind}
+use Rattle.llb_loader.specs.Rules.{kind_steps, kind_outputs, is_output, owner_of, owner_by_name, outputs_of, mount_outputs, step_count, output_count, IsBelow, MeetsAll, MeetsEach, rules}
+use Rattle.llb_loader.specs.Graph.{links, LeadsBelow, StandsFor, HasInputs, IsVertex, IsVertexOf, IsGraph}
 use Rattle.llb_loader.specs.Linking.{Plan, op_at, input_at, links_in, input_row, ReachedRow, HasInput, outputs_there, IsNamed, IsWhole, edge_of, vertex_of}
-use Rattle.llb_loader.specs.Building.{IsBuildable, IsBuilt, AreBuilt, edge_at, vertex_at, edge_to}
+use Rattle.llb_loader.specs.Building.{IsBuildable, AreBuilt, edge_at, vertex_at, edge_to}
 use Rattle.llb_loader.proofs.Searching.{reached_step}
 use Rattle.llb_loader.proofs.Unique.{rank_at}
 use Rattle.llb_loader.proofs.Plans.{graph_at, NamedAt, named_at, below_cases, below_wider, below_abs, below_pos, value_there, IsFirstRow, named_first, same_first, reached_first, named_digest}
@@ -41,16 +42,10 @@ all_false : {X : Type 0} (p : X → Bool) (xs : List X) → list_any p xs ≡ fa
 all_false p [] e = All-nil (λ x. p x ≡ false)
 all_false p (x ∷ xs) e = let b = or_parts (p x) (list_any p xs) e in All-cons (λ x. p x ≡ false) x xs b.0 (all_false p xs b.1)
 
--- a member of a file op that is taken makes a file or a directory
-made_member : (k : Option ActionKind) → is_later k ≡ false → is_nameless k ≡ false → is_made k ≡ true
-made_member (Some (MkFile m)) l n = refl
-made_member (Some (MkDir m)) l n = refl
-made_member (Some (Copy m)) l n = absurd (let x : true ≡ false = l in cc)
-made_member (Some (Rm m)) l n = absurd (let x : true ≡ false = l in cc)
-made_member None l n = absurd (let x : true ≡ false = n in cc)
-
-made_all : (actions : List Action) → All (λ a. is_later a.kind ≡ false) actions → All (λ a. is_nameless a.kind ≡ false) actions → All (λ a. is_made a.kind ≡ true) actions
-made_all actions l n a d h = made_member (get_or actions a d).kind (l a d h) (n a d h)
+-- an action that has a member
+member_there : (k : Option ActionKind) → is_nameless k ≡ false → IsSome k
+member_there (Some k) e = refl
+member_there None e = absurd (let x : true ≡ false = e in cc)
 
 -- where nothing is found, no test holds
 not_found : {X : Type 0} (p : X → Bool) (x : X) (xs : List X) → find p (x ∷ xs) ≡ None → (p x ≡ false) × (find p xs ≡ None)
@@ -60,76 +55,26 @@ not_found {X} p x xs e = not_found_at (p x) x (find p xs) e
     not_found_at true x rest e = absurd (let y : ◌≡◌ {A = Option X} (Some x) None = e in cc)
     not_found_at false x rest e = (refl, e)
 
--- what follows of an op without features that meets the rules: it is a file op
-pub record IsFileOp (n : ℕ) (kind : Option Kind) : Type 0 where
-  pub some : 0 < length (kind_actions kind)
-  pub made : All (λ a. is_made a.kind ≡ true) (kind_actions kind)
-  pub numbered : All (λ a. owner_by_name (owner_of a.kind) ≡ false) (kind_actions kind)
-  pub inputs : ActionInputs n (kind_actions kind)
-  pub outputs : AreOutputs (outputs_of (kind_actions kind))
-  pub steps : kind_steps kind ≡ length (kind_actions kind)
-  pub counted : kind_outputs kind ≡ count_outputs (outputs_of (kind_actions kind))
+abbrev pub NoneOf : {X : Type 0} → (X → Bool) → List X → Type 0
+NoneOf p [] = Unit {0}
+NoneOf p (x ∷ xs) = (p x ≡ false) × NoneOf p xs
 
-refused_by : (kind : Option Kind) → find (has kind) features ≡ None → (is_not_yet kind ≡ false) × (is_diff kind ≡ false) × (is_build kind ≡ false)
-    × (list_any (λ a. is_nameless a.kind) (kind_actions kind) ≡ false) × (list_any (λ a. owner_by_name (owner_of a.kind)) (kind_actions kind) ≡ false)
-refused_by kind e =
-    let a = not_found (has kind) feature.NotYet refused_features e in
-    let b = not_found (has kind) feature.DiffOp (feature.BuildOp ∷ feature.Source ∷ feature.SecretMount ∷ feature.SshMount ∷ feature.SecretEnv ∷ feature.Action ∷ feature.Unpack ∷ feature.Patterns ∷ feature.OwnerByName ∷ feature.CopyField ∷ []) a.1 in
-    let c = not_found (has kind) feature.BuildOp (feature.Source ∷ feature.SecretMount ∷ feature.SshMount ∷ feature.SecretEnv ∷ feature.Action ∷ feature.Unpack ∷ feature.Patterns ∷ feature.OwnerByName ∷ feature.CopyField ∷ []) b.1 in
-    let d = not_found (has kind) feature.Source (feature.SecretMount ∷ feature.SshMount ∷ feature.SecretEnv ∷ feature.Action ∷ feature.Unpack ∷ feature.Patterns ∷ feature.OwnerByName ∷ feature.CopyField ∷ []) c.1 in
-    let f = not_found (has kind) feature.SecretMount (feature.SshMount ∷ feature.SecretEnv ∷ feature.Action ∷ feature.Unpack ∷ feature.Patterns ∷ feature.OwnerByName ∷ feature.CopyField ∷ []) d.1 in
-    let g = not_found (has kind) feature.SshMount (feature.SecretEnv ∷ feature.Action ∷ feature.Unpack ∷ feature.Patterns ∷ feature.OwnerByName ∷ feature.CopyField ∷ []) f.1 in
-    let h = not_found (has kind) feature.SecretEnv (feature.Action ∷ feature.Unpack ∷ feature.Patterns ∷ feature.OwnerByName ∷ feature.CopyField ∷ []) g.1 in
-    let i = not_found (has kind) feature.Action (feature.Unpack ∷ feature.Patterns ∷ feature.OwnerByName ∷ feature.CopyField ∷ []) h.1 in
-    let j = not_found (has kind) feature.Unpack (feature.Patterns ∷ feature.OwnerByName ∷ feature.CopyField ∷ []) i.1 in
-    let k = not_found (has kind) feature.Patterns (feature.OwnerByName ∷ feature.CopyField ∷ []) j.1 in
-    let l = not_found (has kind) feature.OwnerByName (feature.CopyField ∷ []) k.1 in
-    (a.0, b.0, c.0, i.0, l.0)
+none_found : {X : Type 0} (p : X → Bool) (xs : List X) → find p xs ≡ None → NoneOf p xs
+none_found p [] e = tt
+none_found p (x ∷ xs) e = let f = not_found p x xs e in (f.0, none_found p xs f.1)
 
-file_op : (is : List Input) (kind : Option Kind) → find (has kind) features ≡ None → MeetsAll is kind rules → IsFileOp (length is) kind
-file_op is (Some (File f)) free met =
-    let r = refused_by (Some (File f)) free in
-    record {
-      some = met.1.1.0;
-      made = made_all f.actions (all_false (λ (a : Action). is_later a.kind) f.actions r.0) (all_false (λ (a : Action). is_nameless a.kind) f.actions r.3);
-      numbered = all_false (λ (a : Action). owner_by_name (owner_of a.kind)) f.actions r.4;
-      inputs = met.1.1.1.0.first;
-      outputs = met.1.1.1.1.0;
-      steps = refl;
-      counted = refl;
-    }
-file_op is (Some (Exec x)) free met = absurd (let r = (refused_by (Some (Exec x)) free).0 in let y : true ≡ false = r in cc)
-file_op is (Some (Source x)) free met = absurd (let r = (refused_by (Some (Source x)) free).0 in let y : true ≡ false = r in cc)
-file_op is (Some (Merge x)) free met = absurd (let r = (refused_by (Some (Merge x)) free).0 in let y : true ≡ false = r in cc)
-file_op is (Some (Diff x)) free met = absurd (let r = (refused_by (Some (Diff x)) free).1 in let y : true ≡ false = r in cc)
-file_op is (Some (Build x)) free met = absurd (let r = (refused_by (Some (Build x)) free).2 in let y : true ≡ false = r in cc)
-file_op is None free met = absurd (let y : false ≡ true = met.0 in cc)
+-- what stands behind a text's front that is not the whole text
+behind_front : (front text : List ℕ) → starts_with nat_eq text front ≡ true → text ≢ front
+    → (text ≡ front ++ drop (length front) text) × (0 < length (drop (length front) text)) × (behind front text ≡ Some (drop (length front) text))
+behind_front front text e n =
+    let same = (starts_is Decides-eqb text front (starts_with nat_eq text front) refl).0 e in
+    (same, longer (drop (length front) text) same, ap (λ (b : Bool). cond b (Some (drop (length front) text)) None) e)
+  where
+    longer : (rest : List ℕ) → text ≡ front ++ rest → 0 < length rest
+    longer [] same = absurd (n (same ∙ append-nil front))
+    longer (x ∷ xs) same = omega arith
 
 -- the limits of a message
-
-kind_actions_within : (kind : Option Kind) → IsKindWithin kind → length (kind_actions kind) ≤ 1_024
-kind_actions_within (Some (File f)) w = w.actions
-kind_actions_within (Some (Exec x)) w = omega arith
-kind_actions_within (Some (Source x)) w = omega arith
-kind_actions_within (Some (Merge x)) w = omega arith
-kind_actions_within (Some (Build x)) w = omega arith
-kind_actions_within (Some (Diff x)) w = omega arith
-kind_actions_within None w = omega arith
-
-file_vertex : (text : List ℕ) (op : Op) (named ranks : List ℕ) (v : Vertex) → IsBuilt text op named ranks v → IsWithinLimits op → feature_of op ≡ None → MeetsEach op rules → IsFileVertex v
-file_vertex text op named ranks v b within free met =
-    let f = file_op op.inputs op.kind free met in
-    record {
-      some = rw b.op f.some;
-      few = rw b.op (kind_actions_within op.kind within.kind);
-      made = subst (λ (o : Op). All (λ a. is_made a.kind ≡ true) (actions_of o)) (sym b.op) f.made;
-      numbered = subst (λ (o : Op). All (λ a. owner_by_name (owner_of a.kind) ≡ false) (actions_of o)) (sym b.op) f.numbered;
-      action_inputs = rw b.op f.inputs;
-      action_outputs = rw b.op f.outputs;
-      inputs = rw b.op b.len;
-      steps = rw b.op (b.steps ∙ f.steps);
-      outputs = rw b.op (b.outputs ∙ f.counted);
-    }
 
 kind_count_within : (kind : Option Kind) → IsKindWithin kind → kind_outputs kind ≤ 1_024
 kind_count_within (Some (File f)) w =
@@ -156,6 +101,45 @@ kind_steps_within (Some (Exec x)) w = omega arith
 kind_steps_within (Some (Build x)) w = omega arith
 kind_steps_within (Some (Diff x)) w = omega arith
 kind_steps_within None w = omega arith
+
+-- a vertex of an op without features that meets the rules, by its kind
+kind_vertex : (v : Vertex) (kind : Option Kind) → find (has kind) features ≡ None → MeetsAll v.op.inputs kind rules → IsKindWithin kind
+    → length v.inputs ≡ length v.op.inputs → v.steps ≡ kind_steps kind → v.outputs ≡ kind_outputs kind → IsVertexOf v kind
+kind_vertex v (Some (Source s)) free met within inputs steps outputs =
+    let r = none_found (has (Some (Source s))) features free in
+    let local : starts_with nat_eq s.identifier (codes "local://") ≡ true = not_false (starts_with nat_eq s.identifier (codes "local://")) r.1.1.1.0 in
+    let b = behind_front (codes "local://") s.identifier local met.1.0 in
+    record { name = drop (length (codes "local://")) s.identifier; local = b.2; some = b.1; identifier = b.0; steps = steps; outputs = outputs }
+  where
+    not_false : (b : Bool) → not b ≡ false → b ≡ true
+    not_false true e = refl
+    not_false false e = absurd (let x : true ≡ false = e in cc)
+kind_vertex v (Some (File f)) free met within inputs steps outputs =
+    let r = none_found (has (Some (File f))) features free in
+    let named = all_false (λ (a : Action). is_nameless a.kind) f.actions r.1.1.1.1.1.1.1.0 in
+    record {
+      some = met.1.1.0;
+      few = within.actions;
+      members = λ a d h. member_there (get_or f.actions a d).kind (named a d h);
+      numbered = all_false (λ (a : Action). owner_by_name (owner_of a.kind)) f.actions r.1.1.1.1.1.1.1.1.1.1.0;
+      action_inputs = met.1.1.1.0.first;
+      second_inputs = met.1.1.1.0.second;
+      action_outputs = met.1.1.1.1.0;
+      inputs = inputs;
+      steps = steps;
+      outputs = outputs;
+    }
+kind_vertex v (Some (Merge m)) free met within inputs steps outputs = record {
+  few = within;
+  merge_inputs = met.1.1.1.1.1.1.1.1.1.1.1.1.1.1.1.1.1.0;
+  inputs = inputs;
+  steps = steps;
+  outputs = outputs;
+}
+kind_vertex v (Some (Exec x)) free met within inputs steps outputs = absurd (let r = (none_found (has (Some (Exec x))) features free).0 in let y : true ≡ false = r in cc)
+kind_vertex v (Some (Diff x)) free met within inputs steps outputs = absurd (let r = (none_found (has (Some (Diff x))) features free).1.0 in let y : true ≡ false = r in cc)
+kind_vertex v (Some (Build x)) free met within inputs steps outputs = absurd (let r = (none_found (has (Some (Build x))) features free).1.1.0 in let y : true ≡ false = r in cc)
+kind_vertex v None free met within inputs steps outputs = absurd (let y : false ≡ true = met.0 in cc)
 
 cons_le : (o : Option ℕ) (ys : List ℕ) (n : ℕ) → length ys ≤ n → length (cons_option o ys) ≤ suc n
 cons_le None ys n l = omega (arith, l)
@@ -330,7 +314,14 @@ module _ (p : Plan) (order : List ℕ) (whole : IsWhole p order) (len : length p
             valid = subst (λ (o : Op). MeetsEach o rules) (sym b.op) (whole.valid.valid (get_or order k 0) r);
             steps = b.steps ∙ sym (ap step_count b.op);
             outputs = b.outputs ∙ sym (ap output_count b.op);
+            few_steps = (let w = kind_steps_within (op_at p.ops (get_or order k 0)).kind (within_at (get_or order k 0) r).kind in let e = b.steps in omega (arith, w, e));
+            few_outputs = (let w = kind_count_within (op_at p.ops (get_or order k 0)).kind (within_at (get_or order k 0) r).kind in let e = b.outputs in omega (arith, w, e));
           }
+
+      of_kind : (k : ℕ) → k < length order → IsVertexOf (vertex_at vs k) (vertex_at vs k).op.kind
+      of_kind k h =
+          let v = is_vertex k h in
+          kind_vertex (vertex_at vs k) (vertex_at vs k).op.kind v.featureless v.valid v.within.kind ((built k h).len ∙ sym (ap (λ (o : Op). length o.inputs) (built k h).op)) v.steps v.outputs
 
       stands_for : (k i : ℕ) → k < length order → i < length (op_at p.ops (get_or order k 0)).inputs → StandsFor vs (input_at (op_at p.ops (get_or order k 0)) i) (edge_at (vertex_at vs k).inputs i)
       stands_for k i h l =
@@ -387,11 +378,9 @@ module _ (p : Plan) (order : List ℕ) (whole : IsWhole p order) (len : length p
             let la : a < length order = (let n = built_len in omega (arith, ha, n)) in
             let lb : b < length order = (let n = built_len in omega (arith, hb, n)) in
             distinct a b la lb (sym (ap (λ (v : Vertex). v.digest) (vertex_is a d la)) ∙ e ∙ ap (λ (v : Vertex). v.digest) (vertex_is b d lb));
-        file = λ k d h.
+        kind = λ k d h.
             let l : k < length order = (let b = built_len in omega (arith, h, b)) in
-            let r = row_reached k l in
-            subst (λ (v : Vertex). IsFileVertex v) (sym (vertex_is k d l))
-            (file_vertex _ (op_at p.ops (get_or order k 0)) _ ranks (vertex_at vs k) (built k l) (within_at (get_or order k 0) r) (whole.valid.taken.featureless (get_or order k 0) r) (whole.valid.valid (get_or order k 0) r));
+            subst (λ (v : Vertex). IsVertexOf v v.op.kind) (sym (vertex_is k d l)) (of_kind k l);
         few = (let b = built_len in omega (arith, b, few, short));
       }
 

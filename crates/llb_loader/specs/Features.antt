@@ -3,27 +3,18 @@ use Rattle.std.specs.Prelude.{◌==◌, Bool, true, false, not, ◌||◌, nat_eq
 use Rattle.std.specs.List.{list_any, find, starts_with}
 use Rattle.llb_ops.specs.declared.op.Op.{Op}
 use Rattle.llb_ops.specs.declared.op.Kind.{Kind}
-use Rattle.llb_ops.specs.declared.op.Kind.TheVariants.{Exec, Source, File, Build, Merge, Diff}
+use Rattle.llb_ops.specs.declared.op.Kind.TheVariants.{Exec, Source, Build, Diff}
 use Rattle.llb_ops.specs.declared.file.ActionKind.{ActionKind}
-use Rattle.llb_ops.specs.declared.file.ActionKind.TheVariants.{Copy, Rm}
+use Rattle.llb_ops.specs.declared.file.ActionKind.TheVariants.{Copy}
 use Rattle.llb_ops.specs.declared.file.CopyFile.{CopyFile}
 use Rattle.llb_loader.specs.declared.fault.Feature.{Feature}
 use Rattle.llb_loader.specs.declared.fault.Feature.TheVariants as feature
 use Rattle.llb_loader.specs.Mounts.{secret, ssh, has_type}
 use Rattle.llb_loader.specs.Rules.{kind_actions, kind_mounts, owner_of, owner_by_name}
 
--- a member that is not taken yet
-abbrev pub is_later : Option ActionKind → Bool
-is_later (Some (Copy c)) = true
-is_later (Some (Rm r)) = true
-is_later _ = false
-
--- a kind that is not taken yet: a source, a merge, an exec, or a file op with such a member
+-- a kind that is not taken yet: an exec
 abbrev pub is_not_yet : Option Kind → Bool
-is_not_yet (Some (Source s)) = true
-is_not_yet (Some (Merge m)) = true
 is_not_yet (Some (Exec x)) = true
-is_not_yet (Some (File f)) = list_any (λ a. is_later a.kind) f.actions
 is_not_yet _ = false
 
 abbrev pub is_diff : Option Kind → Bool

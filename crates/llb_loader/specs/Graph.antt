@@ -1,13 +1,19 @@
 -- A numbered graph, as contracts see it, and what is true of each one.
-use Rattle.std.specs.Prelude.{◌≡◌, ℕ, ◌<◌, ◌≤◌, pos, true, false, List, length, map, slice_index_or, None}
+use Rattle.std.specs.Prelude.{◌≡◌, ℕ, ◌<◌, ◌≤◌, pos, false, List, ◌++◌, length, map, slice_index_or, Option, Some, None, IsSome, codes}
 use Rattle.std.specs.List.{All, HoldsAt}
 use Rattle.llb_ops.specs.declared.op.Input.{Input}
+use Rattle.llb_ops.specs.declared.op.Kind.{Kind}
+use Rattle.llb_ops.specs.declared.op.Kind.TheVariants.{Source, File, Merge}
+use Rattle.llb_ops.specs.declared.file.FileOp.{FileOp}
+use Rattle.llb_ops.specs.declared.merge.MergeOp.{MergeOp}
+use Rattle.llb_ops.specs.declared.source.SourceOp.{SourceOp}
 use Rattle.llb_ops.specs.Within.{IsWithinLimits}
 use Rattle.llb_loader.specs.declared.graph.Edge.{Edge}
 use Rattle.llb_loader.specs.declared.graph.Vertex.{Vertex}
 use Rattle.llb_loader.specs.Rows.{Reached}
 use Rattle.llb_loader.specs.Features.{feature_of}
-use Rattle.llb_loader.specs.Rules.{actions_of, is_made, owner_of, owner_by_name, ActionInputs, outputs_of, count_outputs, AreOutputs, step_count, output_count, MeetsEach, rules}
+use Rattle.llb_loader.specs.Rules.{owner_of, owner_by_name, IsInput, ActionInputs, SecondInputs, outputs_of, count_outputs, AreOutputs, step_count, output_count, MeetsEach, rules}
+use Rattle.llb_loader.specs.Locals.{source_name}
 
 pub record Numbered : Type 0 where
   pub vertices : List Vertex
@@ -32,25 +38,54 @@ pub record HasInputs (vertices : List Vertex) (v : Vertex) : Type 0 where
   pub len : length v.inputs ≡ length v.op.inputs
   pub each : (i : ℕ) (input : Input) (e : Edge) → i < length v.inputs → StandsFor vertices (slice_index_or v.op.inputs i input) (slice_index_or v.inputs i e)
 
--- a vertex by itself: its op is within the limits, is taken and meets the rules, and its counts are those of the op
+-- a vertex by itself: its op is within the limits, is taken and meets the rules, and its counts, which are small, are those of the op
 pub record IsVertex (v : Vertex) : Type 0 where
   pub within : IsWithinLimits v.op
   pub featureless : feature_of v.op ≡ None
   pub valid : MeetsEach v.op rules
   pub steps : v.steps ≡ step_count v.op
   pub outputs : v.outputs ≡ output_count v.op
+  pub few_steps : v.steps ≤ 1_024
+  pub few_outputs : v.outputs ≤ 1_024
 
--- a vertex of a file op: it makes files and directories, at least one, and no owner is given by name
-pub record IsFileVertex (v : Vertex) : Type 0 where
-  pub some : 0 < length (actions_of v.op)
-  pub few : length (actions_of v.op) ≤ 1_024
-  pub made : All (λ a. is_made a.kind ≡ true) (actions_of v.op)
-  pub numbered : All (λ a. owner_by_name (owner_of a.kind) ≡ false) (actions_of v.op)
-  pub action_inputs : ActionInputs (length v.op.inputs) (actions_of v.op)
-  pub action_outputs : AreOutputs (outputs_of (actions_of v.op))
+-- ---- a vertex by its kind
+
+-- a source is local, and there is a name behind `local://`
+pub record IsSourceVertex (v : Vertex) (s : SourceOp) : Type 0 where
+  pub name : List ℕ
+  pub local : source_name s ≡ Some name
+  pub some : 0 < length name
+  pub identifier : s.identifier ≡ codes "local://" ++ name
+  pub steps : v.steps ≡ 1
+  pub outputs : v.outputs ≡ 1
+
+-- a file op has an action; each has a member, sets no owner by name, and takes inputs that are there
+pub record IsFileVertex (v : Vertex) (f : FileOp) : Type 0 where
+  pub some : 0 < length f.actions
+  pub few : length f.actions ≤ 1_024
+  pub members : All (λ a. IsSome a.kind) f.actions
+  pub numbered : All (λ a. owner_by_name (owner_of a.kind) ≡ false) f.actions
+  pub action_inputs : ActionInputs (length v.op.inputs) f.actions
+  pub second_inputs : SecondInputs (length v.op.inputs) f.actions
+  pub action_outputs : AreOutputs (outputs_of f.actions)
   pub inputs : length v.inputs ≡ length v.op.inputs
-  pub steps : v.steps ≡ length (actions_of v.op)
-  pub outputs : v.outputs ≡ count_outputs (outputs_of (actions_of v.op))
+  pub steps : v.steps ≡ length f.actions
+  pub outputs : v.outputs ≡ count_outputs (outputs_of f.actions)
+
+-- a merge takes inputs that are there, or nothing
+pub record IsMergeVertex (v : Vertex) (m : MergeOp) : Type 0 where
+  pub few : length m.inputs ≤ 1_024
+  pub merge_inputs : All (λ i. IsInput (length v.op.inputs) i.input) m.inputs
+  pub inputs : length v.inputs ≡ length v.op.inputs
+  pub steps : v.steps ≡ length m.inputs
+  pub outputs : v.outputs ≡ 1
+
+-- a vertex of a kind that is taken: a source, a file op or a merge
+abbrev pub IsVertexOf : Vertex → Option Kind → Type 0
+IsVertexOf v (Some (Source s)) = IsSourceVertex v s
+IsVertexOf v (Some (File f)) = IsFileVertex v f
+IsVertexOf v (Some (Merge m)) = IsMergeVertex v m
+IsVertexOf v _ = ⊥
 
 pub record IsGraph (g : Numbered) : Type 0 where
   -- every edge leads to an output of a lower vertex, and so does the result
@@ -62,5 +97,6 @@ pub record IsGraph (g : Numbered) : Type 0 where
   pub inputs : All (HasInputs g.vertices) g.vertices
   -- no two vertices have one digest
   pub distinct : (a b : ℕ) (d : Vertex) → a < length g.vertices → b < length g.vertices → (slice_index_or g.vertices a d).digest ≡ (slice_index_or g.vertices b d).digest → a ≡ b
-  pub file : All IsFileVertex g.vertices
+  -- each vertex is of a kind that is taken
+  pub kind : All (λ v. IsVertexOf v v.op.kind) g.vertices
   pub few : length g.vertices ≤ 65_536

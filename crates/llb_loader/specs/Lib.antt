@@ -8,6 +8,7 @@ pub mod Placing
 pub mod Faults
 pub mod Digest
 pub mod Naming
+pub mod Locals
 pub mod Features
 pub mod Linking
 pub mod Reading

@@ -45,12 +45,6 @@ abbrev pub kind_mounts : Option Kind → List Mount
 kind_mounts (Some (Exec x)) = x.mounts
 kind_mounts _ = []
 
--- a member that makes a file or a directory
-abbrev pub is_made : Option ActionKind → Bool
-is_made (Some (MkFile m)) = true
-is_made (Some (MkDir m)) = true
-is_made _ = false
-
 -- the owner that a member sets, if any
 abbrev pub owner_of : Option ActionKind → Option ChownOpt
 owner_of (Some (MkFile m)) = m.owner

@@ -46,7 +46,7 @@ pub enum LoadFault {
 /// What an op can have that is not taken; of several the first.
 #[derive(Clone, Copy, Debug, PartialEq, Eq)]
 pub enum Feature {
-    /// An op or an action that is not taken yet.
+    /// An op that is not taken yet.
     NotYet,
     /// A diff op.
     DiffOp,
@@ -112,6 +112,17 @@ pub enum Rule {
     CacheTwice,
     /// A merge takes inputs or nothing.
     MergeInput,
+}
+
+/// 92: memory was refused for the trees of local sources.
+#[derive(Clone, Copy, Debug, PartialEq, Eq, Error)]
+#[error("92")]
+pub struct Memory;
+
+impl<T: Drop> From<AllocFailed<T>> for Memory {
+    fn from(_: AllocFailed<T>) -> Memory {
+        Memory
+    }
 }
 
 impl From<OpFault> for LoadFault {

@@ -5,7 +5,7 @@ ghost use Rattle.std.specs.List.{list_any, find};
 ghost use Rattle.llb_ops.specs.declared.op.Kind.TheVariants as kind;
 ghost use Rattle.llb_loader.specs.Mounts.{has_type};
 ghost use Rattle.llb_loader.specs.Rules.{owner_of, owner_by_name, user_by_name};
-ghost use Rattle.llb_loader.specs.Features.{is_not_yet, is_later, is_nameless, copies_with, has_pattern, has_field, unpacks, has, refused_features, feature_of};
+ghost use Rattle.llb_loader.specs.Features.{is_not_yet, is_nameless, copies_with, has_pattern, has_field, unpacks, has, refused_features, feature_of};
 
 use crate::fault::Feature;
 use crate::mount_type::{SECRET, SSH};
@@ -35,26 +35,7 @@ pub(crate) fn first_feature(op: &Op) -> Option<Feature>
 fn is_not_yet(kind: &Option<Kind>) -> bool
     ensures { result ≡ is_not_yet kind.now }
 {
-    match kind {
-        Some(Kind::Source(_)) => true,
-        Some(Kind::Merge(_)) => true,
-        Some(Kind::Exec(_)) => true,
-        Some(Kind::File(file)) => any_later(file.actions.as_slice()),
-        _ => false,
-    }
-}
-
-fn any_later(actions: &[Action]) -> bool
-    ensures { result ≡ list_any (λ a. is_later a.kind) actions.now }
-{
-    for action in actions {
-        match &action.kind {
-            Some(ActionKind::Copy(_)) => return true,
-            Some(ActionKind::Rm(_)) => return true,
-            _ => {}
-        }
-    }
-    false
+    matches!(kind, Some(Kind::Exec(_)))
 }
 
 fn source_feature(source: &SourceOp) -> Option<Feature>

@@ -1,9 +1,10 @@
 //! The numbered graph: vertices whose inputs lead to lower ones, and the result.
 
-ghost use Rattle.std.specs.Prelude.{◌≡◌};
+ghost use Rattle.std.specs.Prelude.{◌≡◌, option_map};
 ghost use Rattle.llb_loader.specs.Graph.{IsGraph};
+ghost use Rattle.llb_loader.specs.Locals.{local_name};
 
-use llb_ops::Op;
+use llb_ops::{Kind, Op};
 use llb_wire::{Many, Text};
 use std::marker::Model;
 
@@ -26,6 +27,18 @@ pub struct Vertex {
     pub steps: u32,
     /// The number of outputs.
     pub outputs: u32,
+}
+
+impl Vertex {
+    /// The name of a local source: what stands behind `local://`.
+    pub fn local_name(&self) -> Option<&str>
+        ensures { option_map (λ t. t.now) result ≡ local_name self.now.op }
+    {
+        match &self.op.kind {
+            Some(Kind::Source(source)) => source.identifier.as_str().strip_prefix("local://"),
+            _ => None,
+        }
+    }
 }
 
 /// The vertices at or before the result, each above its inputs. Contracts see the list of the vertices and the result.

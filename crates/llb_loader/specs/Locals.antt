@@ -1,0 +1,41 @@
+-- Local sources: the name of each, and the trees that are given under names.
+use Rattle.std.specs.Prelude.{ℕ, cond, nat_eq, List, length, drop, Option, Some, None, codes}
+use Rattle.std.specs.List.{starts_with}
+use Rattle.std.specs.Map.{lookup}
+use Rattle.std.specs.Str.{bytes_eq}
+use Rattle.indexmap.specs.IndexMap.{insert_entry}
+use Rattle.llb_ops.specs.declared.op.Op.{Op}
+use Rattle.llb_ops.specs.declared.op.Kind.{Kind}
+use Rattle.llb_ops.specs.declared.op.Kind.TheVariants.{Source}
+use Rattle.llb_ops.specs.declared.source.SourceOp.{SourceOp}
+use Rattle.llb_tree.specs.Tree.{TreeMap}
+
+-- what stands behind a prefix of a text
+abbrev pub behind : List ℕ → List ℕ → Option (List ℕ)
+behind prefix text = cond (starts_with nat_eq text prefix) (Some (drop (length prefix) text)) None
+
+-- what stands behind `local://` of a source's identifier
+abbrev pub source_name : SourceOp → Option (List ℕ)
+source_name s = behind (codes "local://") s.identifier
+
+abbrev pub kind_name : Option Kind → Option (List ℕ)
+kind_name (Some (Source s)) = source_name s
+kind_name _ = None
+
+-- the name of a local source
+abbrev pub local_name : Op → Option (List ℕ)
+local_name op = kind_name op.kind
+
+-- ---- the trees that are given
+
+-- a name and its tree
+abbrev pub Local : Type 0
+Local = List ℕ × TreeMap
+
+-- the tree of a name: the first that is given under it
+abbrev pub tree_of_local : List Local → List ℕ → Option TreeMap
+tree_of_local locals name = lookup (bytes_eq name) locals
+
+-- a tree stands in the place of the one that the name had, or else behind all others
+abbrev pub with_local : List Local → List ℕ → TreeMap → List Local
+with_local locals name tree = insert_entry bytes_eq locals name tree

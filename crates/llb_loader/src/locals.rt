@@ -1,0 +1,60 @@
+//! The trees of local sources, by name, in the order in which the names were first given.
+
+ghost use Rattle.std.specs.Prelude.{◌≡◌, [], OnOk, OnErr, option_map};
+ghost use Rattle.llb_loader.specs.Locals.{tree_of_local, with_local};
+
+use crate::fault::Memory;
+use indexmap::IndexMap;
+use llb_tree::Tree;
+use llb_wire::Text;
+use std::alloc::Global;
+use std::marker::Model;
+
+/// The trees that local sources read, by name. Contracts see the list of names and trees.
+#[derive(Drop)]
+pub struct Locals {
+    trees: IndexMap<String, Tree>,
+}
+
+impl Model for Locals {
+    ghost use Rattle.std.specs.Prelude.{List, map};
+    ghost use Rattle.std.specs.Coded.{codes};
+    ghost use Rattle.std.specs.String.{string_bytes};
+    ghost use Rattle.llb_tree.specs.Tree.{coded_tree};
+    ghost use Rattle.llb_loader.specs.Locals.{Local};
+
+    ghost Value = { List Local };
+
+    ghost coded = { Prim.hlevel (codes, coded_tree) };
+
+    ghost view = { λ l. map (λ e. (string_bytes e.0, e.1)) l.trees.entries };
+}
+
+impl Locals {
+    /// No trees.
+    pub fn new(alloc: Global) -> Locals
+        ensures { result ≡ [] }
+    {
+        Locals {
+            trees: IndexMap::new(alloc),
+        }
+    }
+
+    /// Gives a tree under a name: in the place of the one that the name had, or else behind all others.
+    ///
+    /// `Memory` (92) where memory is refused.
+    pub fn add(&mut self, name: Text, tree: Tree) -> Result<(), Memory>
+        ensures ok { OnOk result (self.new ≡ with_local self.old name tree) }
+        ensures err { OnErr result (self.new ≡ self.old) }
+    {
+        self.trees.insert(name.into_string(), tree)?;
+        Ok(())
+    }
+
+    /// The tree of a name.
+    pub fn get(&self, name: &str) -> Option<&Tree>
+        ensures { option_map (λ t. t.now) result ≡ tree_of_local self.now name.now }
+    {
+        self.trees.get(name)
+    }
+}
