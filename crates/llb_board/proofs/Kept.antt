@@ -14,7 +14,6 @@ use Rattle.llb_model.proofs.Lists.{inside}
 use Rattle.llb_model.proofs.Events.{Answer, IsStep, step_is}
 use Rattle.llb_model.proofs.Runs.{run_more}
 use Rattle.llb_model.proofs.Rooms.{event_room}
-use Rattle.llb_board.specs.Jobs.{view_of}
 use Rattle.llb_board.specs.Views.{status_of, at_of, execution_of, state_of}
 use Rattle.llb_board.specs.Board.{Seen, Replays, recorded}
 use Rattle.llb_board.specs.Rules.{faulted, step_fault, begun, left_at}
@@ -154,7 +153,7 @@ pub leaves : (b : Build) (ds : List Desk) (w : ℕ) (x y : own.Execution) (steps
     → map ready_made ds ≡ map (needed b) (map at_of ds)
     → slice_get ds w ≡ Some (desk.Runs x) → slice_get ds w ≡ Some (desk.Runs y)
     → is_finished (program_in b (execution_of x)).steps (execution_of x) ≡ true → steps ≡ (program_in b (execution_of y)).steps
-    → stands ≡ Settled (ended (record { steps = steps; outputs = length y.outputs.items }) (view_of y.view) y.fault)
+    → stands ≡ Settled (ended (record { steps = steps; outputs = length y.outputs.items }) y.view y.fault)
     → left_at b (slice_get (map at_of ds) w) ≡ Ok (y.vertex, stands)
 unfolding finished_at
 leaves b ds w x y steps stands kept looked taken finished same ends =
@@ -163,7 +162,7 @@ leaves b ds w x y steps stands kept looked taken finished same ends =
     let is : finished_at b (desk.Runs y) ≡ true = ap (finished_at b) (inside (sym taken ∙ looked)) ∙ finished in
     ap (left_at b) (get_map at_of ds w (desk.Runs y) taken)
     ∙ ap (left_if b (execution_of y)) is
-    ∙ (λ i. Ok (y.vertex, Settled (ended (record { steps = sym same i; outputs = sym count i }) (view_of y.view) y.fault)))
+    ∙ (λ i. Ok (y.vertex, Settled (ended (record { steps = sym same i; outputs = sym count i }) y.view y.fault)))
     ∙ ap (λ s. Ok (y.vertex, s)) (sym ends)
 
 pub state_settled : (ss : List Stand) (ds : List Desk) (w v : ℕ) (s : Stand) (e : Ending) → status_of s ≡ Settled e

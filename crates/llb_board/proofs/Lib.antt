@@ -1,4 +1,5 @@
 pub mod Lists
+pub mod Vertices
 pub mod Inputs
 pub mod Stopped
 pub mod Counted

@@ -1,7 +1,9 @@
 -- Lists of equal items, and lists that are changed at a place.
-use Rattle.std.proofs.Common.{◌≡◌, ℕ, zero, suc, ◌+◌, ◌≤◌, List, [], ◌∷◌, ◌++◌, map, length, refl, ap, ◌∙◌, arith}
+use Rattle.std.proofs.Common.{◌≡◌, ℕ, zero, suc, ◌+◌, ◌<◌, ◌≤◌, List, [], ◌∷◌, ◌++◌, map, take, length, refl, ap, sym, ◌∙◌, arith, add-one}
+use Rattle.std.proofs.Math.Seq.{take-suc}
+use Rattle.std.proofs.lemmas.List.{map-append, length-take-le}
 use Rattle.std.specs.Prelude.{Some, replicate, slice_get, slice_set, option_map}
-use Rattle.std.proofs.lemmas.Option.{slice_get-map}
+use Rattle.std.proofs.lemmas.Option.{slice_get-map, slice_get_within, get_or_from_slice_get}
 use Rattle.std.proofs.lemmas.List.{replicate-append-replicate}
 
 -- so many equal items, and room for more
@@ -11,6 +13,26 @@ pub record Replicated {A : Type 0} (x : A) (n : ℕ) (xs : List A) (last capacit
 
 pub replicate_more : {A : Type 0} (x : A) (n : ℕ) → replicate n x ++ x ∷ [] ≡ replicate (n + 1) x
 replicate_more x n = replicate-append-replicate n 1 x
+
+pub length_map : {A B : Type 0} (f : A → B) (xs : List A) → length (map f xs) ≡ length xs
+length_map f [] = refl
+length_map f (x ∷ xs) = omega (arith, length_map f xs)
+
+-- a list so far of what a function makes of each item, and room for all
+pub record Copied {A B : Type 0} (f : A → B) (xs : List A) (n : ℕ) (ys : List B) (capacity : ℕ) : Type 0 where
+  pub front : ys ≡ map f (take n xs)
+  pub reserved : length xs ≤ capacity
+
+pub copied_length : {A B : Type 0} (f : A → B) (xs : List A) (n : ℕ) (ys : List B) → ys ≡ map f (take n xs) → n < length xs → length ys ≡ n
+copied_length f xs n ys is lt = ap length is ∙ length_map f (take n xs) ∙ length-take-le n xs (omega arith)
+
+pub copied_more : {A B : Type 0} (f : A → B) (xs : List A) (n : ℕ) (ys : List B) (x : A) → ys ≡ map f (take n xs) → slice_get xs n ≡ Some x
+    → ys ++ f x ∷ [] ≡ map f (take (n + 1) xs)
+copied_more f xs n ys x is at =
+    ap (λ l. l ++ f x ∷ []) is
+    ∙ sym (map-append f (take n xs) (x ∷ []))
+    ∙ ap (λ y. map f (take n xs ++ y ∷ [])) (sym (get_or_from_slice_get xs n x x at))
+    ∙ ap (map f) (sym (take-suc xs n x (slice_get_within xs n x at))) ∙ ap (λ k. map f (take k xs)) (sym (add-one n))
 
 -- a list that is changed at a place, seen by a function
 pub map_set : {A B : Type 0} (f : A → B) (xs : List A) (i : ℕ) (x : A) → map f (slice_set xs i x) ≡ slice_set (map f xs) i (f x)
@@ -22,10 +44,6 @@ pub set_same : {A : Type 0} (xs : List A) (i : ℕ) (x : A) → slice_get xs i �
 set_same [] i x e = refl
 set_same (y ∷ xs) zero x e = let same : x ≡ y = cc in ap (λ z. z ∷ xs) same
 set_same (y ∷ xs) (suc i) x e = ap (λ l. y ∷ l) (set_same xs i x e)
-
-pub length_map : {A B : Type 0} (f : A → B) (xs : List A) → length (map f xs) ≡ length xs
-length_map f [] = refl
-length_map f (x ∷ xs) = omega (arith, length_map f xs)
 
 pub get_map : {A B : Type 0} (f : A → B) (xs : List A) (i : ℕ) (x : A) → slice_get xs i ≡ Some x → slice_get (map f xs) i ≡ Some (f x)
 get_map f xs i x e = slice_get-map f xs i ∙ ap (option_map f) e

@@ -21,6 +21,10 @@ use Rattle.llb_board.proofs.Lists.{length_map}
 abbrev pub clean : ℕ → ℕ → View → Execution
 clean v k view = record { vertex = v; done = k; fault = None; own = view }
 
+pub as_clean : (steps : List MicroStep) (v k : ℕ) (f : Option VertexFault) (view : View) → f ≡ None
+    → worked steps (record { vertex = v; done = k; fault = f; own = view }) ≡ worked steps (clean v k view)
+as_clean steps v k f view is = ap (λ o. worked steps (record { vertex = v; done = k; fault = o; own = view })) is
+
 -- the micro-steps of what is done at a vertex are its program's
 pub steps_by_kind : (o : Option Vertex) → steps_of (kind_of o) ≡ (program_at o).steps
 steps_by_kind None = refl
@@ -28,11 +32,8 @@ steps_by_kind (Some v) = refl
 
 past_none : {A : Type 0} (xs : List A) (k : ℕ) → length xs ≤ k → slice_get xs k ≡ None
 past_none [] k past = refl
-past_none (x ∷ xs) k past = by_place k past
-  where
-    by_place : (k : ℕ) → length (x ∷ xs) ≤ k → slice_get (x ∷ xs) k ≡ None
-    by_place zero past = absurd (omega arith)
-    by_place (suc k) past = past_none xs k (omega arith)
+past_none (x ∷ xs) zero past = absurd (omega arith)
+past_none (x ∷ xs) (suc k) past = past_none xs k (omega arith)
 
 -- without a fault the next micro-step is the one at that place, where there is one
 pub next_clean : (steps : List MicroStep) (v k : ℕ) (view : View) → next_step steps (clean v k view) ≡ slice_get steps k

@@ -8,8 +8,8 @@ use Rattle.llb_tree.specs.Tree.{TreeMap}
 use Rattle.llb_model.specs.Program as model
 use Rattle.llb_board.specs.declared.job.Steps.{Steps}
 use Rattle.llb_board.specs.declared.job.Steps.TheVariants as steps
-use Rattle.llb_board.specs.declared.job.View.{View}
-use Rattle.llb_board.specs.declared.job.View.TheVariants as view
+use Rattle.llb_board.specs.declared.job.Own.{Own}
+use Rattle.llb_board.specs.declared.job.Own.TheVariants as own
 
 -- what is done at a vertex
 abbrev pub kind_of : Option Vertex → Option Kind
@@ -22,10 +22,10 @@ steps_in steps.Read = model.ReadLocal ∷ []
 steps_in (steps.Actions file) = map model.Act file.actions
 steps_in (steps.Inputs numbers) = map model.LayInput numbers.items
 
-abbrev pub view_of : View → model.View
-view_of (view.Local t) = model.LocalTree t
-view_of (view.Files inputs results) = model.Files inputs.items results.items
-view_of (view.Layers inputs t) = model.Layers inputs.items t
+abbrev pub own_of : Own → model.View
+own_of (own.Local t) = model.LocalTree t
+own_of (own.Files inputs results) = model.Files inputs.items results.items
+own_of (own.Layers inputs t) = model.Layers inputs.items t
 
 -- the actions of a kind: those of a file op
 abbrev pub actions_in : Option Kind → List Action

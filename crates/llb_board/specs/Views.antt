@@ -20,7 +20,6 @@ use Rattle.llb_board.specs.declared.stand.Stand.TheVariants as stand
 use Rattle.llb_board.specs.declared.stand.Desk.{Desk}
 use Rattle.llb_board.specs.declared.stand.Desk.TheVariants as desk
 use Rattle.llb_board.specs.declared.stand.Execution.{Execution}
-use Rattle.llb_board.specs.Jobs.{view_of}
 
 -- what stands at a vertex
 abbrev pub status_of : Stand → model.Status
@@ -30,7 +29,7 @@ status_of (stand.Done trees) = model.Settled (Done trees)
 status_of (stand.Failed f) = model.Settled (Failed f)
 
 abbrev pub execution_of : Execution → model.Execution
-execution_of x = record { vertex = x.vertex; done = x.done; fault = x.fault; own = view_of x.view }
+execution_of x = record { vertex = x.vertex; done = x.done; fault = x.fault; own = x.view }
 
 -- what a worker does
 abbrev pub at_of : Desk → model.At
@@ -47,7 +46,7 @@ event_of (event.Settle w) = table.Settle w
 
 -- the replies
 abbrev pub claim_reply : Job → table.Reply
-claim_reply j = table.Claimed (record { worker = j.worker; vertex = j.vertex; program = j.program; done = j.done; work = record { own = view_of j.view; trees = [] } })
+claim_reply j = table.Claimed (record { worker = j.worker; vertex = j.vertex; program = j.program; done = j.done; work = record { own = j.view; trees = [] } })
 
 abbrev pub step_reply : Stepped → table.Reply
 step_reply Read = table.HasRead

@@ -1,7 +1,7 @@
 //! The board: what stands at each vertex, what each worker runs, and the record of events since it was opened. Its type
 //! keeps that the record is a run of the table to where the board is, and that it has room for every event to come.
 
-ghost use Rattle.std.specs.Prelude.{◌≡◌, ◌<◌, ◌≤◌, length, map, true, option_map, OnErr, IfErr, IfOk};
+ghost use Rattle.std.specs.Prelude.{◌≡◌, ◌<◌, ◌≤◌, length, map, true, is_some, option_map, OnErr, IfErr, IfOk};
 ghost use Rattle.llb_model.specs.Outcome.{output_in};
 ghost use Rattle.llb_model.specs.State.{ending_at, missing_local};
 ghost use Rattle.llb_model.specs.Room.{most_events};
@@ -240,7 +240,8 @@ impl Board {
 
 // A copy of the first name that no local tree is given for.
 fn missing(alloc: Global, build: &Build) -> Result<Option<Text>, Memory>
-    ensures { IfOk result (λ o. o ≡ missing_local build.now.locals build.now.graph.vertices) }
+    ensures first { IfOk result (λ o. o ≡ missing_local build.now.locals build.now.graph.vertices) }
+    ensures some { IfErr result (λ _. is_some (missing_local build.now.locals build.now.graph.vertices) ≡ true) }
 {
     match build.missing() {
         Some(name) => Ok(Some(Text::from_str(alloc, name)?)),

@@ -2,7 +2,7 @@
 
 ghost use Rattle.std.specs.Prelude.{◌≡◌, ◌≤◌, length, option_map, slice_get, OnOk, IfOk, Some, None};
 ghost use Rattle.llb_loader.specs.Graph.{IsGraph};
-ghost use Rattle.llb_model.specs.Program.{program_at, local_tree};
+ghost use Rattle.llb_model.specs.Program.{program_at, steps_of, local_tree};
 ghost use Rattle.llb_model.specs.State.{missing_local};
 ghost use Rattle.llb_board.specs.Jobs.{kind_of};
 ghost use Rattle.llb_board.specs.Rules.{GivesClaim};
@@ -50,14 +50,16 @@ impl Build {
 
     /// The vertex of a number.
     pub(crate) fn vertex(&self, v: u32) -> Option<&Vertex>
-        ensures { option_map (λ x. x.now) result ≡ slice_get self.now.graph.vertices v }
+        ensures there { option_map (λ x. x.now) result ≡ slice_get self.now.graph.vertices v }
+        ensures graph { IsGraph self.now.graph }
     {
         self.vertices().get(v as usize)
     }
 
     /// What is done at a vertex.
     pub(crate) fn kind(&self, v: u32) -> Option<&Kind>
-        ensures { option_map (λ k. k.now) result ≡ kind_of (slice_get self.now.graph.vertices v) }
+        ensures there { option_map (λ k. k.now) result ≡ kind_of (slice_get self.now.graph.vertices v) }
+        ensures few { length (steps_of (option_map (λ k. k.now) result)) ≤ 1_024 }
     {
         match self.vertex(v) {
             Some(vertex) => vertex.op.kind.as_ref(),

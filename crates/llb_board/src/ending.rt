@@ -6,10 +6,10 @@ ghost use Rattle.llb_tree.specs.Tree.{empty_tree};
 ghost use Rattle.llb_model.specs.Program.{Act, steps_of, result_for, outputs_of};
 ghost use Rattle.llb_model.specs.Outcome.{ended};
 ghost use Rattle.llb_model.specs.State.{Settled};
-ghost use Rattle.llb_board.specs.Jobs.{view_of, actions_in, first_placed, placed, placed_by};
+ghost use Rattle.llb_board.specs.Jobs.{own_of, actions_in, first_placed, placed, placed_by};
 ghost use Rattle.llb_board.specs.Views.{status_of};
 
-use crate::job::View;
+use crate::job::Own;
 use crate::stand::{Execution, Stand};
 use llb_ops::{Action, Kind};
 use llb_tree::Tree;
@@ -19,23 +19,23 @@ use llb_wire::Many;
 pub(crate) fn end(execution: Execution, kind: Option<&Kind>) -> Stand
     requires { execution.outputs.items ≡ replicate (length execution.outputs.items) empty_tree }
     ensures { status_of result ≡ Settled
-        (ended (record { steps = steps_of (option_map (λ k. k.now) kind.entry); outputs = length execution.outputs.items }) (view_of execution.view) execution.fault) }
+        (ended (record { steps = steps_of (option_map (λ k. k.now) kind.entry); outputs = length execution.outputs.items }) execution.view execution.fault) }
 {
     match execution.fault {
         Some(fault) => Stand::Failed(fault),
-        None => Stand::Done(Many::new(outputs(execution.view, execution.outputs, kind))),
+        None => Stand::Done(Many::new(outputs(execution.view.into_own(), execution.outputs, kind))),
     }
 }
 
 // The outputs of what all micro-steps left.
-fn outputs(view: View, outputs: Vec<Tree>, kind: Option<&Kind>) -> Vec<Tree>
+fn outputs(own: Own, outputs: Vec<Tree>, kind: Option<&Kind>) -> Vec<Tree>
     requires { outputs.items ≡ replicate (length outputs.items) empty_tree }
-    ensures { result.items ≡ outputs_of (record { steps = steps_of (option_map (λ k. k.now) kind.entry); outputs = length outputs.items }) (view_of view) }
+    ensures { result.items ≡ outputs_of (record { steps = steps_of (option_map (λ k. k.now) kind.entry); outputs = length outputs.items }) (own_of own) }
 {
-    match view {
-        View::Local(tree) => place_first(outputs, tree),
-        View::Layers(_, tree) => place_first(outputs, tree),
-        View::Files(_, results) => place_all(outputs, results, actions_of(kind)),
+    match own {
+        Own::Local(tree) => place_first(outputs, tree),
+        Own::Layers(_, tree) => place_first(outputs, tree),
+        Own::Files(_, results) => place_all(outputs, results, actions_of(kind)),
     }
 }
 

@@ -5,7 +5,6 @@ ghost use Rattle.llb_fileop.specs.Faults.{Gives};
 ghost use Rattle.llb_model.specs.Program.{ReadLocal, Act, LayInput, steps_of, trees_in, act_among, tree_fault_number, fault_number};
 ghost use Rattle.llb_wire.specs.Answer.{MemoryLast};
 ghost use Rattle.llb_board.specs.Views.{execution_of, step_reply};
-ghost use Rattle.llb_board.specs.Jobs.{view_of};
 ghost use Rattle.llb_board.specs.Rules.{step_memory, GivesStep, worked};
 ghost use Rattle.llb_ops.specs.declared.merge.MergeInput as merge_input;
 
@@ -93,7 +92,7 @@ fn act_step(
 
 // The result of an action on a view's trees.
 fn act_in(alloc: Global, action: &Action, view: &View) -> Result<Tree, ActFault>
-    ensures { Gives (λ t. t) result (act_among action.now (trees_in (view_of view.now))) }
+    ensures { Gives (λ t. t) result (act_among action.now (trees_in view.now)) }
 {
     let second = view.tree(action.secondary_input);
     match view.tree(action.input) {
@@ -146,7 +145,7 @@ fn lay_step(
     let Some(input) = inputs.get(done as usize) else {
         return Err(StepFault::NothingLeft);
     };
-    execution.view.lay(alloc, input.input)?;
+    execution.view.lay(alloc, input)?;
     execution.done = done + 1;
     Ok(Stepped::Merged(done))
 }

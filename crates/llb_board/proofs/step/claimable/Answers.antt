@@ -32,27 +32,27 @@ pub returns-in_default-clause-first : goal.returns-in_default-clause-first
 returns-in_default-clause-first c =
     let idle : slice_get (map at_of c.args.desks.now) c.args.w ≡ Some Idle = sym c.in-Some-Idle.ensures ∙ ap (λ d. Some (at_of d)) c.in-Some-Idle.field-0-is in
     let none : slice_get c.args.build.now.graph.vertices c.args.v ≡ None
-    = sym c.in_default.ensures in
+    = sym c.in_default.ensures.there in
     λ i. faulted claim_fault (claim_start (map status_of c.args.stands.now) c.args.v (idle i) (none i))
 
 pub returns-then-not-is_ready-clause-first : goal.returns-then-not-is_ready-clause-first
 returns-then-not-is_ready-clause-first c =
     let idle : slice_get (map at_of c.args.desks.now) c.args.w ≡ Some Idle = sym c.in-Some-Idle.ensures ∙ ap (λ d. Some (at_of d)) c.in-Some-Idle.field-0-is in
     let there : slice_get c.args.build.now.graph.vertices c.args.v ≡ Some c.in-Some.vertex.now
-    = sym c.in-Some.ensures in
+    = sym c.in-Some.ensures.there in
     (λ i. faulted claim_fault (claim_start (map status_of c.args.stands.now) c.args.v (idle i) (there i)))
     ∙ not_ready _ (sym c.is_ready.ensures ∙ c.if-not-is_ready.true)
 
 pub returns-clause-there : goal.returns-clause-there
 returns-clause-there c =
     let there : slice_get c.args.build.now.graph.vertices c.args.v ≡ Some c.in-Some.vertex.now
-    = sym c.in-Some.ensures in
+    = sym c.in-Some.ensures.there in
     there
 
 pub returns-clause-first : goal.returns-clause-first
 returns-clause-first c =
     let idle : slice_get (map at_of c.args.desks.now) c.args.w ≡ Some Idle = sym c.in-Some-Idle.ensures ∙ ap (λ d. Some (at_of d)) c.in-Some-Idle.field-0-is in
     let there : slice_get c.args.build.now.graph.vertices c.args.v ≡ Some c.in-Some.vertex.now
-    = sym c.in-Some.ensures in
+    = sym c.in-Some.ensures.there in
     (λ i. is_ok (claim_start (map status_of c.args.stands.now) c.args.v (idle i) (there i)))
     ∙ is_there _ (sym c.is_ready.ensures ∙ c.if-not-is_ready.false)

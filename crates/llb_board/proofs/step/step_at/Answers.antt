@@ -1,12 +1,13 @@
 use Rattle.std.proofs.Common.{◌≡◌, ◌∙◌, [], map, ap, sym}
-use Rattle.std.specs.Prelude.{Ok, Some, slice_get, slice_set}
+use Rattle.std.specs.Prelude.{Ok, Some, option_map, slice_get, slice_set}
 use Rattle.std.proofs.lemmas.Option.{slice_get-get_or}
-use Rattle.llb_model.specs.Program.{Build, Act}
+use Rattle.llb_model.specs.Program.{steps_of}
 use Rattle.llb_board.specs.Room.{ready_made}
 use Rattle.llb_board.specs.Views.{at_of, execution_of, state_of, step_reply}
 use Rattle.llb_board.specs.declared.stand.Desk.TheVariants as desk
 use Rattle.llb_board.proofs.Lists.{get_map, map_set, set_same}
 use Rattle.llb_board.proofs.Calls.{stepped_as}
+use Rattle.llb_board.proofs.Steps.{steps_by_kind}
 use Rattle.llb_board.proofs.step.step_at.Goals as goal
 
 pub returns-in_ok-stepped-in-Runs-clause-gives : goal.returns-in_ok-stepped-in-Runs-clause-gives
@@ -15,9 +16,9 @@ returns-in_ok-stepped-in-Runs-clause-gives c =
     let ds = c.args.desks.now in
     let at : slice_get ds c.args.w ≡ Some (desk.Runs c.in-Runs.execution)
     = slice_get-get_or ds c.args.w c.index-desks-w.result c.if-w-desks.false ∙ ap (λ d. Some d) c.in-Runs.is in
-    stepped_as b (state_of [] ds) c.args.w (execution_of c.in-Runs.execution) (map Act c.actions_at.result.now)
+    stepped_as b (state_of [] ds) c.args.w (execution_of c.in-Runs.execution) (steps_of (option_map (λ k. k.now) c.kind.result))
     (execution_of c.step.new.execution, step_reply c.in_ok-stepped-in-Runs.stepped)
-    (get_map at_of ds c.args.w (desk.Runs c.in-Runs.execution) at) c.actions_at.ensures.steps c.in_ok-stepped-in-Runs.ensures.gives
+    (get_map at_of ds c.args.w (desk.Runs c.in-Runs.execution) at) (ap steps_of c.kind.ensures.there ∙ steps_by_kind (slice_get b.graph.vertices c.in-Runs.execution.vertex)) c.in_ok-stepped-in-Runs.ensures.gives
     ∙ (λ i. Ok
     (record { statuses = []; workers = sym (map_set at_of ds c.args.w (desk.Runs c.step.new.execution)) i }, step_reply c.in_ok-stepped-in-Runs.stepped))
 

@@ -1,0 +1,17 @@
+use Rattle.std.proofs.Common.{◌≡◌, List, [], ◌∷◌, map, refl, sym, ap, ◌∙◌, rules}
+use Rattle.std.specs.Prelude.{Ok, Some}
+use Rattle.llb_ops.specs.declared.merge.MergeInput.{MergeInput}
+use Rattle.llb_ops.specs.declared.op.Kind.TheVariants as kind
+use Rattle.llb_model.specs.Program.{LayInput, steps_of}
+use Rattle.llb_board.proofs.job.steps_of.Goals as goal
+
+laid_by : (inputs : List MergeInput) → map (λ (i : MergeInput). LayInput i.input) inputs ≡ map LayInput (map (λ (i : MergeInput). i.input) inputs)
+laid_by [] = refl
+laid_by (i ∷ inputs) = ap (λ steps. LayInput i.input ∷ steps) (laid_by inputs)
+
+pub returns-in_ok-numbers-in-Some-Merge : goal.returns-in_ok-numbers-in-Some-Merge
+returns-in_ok-numbers-in-Some-Merge c =
+    let inputs = c.in-Some-Merge.merge.inputs in
+    let is : c.args.kind.now ≡ Some (kind.Merge c.in-Some-Merge.merge) = search rules in
+    let numbers : c.in_ok-numbers-in-Some-Merge.numbers.items ≡ map (λ (i : MergeInput). i.input) inputs = search rules in
+    ap (λ k. Ok (steps_of k)) is ∙ ap (λ steps. Ok steps) (laid_by inputs ∙ ap (map LayInput) (sym numbers))

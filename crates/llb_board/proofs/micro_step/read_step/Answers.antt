@@ -1,0 +1,15 @@
+use Rattle.std.proofs.Common.{◌≡◌, ◌∷◌, [], refl, sym, ap, ◌∙◌, arith}
+use Rattle.std.specs.Prelude.{Ok, None}
+use Rattle.llb_model.specs.Program.{ReadLocal}
+use Rattle.llb_model.specs.Table.{HasRead}
+use Rattle.llb_board.specs.Rules.{worked}
+use Rattle.llb_board.proofs.Steps.{as_clean, clean, worked_at, read}
+use Rattle.llb_board.proofs.micro_step.read_step.Goals as goal
+
+pub returns-clause-gives : goal.returns-clause-gives
+returns-clause-gives c =
+    let x = c.args.execution.now in
+    let none : x.done ≡ 0 = omega (arith, c.if-execution-gt0.false) in
+    as_clean (ReadLocal ∷ []) x.vertex x.done x.fault x.view c.requires
+    ∙ (λ i. worked (ReadLocal ∷ []) (clean x.vertex (none i) x.view)) ∙ worked_at (ReadLocal ∷ []) x.vertex 0 x.view ReadLocal refl ∙ read x.vertex 0 x.view
+    ∙ (λ i. Ok (record { vertex = x.vertex; done = 1; fault = sym c.requires i; own = x.view }, HasRead))
