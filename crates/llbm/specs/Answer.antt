@@ -6,6 +6,8 @@ use Rattle.llb_tree.specs.Tree.{TreeMap}
 use Rattle.llb_loader.specs.declared.fault.LoadFault.{LoadFault}
 use Rattle.llb_loader.specs.Graph.{Numbered}
 use Rattle.llb_loader.specs.Load.{IsGraphIn, IsRefusalIn}
+use Rattle.llb_loader.specs.Locals.{Local}
+use Rattle.llb_model.specs.State.{missing_local}
 use Rattle.llb_model.specs.declared.fault.VertexFault.{VertexFault}
 use Rattle.llb_model.specs.Program.{Build}
 use Rattle.llb_model.specs.Outcome.{Ended, Failed, outcome, ending_in, output_in}
@@ -14,52 +16,64 @@ use Rattle.llbm.specs.GraphText.{graph_text}
 use Rattle.llbm.specs.declared.words.Command.{Command}
 use Rattle.llbm.specs.declared.words.Command.TheVariants.{Run, Show}
 
--- a run is over a graph, and nothing else
-abbrev pub build_of : Numbered → Build
-build_of g = record { graph = g }
+-- a run is over a graph and the local trees
+abbrev pub build_of : List Local → Numbered → Build
+build_of locals g = record { graph = g; locals = locals }
 
 -- the tree that a graph's result is, by the plain outcome of its vertex: none where that failed or is blocked
-abbrev pub result_of : Numbered → Option TreeMap
-result_of g = output_in (ending_in (outcome (build_of g) g.result.vertex)) g.result.index
+abbrev pub result_of : List Local → Numbered → Option TreeMap
+result_of locals g = output_in (ending_in (outcome (build_of locals g) g.result.vertex)) g.result.index
 
--- bytes that are the definition of a graph whose result is a tree of that text
-pub record Yields (bytes text : List ℕ) : Type 0 where
+-- bytes that are the definition of a graph whose result, on these local trees, is a tree of that text
+pub record Yields (locals : List Local) (bytes text : List ℕ) : Type 0 where
   pub graph : Numbered
   pub loaded : IsGraphIn bytes graph
   pub tree : TreeMap
-  pub result : result_of graph ≡ Some tree
+  pub result : result_of locals graph ≡ Some tree
   pub printed : text ≡ tree_text tree
 
 -- a vertex at or before one fails
-pub record FailsBy (g : Numbered) (v : ℕ) : Type 0 where
+pub record FailsBy (locals : List Local) (g : Numbered) (v : ℕ) : Type 0 where
   pub vertex : ℕ
   pub before : vertex ≤ v
   pub fault : VertexFault
-  pub failed : outcome (build_of g) vertex ≡ Some (Ended (Failed fault))
+  pub failed : outcome (build_of locals g) vertex ≡ Some (Ended (Failed fault))
 
 -- bytes that are the definition of a graph whose result is no tree, since a vertex fails
-pub record YieldsNone (bytes : List ℕ) : Type 0 where
+pub record YieldsNone (locals : List Local) (bytes : List ℕ) : Type 0 where
   pub graph : Numbered
   pub loaded : IsGraphIn bytes graph
-  pub result : result_of graph ≡ None
-  pub fails : FailsBy graph graph.result.vertex
+  pub result : result_of locals graph ≡ None
+  pub fails : FailsBy locals graph graph.result.vertex
 
 -- bytes that are no definition of a graph
 abbrev pub IsRefused : List ℕ → Type 0
 IsRefused bytes = (e : LoadFault) × IsRefusalIn bytes e
 
+-- a local source of a graph has no tree
+abbrev pub Lacks : List Local → Numbered → Type 0
+Lacks locals g = (name : List ℕ) × (missing_local locals g.vertices ≡ Some name)
+
+-- bytes that are the definition of a graph with such a source
+abbrev pub LacksLocal : List Local → List ℕ → Type 0
+LacksLocal locals bytes = (g : Numbered) × IsGraphIn bytes g × Lacks locals g
+
+-- bytes that are no definition of a graph, or of one that lacks a local tree
+abbrev pub IsNotRun : List Local → List ℕ → Type 0
+IsNotRun locals bytes = IsRefused bytes ⊎ LacksLocal locals bytes
+
 -- a front of the text that the bytes yield is out, and no more
-abbrev pub YieldsPart : Option (List ℕ) → Option (List ℕ) → List ℕ → Type 0
-YieldsPart out out' bytes = (text : List ℕ) × Yields bytes text × PartOut out out' text
+abbrev pub YieldsPart : List Local → Option (List ℕ) → Option (List ℕ) → List ℕ → Type 0
+YieldsPart locals out out' bytes = (text : List ℕ) × Yields locals bytes text × PartOut out out' text
 
 -- How a run ends. 0: the text of the result is out, and nothing else. 1: a vertex fails, so that the result is no tree, and nothing is out. 2: the bytes are
--- refused, and nothing is out. 3: a device or memory failed; nothing is out, or a front of the text.
-abbrev pub Runs : Option (List ℕ) → Option (List ℕ) → Option (List ℕ) → ℕ → Type 0
-Runs input out out' status =
-    ((status ≡ 0) × IfSome input (λ bytes. (text : List ℕ) × Yields bytes text × Appends out out' text))
-    ⊎ (((status ≡ 1) × Keeps out out' × IfSome input YieldsNone)
-    ⊎ (((status ≡ 2) × Keeps out out' × IfSome input IsRefused)
-    ⊎ ((status ≡ 3) × (Keeps out out' ⊎ IfSome input (YieldsPart out out')))))
+-- refused, or a local tree is missing, and nothing is out. 3: a device or memory failed; nothing is out, or a front of the text.
+abbrev pub Runs : List Local → Option (List ℕ) → Option (List ℕ) → Option (List ℕ) → ℕ → Type 0
+Runs locals input out out' status =
+    ((status ≡ 0) × IfSome input (λ bytes. (text : List ℕ) × Yields locals bytes text × Appends out out' text))
+    ⊎ (((status ≡ 1) × Keeps out out' × IfSome input (YieldsNone locals))
+    ⊎ (((status ≡ 2) × Keeps out out' × IfSome input (IsNotRun locals))
+    ⊎ ((status ≡ 3) × (Keeps out out' ⊎ IfSome input (YieldsPart locals out out')))))
 
 -- the text of the graph of the bytes is out, and nothing else
 abbrev pub DrawsAll : Option (List ℕ) → Option (List ℕ) → List ℕ → Type 0
@@ -78,6 +92,6 @@ Draws input out out' status =
     ⊎ ((status ≡ 3) × (Keeps out out' ⊎ IfSome input (DrawsPart out out'))))
 
 -- how each command ends
-abbrev pub Performs : Command → Option (List ℕ) → Option (List ℕ) → Option (List ℕ) → ℕ → Type 0
-Performs Run = Runs
-Performs Show = Draws
+abbrev pub Performs : Command → List Local → Option (List ℕ) → Option (List ℕ) → Option (List ℕ) → ℕ → Type 0
+Performs Run locals = Runs locals
+Performs Show locals = Draws

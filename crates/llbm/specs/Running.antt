@@ -5,13 +5,14 @@ use Rattle.llb_wire.specs.Sink.{PartOut}
 use Rattle.llb_tree.specs.Tree.{TreeMap}
 use Rattle.llb_loader.specs.Graph.{Numbered}
 use Rattle.llb_loader.specs.Load.{IsGraphIn}
+use Rattle.llb_loader.specs.Locals.{Local}
 use Rattle.llb_model.specs.Outcome.{outcome}
 use Rattle.llb_model.specs.Run.{StandsPlainly}
 use Rattle.llb_board.specs.Board.{Seen}
 use Rattle.llbm.specs.TreeText.{tree_text}
-use Rattle.llbm.specs.Answer.{build_of, Yields, YieldsNone, IsRefused, YieldsPart, DrawsAll, DrawsPart}
+use Rattle.llbm.specs.Answer.{build_of, Yields, YieldsNone, IsRefused, IsNotRun, YieldsPart, DrawsAll, DrawsPart}
 use Rattle.llbm.specs.declared.fault.ProgramFault.{ProgramFault}
-use Rattle.llbm.specs.declared.fault.ProgramFault.TheVariants.{Refused, Loading, Read, Memory}
+use Rattle.llbm.specs.declared.fault.ProgramFault.TheVariants.{Refused, MissingLocal, Loading, Read, Memory}
 use Rattle.llbm.specs.declared.bounded.ReadFault.{ReadFault}
 use Rattle.llbm.specs.declared.bounded.ReadFault.TheVariants as reading
 use Rattle.llb_ops.specs.declared.fault.OpFault.TheVariants.{OverLimit}
@@ -33,21 +34,22 @@ unread_as reading.Memory = Memory
 -- a fault that refuses the input
 abbrev pub IsRefusal : ProgramFault → Type 0
 IsRefusal (Refused e) = ⊤
+IsRefusal (MissingLocal name) = ⊤
 IsRefusal _ = ⊥
 
 -- a refusal of the input stands only where the input is refused
-abbrev pub TellsRefusal : Option (List ℕ) → ProgramFault → Type 0
-TellsRefusal input e = IsRefusal e → IfSome input IsRefused
+abbrev pub TellsRefusal : (List ℕ → Type 0) → Option (List ℕ) → ProgramFault → Type 0
+TellsRefusal IsSo input e = IsRefusal e → IfSome input IsSo
 
 -- the graph of the input, or why there is none
 abbrev pub Loads : Option (List ℕ) → Result Numbered ProgramFault → Type 0
 Loads input (Ok g) = IfSome input (λ bytes. IsGraphIn bytes g)
-Loads input (Err e) = TellsRefusal input e
+Loads input (Err e) = TellsRefusal IsRefused input e
 
 -- a board on which every vertex of the graph stands as its plain outcome
-pub record IsFinished (g : Numbered) (b : Seen) : Type 0 where
-  pub build : b.build ≡ build_of g
-  pub plain : (v : ℕ) → v < length g.vertices → StandsPlainly (slice_get b.state.statuses v) (outcome (build_of g) v)
+pub record IsFinished (locals : List Local) (g : Numbered) (b : Seen) : Type 0 where
+  pub build : b.build ≡ build_of locals g
+  pub plain : (v : ℕ) → v < length g.vertices → StandsPlainly (slice_get b.state.statuses v) (outcome (build_of locals g) v)
 
 -- a tree is out where there is one
 abbrev pub Shows : Option (List ℕ) → Option (List ℕ) → Option TreeMap → Result Bool ProgramFault → Type 0
@@ -56,12 +58,12 @@ Shows out out' tree (Ok false) = (tree ≡ None) × Keeps out out'
 Shows out out' tree (Err e) = (¬ IsRefusal e) × ((t : TreeMap) × (tree ≡ Some t) × PartOut out out' (tree_text t))
 
 -- the text is out; or the result is no tree, or a fault stands, and at most a front of the text is out
-abbrev pub Answers : {B : Type 0} → Option (List ℕ) → Option (List ℕ) → Option (List ℕ) → Result (Option B) ProgramFault → Type 0
-Answers input out out' (Ok None) = IfSome input (λ bytes. (text : List ℕ) × Yields bytes text × Appends out out' text)
-Answers input out out' (Ok (Some b)) = Keeps out out' × IfSome input YieldsNone
-Answers input out out' (Err e) = (Keeps out out' × TellsRefusal input e) ⊎ ((¬ IsRefusal e) × IfSome input (YieldsPart out out'))
+abbrev pub Answers : {B : Type 0} → List Local → Option (List ℕ) → Option (List ℕ) → Option (List ℕ) → Result (Option B) ProgramFault → Type 0
+Answers locals input out out' (Ok None) = IfSome input (λ bytes. (text : List ℕ) × Yields locals bytes text × Appends out out' text)
+Answers locals input out out' (Ok (Some b)) = Keeps out out' × IfSome input (YieldsNone locals)
+Answers locals input out out' (Err e) = (Keeps out out' × TellsRefusal (IsNotRun locals) input e) ⊎ ((¬ IsRefusal e) × IfSome input (YieldsPart locals out out'))
 
 -- the text of the graph is out; or a fault stands, and at most a front of the text is out
 abbrev pub ShowsIn : Option (List ℕ) → Option (List ℕ) → Option (List ℕ) → Result (Unit {0}) ProgramFault → Type 0
 ShowsIn input out out' (Ok u) = IfSome input (DrawsAll out out')
-ShowsIn input out out' (Err e) = (Keeps out out' × TellsRefusal input e) ⊎ ((¬ IsRefusal e) × IfSome input (DrawsPart out out'))
+ShowsIn input out out' (Err e) = (Keeps out out' × TellsRefusal IsRefused input e) ⊎ ((¬ IsRefusal e) × IfSome input (DrawsPart out out'))

@@ -7,6 +7,7 @@ ghost use Rattle.llbm.specs.Running.{IsRefusal};
 use crate::alone::RunFault;
 use crate::tree_text::PrintFault;
 use llb_loader::LoadFault;
+use llb_wire::Text;
 use std::alloc::AllocError;
 use std::io::Write;
 use thiserror::Error;
@@ -42,6 +43,9 @@ pub enum ProgramFault {
     /// 91: memory was refused while the definition was loaded.
     #[error("91")]
     Loading,
+    /// 121: a local source has no tree; its name.
+    #[error("121 {0}")]
+    MissingLocal(Text),
     /// 123: memory was refused while the board was opened.
     #[error("123")]
     Opening,
@@ -70,7 +74,7 @@ pub fn refusal<E: Write>(fault: &ProgramFault, err: &mut E) -> u8
         return 3;
     }
     match fault {
-        ProgramFault::Refused(_) => 2,
+        ProgramFault::Refused(_) | ProgramFault::MissingLocal(_) => 2,
         _ => 3,
     }
 }

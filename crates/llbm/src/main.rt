@@ -21,6 +21,7 @@ use crate::fault::{ProgramFault, refusal};
 use crate::run::run_over;
 use crate::show::show_over;
 use crate::words::{Command, WordsFault, words_refusal};
+use llb_loader::Locals;
 use std::alloc::Global;
 use std::io::{BufWriter, ErrorKind, Read, Write};
 use std::process::ExitCode;
@@ -40,14 +41,15 @@ fn words_given(rt: &HostRuntime) -> Result<Vec<String>, WordsFault<'static>> {
 fn perform<R: Read, W: Write, E: Write>(
     alloc: Global,
     command: Command,
+    locals: Locals,
     input: &mut R,
     out: &mut W,
     err: &mut E,
 ) -> u8
-    ensures { Performs command (R.remaining input.old) (W.contents out.old) (W.contents out.new) result }
+    ensures { Performs command locals (R.remaining input.old) (W.contents out.old) (W.contents out.new) result }
 {
     match command {
-        Command::Run => run_over(alloc, input, out, err),
+        Command::Run => run_over(alloc, input, out, err, locals),
         Command::Show => show_over(alloc, input, out, err),
     }
 }
@@ -67,5 +69,5 @@ fn main(rt: HostRuntime) -> ExitCode {
     let Ok(mut out) = BufWriter::new(alloc, io::writer(&rt)) else {
         return ExitCode::from(refusal(&ProgramFault::Memory, &mut err));
     };
-    ExitCode::from(perform(alloc, line.command, &mut input, &mut out, &mut err))
+    ExitCode::from(perform(alloc, line.command, Locals::new(alloc), &mut input, &mut out, &mut err))
 }

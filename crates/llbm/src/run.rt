@@ -3,7 +3,8 @@
 ghost use Rattle.std.specs.Prelude.{◌≡◌, IfOk, IfErr};
 ghost use Rattle.llb_model.specs.Outcome.{output_in};
 ghost use Rattle.llb_model.specs.State.{ending_at};
-ghost use Rattle.llbm.specs.Answer.{Runs};
+ghost use Rattle.llb_board.specs.Board.{opened};
+ghost use Rattle.llbm.specs.Answer.{build_of, Lacks, Runs};
 ghost use Rattle.llbm.specs.Output.{PrintsOut};
 ghost use Rattle.llbm.specs.TreeText.{tree_text};
 ghost use Rattle.llbm.specs.Running.{IsFinished, IsRefusal, Shows, Answers};
@@ -12,23 +13,32 @@ use crate::alone::{RunEnd, run_alone};
 use crate::fault::{ProgramFault, refusal};
 use crate::input::loaded;
 use crate::tree_text::{PrintFault, print_tree};
-use llb_board::{Board, Status};
-use llb_loader::{Edge, Graph};
+use llb_board::{Board, OpenFault, Status};
+use llb_loader::{Edge, Graph, Locals};
 use llb_tree::Tree;
 use llb_wire::Over;
 use std::alloc::Global;
 use std::io;
 use std::io::{Read, Write};
 
-// Runs the graph to its end.
-fn finished(alloc: Global, graph: Graph) -> Result<Board, ProgramFault>
-    ensures board { IfOk result (IsFinished graph) }
-    ensures fault { IfErr result (λ e. ¬ IsRefusal e) }
+// A board with one worker, or why there is none.
+fn opened(alloc: Global, graph: Graph, locals: Locals) -> Result<Board, ProgramFault>
+    ensures board { IfOk result (λ b. b ≡ opened (build_of locals graph) (record { workers = 1 })) }
+    ensures fault { IfErr result (λ e. IsRefusal e → Lacks locals graph) }
 {
-    let board = match Board::open(alloc, graph, 1) {
-        Ok(board) => board,
-        Err(_) => return Err(ProgramFault::Opening),
-    };
+    match Board::open(alloc, graph, locals, 1) {
+        Ok(board) => Ok(board),
+        Err(OpenFault::MissingLocal(name, _, _)) => Err(ProgramFault::MissingLocal(name)),
+        Err(_) => Err(ProgramFault::Opening),
+    }
+}
+
+// Runs the graph to its end.
+fn finished(alloc: Global, graph: Graph, locals: Locals) -> Result<Board, ProgramFault>
+    ensures board { IfOk result (IsFinished locals graph) }
+    ensures fault { IfErr result (λ e. IsRefusal e → Lacks locals graph) }
+{
+    let board = opened(alloc, graph, locals)?;
     let RunEnd { board, fault, .. } = run_alone(board);
     match fault {
         None => Ok(board),
@@ -67,13 +77,14 @@ fn answer<R: Read, W: Write>(
     alloc: Global,
     input: &mut R,
     out: &mut W,
+    locals: Locals,
 ) -> Result<Option<Board>, ProgramFault>
-    ensures { Answers (R.remaining input.old) (W.contents out.old) (W.contents out.new) result }
+    ensures { Answers locals (R.remaining input.old) (W.contents out.old) (W.contents out.new) result }
 {
     let graph = loaded(alloc, input)?;
     graph.is_graph();
     let edge = graph.result();
-    let board = finished(alloc, graph)?;
+    let board = finished(alloc, graph, locals)?;
     match print_result(alloc, &board, edge, out) {
         Ok(true) => Ok(None),
         Ok(false) => Ok(Some(board)),
@@ -93,19 +104,21 @@ fn failures<E: Write>(board: &Board, err: &mut E) -> io::Result<()> {
     Ok(())
 }
 
-/// Reads a definition from `input`, runs it with one worker, and writes the text of its result to `out`; refusals and
-/// failures go to `err`, a line each. Answers the exit status: 0 where the whole text is out; 1 where a vertex failed; 2
-/// where the definition is refused; 3 where a read, a write or memory failed. But for 0, nothing is written to `out`,
+/// Reads a definition from `input`, runs it on the local trees with one worker, and writes the text of its result to `out`;
+/// refusals and failures go to `err`, a line each. Answers the exit status: 0 where the whole text is out; 1 where a vertex
+/// failed; 2 where the definition is refused, or a local source has no tree (`fault 121` and its name); 3 where a read, a
+/// write or memory failed. But for 0, nothing is written to `out`,
 /// or, for 3, a front of the text. Reading ends past 67,108,864 bytes (`fault 81 13`) or after 2^27 reads (`fault 181`).
 pub fn run_over<R: Read, W: Write, E: Write>(
     alloc: Global,
     input: &mut R,
     out: &mut W,
     err: &mut E,
+    locals: Locals,
 ) -> u8
-    ensures { Runs (R.remaining input.old) (W.contents out.old) (W.contents out.new) result }
+    ensures { Runs locals (R.remaining input.old) (W.contents out.old) (W.contents out.new) result }
 {
-    match answer(alloc, input, out) {
+    match answer(alloc, input, out, locals) {
         Ok(None) => match out.flush() {
             Ok(()) => 0,
             Err(_) => refusal(&ProgramFault::Print(PrintFault::Write), err),
