@@ -12,6 +12,7 @@ use Rattle.llb_loader.specs.declared.fault.LoadFault.{LoadFault}
 use Rattle.llb_loader.specs.declared.fault.LoadFault.TheVariants.{Definition}
 use Rattle.llb_loader.specs.Faults.{is_memory}
 use Rattle.llb_loader.specs.Graph.{Numbered, IsGraph}
+use Rattle.llb_loader.specs.Locals.{Local}
 use Rattle.llb_loader.specs.Load.{IsGraphIn, IsRefusalIn}
 use Rattle.llb_model.specs.Outcome.{Outcome, outcome, ending_in, output_in}
 use Rattle.llb_model.specs.State.{Status, Waiting, Running, Settled, ending_of, ending_at}
@@ -21,7 +22,7 @@ use Rattle.llbm.specs.declared.fault.ProgramFault.{ProgramFault}
 use Rattle.llbm.specs.declared.fault.ProgramFault.TheVariants.{Refused, Loading, Print}
 use Rattle.llbm.specs.TreeText.{tree_text}
 use Rattle.llbm.specs.GraphText.{graph_text}
-use Rattle.llbm.specs.Answer.{build_of, result_of, FailsBy, Yields, YieldsNone, IsRefused, YieldsPart, DrawsPart}
+use Rattle.llbm.specs.Answer.{build_of, result_of, FailsBy, Yields, YieldsNone, IsRefused, Lacks, IsNotRun, YieldsPart, DrawsPart}
 use Rattle.llbm.specs.Answer.{Runs}
 use Rattle.llb_model.proofs.Outcomes.{result_failed}
 use Rattle.llbm.specs.Running.{passed_on, unread_as, IsRefusal, TellsRefusal, IsFinished, Shows, Answers}
@@ -67,28 +68,28 @@ by_stand (Some (Running w)) p i h = absurd h
 by_stand None p i h = absurd h
 
 -- on a finished board the result's output is the graph's result
-pub result_is : (g : Numbered) → IsGraph g → (b : Seen) → IsFinished g b → output_in (ending_at b.state.statuses g.result.vertex) g.result.index ≡ result_of g
-result_is g graph b fin = by_stand (slice_get b.state.statuses g.result.vertex) (outcome (build_of g) g.result.vertex) g.result.index (fin.plain g.result.vertex graph.result.lower)
+pub result_is : (ls : List Local) (g : Numbered) → IsGraph g → (b : Seen) → IsFinished ls g b → output_in (ending_at b.state.statuses g.result.vertex) g.result.index ≡ result_of ls g
+result_is ls g graph b fin = by_stand (slice_get b.state.statuses g.result.vertex) (outcome (build_of ls g) g.result.vertex) g.result.index (fin.plain g.result.vertex graph.result.lower)
 
-module _ (left : Option (List ℕ)) (g : Numbered) (graph : IsGraph g) (b : Seen) (fin : IsFinished g b) (loads : IfSome left (λ bytes. IsGraphIn bytes g)) where
-  yields : (bytes : List ℕ) → IsGraphIn bytes g → (t : TreeMap) → output_in (ending_at b.state.statuses g.result.vertex) g.result.index ≡ Some t → Yields bytes (tree_text t)
-  yields bytes loaded t is = record { graph = g; loaded = loaded; tree = t; result = sym (result_is g graph b fin) ∙ is; printed = refl }
+module _ (ls : List Local) (left : Option (List ℕ)) (g : Numbered) (graph : IsGraph g) (b : Seen) (fin : IsFinished ls g b) (loads : IfSome left (λ bytes. IsGraphIn bytes g)) where
+  yields : (bytes : List ℕ) → IsGraphIn bytes g → (t : TreeMap) → output_in (ending_at b.state.statuses g.result.vertex) g.result.index ≡ Some t → Yields ls bytes (tree_text t)
+  yields bytes loaded t is = record { graph = g; loaded = loaded; tree = t; result = sym (result_is ls g graph b fin) ∙ is; printed = refl }
 
   pub answers_text : (out out' : Option (List ℕ)) (t : TreeMap) → output_in (ending_at b.state.statuses g.result.vertex) g.result.index ≡ Some t → Appends out out' (tree_text t)
-      → IfSome left (λ bytes. (text : List ℕ) × Yields bytes text × Appends out out' text)
-  answers_text out out' t is app = some_map (λ bytes. IsGraphIn bytes g) (λ bytes. (text : List ℕ) × Yields bytes text × Appends out out' text) left (λ bytes loaded. (tree_text t, yields bytes loaded t is, app)) loads
+      → IfSome left (λ bytes. (text : List ℕ) × Yields ls bytes text × Appends out out' text)
+  answers_text out out' t is app = some_map (λ bytes. IsGraphIn bytes g) (λ bytes. (text : List ℕ) × Yields ls bytes text × Appends out out' text) left (λ bytes loaded. (tree_text t, yields bytes loaded t is, app)) loads
 
-  pub answers_part : (out out' : Option (List ℕ)) (t : TreeMap) → output_in (ending_at b.state.statuses g.result.vertex) g.result.index ≡ Some t → PartOut out out' (tree_text t) → IfSome left (YieldsPart out out')
-  answers_part out out' t is part = some_map (λ bytes. IsGraphIn bytes g) (YieldsPart out out') left (λ bytes loaded. (tree_text t, yields bytes loaded t is, part)) loads
+  pub answers_part : (out out' : Option (List ℕ)) (t : TreeMap) → output_in (ending_at b.state.statuses g.result.vertex) g.result.index ≡ Some t → PartOut out out' (tree_text t) → IfSome left (YieldsPart ls out out')
+  answers_part out out' t is part = some_map (λ bytes. IsGraphIn bytes g) (YieldsPart ls out out') left (λ bytes loaded. (tree_text t, yields bytes loaded t is, part)) loads
 
-  pub answers_none : output_in (ending_at b.state.statuses g.result.vertex) g.result.index ≡ None → IfSome left YieldsNone
-  answers_none none = some_map (λ bytes. IsGraphIn bytes g) YieldsNone left (λ bytes loaded. record { graph = g; loaded = loaded; result = no_tree; fails = fails }) loads
+  pub answers_none : output_in (ending_at b.state.statuses g.result.vertex) g.result.index ≡ None → IfSome left (YieldsNone ls)
+  answers_none none = some_map (λ bytes. IsGraphIn bytes g) (YieldsNone ls) left (λ bytes loaded. record { graph = g; loaded = loaded; result = no_tree; fails = fails }) loads
     where
-      no_tree : result_of g ≡ None
-      no_tree = sym (result_is g graph b fin) ∙ none
+      no_tree : result_of ls g ≡ None
+      no_tree = sym (result_is ls g graph b fin) ∙ none
 
-      fails : FailsBy g g.result.vertex
-      fails = let f = result_failed (build_of g) graph no_tree in record { vertex = f.vertex; before = f.before; fault = f.fault; failed = f.failed }
+      fails : FailsBy ls g g.result.vertex
+      fails = let f = result_failed (build_of ls g) graph no_tree in record { vertex = f.vertex; before = f.before; fault = f.fault; failed = f.failed }
 
 -- ---- what the parts answered, where the answer is known
 
@@ -105,15 +106,15 @@ too_long : (left left' : Option (List ℕ)) (r : Result (Vec ℕ Global) ReadFau
 too_long left left' r e is same reads =
     let h : ReadsAll 67108864 134217728 left left' (Err TooLong) = subst (ReadsAll 67108864 134217728 left left') (is ∙ ap read_err same) reads in h
 
-by_fault : (left left' : Option (List ℕ)) (r : Result (Vec ℕ Global) ReadFault) (e : ReadFault) → r ≡ Err e → ReadsAll 67108864 134217728 left left' r → TellsRefusal left (unread_as e)
+by_fault : (left left' : Option (List ℕ)) (r : Result (Vec ℕ Global) ReadFault) (e : ReadFault) → r ≡ Err e → ReadsAll 67108864 134217728 left left' r → TellsRefusal IsRefused left (unread_as e)
 by_fault left left' r TooLong is reads = λ _. some_map (λ xs. 67108864 < length xs) IsRefused left refuses_long (too_long left left' r TooLong is refl reads)
 by_fault left left' r (Failed kind) is reads = λ h. absurd h
 by_fault left left' r (Unending interrupted) is reads = λ h. absurd h
 by_fault left left' r reading.Memory is reads = λ h. absurd h
 
 -- a refusal of what was not read stands
-pub tells_unread : (left left' : Option (List ℕ)) (r : Result (Vec ℕ Global) ReadFault) (e : ReadFault) (p : ProgramFault) → r ≡ Err e → p ≡ unread_as e → ReadsAll 67108864 134217728 left left' r → TellsRefusal left p
-tells_unread left left' r e p is same reads = subst (TellsRefusal left) (sym same) (by_fault left left' r e is reads)
+pub tells_unread : (left left' : Option (List ℕ)) (r : Result (Vec ℕ Global) ReadFault) (e : ReadFault) (p : ProgramFault) → r ≡ Err e → p ≡ unread_as e → ReadsAll 67108864 134217728 left left' r → TellsRefusal IsRefused left p
+tells_unread left left' r e p is same reads = subst (TellsRefusal IsRefused left) (sym same) (by_fault left left' r e is reads)
 
 pub all_read : (left left' : Option (List ℕ)) (r : Result (Vec ℕ Global) ReadFault) (bytes : Vec ℕ Global) → r ≡ Ok bytes → ReadsAll 67108864 134217728 left left' r → IfSome left (λ xs. bytes.items ≡ xs)
 all_read left left' r bytes is reads =
@@ -127,25 +128,25 @@ pub shows_false : (out out' : Option (List ℕ)) (tree : Option TreeMap) (b : Bo
 shows_false out out' tree b same shows =
     let h : Shows out out' tree (Ok false) = subst (λ x. Shows out out' tree (Ok x)) same shows in h
 
-pub answer_done : {B : Type 0} (left out out' : Option (List ℕ)) (r : Result (Option B) ProgramFault) (o : Option B) → r ≡ Ok o → o ≡ None → Answers left out out' r → IfSome left (λ bytes. (text : List ℕ) × Yields bytes text × Appends out out' text)
-answer_done {B} left out out' r o is same answers =
-    let h : Answers {B = B} left out out' (Ok None) = subst (Answers left out out') (is ∙ ap answer_ok same) answers in h
+pub answer_done : {B : Type 0} (ls : List Local) (left out out' : Option (List ℕ)) (r : Result (Option B) ProgramFault) (o : Option B) → r ≡ Ok o → o ≡ None → Answers ls left out out' r → IfSome left (λ bytes. (text : List ℕ) × Yields ls bytes text × Appends out out' text)
+answer_done {B} ls left out out' r o is same answers =
+    let h : Answers {B = B} ls left out out' (Ok None) = subst (Answers ls left out out') (is ∙ ap answer_ok same) answers in h
 
 -- ---- a whole run
 
-pub run_done : (left out out' last : Option (List ℕ)) → IfSome left (λ bytes. (text : List ℕ) × Yields bytes text × Appends out out' text) → Keeps out' last → Runs left out last 0
-run_done left out out' last done keeps =
+pub run_done : (ls : List Local) (left out out' last : Option (List ℕ)) → IfSome left (λ bytes. (text : List ℕ) × Yields ls bytes text × Appends out out' text) → Keeps out' last → Runs ls left out last 0
+run_done ls left out out' last done keeps =
     inl (
       refl,
-      some_map (λ bytes. (text : List ℕ) × Yields bytes text × Appends out out' text) (λ bytes. (text : List ℕ) × Yields bytes text × Appends out last text) left
+      some_map (λ bytes. (text : List ℕ) × Yields ls bytes text × Appends out out' text) (λ bytes. (text : List ℕ) × Yields ls bytes text × Appends out last text) left
           (λ bytes y. (y.0, y.1, Appends-kept out out' last y.0 y.2 keeps)) done,
     )
 
-pub run_unflushed : (left out out' last : Option (List ℕ)) (status : ℕ) → IfSome left (λ bytes. (text : List ℕ) × Yields bytes text × Appends out out' text) → Keeps out' last → status ≡ 3 → Runs left out last status
-run_unflushed left out out' last status done keeps three =
+pub run_unflushed : (ls : List Local) (left out out' last : Option (List ℕ)) (status : ℕ) → IfSome left (λ bytes. (text : List ℕ) × Yields ls bytes text × Appends out out' text) → Keeps out' last → status ≡ 3 → Runs ls left out last status
+run_unflushed ls left out out' last status done keeps three =
     inr (inr (inr (
       three,
-      inr (some_map (λ bytes. (text : List ℕ) × Yields bytes text × Appends out out' text) (YieldsPart out last) left
+      inr (some_map (λ bytes. (text : List ℕ) × Yields ls bytes text × Appends out out' text) (YieldsPart ls out last) left
           (λ bytes y. (y.0, y.1, (y.0, [], sym (append-nil y.0), Appends-kept out out' last y.0 y.2 keeps))) done),
     )))
 
@@ -160,3 +161,14 @@ pub drawn_unflushed : (left out out' last : Option (List ℕ)) (g : Numbered) �
 drawn_unflushed left out out' last g loads whole keeps =
     some_map (λ bytes. IsGraphIn bytes g) (DrawsPart out last) left
     (λ bytes loaded. (g, loaded, (graph_text g, [], sym (append-nil (graph_text g)), Appends-kept out out' last (graph_text g) whole keeps))) loads
+
+-- ---- a definition that is not run
+
+-- what is refused is not run
+pub tells_not_run : (ls : List Local) (left : Option (List ℕ)) (e : ProgramFault) → TellsRefusal IsRefused left e → TellsRefusal (IsNotRun ls) left e
+tells_not_run ls left e tells h = some_map IsRefused (IsNotRun ls) left (λ bytes refused. inl refused) (tells h)
+
+-- nor is what lacks a local tree
+pub tells_lacks : (ls : List Local) (left : Option (List ℕ)) (g : Numbered) (e : ProgramFault) → IfSome left (λ bytes. IsGraphIn bytes g) → (IsRefusal e → Lacks ls g)
+    → TellsRefusal (IsNotRun ls) left e
+tells_lacks ls left g e loads lacks h = some_map (λ bytes. IsGraphIn bytes g) (IsNotRun ls) left (λ bytes loaded. inr (g, loaded, lacks h)) loads

@@ -14,7 +14,7 @@ returns-in-Ok-true g c =
     let b = c.in_ok-board.board in
     let edge = c.result-edge.result in
     let s = shows_true out last (output_in (ending_at b.state.statuses edge.vertex) edge.index) c.print_result.result c.in-Ok-true.field-0 c.in-Ok-true.is c.in-Ok-true.field-0-test c.print_result.ensures in
-    answers_text left c.in_ok-graph.graph c.is_graph.ensures b c.in_ok-board.ensures.board c.in_ok-graph.ensures out last s.0
+    answers_text c.args.locals left c.in_ok-graph.graph c.is_graph.ensures b c.in_ok-board.ensures.board c.in_ok-graph.ensures out last s.0
     (subst (λ (e : Edge). output_in (ending_at b.state.statuses e.vertex) e.index ≡ Some s.0) c.result-edge.ensures s.1) s.2
 
 pub returns-in-Err : goal.returns-in-Err
@@ -26,7 +26,7 @@ returns-in-Err g c =
     let s = c.in-Err.ensures in
     inr (
       s.0,
-      answers_part left c.in_ok-graph.graph c.is_graph.ensures b c.in_ok-board.ensures.board c.in_ok-graph.ensures out last s.1.0
+      answers_part c.args.locals left c.in_ok-graph.graph c.is_graph.ensures b c.in_ok-board.ensures.board c.in_ok-graph.ensures out last s.1.0
           (subst (λ (e : Edge). output_in (ending_at b.state.statuses e.vertex) e.index ≡ Some s.1.0) c.result-edge.ensures s.1.1) s.1.2,
     )
 
@@ -36,6 +36,6 @@ returns-in-Ok-false g c =
     let b = c.in_ok-board.board in
     let s = shows_false (g.W.Write.contents c.args.out.now) (g.W.Write.contents c.print_result.new.out) (output_in (ending_at b.state.statuses c.result-edge.result.vertex) c.result-edge.result.index) c.in-Ok-false.field-0 c.in-Ok-false.field-0-test c.in-Ok-false.ensures in (
       s.1,
-      answers_none left c.in_ok-graph.graph c.is_graph.ensures b c.in_ok-board.ensures.board c.in_ok-graph.ensures
+      answers_none c.args.locals left c.in_ok-graph.graph c.is_graph.ensures b c.in_ok-board.ensures.board c.in_ok-graph.ensures
           (subst (λ (e : Edge). output_in (ending_at b.state.statuses e.vertex) e.index ≡ None) c.result-edge.ensures s.0),
     )
