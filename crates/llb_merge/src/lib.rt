@@ -1,8 +1,0 @@
-//! One tree laid over another.
-#![tactic(auto)]
-
-mod laying;
-mod memory;
-
-pub use laying::lay;
-pub use memory::Memory;
