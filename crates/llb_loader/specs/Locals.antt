@@ -1,5 +1,5 @@
 -- Local sources: the name of each, and the trees that are given under names.
-use Rattle.std.specs.Prelude.{ℕ, cond, nat_eq, List, length, drop, Option, Some, None, codes}
+use Rattle.std.specs.Prelude.{ℕ, cond, nat_eq, List, length, map, drop, Option, Some, None, String, string_bytes, codes}
 use Rattle.std.specs.List.{starts_with}
 use Rattle.std.specs.Map.{lookup}
 use Rattle.std.specs.Str.{bytes_eq}
@@ -31,6 +31,10 @@ local_name op = kind_name op.kind
 -- a name and its tree
 abbrev pub Local : Type 0
 Local = List ℕ × TreeMap
+
+-- a map of trees by its entries
+unfoldable pub locals_of : {Z : Type 0} → List (String Z × TreeMap) → List Local
+locals_of entries = map (λ e. (string_bytes e.0, e.1)) entries
 
 -- the tree of a name: the first that is given under it
 abbrev pub tree_of_local : List Local → List ℕ → Option TreeMap

@@ -1,6 +1,7 @@
 //! The trees of local sources, by name, in the order in which the names were first given.
 
-ghost use Rattle.std.specs.Prelude.{◌≡◌, [], OnOk, OnErr, option_map};
+ghost use Rattle.std.specs.Prelude.{◌≡◌, ℕ, List, [], Some, cond, OnOk, OnErr, option_map};
+ghost use Rattle.std.specs.Str.{bytes_eq};
 ghost use Rattle.llb_loader.specs.Locals.{tree_of_local, with_local};
 
 use crate::fault::Memory;
@@ -17,21 +18,21 @@ pub struct Locals {
 }
 
 impl Model for Locals {
-    ghost use Rattle.std.specs.Prelude.{List, map};
+    ghost use Rattle.std.specs.Prelude.{List};
     ghost use Rattle.std.specs.Coded.{codes};
-    ghost use Rattle.std.specs.String.{string_bytes};
     ghost use Rattle.llb_tree.specs.Tree.{coded_tree};
-    ghost use Rattle.llb_loader.specs.Locals.{Local};
+    ghost use Rattle.llb_loader.specs.Locals.{Local, locals_of};
 
     ghost Value = { List Local };
 
     ghost coded = { Prim.hlevel (codes, coded_tree) };
 
-    ghost view = { λ l. map (λ e. (string_bytes e.0, e.1)) l.trees.entries };
+    ghost view = { λ l. locals_of l.trees.entries };
 }
 
 impl Locals {
     /// No trees.
+    #[tactic(auto, unfolding(crate::specs::Locals::locals_of))]
     pub fn new(alloc: Global) -> Locals
         ensures { result ≡ [] }
     {
@@ -43,8 +44,10 @@ impl Locals {
     /// Gives a tree under a name: in the place of the one that the name had, or else behind all others.
     ///
     /// `Memory` (92) where memory is refused.
+    #[tactic(auto, using(crate::proofs::Trees::locals_added, crate::proofs::Trees::last_given))]
     pub fn add(&mut self, name: Text, tree: Tree) -> Result<(), Memory>
         ensures ok { OnOk result (self.new ≡ with_local self.old name tree) }
+        ensures last { OnOk result ((other : List ℕ) → tree_of_local self.new other ≡ cond (bytes_eq name other) (Some tree) (tree_of_local self.old other)) }
         ensures err { OnErr result (self.new ≡ self.old) }
     {
         self.trees.insert(name.into_string(), tree)?;

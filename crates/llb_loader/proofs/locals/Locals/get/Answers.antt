@@ -1,8 +1,8 @@
-use Rattle.std.proofs.Common.{◌∙◌, ap}
-use Rattle.std.specs.Map.{lookup}
-use Rattle.std.specs.Str.{bytes_eq}
-use Rattle.llb_loader.proofs.Trees.{lookup_named}
+use Rattle.std.proofs.Common.{◌∙◌, ap, List}
+use Rattle.llb_loader.specs.Locals.{Local, tree_of_local}
+use Rattle.llb_loader.proofs.Trees.{locals_found}
 use Rattle.llb_loader.proofs.locals.Locals.get.Goals as goal
 
 pub returns : goal.returns
-returns c = c.get.ensures.value ∙ lookup_named c.args.name.now c.self.inside.trees.entries ∙ ap (lookup (bytes_eq c.args.name.now)) c.self.view_is
+returns c =
+    c.get.ensures.value ∙ locals_found c.args.name.now c.self.inside.trees.entries ∙ ap (λ (ls : List Local). tree_of_local ls c.args.name.now) c.self.view_is
