@@ -1,6 +1,6 @@
 -- A view as the list of its mounts: what makes such a list a view, the mount of a number, and the one change of a view,
 -- which is that of a mount's tree.
-use Rattle.std.specs.Prelude.{◌≡◌, ◌≢◌, ℕ, ◌<◌, ◌^◌, false, List, [], map, length, slice_index_or, slice_set, Contains, AllPairs}
+use Rattle.std.specs.Prelude.{◌≢◌, ℕ, ◌<◌, ◌^◌, false, List, [], map, length, slice_index_or, slice_set, Contains, AllPairs}
 use Rattle.llb_tree.specs.Tree.{TreeMap, empty_tree}
 use Rattle.llb_mount.specs.declared.shown.Shown.{Shown}
 

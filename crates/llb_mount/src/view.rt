@@ -65,8 +65,8 @@ impl View {
         let names = path.names();
         let mut number = 0;
         let mut dropped = 0;
-        for i in 0..self.mounts.len() {
-            let dest = self.mounts[i].dest.names();
+        for (i, shown) in self.mounts.iter().enumerate() {
+            let dest = shown.dest.names();
             if dest.len() >= dropped && names.starts_with(dest) {
                 number = i;
                 dropped = dest.len();
