@@ -69,11 +69,12 @@ found mounts path number dropped view (inl w) =
     absurd (true≢false (sym (ap (λ d. is_within d path) here) ∙ w.none k (omega (arith, length-map mounts (λ (m : Shown). m.dest), below))))
 found mounts path number dropped view (inr w) =
     record {
-    there = w.before;
-    prefix = w.prefix;
-    dropped = w.names;
-    longest = λ k d below is. let same = ap (λ (m : Shown). m.dest) (get_or_default mounts k d no_mount below) in
-    subst (λ d. length d ≤ dropped) (sym same) (w.most k below (sym (ap (λ d. is_within d path) same) ∙ is)) }
+      there = w.before;
+      prefix = w.prefix;
+      dropped = w.names;
+      longest = λ k d below is. let same = ap (λ (m : Shown). m.dest) (get_or_default mounts k d no_mount below) in
+          subst (λ d. length d ≤ dropped) (sym same) (w.most k below (sym (ap (λ d. is_within d path) same) ∙ is));
+    }
 
 -- a dest that is a prefix has no more names than the longest
 no_longer : (ds : List (List (List ℕ))) (path : List (List ℕ)) (k : ℕ) → k < length ds → is_within (get_or ds k []) path ≡ true → length (get_or ds k []) ≤ longest ds path

@@ -1,13 +1,13 @@
 //! The view. Contracts see the list of its mounts, in the order in which they were given; a mount's number is its place in
 //! it. The dests never change, so that one of them is the root and no two are the same from `make` on.
 
-ghost use Rattle.std.specs.Prelude.{◌≡◌, ℕ, ◌<◌, ◌≤◌, List, length, IfOk, IfErr, OnOk, OnErr, is_err};
-ghost use Rattle.llb_mount.specs.View.{IsView, mount_at, with_tree_of};
+ghost use Rattle.std.specs.Prelude.{◌≡◌, ◌≢◌, ◌↔◌, IsTrue, ℕ, ◌<◌, ◌≤◌, List, length, IfOk, IfErr, OnOk, OnErr, is_err, Contains, AllPairs};
+ghost use Rattle.llb_mount.specs.View.{IsView, dests, mount_at, with_tree_of};
 ghost use Rattle.llb_mount.specs.Route.{IsRoute, route};
 
 use crate::fault::{Memory, ReadOnly};
 use crate::shown::Shown;
-use llb_tree::{Path, Tree};
+use llb_tree::{Name, Path, Tree};
 use llb_wire::Many;
 use std::marker::Model;
 use std::mem;
@@ -34,7 +34,45 @@ impl Model for View {
     ghost invariant = { λ v. IsView v.mounts.items };
 }
 
+// Whether a mount is at the dest of these names.
+fn is_taken(mounts: &[Shown], names: &[Name]) -> bool
+    ensures { IsTrue result ↔ Contains (dests mounts.now) names.now }
+{
+    for shown in mounts {
+        if shown.dest.names() == names {
+            return true;
+        }
+    }
+    false
+}
+
+// Whether no two mounts are at one dest.
+fn all_differ(mounts: &[Shown]) -> bool
+    ensures { IsTrue result ↔ AllPairs (λ d e. d ≢ e) (dests mounts.now) }
+{
+    for i in 0..mounts.len() {
+        let (before, _) = mounts.split_at(i);
+        if is_taken(before, mounts[i].dest.names()) {
+            return false;
+        }
+    }
+    true
+}
+
 impl View {
+    /// Whether a view can be made of these mounts. Takes no memory, and time in the square of their number.
+    pub fn can_make(mounts: &[Shown]) -> bool
+        ensures { IsTrue result ↔ IsView mounts.now }
+    {
+        if mounts.len() > u32::MAX as usize {
+            return false;
+        }
+        if !is_taken(mounts, &[]) {
+            return false;
+        }
+        all_differ(mounts)
+    }
+
     /// The view of these mounts, numbered from 0 in their order: one dest is the root, no two are the same, and there are
     /// less than 2^32. 62 `Memory`.
     pub fn make(mounts: Many<Shown>) -> Result<View, Memory>
