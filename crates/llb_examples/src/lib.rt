@@ -11,6 +11,8 @@ mod glob;
 #[cfg(test)]
 mod loader;
 #[cfg(test)]
+mod mount;
+#[cfg(test)]
 mod ops;
 #[cfg(test)]
 mod subtrees;
