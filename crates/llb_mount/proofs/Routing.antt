@@ -10,7 +10,7 @@ use Rattle.std.specs.Cmp.Lexicographic.{pointwise, pointwise_decides, bytes_deci
 use Rattle.llb_tree.specs.Path.{is_within}
 use Rattle.llb_mount.specs.declared.shown.Shown.{Shown}
 use Rattle.llb_mount.specs.View.{dests, IsView, mount_at, no_mount}
-use Rattle.llb_mount.specs.Route.{longest, number_of, route, IsRoute}
+use Rattle.llb_mount.specs.Route.{greatest_length, number_of, route, IsRoute}
 
 -- none of the first mounts has a dest that is a prefix
 pub record HasNone (mounts : List Shown) (path : List (List ℕ)) (i dropped : ℕ) : Type 0 where
@@ -77,23 +77,23 @@ found mounts path number dropped view (inr w) =
     }
 
 -- a dest that is a prefix has no more names than the longest
-no_longer : (ds : List (List (List ℕ))) (path : List (List ℕ)) (k : ℕ) → k < length ds → is_within (get_or ds k []) path ≡ true → length (get_or ds k []) ≤ longest ds path
+no_longer : (ds : List (List (List ℕ))) (path : List (List ℕ)) (k : ℕ) → k < length ds → is_within (get_or ds k []) path ≡ true → length (get_or ds k []) ≤ greatest_length ds path
 no_longer [] path k below is = absurd (omega arith)
-no_longer (d ∷ ds) path zero below is = subst (λ b. length d ≤ cond b (max (length d) (longest ds path)) (longest ds path)) (sym is) (le-max_left (length d) (longest ds path))
+no_longer (d ∷ ds) path zero below is = subst (λ b. length d ≤ cond b (max (length d) (greatest_length ds path)) (greatest_length ds path)) (sym is) (le-max_left (length d) (greatest_length ds path))
 no_longer (d ∷ ds) path (suc k) below is =
     let rest = no_longer ds path k (omega arith) is in
     go (is_within d path) rest
   where
-    go : (b : Bool) → length (get_or ds k []) ≤ longest ds path → length (get_or ds k []) ≤ cond b (max (length d) (longest ds path)) (longest ds path)
-    go true rest = omega (arith, le-max_right (length d) (longest ds path))
+    go : (b : Bool) → length (get_or ds k []) ≤ greatest_length ds path → length (get_or ds k []) ≤ cond b (max (length d) (greatest_length ds path)) (greatest_length ds path)
+    go true rest = omega (arith, le-max_right (length d) (greatest_length ds path))
     go false rest = rest
 
 -- a bound on the lengths of those that are prefixes bounds the longest
-longest_within : (ds : List (List (List ℕ))) (path : List (List ℕ)) (n : ℕ) → All (λ d. is_within d path ≡ true → length d ≤ n) ds → longest ds path ≤ n
-longest_within [] path n all = omega arith
-longest_within (d ∷ ds) path n all = go (is_within d path) refl (longest_within ds path n (All-tail (λ d. is_within d path ≡ true → length d ≤ n) d ds all))
+length_within : (ds : List (List (List ℕ))) (path : List (List ℕ)) (n : ℕ) → All (λ d. is_within d path ≡ true → length d ≤ n) ds → greatest_length ds path ≤ n
+length_within [] path n all = omega arith
+length_within (d ∷ ds) path n all = go (is_within d path) refl (length_within ds path n (All-tail (λ d. is_within d path ≡ true → length d ≤ n) d ds all))
   where
-    go : (b : Bool) → is_within d path ≡ b → longest ds path ≤ n → cond b (max (length d) (longest ds path)) (longest ds path) ≤ n
+    go : (b : Bool) → is_within d path ≡ b → greatest_length ds path ≤ n → cond b (max (length d) (greatest_length ds path)) (greatest_length ds path) ≤ n
     go true is rest = max-le (all 0 d (omega arith) is) rest
     go false is rest = rest
 
@@ -123,17 +123,17 @@ route_is mounts path view to is = λ i. (numbers i, names i)
     all : All (λ d. is_within d path ≡ true → length d ≤ to.1) (dests mounts)
     all = All-map (λ d. is_within d path ≡ true → length d ≤ to.1) (λ (m : Shown). m.dest) mounts is.longest
 
-    names : to.1 ≡ longest (dests mounts) path
-    names = omega (arith, long, no_longer (dests mounts) path to.0 in_range prefix, longest_within (dests mounts) path to.1 all)
+    names : to.1 ≡ greatest_length (dests mounts) path
+    names = omega (arith, long, no_longer (dests mounts) path to.0 in_range prefix, length_within (dests mounts) path to.1 all)
 
-    front : get_or (dests mounts) to.0 [] ≡ take (longest (dests mounts) path) path
+    front : get_or (dests mounts) to.0 [] ≡ take (greatest_length (dests mounts) path) path
     front = front_is (get_or (dests mounts) to.0 []) path prefix ∙ ap (λ n. take n path) (long ∙ names)
 
     test : List (List ℕ) → Bool
-    test d = pointwise (pointwise nat_eq) d (take (longest (dests mounts) path) path)
+    test d = pointwise (pointwise nat_eq) d (take (greatest_length (dests mounts) path) path)
 
-    decides : (d : List (List ℕ)) → (test d ≡ true) ↔ (d ≡ take (longest (dests mounts) path) path)
-    decides d = pointwise_decides bytes_decides d (take (longest (dests mounts) path) path)
+    decides : (d : List (List ℕ)) → (test d ≡ true) ↔ (d ≡ take (greatest_length (dests mounts) path) path)
+    decides d = pointwise_decides bytes_decides d (take (greatest_length (dests mounts) path) path)
 
     before : (k : ℕ) → k < to.0 → test (get_or (dests mounts) k []) ≡ false
     before k below = go (test (get_or (dests mounts) k [])) refl
@@ -142,5 +142,5 @@ route_is mounts path view to is = λ i. (numbers i, names i)
         go true passes = absurd (view.differ k to.0 [] below in_range ((decides (get_or (dests mounts) k [])).0 passes ∙ sym front))
         go false fails = refl
 
-    numbers : to.0 ≡ number_of (dests mounts) (take (longest (dests mounts) path) path)
+    numbers : to.0 ≡ number_of (dests mounts) (take (greatest_length (dests mounts) path) path)
     numbers = sym (position_or_len_is test (dests mounts) to.0 [] (omega (arith, in_range)) before (λ _. (decides (get_or (dests mounts) to.0 [])).1 front))

@@ -7,18 +7,18 @@ use Rattle.llb_tree.specs.Path.{is_within}
 use Rattle.llb_mount.specs.declared.shown.Shown.{Shown}
 use Rattle.llb_mount.specs.View.{dests, mount_at}
 
--- how many names the longest of the dests has that are prefixes of a path
-abbrev pub longest : List (List (List ℕ)) → List (List ℕ) → ℕ
-longest [] path = 0
-longest (d ∷ ds) path = if is_within d path then max (length d) (longest ds path) else longest ds path
+-- the greatest length, in names, of the dests that are prefixes of a path
+abbrev pub greatest_length : List (List (List ℕ)) → List (List ℕ) → ℕ
+greatest_length [] path = 0
+greatest_length (d ∷ ds) path = if is_within d path then max (length d) (greatest_length ds path) else greatest_length ds path
 
--- the first of the dests that is this path
+-- the place of the first of the dests that is this path
 abbrev pub number_of : List (List (List ℕ)) → List (List ℕ) → ℕ
 number_of ds path = position_or_len (λ d. pointwise (pointwise nat_eq) d path) ds
 
 -- the number of the mount with the longest dest that is a prefix of a path, and how many names that dest has
 abbrev pub route : List Shown → List (List ℕ) → ℕ × ℕ
-route mounts path = let n = longest (dests mounts) path in (number_of (dests mounts) (take n path), n)
+route mounts path = let n = greatest_length (dests mounts) path in (number_of (dests mounts) (take n path), n)
 
 -- the mount's dest is a prefix of the path and has so many names, and no other that is a prefix has more
 pub record IsRoute (mounts : List Shown) (path : List (List ℕ)) (to : ℕ × ℕ) : Type 0 where

@@ -7,7 +7,7 @@ use crate::fault::Memory;
 use llb_tree::{Path, Tree};
 
 /// A tree that is shown at a dest: what is below the dest is looked up in the tree below the selector, which need not be
-/// there. Only the tree of a mount that is not read-only is changed.
+/// there. `View::set_tree` refuses a read-only mount.
 #[derive(Drop)]
 pub struct Shown {
     pub dest: Path,

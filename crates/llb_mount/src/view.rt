@@ -60,7 +60,8 @@ fn all_differ(mounts: &[Shown]) -> bool
 }
 
 impl View {
-    /// Whether a view can be made of these mounts. Takes no memory, and time in the square of their number.
+    /// Whether a view can be made of these mounts: one dest is the root, no two are the same, and there are less than 2^32.
+    /// Takes no memory, and time in the square of their number.
     pub fn can_make(mounts: &[Shown]) -> bool
         ensures { IsTrue result ↔ IsView mounts.now }
     {
@@ -73,8 +74,7 @@ impl View {
         all_differ(mounts)
     }
 
-    /// The view of these mounts, numbered from 0 in their order: one dest is the root, no two are the same, and there are
-    /// less than 2^32. 62 `Memory`.
+    /// The view of these mounts, of which it can be made (`can_make`), numbered from 0 in their order; 62 `Memory`.
     pub fn make(mounts: Many<Shown>) -> Result<View, Memory>
         requires { IsView mounts }
         ensures { IfOk result (λ v. v ≡ mounts) }

@@ -19,17 +19,23 @@ is_route c =
     (subst (λ n. SoFar c.deref-shown-items.result.now c.args.path.now n c.loop-i.number c.loop-i.dropped) ended c.loop-i.invariant))
 
 pub overflow_cast-result : goal.overflow_cast-result
-overflow_cast-result c = Fits-of_lt (omega (arith, (is_route c).there, (is_view c).few))
+overflow_cast-result c =
+    let before = (goal.at.overflow_cast-result c).After-loop-i in
+    Fits-of_lt (omega (arith, (is_route before).there, (is_view before).few))
 
 pub returns-clause-route : goal.returns-clause-route
-returns-clause-route c = route_is c.args.self.now c.args.path.now (is_view c) (c.loop-i.number, c.loop-i.dropped) (is_route c)
+returns-clause-route c =
+    let before = (goal.at.returns-clause-route c).After-loop-i in
+    route_is c.args.self.now c.args.path.now (is_view before) (c.loop-i.number, c.loop-i.dropped) (is_route before)
 
 pub returns-clause-longest : goal.returns-clause-longest
-returns-clause-longest c = is_route c
+returns-clause-longest c = is_route (goal.at.returns-clause-longest c).After-loop-i
 
 pub returns-clause-only : goal.returns-clause-only
-returns-clause-only c = λ to is. route_is c.args.self.now c.args.path.now (is_view c) to is
-    ∙ sym (route_is c.args.self.now c.args.path.now (is_view c) (c.loop-i.number, c.loop-i.dropped) (is_route c))
+returns-clause-only c =
+    let before = (goal.at.returns-clause-only c).After-loop-i in
+    λ to is. route_is c.args.self.now c.args.path.now (is_view before) to is
+    ∙ sym (route_is c.args.self.now c.args.path.now (is_view before) (c.loop-i.number, c.loop-i.dropped) (is_route before))
 
 pub returns-clause-mount : goal.returns-clause-mount
-returns-clause-mount c = (is_route c).there
+returns-clause-mount c = (is_route (goal.at.returns-clause-mount c).After-loop-i).there
