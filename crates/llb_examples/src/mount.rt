@@ -151,11 +151,7 @@ fn push_mounts(alloc: Global, text: &mut String, view: &View) -> Result<(), Memo
 }
 
 // What a mount's tree is set to, or the fault and what comes back.
-fn push_set(
-    alloc: Global,
-    text: &mut String,
-    answer: Result<(), ReadOnly>,
-) -> Result<(), Memory> {
+fn push_set(alloc: Global, text: &mut String, answer: Result<(), ReadOnly>) -> Result<(), Memory> {
     match answer {
         Ok(()) => text.push_str("ok ")?,
         Err(fault) => {
@@ -167,12 +163,7 @@ fn push_set(
     Ok(())
 }
 
-fn take_step(
-    alloc: Global,
-    text: &mut String,
-    view: &mut View,
-    step: Step,
-) -> Result<(), Memory> {
+fn take_step(alloc: Global, text: &mut String, view: &mut View, step: Step) -> Result<(), Memory> {
     let (Step::Set(mount, name) | Step::Swap(mount, name)) = step;
     let tree = marked(alloc, name)?;
     if mount as usize >= view.mounts().len() {
@@ -210,16 +201,34 @@ fn tells(alloc: Global, steps: &[Step], mounts: &str) -> bool {
 fn a_tree_is_set_where_the_mount_is_not_read_only(rt: HostRuntime) {
     let alloc = rt.alloc();
     let set = [Step::Set(1, "x"), Step::Set(0, "y"), Step::Set(1, "z")];
-    assert!(rt; tells(alloc, &set, "ok ok ok :=y /t:=z /t/in:/sub!=c | :=a /t:=b /t/in:/sub!=c "));
+    assert!(rt;
+        tells(
+            alloc,
+            &set,
+            "ok ok ok :=y /t:=z /t/in:/sub!=c | :=a /t:=b /t/in:/sub!=c "
+        )
+    );
     let refused = [Step::Set(2, "x")];
-    assert!(rt; tells(alloc, &refused, "61x :=a /t:=b /t/in:/sub!=c | :=a /t:=b /t/in:/sub!=c "));
+    assert!(rt;
+        tells(
+            alloc,
+            &refused,
+            "61x :=a /t:=b /t/in:/sub!=c | :=a /t:=b /t/in:/sub!=c "
+        )
+    );
 }
 
 #[test]
 fn a_tree_is_exchanged_in_any_mount(rt: HostRuntime) {
     let alloc = rt.alloc();
     let swapped = [Step::Swap(2, "x"), Step::Swap(0, "y"), Step::Swap(2, "z")];
-    assert!(rt; tells(alloc, &swapped, "c a x :=y /t:=b /t/in:/sub!=z | :=a /t:=b /t/in:/sub!=c "));
+    assert!(rt;
+        tells(
+            alloc,
+            &swapped,
+            "c a x :=y /t:=b /t/in:/sub!=z | :=a /t:=b /t/in:/sub!=c "
+        )
+    );
 }
 
 fn prints(alloc: Global, fault: Memory, number: &str) -> bool {

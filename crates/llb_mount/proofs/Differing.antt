@@ -7,13 +7,15 @@ use Rattle.llb_mount.specs.declared.shown.Shown.{Shown}
 use Rattle.llb_mount.specs.View.{dests, mount_at, no_mount}
 
 -- the dest of the mount at hand is taken
-pub taken : (mounts : List Shown) (names : List (List ℕ)) (i : ℕ) (m : Shown) → i < length mounts → m ≡ get_or mounts i m → m.dest ≡ names → Contains (dests mounts) names
+pub taken : (mounts : List Shown) (names : List (List ℕ)) (i : ℕ) (m : Shown) → i < length mounts → m ≡ get_or mounts i m → m.dest ≡ names
+    → Contains (dests mounts) names
 taken mounts names i m below read same =
     let count = length-map mounts (λ (m : Shown). m.dest) in
     (i, omega (arith, below, count), get_or-map (λ (m : Shown). m.dest) mounts i m names below ∙ ap (λ (m : Shown). m.dest) (sym read) ∙ same)
 
 -- where no mount is at these names, they are not taken
-pub not_taken : (mounts : List Shown) (names : List (List ℕ)) (i : ℕ) → length mounts ≤ i → ((k : ℕ) → k < i → (mount_at mounts k).dest ≡ names → ⊥) → Contains (dests mounts) names → ⊥
+pub not_taken : (mounts : List Shown) (names : List (List ℕ)) (i : ℕ) → length mounts ≤ i
+    → ((k : ℕ) → k < i → (mount_at mounts k).dest ≡ names → ⊥) → Contains (dests mounts) names → ⊥
 not_taken mounts names i all none (k, below, is) =
     let within : k < length mounts = omega (arith, below, length-map mounts (λ (m : Shown). m.dest)) in
     none k (omega arith) (sym (get_or-map (λ (m : Shown). m.dest) mounts k no_mount names within) ∙ is)
@@ -22,7 +24,8 @@ abbrev pub Differ : List Shown → Type 0
 Differ mounts = AllPairs (λ d e. d ≢ e) (dests mounts)
 
 -- one more dest differs from those before it
-pub one_more : (mounts : List Shown) (i : ℕ) (m : Shown) → i < length mounts → m ≡ get_or mounts i m → Differ (take i mounts) → (Contains (dests (take i mounts)) m.dest → ⊥) → Differ (take (i + 1) mounts)
+pub one_more : (mounts : List Shown) (i : ℕ) (m : Shown) → i < length mounts → m ≡ get_or mounts i m → Differ (take i mounts)
+    → (Contains (dests (take i mounts)) m.dest → ⊥) → Differ (take (i + 1) mounts)
 one_more mounts i m below read before free =
     let dest : Shown → List (List ℕ) = λ m. m.dest in
     let more : dests (take (i + 1) mounts) ≡ dests (take i mounts) ++ m.dest ∷ [] =
@@ -32,7 +35,8 @@ one_more mounts i m below read before free =
     (λ k d within same. free (k, within, get_or_default (dests (take i mounts)) k m.dest d within ∙ same)))
 
 -- a dest that is taken before is there twice
-pub twice : (mounts : List Shown) (i : ℕ) (m : Shown) → i < length mounts → m ≡ get_or mounts i m → Contains (dests (take i mounts)) m.dest → Differ mounts → ⊥
+pub twice : (mounts : List Shown) (i : ℕ) (m : Shown) → i < length mounts → m ≡ get_or mounts i m
+    → Contains (dests (take i mounts)) m.dest → Differ mounts → ⊥
 twice mounts i m below read (k, within, same) differ =
     let dest : Shown → List (List ℕ) = λ m. m.dest in
     let before : k < i = omega (arith, within, length-map (take i mounts) dest, length-take-le i mounts) in

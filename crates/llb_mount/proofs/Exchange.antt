@@ -7,7 +7,8 @@ use Rattle.llb_mount.specs.declared.shown.Shown.{Shown}
 use Rattle.llb_mount.specs.View.{dests, IsView}
 
 -- a mount is written over the one that was read there, and its dest is the same
-pub exchanged_view : (mounts : List Shown) (number : ℕ) (m old : Shown) → old ≡ get_or mounts number old → m.dest ≡ old.dest → IsView mounts → IsView (set mounts number m)
+pub exchanged_view : (mounts : List Shown) (number : ℕ) (m old : Shown) → old ≡ get_or mounts number old → m.dest ≡ old.dest → IsView mounts
+    → IsView (set mounts number m)
 exchanged_view mounts number m old read same view =
     let dest : Shown → List (List ℕ) = λ m. m.dest in
     let stay : dests (set mounts number m) ≡ dests mounts = map-set_same dest mounts number m old (same ∙ ap dest read) in

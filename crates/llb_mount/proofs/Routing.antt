@@ -1,11 +1,11 @@
 -- Where a path is routed: the loop over the mounts finds the one route, and that is the one of the definition.
-use Rattle.std.proofs.Common.{◌≡◌, ℕ, zero, suc, ◌+◌, ◌<◌, ◌≤◌, ◌↔◌, ◌⊎◌, inl, inr, max, nat_eq, Bool, true, false, cond, List, [], ◌∷◌, length, take, get_or, refl, sym, ap, ◌∙◌, subst, arith, true≢false, below_more}
+use Rattle.std.proofs.Common.{◌≡◌, ◌≢◌, ℕ, zero, suc, ◌<◌, ◌≤◌, ◌↔◌, ◌⊎◌, inl, inr, max, nat_eq, Bool, true, false, cond, List, [], ◌∷◌, length, take, get_or, refl, sym, ap, ◌∙◌, subst, arith, true≢false}
 use Rattle.std.proofs.Math.Nat.{le-max_left, le-max_right, max-le}
 use Rattle.std.proofs.Math.ListN.{get_or-map}
 use Rattle.std.proofs.lemmas.List.{get_or_default, length-map}
 use Rattle.std.proofs.lemmas.List.Sums.{position_or_len_is}
 use Rattle.std.proofs.lemmas.List.Elements.{All-tail, All-map}
-use Rattle.std.specs.List.{All}
+use Rattle.std.specs.List.{All, AllPairs}
 use Rattle.std.specs.Cmp.Lexicographic.{pointwise, pointwise_decides, bytes_decides}
 use Rattle.llb_tree.specs.Path.{is_within}
 use Rattle.llb_mount.specs.declared.shown.Shown.{Shown}
@@ -28,41 +28,9 @@ pub record IsBest (mounts : List Shown) (path : List (List ℕ)) (i number dropp
 abbrev pub SoFar : List Shown → List (List ℕ) → ℕ → ℕ → ℕ → Type 0
 SoFar mounts path i number dropped = HasNone mounts path i dropped ⊎ IsBest mounts path i number dropped
 
-pub at_first : (mounts : List Shown) (path : List (List ℕ)) → SoFar mounts path 0 0 0
-at_first mounts path = inl (record { zero_names = refl; none = λ k below. absurd (omega arith) })
-
--- what holds of each number below i, and of i, holds of each below i + 1
-up_to : (P : ℕ → Type 0) (i : ℕ) → ((k : ℕ) → k < i → P k) → P i → (k : ℕ) → k < i + 1 → P k
-up_to = below_more
-
--- the next mount has a dest that is a prefix and as long as the longest
-pub taken : (mounts : List Shown) (path : List (List ℕ)) (i number dropped : ℕ) → SoFar mounts path i number dropped
-    → dropped ≤ length (mount_at mounts i).dest → is_within (mount_at mounts i).dest path ≡ true → SoFar mounts path (i + 1) i (length (mount_at mounts i).dest)
-taken mounts path i number dropped known long is =
-    let Most : ℕ → Type 0 = λ k. is_within (mount_at mounts k).dest path ≡ true → length (mount_at mounts k).dest ≤ length (mount_at mounts i).dest in
-    let earlier : (k : ℕ) → k < i → Most k =
-    elim known as (λ _. (k : ℕ) → k < i → Most k) [ inl w ↦ λ k below within. absurd (true≢false (sym within ∙ w.none k below)) | inr w ↦ λ k below within. omega (arith, w.most k below within) ] in
-    inr (record { before = omega arith; prefix = is; names = refl; most = up_to Most i earlier (λ _. omega arith) })
-
--- the next mount has a shorter dest than the longest
-pub passed_short : (mounts : List Shown) (path : List (List ℕ)) (i number dropped : ℕ) → SoFar mounts path i number dropped
-    → length (mount_at mounts i).dest < dropped → SoFar mounts path (i + 1) number dropped
-passed_short mounts path i number dropped (inl w) short = absurd (omega (arith, w.zero_names))
-passed_short mounts path i number dropped (inr w) short =
-    let Most : ℕ → Type 0 = λ k. is_within (mount_at mounts k).dest path ≡ true → length (mount_at mounts k).dest ≤ dropped in
-    inr (record { before = omega (arith, w.before); prefix = w.prefix; names = w.names; most = up_to Most i w.most (λ _. omega arith) })
-
--- the next mount's dest is no prefix
-pub passed_other : (mounts : List Shown) (path : List (List ℕ)) (i number dropped : ℕ) → SoFar mounts path i number dropped
-    → is_within (mount_at mounts i).dest path ≡ false → SoFar mounts path (i + 1) number dropped
-passed_other mounts path i number dropped (inl w) other =
-    inl (record { zero_names = w.zero_names; none = up_to (λ k. is_within (mount_at mounts k).dest path ≡ false) i w.none other })
-passed_other mounts path i number dropped (inr w) other =
-    let Most : ℕ → Type 0 = λ k. is_within (mount_at mounts k).dest path ≡ true → length (mount_at mounts k).dest ≤ dropped in
-    inr (record { before = omega (arith, w.before); prefix = w.prefix; names = w.names; most = up_to Most i w.most (λ is. absurd (true≢false (sym is ∙ other))) })
-
 -- behind all mounts there is one, since one dest is the root
-pub found : (mounts : List Shown) (path : List (List ℕ)) (number dropped : ℕ) → IsView mounts → SoFar mounts path (length mounts) number dropped → IsRoute mounts path (number, dropped)
+pub found : (mounts : List Shown) (path : List (List ℕ)) (number dropped : ℕ) → IsView mounts → SoFar mounts path (length mounts) number dropped
+    → IsRoute mounts path (number, dropped)
 found mounts path number dropped view (inl w) =
     let (k, below, at_root) = view.root in
     let here : (mount_at mounts k).dest ≡ [] = sym (get_or-map (λ (m : Shown). m.dest) mounts k no_mount) ∙ at_root in
@@ -77,70 +45,56 @@ found mounts path number dropped view (inr w) =
     }
 
 -- a dest that is a prefix has no more names than the longest
-no_longer : (ds : List (List (List ℕ))) (path : List (List ℕ)) (k : ℕ) → k < length ds → is_within (get_or ds k []) path ≡ true → length (get_or ds k []) ≤ greatest_length ds path
+no_longer : (ds : List (List (List ℕ))) (path : List (List ℕ)) (k : ℕ) → k < length ds → is_within (get_or ds k []) path ≡ true
+    → length (get_or ds k []) ≤ greatest_length ds path
 no_longer [] path k below is = absurd (omega arith)
-no_longer (d ∷ ds) path zero below is = subst (λ b. length d ≤ cond b (max (length d) (greatest_length ds path)) (greatest_length ds path)) (sym is) (le-max_left (length d) (greatest_length ds path))
-no_longer (d ∷ ds) path (suc k) below is =
-    let rest = no_longer ds path k (omega arith) is in
-    go (is_within d path) rest
+no_longer (d ∷ ds) path zero below is =
+    let rest = greatest_length ds path in
+    subst (λ b. length d ≤ cond b (max (length d) rest) rest) (sym is) (le-max_left (length d) rest)
+no_longer (d ∷ ds) path (suc k) below is = go (is_within d path) (greatest_length ds path) (no_longer ds path k (omega arith) is)
   where
-    go : (b : Bool) → length (get_or ds k []) ≤ greatest_length ds path → length (get_or ds k []) ≤ cond b (max (length d) (greatest_length ds path)) (greatest_length ds path)
-    go true rest = omega (arith, le-max_right (length d) (greatest_length ds path))
-    go false rest = rest
+    go : (b : Bool) (rest : ℕ) → length (get_or ds k []) ≤ rest → length (get_or ds k []) ≤ cond b (max (length d) rest) rest
+    go true rest within = omega (arith, le-max_right (length d) rest)
+    go false rest within = within
 
 -- a bound on the lengths of those that are prefixes bounds the longest
 length_within : (ds : List (List (List ℕ))) (path : List (List ℕ)) (n : ℕ) → All (λ d. is_within d path ≡ true → length d ≤ n) ds → greatest_length ds path ≤ n
 length_within [] path n all = omega arith
-length_within (d ∷ ds) path n all = go (is_within d path) refl (length_within ds path n (All-tail (λ d. is_within d path ≡ true → length d ≤ n) d ds all))
+length_within (d ∷ ds) path n all =
+    let tail = All-tail (λ d. is_within d path ≡ true → length d ≤ n) d ds all in
+    go (is_within d path) refl (greatest_length ds path) (length_within ds path n tail)
   where
-    go : (b : Bool) → is_within d path ≡ b → greatest_length ds path ≤ n → cond b (max (length d) (greatest_length ds path)) (greatest_length ds path) ≤ n
-    go true is rest = max-le (all 0 d (omega arith) is) rest
-    go false is rest = rest
+    go : (b : Bool) → is_within d path ≡ b → (rest : ℕ) → rest ≤ n → cond b (max (length d) rest) rest ≤ n
+    go true is rest within = max-le (all 0 d (omega arith) is) within
+    go false is rest within = within
 
--- a dest that is a prefix is the front of the path
-front_is : (d path : List (List ℕ)) → is_within d path ≡ true → d ≡ take (length d) path
-front_is d path is = (pointwise_decides bytes_decides d (take (length d) path)).0 is
+-- where dests differ, the one at a place is found there
+number_is : (ds : List (List (List ℕ))) (k : ℕ) (path : List (List ℕ)) → AllPairs (λ d e. d ≢ e) ds → k < length ds → get_or ds k [] ≡ path → k ≡ number_of ds path
+number_is ds k path differ within here =
+    sym (position_or_len_is (λ d. pointwise (pointwise nat_eq) d path) ds k [] (omega (arith, within)) before (λ _. (decides (get_or ds k [])).1 here))
+  where
+    decides : (d : List (List ℕ)) → (pointwise (pointwise nat_eq) d path ≡ true) ↔ (d ≡ path)
+    decides d = pointwise_decides bytes_decides d path
+
+    before : (j : ℕ) → j < k → pointwise (pointwise nat_eq) (get_or ds j []) path ≡ false
+    before j below = go (pointwise (pointwise nat_eq) (get_or ds j []) path) refl
+      where
+        go : (b : Bool) → pointwise (pointwise nat_eq) (get_or ds j []) path ≡ b → b ≡ false
+        go true passes = absurd (differ j k [] below within ((decides (get_or ds j [])).0 passes ∙ sym here))
+        go false fails = refl
 
 -- a route is the one of the definition
 pub route_is : (mounts : List Shown) (path : List (List ℕ)) → IsView mounts → (to : ℕ × ℕ) → IsRoute mounts path to → to ≡ route mounts path
-route_is mounts path view to is = λ i. (numbers i, names i)
-  where
-    ds : List (List (List ℕ))
-    ds = dests mounts
-
-    at : (k : ℕ) → get_or (dests mounts) k [] ≡ (mount_at mounts k).dest
-    at k = get_or-map (λ (m : Shown). m.dest) mounts k no_mount
-
-    in_range : to.0 < length (dests mounts)
-    in_range = omega (arith, is.there, length-map mounts (λ (m : Shown). m.dest))
-
-    prefix : is_within (get_or (dests mounts) to.0 []) path ≡ true
-    prefix = ap (λ d. is_within d path) (at to.0) ∙ is.prefix
-
-    long : length (get_or (dests mounts) to.0 []) ≡ to.1
-    long = ap length (at to.0) ∙ is.dropped
-
-    all : All (λ d. is_within d path ≡ true → length d ≤ to.1) (dests mounts)
-    all = All-map (λ d. is_within d path ≡ true → length d ≤ to.1) (λ (m : Shown). m.dest) mounts is.longest
-
-    names : to.1 ≡ greatest_length (dests mounts) path
-    names = omega (arith, long, no_longer (dests mounts) path to.0 in_range prefix, length_within (dests mounts) path to.1 all)
-
-    front : get_or (dests mounts) to.0 [] ≡ take (greatest_length (dests mounts) path) path
-    front = front_is (get_or (dests mounts) to.0 []) path prefix ∙ ap (λ n. take n path) (long ∙ names)
-
-    test : List (List ℕ) → Bool
-    test d = pointwise (pointwise nat_eq) d (take (greatest_length (dests mounts) path) path)
-
-    decides : (d : List (List ℕ)) → (test d ≡ true) ↔ (d ≡ take (greatest_length (dests mounts) path) path)
-    decides d = pointwise_decides bytes_decides d (take (greatest_length (dests mounts) path) path)
-
-    before : (k : ℕ) → k < to.0 → test (get_or (dests mounts) k []) ≡ false
-    before k below = go (test (get_or (dests mounts) k [])) refl
-      where
-        go : (b : Bool) → test (get_or (dests mounts) k []) ≡ b → b ≡ false
-        go true passes = absurd (view.differ k to.0 [] below in_range ((decides (get_or (dests mounts) k [])).0 passes ∙ sym front))
-        go false fails = refl
-
-    numbers : to.0 ≡ number_of (dests mounts) (take (greatest_length (dests mounts) path) path)
-    numbers = sym (position_or_len_is test (dests mounts) to.0 [] (omega (arith, in_range)) before (λ _. (decides (get_or (dests mounts) to.0 [])).1 front))
+route_is mounts path view to is =
+    let dest : Shown → List (List ℕ) = λ m. m.dest in
+    let ds : List (List (List ℕ)) = dests mounts in
+    let here : get_or ds to.0 [] ≡ (mount_at mounts to.0).dest = get_or-map dest mounts to.0 no_mount in
+    let within : to.0 < length ds = omega (arith, is.there, length-map mounts dest) in
+    let prefix : is_within (get_or ds to.0 []) path ≡ true = ap (λ d. is_within d path) here ∙ is.prefix in
+    let all = All-map (λ d. is_within d path ≡ true → length d ≤ to.1) dest mounts is.longest in
+    let long : length (get_or ds to.0 []) ≡ to.1 = ap length here ∙ is.dropped in
+    let names : to.1 ≡ greatest_length ds path = omega (arith, long, no_longer ds path to.0 within prefix, length_within ds path to.1 all) in
+    let front : get_or ds to.0 [] ≡ take (greatest_length ds path) path =
+    (pointwise_decides bytes_decides (get_or ds to.0 []) (take (length (get_or ds to.0 [])) path)).0 prefix ∙ ap (λ n. take n path) (long ∙ names) in
+    let numbers : to.0 ≡ number_of ds (take (greatest_length ds path) path) = number_is ds to.0 (take (greatest_length ds path) path) view.differ within front in
+    λ i. (numbers i, names i)
