@@ -1,0 +1,244 @@
+//! Views. A mount is a row: its dest, its selector, whether it is read-only, and the name of the one file in its tree. A
+//! story is told in a line of text: the answer to each step, and then the mounts.
+
+use llb_mount::{Many, Memory, Path, ReadOnly, Shown, Tree, View};
+use llb_tree::Meta;
+use llb_wire::Bytes;
+use std::alloc::{AllocError, Global};
+
+type Row = (&'static str, &'static str, bool, &'static str);
+
+const THREE: [Row; 3] = [
+    ("/", "/", false, "a"),
+    ("/t", "/", false, "b"),
+    ("/t/in", "/sub", true, "c"),
+];
+
+// The tree with an empty file of that name.
+fn marked(alloc: Global, name: &str) -> Result<Tree, Memory> {
+    let path = Path::read(alloc, name)?;
+    let mut tree = Tree::empty(alloc)?;
+    if let Some(meta) = Meta::new(0o644, 0, 0) {
+        tree.put_file(&path, meta, Bytes::new(Vec::new(alloc)))?;
+    }
+    Ok(tree)
+}
+
+fn shown(alloc: Global, row: &Row) -> Result<Shown, Memory> {
+    let (dest, selector, readonly, name) = *row;
+    let dest = Path::read(alloc, dest)?;
+    let selector = Path::read(alloc, selector)?;
+    let tree = marked(alloc, name)?;
+    Ok(Shown {
+        dest,
+        selector,
+        readonly,
+        tree,
+    })
+}
+
+// The view of the mounts, where they make one.
+fn view_of(alloc: Global, rows: &[Row]) -> Result<Option<View>, Memory> {
+    let mut mounts = Vec::new(alloc);
+    for row in rows {
+        mounts.push(shown(alloc, row)?)?;
+    }
+    if !View::can_make(&mounts) {
+        return Ok(None);
+    }
+    Ok(Some(View::make(Many::new(mounts))?))
+}
+
+fn makes_a_view(alloc: Global, rows: &[Row]) -> Result<bool, Memory> {
+    Ok(view_of(alloc, rows)?.is_some())
+}
+
+#[test]
+fn one_mount_is_at_the_root_and_no_two_at_one_dest(rt: HostRuntime) {
+    let alloc = rt.alloc();
+    assert!(rt; makes_a_view(alloc, &THREE) == Ok(true));
+    assert!(rt; makes_a_view(alloc, &[("//.", "/", true, "a")]) == Ok(true));
+    assert!(rt; makes_a_view(alloc, &[]) == Ok(false));
+    assert!(rt; makes_a_view(alloc, &[("/t", "/", false, "a")]) == Ok(false));
+    let twice = [
+        ("/t", "/", false, "a"),
+        ("/", "/", false, "b"),
+        ("t/.", "/sub", true, "c"),
+    ];
+    assert!(rt; makes_a_view(alloc, &twice) == Ok(false));
+}
+
+// Where the view of the mounts routes the path of a text.
+fn route(alloc: Global, rows: &[Row], text: &str) -> Result<Option<(u32, u32)>, Memory> {
+    let path = Path::read(alloc, text)?;
+    match view_of(alloc, rows)? {
+        Some(view) => Ok(Some(view.route(&path))),
+        None => Ok(None),
+    }
+}
+
+fn leads(alloc: Global, rows: &[Row], text: &str, number: u32, dropped: u32) -> bool {
+    match route(alloc, rows, text) {
+        Ok(Some(to)) => to.0 == number && to.1 == dropped,
+        _ => false,
+    }
+}
+
+#[test]
+fn a_path_is_routed_to_the_longest_dest(rt: HostRuntime) {
+    let rows = [
+        ("/t/in/f", 2, 2),
+        ("/t", 1, 1),
+        ("/tx", 0, 0),
+        ("/", 0, 0),
+        ("/t/in", 2, 2),
+        ("/t/inx/f", 1, 1),
+        ("/a/t/in", 0, 0),
+    ];
+    for (text, number, dropped) in rows {
+        assert!(rt; leads(rt.alloc(), &THREE, text, number, dropped), "{text}");
+    }
+}
+
+#[test]
+fn the_root_may_be_the_last_mount(rt: HostRuntime) {
+    let turned = [
+        ("/t/in", "/", false, "a"),
+        ("/t", "/", false, "b"),
+        ("/", "/", false, "c"),
+    ];
+    let rows = [("/t/in/f", 0, 2), ("/t/f", 1, 1), ("/f", 2, 0)];
+    for (text, number, dropped) in rows {
+        assert!(rt; leads(rt.alloc(), &turned, text, number, dropped), "{text}");
+    }
+}
+
+// A step of a story: a tree is put into a mount by its number.
+#[derive(Clone, Copy)]
+enum Step {
+    Set(u32, &'static str),
+    Swap(u32, &'static str),
+}
+
+fn push_path(text: &mut String, path: &Path) -> Result<(), AllocError> {
+    for name in path.names() {
+        text.push_str("/")?;
+        text.push_str(name.as_str())?;
+    }
+    Ok(())
+}
+
+// The names of a tree's files, and a space.
+fn push_files(alloc: Global, text: &mut String, tree: &Tree) -> Result<(), Memory> {
+    let names = tree.list(&Path::root(alloc))?;
+    for name in names.as_slice() {
+        text.push_str(name.as_str())?;
+    }
+    text.push_str(" ")?;
+    Ok(())
+}
+
+// What the mounts are: dest, `:` and selector, `!` where it is read-only, `=` and the files.
+fn push_mounts(alloc: Global, text: &mut String, view: &View) -> Result<(), Memory> {
+    for i in 0..view.mounts().len() as u32 {
+        push_path(text, view.dest(i))?;
+        text.push_str(":")?;
+        push_path(text, view.selector(i))?;
+        text.push_str(if view.is_read_only(i) { "!=" } else { "=" })?;
+        push_files(alloc, text, view.tree_of(i))?;
+    }
+    Ok(())
+}
+
+// What a mount's tree is set to, or the fault and what comes back.
+fn push_set(alloc: Global, text: &mut String, answer: Result<(), ReadOnly>) -> Result<(), Memory> {
+    match answer {
+        Ok(()) => text.push_str("ok ")?,
+        Err(fault) => {
+            let number = fault.to_string(alloc)?;
+            text.push_str(number.as_str())?;
+            push_files(alloc, text, &fault.tree)?;
+        }
+    }
+    Ok(())
+}
+
+fn take_step(alloc: Global, text: &mut String, view: &mut View, step: Step) -> Result<(), Memory> {
+    let (Step::Set(mount, name) | Step::Swap(mount, name)) = step;
+    let tree = marked(alloc, name)?;
+    if mount as usize >= view.mounts().len() {
+        return Ok(());
+    }
+    match step {
+        Step::Set(..) => push_set(alloc, text, view.set_tree(mount, tree)),
+        Step::Swap(..) => push_files(alloc, text, &view.swap_tree(mount, tree)),
+    }
+}
+
+// The story of the steps, and then a copy that was made before them.
+fn story(alloc: Global, steps: &[Step]) -> Result<String, Memory> {
+    let mut text = String::new(alloc);
+    if let Some(mut view) = view_of(alloc, &THREE)? {
+        let copy = view.copy()?;
+        for step in steps {
+            take_step(alloc, &mut text, &mut view, *step)?;
+        }
+        push_mounts(alloc, &mut text, &view)?;
+        text.push_str("| ")?;
+        push_mounts(alloc, &mut text, &copy)?;
+    }
+    Ok(text)
+}
+
+fn tells(alloc: Global, steps: &[Step], mounts: &str) -> bool {
+    match story(alloc, steps) {
+        Ok(text) => text.as_str() == mounts,
+        Err(_) => false,
+    }
+}
+
+#[test]
+fn a_tree_is_set_where_the_mount_is_not_read_only(rt: HostRuntime) {
+    let alloc = rt.alloc();
+    let set = [Step::Set(1, "x"), Step::Set(0, "y"), Step::Set(1, "z")];
+    assert!(rt;
+        tells(
+            alloc,
+            &set,
+            "ok ok ok :=y /t:=z /t/in:/sub!=c | :=a /t:=b /t/in:/sub!=c "
+        )
+    );
+    let refused = [Step::Set(2, "x")];
+    assert!(rt;
+        tells(
+            alloc,
+            &refused,
+            "61x :=a /t:=b /t/in:/sub!=c | :=a /t:=b /t/in:/sub!=c "
+        )
+    );
+}
+
+#[test]
+fn a_tree_is_exchanged_in_any_mount(rt: HostRuntime) {
+    let alloc = rt.alloc();
+    let swapped = [Step::Swap(2, "x"), Step::Swap(0, "y"), Step::Swap(2, "z")];
+    assert!(rt;
+        tells(
+            alloc,
+            &swapped,
+            "c a x :=y /t:=b /t/in:/sub!=z | :=a /t:=b /t/in:/sub!=c "
+        )
+    );
+}
+
+fn prints(alloc: Global, fault: Memory, number: &str) -> bool {
+    match fault.to_string(alloc) {
+        Ok(text) => text.as_str() == number,
+        Err(_) => false,
+    }
+}
+
+#[test]
+fn want_of_memory_prints_its_number(rt: HostRuntime) {
+    assert!(rt; prints(rt.alloc(), Memory, "62"));
+}

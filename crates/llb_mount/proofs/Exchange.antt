@@ -1,0 +1,18 @@
+-- A view with another tree in one mount is a view.
+use Rattle.std.proofs.Common.{◌≡◌, ◌≢◌, ℕ, ◌<◌, ◌^◌, List, [], get_or, set, subst, sym, ◌∙◌, ap}
+use Rattle.std.proofs.lemmas.List.{length-set}
+use Rattle.std.proofs.Math.Seq.{map-set_same}
+use Rattle.std.specs.List.{Contains, AllPairs}
+use Rattle.llb_mount.specs.declared.shown.Shown.{Shown}
+use Rattle.llb_mount.specs.View.{dests, IsView}
+
+-- a mount is written over the one that was read there, and its dest is the same
+pub exchanged_view : (mounts : List Shown) (number : ℕ) (m old : Shown) → old ≡ get_or mounts number old → m.dest ≡ old.dest → IsView mounts
+    → IsView (set mounts number m)
+exchanged_view mounts number m old read same view =
+    let dest : Shown → List (List ℕ) = λ m. m.dest in
+    let stay : dests (set mounts number m) ≡ dests mounts = map-set_same dest mounts number m old (same ∙ ap dest read) in
+    let HasRoot : List (List (List ℕ)) → Type 0 = λ ds. Contains ds [] in
+    let Differ : List (List (List ℕ)) → Type 0 = λ ds. AllPairs (λ d e. d ≢ e) ds in
+    let Few : ℕ → Type 0 = λ n. n < 2 ^ 32 in
+    record { root = subst HasRoot (sym stay) view.root; differ = subst Differ (sym stay) view.differ; few = subst Few (sym (length-set mounts number m)) view.few }
