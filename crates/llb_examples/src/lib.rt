@@ -11,6 +11,8 @@ mod glob;
 #[cfg(test)]
 mod loader;
 #[cfg(test)]
+mod merge;
+#[cfg(test)]
 mod ops;
 #[cfg(test)]
 mod subtrees;
