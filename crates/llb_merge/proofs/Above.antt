@@ -79,7 +79,7 @@ walk_before f g (n ∷ p) same =
 
 -- ---- hidden
 
-pub agree : (a b : Bool) → (a ≡ true → b ≡ true) → (b ≡ true → a ≡ true) → a ≡ b
+agree : (a b : Bool) → (a ≡ true → b ≡ true) → (b ≡ true → a ≡ true) → a ≡ b
 agree true b one other = sym (one refl)
 agree false true one other = absurd (true≢false (sym (other refl)))
 agree false false one other = refl

@@ -1,5 +1,5 @@
 -- A pass over two trees: what is laid at its start, how each entry changes it, and what it is at the end.
-use Rattle.std.proofs.Common.{◌≡◌, ◌≢◌, ℕ, zero, suc, ◌-◌, ◌<◌, ◌≤◌, nat_eq, Bool, true, false, cond, ◌||◌, List, [], ◌∷◌, length, drop, Option, Some, None, is_some, Result, Ok, Err, refl, sym, ap, subst, ◌∙◌, true≢false, arith, ◌↔◌, IsTrue}
+use Rattle.std.proofs.Common.{◌≡◌, ◌≢◌, ℕ, suc, ◌-◌, ◌<◌, ◌≤◌, Bool, true, false, cond, ◌||◌, List, [], ◌∷◌, length, drop, Option, Some, None, is_some, Result, Ok, Err, refl, sym, ap, subst, ◌∙◌, true≢false, arith}
 use Rattle.std.specs.Option.{unwrap_or}
 use Rattle.std.specs.Result.{OnOk, IfErr, IsErrAnd}
 use Rattle.std.proofs.lemmas.Option.{slice_get_within, slice_get_past}
@@ -7,7 +7,6 @@ use Rattle.std.specs.List.{slice_get}
 use Rattle.std.specs.declared.cmp.Ordering.{Ordering}
 use Rattle.std.specs.declared.cmp.Ordering.TheVariants.{Less, Equal, Greater}
 use Rattle.std.specs.Ordering.{is_lt, eq_by_cmp}
-use Rattle.std.specs.Cmp.Lexicographic.{pointwise, pointwise_decides, bytes_decides}
 use Rattle.std.specs.FinMap as finite
 use Rattle.llb_tree.specs.Path.{path_cmp}
 use Rattle.llb_tree.specs.PathOrder.{path_cmp-IsTotalOrder, path_cmp-IsAntisymmetric}
@@ -17,9 +16,9 @@ use Rattle.llb_tree.specs.declared.fault.TreeFault.{TreeFault}
 use Rattle.llb_wire.specs.Answer.{◌>>=◌}
 use Rattle.llb_merge.specs.Laying.{is_file, below_file, or_else, lay_at, lay}
 use Rattle.llb_merge.specs.Laws.{get-lay, lay_only, IsTree-lay}
-use Rattle.llb_merge.specs.Pass.{put_entry, root_of, hidden, covers, covered, comes_before, IsLaid}
+use Rattle.llb_merge.specs.Pass.{put_entry, root_of, hidden, covered, comes_before, IsLaid}
 use Rattle.llb_merge.proofs.Orders.{Pair, is_tied, less_up, none_left, drop_none, less_next, find_here, find_other}
-use Rattle.llb_merge.proofs.Above.{agree, walk_before, covered_is, last_taken}
+use Rattle.llb_merge.proofs.Above.{walk_before, covered_is, last_taken}
 
 -- ---- small steps
 
@@ -71,14 +70,6 @@ missing {C = C} t n lt none = by_some (last_taken (finite.entries t) (suc n) (om
   where
     by_some : (s : Pair) × (slice_get (finite.entries t) (suc n - 1) ≡ Some s) → C
     by_some s = let one : suc n - 1 ≡ n = omega arith in absurd (true≢false (sym (ap is_some (none ∙ ap (slice_get (finite.entries t)) (sym one) ∙ s.1))))
-
--- the test of the code
-pub covered_at : (es : List Pair) (n : ℕ) (p : List (List ℕ)) → n ≢ 0 → covered es n p ≡ covers (slice_get es (n - 1)) p
-covered_at es zero p some = absurd (some refl)
-covered_at es (suc n) p some = let one : n ≡ suc n - 1 = omega arith in ap (λ k. covers (slice_get es k) p) one
-
-pub same_path : (b : Bool) (x p : List (List ℕ)) → (IsTrue b ↔ (x ≡ p)) → b ≡ pointwise (pointwise nat_eq) x p
-same_path b x p is = agree b (pointwise (pointwise nat_eq) x p) (λ t. (pointwise_decides bytes_decides x p).1 (is.0 t)) (λ t. is.1 ((pointwise_decides bytes_decides x p).0 t))
 
 -- what is put where it can be put is there, and the one refusal is the want of memory
 pub after_put : (t new : TreeMap) (r : Result (Unit {0}) TreeFault) (p : List (List ℕ)) (e : Entry) → put_entry t p e ≡ Ok (finite.insert t p e) → Gives {X = Unit {0}} {Y = TreeMap} (λ _. new) r (put_entry t p e) → (C : TreeMap → Type 0) → C (finite.insert t p e) → OnOk r (C new)

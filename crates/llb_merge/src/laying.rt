@@ -133,7 +133,7 @@ fn is_covered(tree: &Tree, count: usize, path: &Path) -> bool
     }
     match tree.entry(count - 1) {
         None => false,
-        Some((last, Entry::Dir(_))) => last.same(path),
+        Some((last, Entry::Dir(_))) => last == path,
         Some((last, Entry::File(..))) => path.names().starts_with(last.names()),
     }
 }
