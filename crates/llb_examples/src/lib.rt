@@ -13,6 +13,8 @@ mod loader;
 #[cfg(test)]
 mod locals;
 #[cfg(test)]
+mod merge;
+#[cfg(test)]
 mod mount;
 #[cfg(test)]
 mod ops;

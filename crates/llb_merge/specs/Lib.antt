@@ -1,0 +1,3 @@
+pub mod Laying
+pub mod Pass
+pub mod Laws

@@ -1,0 +1,4 @@
+pub mod TreeText
+pub mod Faults
+pub mod Output
+pub mod Digest

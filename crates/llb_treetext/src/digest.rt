@@ -1,0 +1,38 @@
+//! The digest of a tree: SHA-256 of its text, a line at a time.
+
+ghost use Rattle.std.specs.Prelude.{◌≡◌, IfOk, Ok};
+ghost use Rattle.sha2.specs.Sha256.{sha256};
+ghost use Rattle.llb_treetext.specs.Digest.{digest_text};
+ghost use Rattle.llb_treetext.specs.TreeText.{tree_text};
+ghost use Rattle.llb_treetext.specs.Faults.{Gives};
+
+use crate::fault::TextFault;
+use crate::line::entry_line;
+use llb_tree::Tree;
+use llb_wire::Text;
+use sha2::{Digest, Sha256};
+use std::alloc::{AllocError, Global};
+
+// SHA-256 of the text of a tree.
+fn hash(alloc: Global, tree: &Tree) -> Result<[u8; 32], AllocError>
+    ensures { IfOk result (λ d. d ≡ sha256 (tree_text tree.now)) }
+{
+    let mut hasher = Sha256::new();
+    for at in 0..tree.len() {
+        if let Some((path, entry)) = tree.entry(at) {
+            let line = entry_line(alloc, path, &entry)?;
+            hasher.update(line.as_bytes());
+        }
+    }
+    Ok(hasher.finalize())
+}
+
+/// `sha256:` and the 64 lower-case hexadecimal digits of SHA-256 of the tree's text; 34 `Memory`.
+pub fn tree_digest(alloc: Global, tree: &Tree) -> Result<Text, TextFault>
+    ensures { Gives (λ t. t) result (Ok (digest_text (tree_text tree.now))) }
+{
+    let digits = hex::encode(alloc, hash(alloc, tree)?)?;
+    let mut text = String::from_str(alloc, "sha256:")?;
+    text.push_str(digits.as_str())?;
+    Ok(Text::new(text))
+}

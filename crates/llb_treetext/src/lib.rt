@@ -1,0 +1,12 @@
+//! A tree is one text: a line for each entry in path order. It is written to a sink, named by its digest, and read
+//! back. Nothing here knows an operation or a file system.
+#![tactic(auto)]
+
+mod digest;
+mod fault;
+mod line;
+mod print;
+
+pub use digest::tree_digest;
+pub use fault::{PrintFault, TextFault};
+pub use print::print_tree;

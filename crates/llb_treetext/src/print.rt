@@ -1,0 +1,50 @@
+//! The text of a tree is written to a sink, a line at a time.
+
+ghost use Rattle.std.specs.Prelude.{◌≡◌};
+ghost use Rattle.llb_tree.specs.Rows.{seen};
+ghost use Rattle.llb_treetext.specs.TreeText.{line_of, tree_text};
+ghost use Rattle.llb_treetext.specs.Faults.{Prints};
+
+use crate::fault::PrintFault;
+use crate::line::entry_line;
+use llb_tree::{Entry, Path, Tree};
+use llb_wire::{Sink, write_all};
+use std::alloc::Global;
+
+// Writes the line of an entry.
+fn print_line<W: Sink>(
+    alloc: Global,
+    path: &Path,
+    entry: &Entry<'_>,
+    out: &mut W,
+) -> Result<(), PrintFault>
+    ensures prints { Prints (W.taken out.old) (W.taken out.new) (W.failed out.new) (line_of (path.now, seen entry.now)) result }
+    ensures same { W.lender out.new ≡ W.lender out.old }
+{
+    match entry_line(alloc, path, entry) {
+        Err(_) => Err(PrintFault::Memory),
+        Ok(line) => match write_all(out, line.as_bytes()) {
+            Err(_) => Err(PrintFault::Write),
+            Ok(()) => Ok(()),
+        },
+    }
+}
+
+/// Writes the text of a tree to a sink: a line for each entry in path order, `d MODE UID GID PATH` for a directory and
+/// `f MODE UID GID CONTENT PATH` for a file. MODE is four octal digits, CONTENT lower-case hexadecimal, `-` where it is
+/// empty. 34 where memory is refused, 35 only where the writer failed: a front of the text is out then.
+pub fn print_tree<W: Sink>(alloc: Global, tree: &Tree, out: &mut W) -> Result<(), PrintFault>
+    ensures prints { Prints (W.taken out.old) (W.taken out.new) (W.failed out.new) (tree_text tree.now) result }
+    ensures same { W.lender out.new ≡ W.lender out.old }
+{
+    for at in 0..tree.len() {
+        match tree.entry(at) {
+            None => {}
+            Some((path, entry)) => match print_line(alloc, path, &entry, out) {
+                Ok(()) => {}
+                Err(fault) => return Err(fault),
+            },
+        }
+    }
+    Ok(())
+}
