@@ -1,7 +1,8 @@
 //! The board of one worker. A story is a list of calls with their answers, printed: a fault by its number.
 
 use llb_board::{At, Board, Event, OpenFault, Settled, Status, Stepped};
-use llb_loader::{Graph, Row, link};
+use llb_loader::{Graph, Locals, Row, link};
+use llb_tree::{Meta, Path, Tree};
 use llb_wire::{Bytes, Memory, Text};
 use std::alloc::{AllocError, Global};
 
@@ -23,6 +24,18 @@ const D_ON_A: &[u8] = b"\x0A\x03\x0A\x01A\x22\x0B\x12\x09\x32\x07\x0A\x02/d\x10\
 // A directory `/d` on what B is, with A and B as inputs.
 const D_ON_A_AND_B: &[u8] =
     b"\x0A\x03\x0A\x01A\x0A\x03\x0A\x01B\x22\x0D\x12\x0B\x08\x01\x32\x07\x0A\x02/d\x10\xED\x03";
+
+// The local source `p`, and the local source `q`.
+const SOURCE_P: &[u8] = b"\x1A\x0B\x0A\x09local://p";
+const SOURCE_Q: &[u8] = b"\x1A\x0B\x0A\x09local://q";
+
+// P, then Q, then the empty tree, laid over each other.
+const P_THEN_Q: &[u8] =
+    b"\x0A\x03\x0A\x01P\x0A\x03\x0A\x01Q2\x13\x0A\x00\x0A\x02\x08\x01\x0A\x0B\x08\xFF\xFF\xFF\xFF\xFF\xFF\xFF\xFF\xFF\x01";
+
+// On P: a directory `/d`, in it a copy of the file `/f` of Q, and `/old` goes.
+const CHANGES: &[u8] =
+    b"\x0A\x03\x0A\x01P\x0A\x03\x0A\x01Q\x22_\x12\x1F\x10\xFF\xFF\xFF\xFF\xFF\xFF\xFF\xFF\xFF\x01\x18\xFF\xFF\xFF\xFF\xFF\xFF\xFF\xFF\xFF\x012\x07\x0A\x02/d\x10\xED\x03\x12%\x08\x02\x10\x01\x18\xFF\xFF\xFF\xFF\xFF\xFF\xFF\xFF\xFF\x01\x22\x14\x0A\x02/f\x12\x03/d/ \xFF\xFF\xFF\xFF\xFF\xFF\xFF\xFF\xFF\x01\x12\x15\x08\x03\x10\xFF\xFF\xFF\xFF\xFF\xFF\xFF\xFF\xFF\x01:\x06\x0A\x04/old";
 
 // The result is what D is.
 const NAMES_D: &[u8] = b"\x0A\x03\x0A\x01D";
@@ -132,7 +145,9 @@ fn claim(alloc: Global, board: &mut Board, w: u32, v: u32) -> Result<String, All
 
 fn step(alloc: Global, board: &mut Board, w: u32) -> Result<String, AllocError> {
     match board.step(w) {
+        Ok(Stepped::Read) => String::from_str(alloc, "read"),
         Ok(Stepped::Acted(a)) => format!(in alloc; "acted {a}"),
+        Ok(Stepped::Merged(i)) => format!(in alloc; "merged {i}"),
         Ok(Stepped::Fault(fault)) => format!(in alloc; "fault: {fault}"),
         Err(fault) => fault.to_string(alloc),
     }
@@ -188,9 +203,25 @@ fn answer(alloc: Global, board: &mut Board, call: Call) -> Result<String, AllocE
     }
 }
 
+// The local trees: `p` has a file `/old`, and `q` a file `/f`.
+fn put_local(locals: &mut Locals, alloc: Global, name: &str, file: &str) -> Option<()> {
+    let mut tree = Tree::empty(alloc).ok()?;
+    let path = Path::read(alloc, file).ok()?;
+    let content = Bytes::from_slice(alloc, b"hi").ok()?;
+    tree.put_file(&path, Meta::new(0o644, 0, 0)?, content).ok()?;
+    locals.add(Text::from_str(alloc, name).ok()?, tree).ok()
+}
+
+fn both_locals(alloc: Global) -> Locals {
+    let mut locals = Locals::new(alloc);
+    let _ = put_local(&mut locals, alloc, "p", "/old");
+    let _ = put_local(&mut locals, alloc, "q", "/f");
+    locals
+}
+
 fn opened(alloc: Global, graph: Option<Graph>) -> Option<Board> {
     match graph {
-        Some(graph) => Board::open(alloc, graph, 1).ok(),
+        Some(graph) => Board::open(alloc, graph, both_locals(alloc), 1).ok(),
         None => None,
     }
 }
@@ -327,8 +358,8 @@ fn a_failed_vertex_blocks_what_stands_on_it(rt: HostRuntime) {
 
 // How many vertices the graph has that comes back where the number of workers is refused.
 fn given_back(alloc: Global, workers: u32) -> Option<usize> {
-    match Board::open(alloc, three_vertices(alloc)?, workers) {
-        Err(OpenFault::Workers(back)) => Some(back.vertices().len()),
+    match Board::open(alloc, three_vertices(alloc)?, Locals::new(alloc), workers) {
+        Err(OpenFault::Workers(back, _)) => Some(back.vertices().len()),
         _ => None,
     }
 }
@@ -344,15 +375,94 @@ fn a_number_of_workers_other_than_one_gives_the_graph_back(rt: HostRuntime) {
     assert!(rt; given_back(rt.alloc(), 1).is_none());
 }
 
-fn parts(board: Board) -> usize {
-    let graph = board.into_parts();
-    graph.vertices().len()
+fn parts(board: Board) -> (usize, bool) {
+    let (graph, locals) = board.into_parts();
+    (graph.vertices().len(), locals.get("q").is_some())
 }
 
 #[test]
-fn a_board_gives_its_graph_back(rt: HostRuntime) {
-    let count = opened(rt.alloc(), three_vertices(rt.alloc())).map(parts);
-    assert!(rt; count == Some(3));
+fn a_board_gives_its_graph_and_its_local_trees_back(rt: HostRuntime) {
+    let back = opened(rt.alloc(), three_vertices(rt.alloc())).map(parts);
+    assert!(rt; back == Some((3, true)));
+}
+
+fn sources_and(alloc: Global, last: &[u8]) -> Option<Graph> {
+    let rows = [("P", SOURCE_P), ("Q", SOURCE_Q), ("D", last), ("T", NAMES_D)];
+    graph_of(alloc, &rows)
+}
+
+#[test]
+fn a_source_is_read_and_a_merge_lays_one_input_a_step(rt: HostRuntime) {
+    let story = [
+        (Call::Claim(0, 2), "134"),
+        (Call::Claim(0, 0), "worker 0, vertex 0, 0 done"),
+        (Call::Step(0), "read"),
+        (Call::Step(0), "137"),
+        (Call::Settle(0), "0 done"),
+        (Call::Output(0, 0), "2"),
+        (Call::Claim(0, 1), "worker 0, vertex 1, 0 done"),
+        (Call::Settle(0), "138"),
+        (Call::Step(0), "read"),
+        (Call::Settle(0), "1 done"),
+        (Call::Claim(0, 2), "worker 0, vertex 2, 0 done"),
+        (Call::Step(0), "merged 0"),
+        (Call::Step(0), "merged 1"),
+        (Call::Worker(0), "runs 2, 2 done, false"),
+        (Call::Step(0), "merged 2"),
+        (Call::Worker(0), "runs 2, 3 done, true"),
+        (Call::Settle(0), "2 done"),
+        (Call::Output(2, 0), "3"),
+        (Call::Complete, "true"),
+    ];
+    assert!(rt; is_told(rt.alloc(), sources_and(rt.alloc(), P_THEN_Q), &story));
+}
+
+#[test]
+fn a_file_op_changes_one_local_tree_by_another(rt: HostRuntime) {
+    let story = [
+        (Call::Claim(0, 0), "worker 0, vertex 0, 0 done"),
+        (Call::Step(0), "read"),
+        (Call::Settle(0), "0 done"),
+        (Call::Claim(0, 1), "worker 0, vertex 1, 0 done"),
+        (Call::Step(0), "read"),
+        (Call::Settle(0), "1 done"),
+        (Call::Claim(0, 2), "worker 0, vertex 2, 0 done"),
+        (Call::Step(0), "acted 0"),
+        (Call::Step(0), "acted 1"),
+        (Call::Step(0), "acted 2"),
+        (Call::Settle(0), "2 done"),
+        (Call::Output(2, 0), "3"),
+        (Call::Output(0, 0), "2"),
+    ];
+    assert!(rt; is_told(rt.alloc(), sources_and(rt.alloc(), CHANGES), &story));
+}
+
+// The name of the local tree that is missing, before the number of workers is looked at.
+fn missing(alloc: Global, names: &[&str]) -> Option<Text> {
+    let mut locals = Locals::new(alloc);
+    for name in names {
+        put_local(&mut locals, alloc, name, "/f")?;
+    }
+    match Board::open(alloc, sources_and(alloc, P_THEN_Q)?, locals, 0) {
+        Err(OpenFault::MissingLocal(name, _, _)) => Some(name),
+        _ => None,
+    }
+}
+
+fn is_missing(alloc: Global, names: &[&str], wanted: &str) -> bool {
+    match missing(alloc, names) {
+        Some(name) => name.as_str() == wanted,
+        None => false,
+    }
+}
+
+#[test]
+fn the_least_source_without_a_tree_is_named_first(rt: HostRuntime) {
+    let alloc = rt.alloc();
+    assert!(rt; is_missing(alloc, &[], "p"));
+    assert!(rt; is_missing(alloc, &["q"], "p"));
+    assert!(rt; is_missing(alloc, &["p", "p"], "q"));
+    assert!(rt; missing(alloc, &["q", "p"]).is_none());
 }
 
 // How many events a copy of the record has, after a claim.

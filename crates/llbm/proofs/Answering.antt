@@ -20,7 +20,7 @@ use Rattle.llb_model.specs.Run.{StandsPlainly}
 use Rattle.llb_board.specs.Board.{Seen}
 use Rattle.llbm.specs.declared.fault.ProgramFault.{ProgramFault}
 use Rattle.llbm.specs.declared.fault.ProgramFault.TheVariants.{Refused, Loading, Print}
-use Rattle.llbm.specs.TreeText.{tree_text}
+use Rattle.llb_treetext.specs.TreeText.{tree_text}
 use Rattle.llbm.specs.GraphText.{graph_text}
 use Rattle.llbm.specs.Answer.{build_of, result_of, FailsBy, Yields, YieldsNone, IsRefused, Lacks, IsNotRun, YieldsPart, DrawsPart}
 use Rattle.llbm.specs.Answer.{Runs}
@@ -30,7 +30,7 @@ use Rattle.llbm.specs.Bounded.{ReadsAll}
 use Rattle.llbm.specs.declared.bounded.ReadFault.{ReadFault}
 use Rattle.llbm.specs.declared.bounded.ReadFault.TheVariants.{TooLong, Failed, Unending}
 use Rattle.llbm.specs.declared.bounded.ReadFault.TheVariants as reading
-use Rattle.llbm.specs.declared.tree_text.PrintFault.{PrintFault}
+use Rattle.llb_treetext.specs.declared.fault.PrintFault.{PrintFault}
 use Rattle.std.specs.Prelude.{Vec}
 use Rattle.std.specs.Global.{Global}
 use Rattle.std.specs.Io.KnownBytes.{Keeps}

@@ -11,7 +11,7 @@ use Rattle.llb_model.specs.State.{missing_local}
 use Rattle.llb_model.specs.declared.fault.VertexFault.{VertexFault}
 use Rattle.llb_model.specs.Program.{Build}
 use Rattle.llb_model.specs.Outcome.{Ended, Failed, outcome, ending_in, output_in}
-use Rattle.llbm.specs.TreeText.{tree_text}
+use Rattle.llb_treetext.specs.TreeText.{tree_text}
 use Rattle.llbm.specs.GraphText.{graph_text}
 use Rattle.llbm.specs.declared.words.Command.{Command}
 use Rattle.llbm.specs.declared.words.Command.TheVariants.{Run, Show}

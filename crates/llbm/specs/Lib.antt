@@ -1,4 +1,3 @@
-pub mod TreeText
 pub mod Bounded
 pub mod Alone
 pub mod Answer

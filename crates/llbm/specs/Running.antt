@@ -9,7 +9,7 @@ use Rattle.llb_loader.specs.Locals.{Local}
 use Rattle.llb_model.specs.Outcome.{outcome}
 use Rattle.llb_model.specs.Run.{StandsPlainly}
 use Rattle.llb_board.specs.Board.{Seen}
-use Rattle.llbm.specs.TreeText.{tree_text}
+use Rattle.llb_treetext.specs.TreeText.{tree_text}
 use Rattle.llbm.specs.Answer.{build_of, Yields, YieldsNone, IsRefused, IsNotRun, YieldsPart, DrawsAll, DrawsPart}
 use Rattle.llbm.specs.declared.fault.ProgramFault.{ProgramFault}
 use Rattle.llbm.specs.declared.fault.ProgramFault.TheVariants.{Refused, MissingLocal, Loading, Read, Memory}

@@ -5,8 +5,8 @@ ghost use Rattle.std.specs.Prelude.{◌≡◌, ◌⊎◌};
 ghost use Rattle.llbm.specs.Running.{IsRefusal};
 
 use crate::alone::RunFault;
-use crate::tree_text::PrintFault;
 use llb_loader::LoadFault;
+use llb_treetext::PrintFault;
 use llb_wire::Text;
 use std::alloc::AllocError;
 use std::io::Write;

@@ -13,7 +13,6 @@ pub mod run;
 pub mod show;
 #[cfg(test)]
 mod tests;
-pub mod tree_text;
 pub mod words;
 
 use crate::command_line::command_of;
@@ -69,5 +68,12 @@ fn main(rt: HostRuntime) -> ExitCode {
     let Ok(mut out) = BufWriter::new(alloc, io::writer(&rt)) else {
         return ExitCode::from(refusal(&ProgramFault::Memory, &mut err));
     };
-    ExitCode::from(perform(alloc, line.command, Locals::new(alloc), &mut input, &mut out, &mut err))
+    ExitCode::from(perform(
+        alloc,
+        line.command,
+        Locals::new(alloc),
+        &mut input,
+        &mut out,
+        &mut err,
+    ))
 }

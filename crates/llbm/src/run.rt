@@ -6,16 +6,16 @@ ghost use Rattle.llb_model.specs.State.{ending_at};
 ghost use Rattle.llb_board.specs.Board.{opened};
 ghost use Rattle.llbm.specs.Answer.{build_of, Lacks, Runs};
 ghost use Rattle.llbm.specs.Output.{PrintsOut};
-ghost use Rattle.llbm.specs.TreeText.{tree_text};
+ghost use Rattle.llb_treetext.specs.TreeText.{tree_text};
 ghost use Rattle.llbm.specs.Running.{IsFinished, IsRefusal, Shows, Answers};
 
 use crate::alone::{RunEnd, run_alone};
 use crate::fault::{ProgramFault, refusal};
 use crate::input::loaded;
-use crate::tree_text::{PrintFault, print_tree};
 use llb_board::{Board, OpenFault, Status};
 use llb_loader::{Edge, Graph, Locals};
 use llb_tree::Tree;
+use llb_treetext::{PrintFault, print_tree};
 use llb_wire::Over;
 use std::alloc::Global;
 use std::io;

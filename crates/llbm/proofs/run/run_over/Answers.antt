@@ -1,4 +1,4 @@
-use Rattle.llbm.specs.declared.tree_text.PrintFault.TheVariants.{Write}
+use Rattle.llb_treetext.specs.declared.fault.PrintFault.TheVariants.{Write}
 use Rattle.llbm.proofs.Answering.{answer_done, run_done, run_unflushed, no_refusal}
 use Rattle.llbm.proofs.run.run_over.Goals as goal
 
