@@ -361,7 +361,10 @@ fn a_source_is_local_and_has_a_name(rt: HostRuntime) {
         ("local://local://", "A local local:// 1 1, 0.0"),
     ];
     for (identifier, wanted) in sources {
-        assert!(rt; is(said_of_source(rt.alloc(), identifier), wanted), "{identifier}");
+        assert!(rt;
+            is(said_of_source(rt.alloc(), identifier), wanted),
+            "{identifier}"
+        );
     }
 }
 
@@ -370,7 +373,7 @@ fn a_merge_takes_inputs_or_nothing(rt: HostRuntime) {
     let b = row("B", &[], MAKES_A);
     let names_a = row("T", &[("A", b"")], b"");
     let merges: [(&[u8], &str); 5] = [
-        // No inputs, both the op's input and nothing, and then the input after the last and that below nothing.
+        // Of no inputs, of the input there is, of that and nothing; then past the last one, and below nothing.
         (b"\x32\x00", "B 1 1,A 0 1 0.0, 1.0"),
         (MERGE, "B 1 1,A 1 1 0.0, 1.0"),
         (
@@ -385,7 +388,10 @@ fn a_merge_takes_inputs_or_nothing(rt: HostRuntime) {
     ];
     for (merge, wanted) in merges {
         let a_on_b = row("A", &[("B", b"")], merge);
-        assert!(rt; is(linked(rt.alloc(), &[b, a_on_b, names_a]), wanted), "{wanted}: {merge:?}");
+        assert!(rt;
+            is(linked(rt.alloc(), &[b, a_on_b, names_a]), wanted),
+            "{wanted}: {merge:?}"
+        );
     }
     assert!(rt; is(said_of(rt.alloc(), MERGE), "89 0 MergeInput"));
 }
@@ -411,7 +417,10 @@ fn a_copy_is_taken_without_what_is_refused_of_it(rt: HostRuntime) {
         (b"\x62\x01a\x38\x01", "88 0 Unpack"),
     ];
     for (copy, wanted) in copies {
-        assert!(rt; is(said_of_copy(rt.alloc(), copy), wanted), "{wanted}: {copy:?}");
+        assert!(rt;
+            is(said_of_copy(rt.alloc(), copy), wanted),
+            "{wanted}: {copy:?}"
+        );
     }
 }
 

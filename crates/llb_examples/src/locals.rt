@@ -1,17 +1,21 @@
 //! The trees of local sources by their names. Each tree is told by the one directory that it has.
 
-use llb_loader::Locals;
-use llb_tree::{Path, Tree};
+use llb_loader::{Locals, Memory};
+use llb_tree::{Path, Tree, TreeFault};
 use llb_wire::Text;
 use std::alloc::Global;
 use std::test::Fail;
 
-// A tree with a directory.
-fn tree_with(alloc: Global, path: &str) -> Result<Tree, Fail> {
-    let empty = Tree::empty(alloc)?;
-    let mut tree = Tree::empty(alloc)?;
+fn put_directory(tree: &mut Tree, alloc: Global, path: &str) -> Result<(), TreeFault> {
     let path = Path::read(alloc, path)?;
-    tree.graft(&path, &empty)?;
+    let directory = Tree::empty(alloc)?;
+    tree.graft(&path, &directory)
+}
+
+// A tree with a directory.
+fn tree_with(alloc: Global, path: &str) -> Result<Tree, TreeFault> {
+    let mut tree = Tree::empty(alloc)?;
+    put_directory(&mut tree, alloc, path)?;
     Ok(tree)
 }
 
@@ -44,5 +48,12 @@ fn a_name_has_the_tree_that_was_given_last(rt: HostRuntime) -> Result<(), Fail> 
     assert!(rt; has(&locals, alloc, "b", "/two")?);
     assert!(rt; locals.get("c").is_none());
     assert!(rt; locals.get("").is_none());
+    Ok(())
+}
+
+#[test]
+fn want_of_memory_prints_its_number(rt: HostRuntime) -> Result<(), Fail> {
+    let printed = Memory.to_string(rt.alloc())?;
+    assert!(rt; printed.as_str() == "92");
     Ok(())
 }
