@@ -487,16 +487,24 @@ fn prints(alloc: Global, fault: &OpenFault, number: &str) -> bool {
     }
 }
 
+// The number and the name of a local tree that is missing.
+fn is_missing_printed(alloc: Global) -> Option<bool> {
+    let name = Text::from_str(alloc, "src").ok()?;
+    let fault = OpenFault::MissingLocal(name, in_a_row(alloc)?, Locals::new(alloc));
+    Some(prints(alloc, &fault, "121 src"))
+}
+
 #[test]
 fn a_refused_opening_prints_its_number(rt: HostRuntime) {
     let alloc = rt.alloc();
     let workers = match in_a_row(alloc) {
-        Some(graph) => prints(alloc, &OpenFault::Workers(graph), "122"),
+        Some(graph) => prints(alloc, &OpenFault::Workers(graph, Locals::new(alloc)), "122"),
         None => false,
     };
     let memory = match in_a_row(alloc) {
-        Some(graph) => prints(alloc, &OpenFault::Memory(graph), "123"),
+        Some(graph) => prints(alloc, &OpenFault::Memory(graph, Locals::new(alloc)), "123"),
         None => false,
     };
     assert!(rt; workers && memory);
+    assert!(rt; is_missing_printed(alloc) == Some(true));
 }

@@ -3,6 +3,9 @@
 use super::definitions::*;
 use super::devices::{Narrow, Ran, Slow};
 use crate::run::run_over;
+use llb_loader::Locals;
+use llb_treetext::read_tree;
+use llb_wire::Text;
 use std::alloc::Global;
 use std::test::Fail;
 
@@ -12,7 +15,7 @@ fn run_on(alloc: Global, bytes: &[u8]) -> Ran {
     let mut input = bytes;
     let mut out = Vec::new(alloc);
     let mut err = Vec::new(alloc);
-    let status = run_over(alloc, &mut input, &mut out, &mut err);
+    let status = run_over(alloc, &mut input, &mut out, &mut err, Locals::new(alloc));
     Ran { status, out, err }
 }
 
@@ -93,6 +96,69 @@ fn rules_and_unreadable_entries_are_refused(rt: HostRuntime) -> Result<(), Fail>
     Ok(())
 }
 
+// The tree of each text under its name.
+fn locals_of(alloc: Global, texts: &[(&str, &str)]) -> Result<Locals, Fail> {
+    let mut locals = Locals::new(alloc);
+    for (name, text) in texts {
+        let tree = read_tree(alloc, text.as_bytes())?;
+        locals.add(Text::from_str(alloc, name)?, tree)?;
+    }
+    Ok(locals)
+}
+
+// Whether a definition has this answer on local trees.
+fn answers_on(
+    alloc: Global,
+    texts: &[(&str, &str)],
+    definition: &str,
+    status: u8,
+    out: &str,
+    err: &str,
+) -> Result<bool, Fail> {
+    let locals = locals_of(alloc, texts)?;
+    let bytes = hex::decode(alloc, definition)?;
+    let mut printed = Vec::new(alloc);
+    let mut faults = Vec::new(alloc);
+    let ended = run_over(
+        alloc,
+        &mut bytes.as_slice(),
+        &mut printed,
+        &mut faults,
+        locals,
+    );
+    let ran = Ran {
+        status: ended,
+        out: printed,
+        err: faults,
+    };
+    Ok(ran.is(status, out, err))
+}
+
+#[test]
+fn a_file_op_changes_one_local_tree_by_another(rt: HostRuntime) -> Result<(), Fail> {
+    let alloc = rt.alloc();
+    let p = ("p", "d 0755 0 0 /\nf 0600 1 1 - /old\n");
+    let q = ("q", "d 0755 0 0 /\nf 0644 0 0 6869 /f\n");
+    let tree = "d 0755 0 0 /\nd 0755 0 0 /d\nf 0644 0 0 6869 /d/f\n";
+    assert!(rt; answers_on(alloc, &[p, q], TWO_LOCALS, 0, tree, "")?);
+    assert!(rt; answers_on(alloc, &[p], TWO_LOCALS, 2, "", "fault 121 q\n")?);
+    assert!(rt; answers_on(alloc, &[], TWO_LOCALS, 2, "", "fault 121 p\n")?);
+    Ok(())
+}
+
+#[test]
+fn a_file_hides_for_good_what_is_below_it(rt: HostRuntime) -> Result<(), Fail> {
+    let tree = "d 0755 0 0 /\nd 0755 0 0 /p\nf 0644 0 0 33 /p/r\n";
+    assert!(rt; answers(rt.alloc(), THREE_LAYERS, 0, tree, "")?);
+    Ok(())
+}
+
+#[test]
+fn a_source_of_an_image_is_refused(rt: HostRuntime) -> Result<(), Fail> {
+    assert!(rt; answers(rt.alloc(), IMAGE_SOURCE, 2, "", "fault 88 0 Source\n")?);
+    Ok(())
+}
+
 fn slowly(alloc: Global, room: usize) -> Result<Ran, Fail> {
     let bytes = hex::decode(alloc, FIRST_RUN)?;
     let mut input = Slow {
@@ -101,7 +167,7 @@ fn slowly(alloc: Global, room: usize) -> Result<Ran, Fail> {
     };
     let mut out = Vec::new(alloc);
     let mut err = Vec::new(alloc);
-    let status = run_over(alloc, &mut input, &mut out, &mut err);
+    let status = run_over(alloc, &mut input, &mut out, &mut err, Locals::new(alloc));
     Ok(Ran { status, out, err })
 }
 
@@ -129,7 +195,7 @@ fn narrowly(alloc: Global, room: usize) -> Result<Ran, Fail> {
     let mut input = bytes.as_slice();
     let mut out = Narrow::new(alloc, room);
     let mut err = Vec::new(alloc);
-    let status = run_over(alloc, &mut input, &mut out, &mut err);
+    let status = run_over(alloc, &mut input, &mut out, &mut err, Locals::new(alloc));
     let Narrow { held, .. } = out;
     Ok(Ran {
         status,
@@ -161,7 +227,13 @@ fn a_writer_that_fails_at_its_end_is_a_failed_write(rt: HostRuntime) -> Result<(
     out.flushes = false;
     let mut err = Vec::new(alloc);
     assert_eq!(rt;
-        run_over(alloc, &mut bytes.as_slice(), &mut out, &mut err),
+        run_over(
+            alloc,
+            &mut bytes.as_slice(),
+            &mut out,
+            &mut err,
+            Locals::new(alloc)
+        ),
         3
     );
     assert_eq!(rt; out.held.as_slice(), TREE.as_bytes());
@@ -177,7 +249,13 @@ fn an_error_line_that_is_not_out_is_a_failed_write(rt: HostRuntime) -> Result<()
         let mut out = Vec::new(alloc);
         let mut err = Narrow::new(alloc, 5);
         assert_eq!(rt;
-            run_over(alloc, &mut bytes.as_slice(), &mut out, &mut err),
+            run_over(
+                alloc,
+                &mut bytes.as_slice(),
+                &mut out,
+                &mut err,
+                Locals::new(alloc)
+            ),
             3
         );
         assert!(rt; out.is_empty());
