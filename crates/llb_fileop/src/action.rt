@@ -6,7 +6,9 @@ ghost use Rattle.llb_fileop.specs.Faults.{Gives};
 ghost use Rattle.llb_fileop.specs.Act.{act};
 
 use crate::fault::ActFault;
-use llb_ops::Action;
+use crate::making::{mkdir, mkfile};
+use crate::removing::rm;
+use llb_ops::{Action, ActionKind};
 use llb_tree::Tree;
 use std::alloc::Global;
 
@@ -21,5 +23,11 @@ pub fn act(
 ) -> Result<Tree, ActFault>
     ensures { Gives (λ t. t) result (act action.now.kind base.now (unwrap_or (option_map (λ t. t.now) second.entry) empty_tree)) }
 {
-    Err(ActFault::Memory)
+    match &action.kind {
+        Some(ActionKind::MkFile(make)) => Ok(mkfile(alloc, make, base)?),
+        Some(ActionKind::MkDir(make)) => Ok(mkdir(alloc, make, base)?),
+        Some(ActionKind::Copy(_)) => Err(ActFault::Memory),
+        Some(ActionKind::Rm(remove)) => rm(alloc, remove, base),
+        None => Ok(base.copy()?),
+    }
 }

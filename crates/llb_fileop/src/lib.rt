@@ -4,6 +4,9 @@
 
 mod action;
 mod fault;
+mod making;
+mod owner;
+mod removing;
 
 pub use action::act;
 pub use fault::ActFault;

@@ -1,0 +1,50 @@
+//! A path, or all that match a pattern, go from a copy of a tree. For a pattern the tree is made anew in one pass, of
+//! what stays, so that a removal of many costs as much as one.
+
+ghost use Rattle.llb_tree.specs.Tree as tree;
+ghost use Rattle.llb_fileop.specs.Faults.{Gives};
+ghost use Rattle.llb_fileop.specs.Removing.{rm, rm_path, absent};
+
+use crate::fault::ActFault;
+use llb_glob::Pattern;
+use llb_ops::Rm;
+use llb_tree::{Path, Tree, TreeFault};
+use std::alloc::Global;
+
+/// The tree without a path, or without all that match.
+pub fn rm(alloc: Global, remove: &Rm, base: &Tree) -> Result<Tree, ActFault>
+    ensures { Gives (λ t. t) result (rm remove.now base.now) }
+{
+    if remove.allow_wildcard {
+        return Err(ActFault::Memory);
+    }
+    let path = Path::read(alloc, remove.path.as_str())?;
+    let tree = rm_path(&path, remove.allow_not_found, base)?;
+    Ok(tree)
+}
+
+// The tree without what is at or below a path.
+fn rm_path(path: &Path, allowed: bool, base: &Tree) -> Result<Tree, TreeFault>
+    ensures { tree.Gives (λ t. t) result (rm_path allowed base.now path.now) }
+{
+    if path.is_root() {
+        return Err(TreeFault::Root);
+    }
+    if base.get(path).is_none() {
+        return absent(allowed, base);
+    }
+    let mut tree = base.copy()?;
+    tree.remove(path)?;
+    Ok(tree)
+}
+
+// What is not there is a fault, or is let be.
+fn absent(allowed: bool, base: &Tree) -> Result<Tree, TreeFault>
+    ensures { tree.Gives (λ t. t) result (absent allowed base.now) }
+{
+    if allowed {
+        base.copy()
+    } else {
+        Err(TreeFault::NotFound)
+    }
+}
