@@ -1,1 +1,5 @@
+pub mod Answering
 pub mod Parents
+pub mod Passing
+pub mod Made
+pub mod Below

@@ -6,6 +6,7 @@ mod action;
 mod fault;
 mod making;
 mod owner;
+mod parts;
 mod removing;
 
 pub use action::act;
