@@ -17,7 +17,8 @@ use Rattle.llb_tree.specs.Tree.{TreeMap, Entry, Dir, File, walk, dir_fits, root_
 use Rattle.llb_tree.specs.declared.fault.TreeFault.{TreeFault}
 use Rattle.llb_tree.specs.declared.fault.TreeFault.TheVariants.{Root}
 use Rattle.llb_wire.specs.Answer.{◌>>=◌}
-use Rattle.llb_fileop.specs.Removing.{matching, is_below_any, left}
+use Rattle.llb_fileop.specs.Removing.{matching, is_below_any, left, removed_all, absent, rm_pattern}
+use Rattle.llb_fileop.specs.Copying.{some_match}
 use Rattle.llb_fileop.specs.Parts.{put, is_root, IsMade}
 use Rattle.llb_fileop.proofs.Passing.{same_path, found_at}
 use Rattle.llb_fileop.proofs.Made.{walk_passes, walk_made, put-Ok}
@@ -157,7 +158,7 @@ root_put t u p (Dir m) root is e =
     here (n ∷ q) =
         get-root_alone t (n ∷ q)
         ∙ sym (finite.get-insert path_cmp-IsTotalOrder empty_tree [] (Dir m) (n ∷ q)
-            ∙ finite.get-insert path_cmp-IsTotalOrder finite.empty [] (Dir root_meta) (n ∷ q) ∙ finite.get-empty path_cmp (n ∷ q))
+        ∙ finite.get-insert path_cmp-IsTotalOrder finite.empty [] (Dir root_meta) (n ∷ q) ∙ finite.get-empty path_cmp (n ∷ q))
 
 -- the next entry of what is left
 module _ (pattern : List (List Item)) (t : TreeMap) (tree : IsTree t) (i : ℕ) (k : List (List ℕ)) (e : Entry) (is : slice_get (finite.entries t) i ≡ Some (k, e)) where
@@ -174,3 +175,48 @@ module _ (pattern : List (List Item)) (t : TreeMap) (tree : IsTree t) (i : ℕ) 
   next_put parts outside part made =
       put-Ok (left pattern t) part k e made.only (next_stays outside) (root_stays pattern t tree parts)
       (walk_made t (left pattern t) part i k e tree made is (dirs_stay pattern t tree k outside) (tree.closed k (ap is_some here)))
+
+-- ---- whether any matches
+
+none_pass : (f : List (List ℕ) → Bool) (xs : List (List (List ℕ))) → list_any f xs ≡ false → filter f xs ≡ []
+none_pass f [] is = refl
+none_pass f (x ∷ xs) is = by_test (f x) is (none_pass f xs)
+  where
+    by_test : (b : Bool) → (b || list_any f xs) ≡ false → (list_any f xs ≡ false → filter f xs ≡ []) → cond b (x ∷ filter f xs) (filter f xs) ≡ []
+    by_test true is rest = absurd (true≢false is)
+    by_test false is rest = rest is
+
+-- there is a first that passes
+abbrev HasFirst : List (List (List ℕ)) → Type 0
+HasFirst xs = (x : List (List ℕ)) × (ys : List (List (List ℕ))) × (xs ≡ x ∷ ys)
+
+some_pass : (f : List (List ℕ) → Bool) (xs : List (List (List ℕ))) → list_any f xs ≡ true → HasFirst (filter f xs)
+some_pass f [] is = absurd (true≢false (sym is))
+some_pass f (x ∷ xs) is = by_test (f x) is (some_pass f xs)
+  where
+    by_test : (b : Bool) → (b || list_any f xs) ≡ true → (list_any f xs ≡ true → HasFirst (filter f xs)) → HasFirst (cond b (x ∷ filter f xs) (filter f xs))
+    by_test true is rest = (x, filter f xs, refl)
+    by_test false is rest = rest is
+
+pub no_match : (pattern : List (List Item)) (t : TreeMap) → list_any (path_matches pattern) (finite.keys t) ≡ false → matching pattern t ≡ []
+no_match pattern t is = none_pass (path_matches pattern) (finite.keys t) is
+
+pub rm_none : (pattern : List (List Item)) (t : TreeMap) (allowed : Bool) → pattern ≢ [] → list_any (path_matches pattern) (finite.keys t) ≡ false
+    → rm_pattern allowed t pattern ≡ absent allowed t
+rm_none [] t allowed parts is = absurd (parts refl)
+rm_none (part ∷ parts) t allowed some is = ap (λ ps. removed_all allowed ps t) (no_match (part ∷ parts) t is)
+
+pub rm_some : (pattern : List (List Item)) (t : TreeMap) (allowed : Bool) → pattern ≢ [] → list_any (path_matches pattern) (finite.keys t) ≡ true
+    → rm_pattern allowed t pattern ≡ Ok (left pattern t)
+rm_some [] t allowed parts is = absurd (parts refl)
+rm_some (part ∷ parts) t allowed some is =
+    let first = some_pass (path_matches (part ∷ parts)) (finite.keys t) is in
+    ap (λ ps. removed_all allowed ps t) first.2 ∙ ap (λ ps. Ok (finite.retain_keys t (λ q. not (is_below_any ps q)))) (sym first.2)
+
+-- where there are some, a fault does not come
+pub some_match-Ok : (pattern : List (List Item)) (t : TreeMap) (allowed : Bool) → list_any (path_matches pattern) (finite.keys t) ≡ true
+    → some_match allowed (matching pattern t) ≡ Ok (matching pattern t)
+some_match-Ok pattern t true is = refl
+some_match-Ok pattern t false is =
+    let first = some_pass (path_matches pattern) (finite.keys t) is in
+    ap (some_match false) first.2 ∙ ap Ok (sym first.2)

@@ -3,3 +3,4 @@ pub mod Parents
 pub mod Passing
 pub mod Made
 pub mod Below
+pub mod Laid

@@ -37,9 +37,9 @@ module _ (whole part : TreeMap) (k : List (List ℕ)) (e : Entry) (own : finite.
   made_put es i was made is = record {
     only = put_only made.only;
     all = λ q there. elim (found_more es i k was q is (subst (λ n. IsSome (finite.find path_cmp q (take n es))) (add-one i) there)) [
-        | inl before ↦ stays_made q (made.all q before)
-        | inr same ↦ ap (finite.get (finite.insert part k e)) same ∙ here ∙ sym (ap (finite.get whole) same ∙ own)
-      ];
+      | inl before ↦ stays_made q (made.all q before)
+      | inr same ↦ ap (finite.get (finite.insert part k e)) same ∙ here ∙ sym (ap (finite.get whole) same ∙ own)
+    ];
   }
     where
       here : finite.get (finite.insert part k e) k ≡ Some e
@@ -55,9 +55,9 @@ pub made_skip : (whole part : TreeMap) (es : List Pair) (i : ℕ) (k : List (Lis
 made_skip whole part es i k was none made is = record {
   only = made.only;
   all = λ q there. elim (found_more es i k was q is (subst (λ n. IsSome (finite.find path_cmp q (take n es))) (add-one i) there)) [
-      | inl before ↦ made.all q before
-      | inr same ↦ neither q same (finite.get part q) refl
-    ];
+    | inl before ↦ made.all q before
+    | inr same ↦ neither q same (finite.get part q) refl
+  ];
 }
   where
     neither : (q : List (List ℕ)) → q ≡ k → (o : Option Entry) → finite.get part q ≡ o → finite.get part q ≡ finite.get whole q
@@ -70,9 +70,9 @@ pub made_already : (whole part : TreeMap) (es : List Pair) (i : ℕ) (k : List (
 made_already whole part es i k was there made is = record {
   only = made.only;
   all = λ q found. elim (found_more es i k was q is (subst (λ n. IsSome (finite.find path_cmp q (take n es))) (add-one i) found)) [
-      | inl before ↦ made.all q before
-      | inr same ↦ ap (finite.get part) same ∙ there ∙ ap (finite.get whole) (sym same)
-    ];
+    | inl before ↦ made.all q before
+    | inr same ↦ ap (finite.get part) same ∙ there ∙ ap (finite.get whole) (sym same)
+  ];
 }
 
 pub made_past : (whole part : TreeMap) (es : List Pair) (i : ℕ) → slice_get es i ≡ None → IsMade whole part (take i es) → IsMade whole part (take (i + 1) es)
@@ -140,11 +140,11 @@ pub walk_made : (source whole part : TreeMap) (i : ℕ) (k : List (List ℕ)) (w
     → walk (finite.get source) k ≡ Ok tt → walk (finite.get part) k ≡ Ok tt
 walk_made source whole part i k was tree made is dirs =
     walk_more (finite.get source) (finite.get part) k (λ r n s below dir.
-        let there = dirs r n s below dir in
-        let before : IsSome (finite.find path_cmp r (take i (finite.entries source))) =
-        found_before (finite.entries source) i k was r (finite.entries_sorted source) is (ap (path_cmp r) below ∙ before_below r n s)
-        (ap is_some (sym (finite.get-entries source r) ∙ dir.1)) in
-        (there.0, made.all r before ∙ there.1))
+    let there = dirs r n s below dir in
+    let before : IsSome (finite.find path_cmp r (take i (finite.entries source))) =
+    found_before (finite.entries source) i k was r (finite.entries_sorted source) is (ap (path_cmp r) below ∙ before_below r n s)
+    (ap is_some (sym (finite.get-entries source r) ∙ dir.1)) in
+    (there.0, made.all r before ∙ there.1))
 
 -- an entry of the whole is put
 pub put-Ok : (whole part : TreeMap) (k : List (List ℕ)) (e : Entry) → ((q : List (List ℕ)) (d : Entry) → finite.get part q ≡ Some d → finite.get whole q ≡ Some d)

@@ -5,6 +5,7 @@ ghost use Rattle.llb_tree.specs.Tree.{empty_tree};
 ghost use Rattle.llb_fileop.specs.Faults.{Gives};
 ghost use Rattle.llb_fileop.specs.Act.{act};
 
+use crate::copying::copy;
 use crate::fault::ActFault;
 use crate::making::{mkdir, mkfile};
 use crate::removing::rm;
@@ -26,7 +27,10 @@ pub fn act(
     match &action.kind {
         Some(ActionKind::MkFile(make)) => Ok(mkfile(alloc, make, base)?),
         Some(ActionKind::MkDir(make)) => Ok(mkdir(alloc, make, base)?),
-        Some(ActionKind::Copy(_)) => Err(ActFault::Memory),
+        Some(ActionKind::Copy(copied)) => match second {
+            Some(second) => copy(alloc, copied, base, second),
+            None => copy(alloc, copied, base, &Tree::empty(alloc)?),
+        },
         Some(ActionKind::Rm(remove)) => rm(alloc, remove, base),
         None => Ok(base.copy()?),
     }

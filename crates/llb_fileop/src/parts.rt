@@ -1,12 +1,13 @@
 //! What passes over the entries of a tree share: the root to begin with, an entry that is put, and whether any matches.
 
-ghost use Rattle.std.specs.Prelude.{◌≡◌, Ok, OnOk};
+ghost use Rattle.std.specs.Prelude.{◌≡◌, Ok, OnOk, is_some};
 ghost use Rattle.std.specs.List.{list_any};
 ghost use Rattle.std.specs.FinMap as finite;
 ghost use Rattle.llb_glob.specs.Matching.{path_matches};
 ghost use Rattle.llb_tree.specs.Rows.{seen};
 ghost use Rattle.llb_tree.specs.Tree.{Gives, IsTree};
 ghost use Rattle.llb_fileop.specs.Parts.{put, is_root};
+ghost use Rattle.llb_fileop.specs.Copying.{is_dir};
 
 use llb_glob::Pattern;
 use llb_tree::{Entry, Path, Tree, TreeFault};
@@ -35,6 +36,26 @@ pub fn put(tree: &mut Tree, path: &Path, held: Entry) -> Result<(), TreeFault>
             let content = content.copy().map_err(|_| TreeFault::Memory)?;
             tree.put_file(path, meta, content)
         }
+    }
+}
+
+/// Whether something stands at a path.
+pub fn is_there(tree: &Tree, path: &Path) -> bool
+    ensures there { result ≡ is_some (finite.get tree.now path.now) }
+    ensures tree { IsTree tree.now }
+{
+    tree.get(path).is_some()
+}
+
+/// Whether a directory stands at a path.
+pub fn is_dir(tree: &Tree, path: &Path) -> bool
+    ensures there { result ≡ is_dir (finite.get tree.now path.now) }
+    ensures tree { IsTree tree.now }
+{
+    match tree.get(path) {
+        Some(Entry::Dir(_)) => true,
+        Some(Entry::File(..)) => false,
+        None => false,
     }
 }
 

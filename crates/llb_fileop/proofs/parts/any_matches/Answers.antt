@@ -24,7 +24,7 @@ loop-at-preserved c =
           let here = paths_from es c.loop-at.at w.in-Some.path.now (seen w.in-Some.field-0-1) (sym w.in-Some.ensures) in
           let miss : path_matches c.args.pattern.now w.in-Some.path.now ≡ false = sym w.matches.ensures.test ∙ w.if-matches.false in
           sym (ap (list_any (path_matches c.args.pattern.now)) here
-              ∙ ap (λ b. b || list_any (path_matches c.args.pattern.now) (map (λ x. x.0) (drop (c.loop-at.at + 1) es))) miss) ∙ c.loop-at.invariant
+          ∙ ap (λ b. b || list_any (path_matches c.args.pattern.now) (map (λ x. x.0) (drop (c.loop-at.at + 1) es))) miss) ∙ c.loop-at.invariant
       | in_default w ↦ let past : slice_get es c.loop-at.at ≡ None = sym w.in_default.ensures in sym (ap (list_any (path_matches c.args.pattern.now)) (paths_past es c.loop-at.at past)) ∙ c.loop-at.invariant
     ]
 

@@ -58,4 +58,4 @@ returns c =
     let base = c.args.base.now in
     let past : length (finite.entries base) ≤ c.loop-at.at = omega (arith, c.len-at-end.ensures, finite.len-entries base) in
     sym (ap Ok (made_whole (left c.args.pattern.now base) c.loop-at.tree (finite.entries base) c.loop-at.at c.loop-at.invariant past
-      (λ q there. subst IsSome (finite.get-entries base q) (left_there c.args.pattern.now base c.in_ok-tree.ensures.tree q there))))
+    (λ q there. subst IsSome (finite.get-entries base q) (left_there c.args.pattern.now base c.in_ok-tree.ensures.tree q there))))
