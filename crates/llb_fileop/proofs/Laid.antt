@@ -153,4 +153,4 @@ module _ (given : MetaValue → MetaValue) (here source : TreeMap) (agree : Agre
 
 -- what was made stays made
 pub stay_made : (whole part after : TreeMap) (es fs : List Pair) → IsMade whole part es → StaysMade whole part after → IsMade whole after fs → IsMade whole after es
-stay_made whole part after es fs made stays now = record { only = now.only; all = λ q there. stays q (made.all q there) }
+stay_made all_of part after es fs made stays now = record { only = now.only; all = λ q there. stays q (made.all q there) }

@@ -4,3 +4,4 @@ pub mod Passing
 pub mod Made
 pub mod Below
 pub mod Laid
+pub mod Landing
