@@ -5,3 +5,4 @@ pub mod Made
 pub mod Below
 pub mod Laid
 pub mod Landing
+pub mod Moved

@@ -1,7 +1,7 @@
 //! Copies from a second tree: the texts are read, then the sources are copied one after another in path order, each to
 //! its target. What is done before a fault is done on a copy.
 
-ghost use Rattle.std.specs.Prelude.{◌≡◌, ◌++◌, Ok, IsSome};
+ghost use Rattle.std.specs.Prelude.{◌≡◌, ◌≤◌, ◌++◌, length, IsSome};
 ghost use Rattle.std.specs.FinMap as finite;
 ghost use Rattle.llb_tree.specs.Tree as trees;
 ghost use Rattle.llb_tree.specs.Tree.{root_meta};
@@ -149,7 +149,8 @@ fn land(
     goal: &Path,
     tree: &mut Tree,
 ) -> Result<(), TreeFault>
-    requires { IsSome (finite.get second.now source.now) }
+    requires short { length goal.now ≤ 128 }
+    requires there { IsSome (finite.get second.now source.now) }
     ensures { trees.Gives (λ _. tree.new) result (land_at (copied action.now.mode action.now.owner) (at_target second.now source.now goal.now) goal.now tree.old) }
 {
     if is_dir(second, source) {

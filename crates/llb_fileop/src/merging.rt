@@ -1,7 +1,7 @@
 //! What is copied lands on a tree: a file at its place, and a directory with what is below it, merged with what is there.
 //! The merged part is made in one pass over both, and takes the place of what was there.
 
-ghost use Rattle.std.specs.Prelude.{◌≡◌, ◌≤◌, true, false, Ok, None, IsSome, map, take, IfOk, OnOk, IfErr};
+ghost use Rattle.std.specs.Prelude.{◌≡◌, ◌≤◌, [], length, true, false, Ok, None, IsSome, map, take, IfOk, OnOk, IfErr};
 ghost use Rattle.std.specs.FinMap as finite;
 ghost use Rattle.llb_tree.specs.Rows.{seen};
 ghost use Rattle.llb_tree.specs.Tree.{is_memory, Gives, moved, IsDirAt, IsTree};
@@ -23,6 +23,7 @@ pub fn land_file(
     goal: &Path,
     tree: &mut Tree,
 ) -> Result<(), TreeFault>
+    requires short { length goal.now ≤ 128 }
     requires there { IsSome (finite.get second.now source.now) }
     requires file { is_dir (finite.get second.now source.now) ≡ false }
     ensures { Gives (λ _. tree.new) result (land_at (copied action.now.mode action.now.owner) (at_target second.now source.now goal.now) goal.now tree.old) }
@@ -41,6 +42,8 @@ pub fn land_dir(
     goal: &Path,
     tree: &mut Tree,
 ) -> Result<(), TreeFault>
+    requires short { length goal.now ≤ 128 }
+    requires dir { IsDirAt (finite.get source.now) [] }
     ensures { Gives (λ _. tree.new) result (land_at (copied action.now.mode action.now.owner) (map (moved 0 goal.now) (finite.entries source.now)) goal.now tree.old) }
 {
     if !is_there(tree, goal) {

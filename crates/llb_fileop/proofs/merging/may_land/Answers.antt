@@ -12,7 +12,7 @@ pub returns-then-depth-names-gt128-clause-land : goal.returns-then-depth-names-g
 returns-then-depth-names-gt128-clause-land c t goal long same =
     let deep : 128 < length goal + length c.in-Some.path.now = omega (arith, c.if-depth-names-gt128.true, ap length c.names.ensures.all) in
     sym (sym (c.loop-at.invariant t goal long same)
-        ∙ land_too_deep c.args.here.now c.args.source.now t goal same c.loop-at.at c.in-Some.path.now (seen c.in-Some.field-0-1) (sym c.in-Some.ensures) deep)
+    ∙ land_too_deep c.args.here.now c.args.source.now t goal same c.loop-at.at c.in-Some.path.now (seen c.in-Some.field-0-1) (sym c.in-Some.ensures) deep)
 
 pub returns-in_err-meet-clause-land : goal.returns-in_err-meet-clause-land
 returns-in_err-meet-clause-land c t goal long same =
