@@ -6,3 +6,4 @@ pub mod Below
 pub mod Laid
 pub mod Landing
 pub mod Moved
+pub mod Grafting
