@@ -1,5 +1,5 @@
 -- Answers that are the same, and faults that never come.
-use Rattle.std.proofs.Common.{◌≡◌, Result, Ok, Err, Bool, false, true, refl, sym, ap, ◌∙◌}
+use Rattle.std.proofs.Common.{◌≡◌, Result, Ok, Err, Option, Some, None, is_some, Bool, false, true, true≢false, refl, sym, ap, ◌∙◌}
 use Rattle.llb_tree.specs.Faults.{is_memory}
 use Rattle.llb_tree.specs.declared.fault.TreeFault.{TreeFault}
 
@@ -16,3 +16,7 @@ only_memory {X = X} {r = r} {x = x} e is fails = by_kind (is_memory e) refl
     by_kind : (b : Bool) → is_memory e ≡ b → b ≡ true
     by_kind true m = refl
     by_kind false m = let no : ◌≡◌ {A = Result X TreeFault} (Ok x) (Err e) = sym is ∙ fails m in absurd cc
+
+pub none_there : {A : Type 0} (o : Option A) → is_some o ≡ false → o ≡ None
+none_there None is = refl
+none_there (Some x) is = absurd (true≢false is)

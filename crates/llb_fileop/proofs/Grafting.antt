@@ -11,11 +11,13 @@ use Rattle.llb_wire.specs.Answer.{◌>>=◌, bind_ok}
 use Rattle.llb_tree.specs.Path.{path_cmp, is_within}
 use Rattle.llb_tree.specs.PathOrder.{path_cmp-IsTotalOrder, path_cmp-IsAntisymmetric}
 use Rattle.llb_tree.specs.Meta.{MetaValue}
-use Rattle.llb_tree.specs.Tree.{TreeMap, Entry, Dir, File, moved, with_tree, graft, places_fit, walk, dir_fits, file_fits, not_root, put_dir, put_file, IsDirAt, IsTree}
+use Rattle.llb_tree.specs.Tree.{TreeMap, Entry, Dir, File, moved, with_tree, graft, subtree, tree_at, dir_there, places_fit, parents, all_dirs, walk, dir_fits, file_fits, not_root, put_dir, put_file, IsDirAt, IsTree}
 use Rattle.llb_tree.specs.declared.fault.TreeFault.{TreeFault}
 use Rattle.llb_tree.specs.declared.fault.TreeFault.TheVariants.{BadName, Conflict}
 use Rattle.llb_fileop.specs.Copying.{fits, meets, is_dir, landed, all_land, land, laid_on, at_target}
+use Rattle.llb_fileop.specs.Making.{kept_or_made, make_all}
 use Rattle.llb_fileop.specs.Parts.{put, put_some, laid, land_at, AgreeOn}
+use Rattle.llb_fileop.proofs.Answering.{same_Ok}
 use Rattle.llb_fileop.proofs.Passing.{Pair, same_path, ties_itself, found_at}
 use Rattle.llb_fileop.proofs.Made.{get-insert_cases}
 use Rattle.llb_fileop.proofs.Laid.{get-laid_on, get-whole}
@@ -138,6 +140,13 @@ root_first ((n ∷ k, d) ∷ es) e sorted is = absurd (missed es (and_first (bel
         and_second true b h = h
         and_second false b h = absurd h
 
+rest_below : (d : Entry) (es fs : List Pair) → T (finite.is_sorted path_cmp es) → es ≡ ([], d) ∷ fs → T (below_all path_cmp [] fs)
+rest_below d es fs sorted is = and_first (below_all path_cmp [] fs) (finite.is_sorted path_cmp fs) (subst (λ l. T (finite.is_sorted path_cmp l)) is sorted)
+  where
+    and_first : (a b : Bool) → T (a && b) → T a
+    and_first true b h = tt
+    and_first false b h = absurd h
+
 module _ (given : MetaValue → MetaValue) (source t : TreeMap) (goal : List (List ℕ)) (low : length goal ≤ 128) (dir : IsDirAt (finite.get source) []) where
   abbrev es' : List Pair
   es' = map (moved 0 goal) (finite.entries source)
@@ -162,5 +171,203 @@ module _ (given : MetaValue → MetaValue) (source t : TreeMap) (goal : List (Li
       refused (Some (Dir m)) there not_dir = absurd (true≢false not_dir)
       refused (Some (File m b)) there not_dir = refl
 
-  pub dir_there : IsTree t → IsSome (finite.get t goal) → land_at given es' goal t ≡ land given es' t
-  dir_there tree there = ap (λ r. r >>= λ _. land given es' t) (tree.closed goal there)
+  pub walks_there : IsTree t → IsSome (finite.get t goal) → land_at given es' goal t ≡ land given es' t
+  walks_there tree there = ap (λ r. r >>= λ _. land given es' t) (tree.closed goal there)
+
+  -- nothing is there: the directory is put first, and the landing is as it was
+  module _ (u : TreeMap) (none : finite.get t goal ≡ None) (put_there : put_some (laid given None (finite.get source [])) t goal ≡ Ok u) where
+    put_as_dir : put_dir t goal (given dir.0) ≡ Ok u
+    put_as_dir = ap (λ o. put_some (laid given None o) t goal) (sym dir.1) ∙ put_there
+
+    walks : walk (finite.get t) goal ≡ Ok tt
+    walks = (bind_ok (walk (finite.get t) goal) (λ _. dir_fits (finite.get t goal) >>= λ _. Ok (finite.insert t goal (Dir (given dir.0)))) u put_as_dir).1
+
+    u_is : finite.insert t goal (Dir (given dir.0)) ≡ u
+    u_is =
+        same_Ok (sym (ap (λ r. r >>= λ _. dir_fits (finite.get t goal) >>= λ _. Ok (finite.insert t goal (Dir (given dir.0)))) walks
+              ∙ ap (λ o. dir_fits o >>= λ _. Ok (finite.insert t goal (Dir (given dir.0)))) none) ∙ put_as_dir)
+
+    u_goal : finite.get u goal ≡ Some (Dir (given dir.0))
+    u_goal =
+        ap (λ x. finite.get x goal) (sym u_is) ∙ finite.get-insert path_cmp-IsTotalOrder t goal (Dir (given dir.0)) goal
+        ∙ ap (λ b. cond b (Some (Dir (given dir.0))) (finite.get t goal)) (ties_itself goal)
+
+    u_other : (q : List (List ℕ)) → eq_by_cmp path_cmp q goal ≡ false → finite.get u q ≡ finite.get t q
+    u_other q other =
+        ap (λ x. finite.get x q) (sym u_is) ∙ finite.get-insert path_cmp-IsTotalOrder t goal (Dir (given dir.0)) q
+        ∙ ap (λ b. cond b (Some (Dir (given dir.0))) (finite.get t q)) other
+
+    below_other : (n : List ℕ) (k : List (List ℕ)) → eq_by_cmp path_cmp (goal ++ n ∷ k) goal ≡ false
+    below_other n k = by_tie (eq_by_cmp path_cmp (goal ++ n ∷ k) goal) refl
+      where
+        by_tie : (b : Bool) → eq_by_cmp path_cmp (goal ++ n ∷ k) goal ≡ b → b ≡ false
+        by_tie false tie = refl
+        by_tie true tie =
+            let long : length (goal ++ n ∷ k) ≡ length goal = ap length (same_path (goal ++ n ∷ k) goal tie) in
+            absurd (omega (arith, length-append goal (n ∷ k)))
+
+    tail_lands : (fs : List Pair) → T (below_all path_cmp [] fs) → all_land u (map (moved 0 goal) fs) ≡ all_land t (map (moved 0 goal) fs)
+    tail_lands [] h = refl
+    tail_lands (([], x) ∷ fs) h = absurd h
+    tail_lands ((n ∷ k, x) ∷ fs) h =
+        λ i. fits (goal ++ n ∷ k) >>= λ _. meets (u_other (goal ++ n ∷ k) (below_other n k) i) x >>= λ _. tail_lands fs h i
+
+    tail_below : T (below_all path_cmp [] (drop 1 (finite.entries source)))
+    tail_below = rest_below (Dir dir.0) (finite.entries source) (drop 1 (finite.entries source)) (finite.entries_sorted source) entries_are
+
+    all_same : all_land u es' ≡ all_land t es'
+    all_same =
+        first_lands_u
+        ∙ ap (λ o. meets o (Dir dir.0) >>= λ _. all_land u (map (moved 0 goal) (drop 1 (finite.entries source)))) u_goal
+        ∙ tail_lands (drop 1 (finite.entries source)) tail_below
+        ∙ sym (first_lands ∙ ap (λ o. meets o (Dir dir.0) >>= λ _. all_land t (map (moved 0 goal) (drop 1 (finite.entries source)))) none)
+      where
+        first_lands_u : all_land u es' ≡ (meets (finite.get u goal) (Dir dir.0) >>= λ _. all_land u (map (moved 0 goal) (drop 1 (finite.entries source))))
+        first_lands_u =
+            ap (λ l. all_land u (map (moved 0 goal) l)) entries_are
+            ∙ ap (λ p. fits p >>= λ _. meets (finite.get u p) (Dir dir.0) >>= λ _. all_land u (map (moved 0 goal) (drop 1 (finite.entries source)))) (append-nil goal)
+            ∙ ap (λ r. r >>= λ _. meets (finite.get u goal) (Dir dir.0) >>= λ _. all_land u (map (moved 0 goal) (drop 1 (finite.entries source)))) (fits-Ok goal low)
+
+    root_found : finite.find path_cmp goal es' ≡ Some (Dir dir.0)
+    root_found = ap (λ p. finite.find path_cmp p es') (sym (append-nil goal)) ∙ find_moved goal [] (finite.entries source) ∙ sym (finite.get-entries source []) ∙ dir.1
+
+    laid_same : (q : List (List ℕ)) → laid given (finite.get u q) (finite.find path_cmp q es') ≡ laid given (finite.get t q) (finite.find path_cmp q es')
+    laid_same q = by_tie (eq_by_cmp path_cmp q goal) refl
+      where
+        at_goal : laid given (finite.get u goal) (finite.find path_cmp goal es') ≡ laid given (finite.get t goal) (finite.find path_cmp goal es')
+        at_goal = (λ i. laid given (u_goal i) (root_found i)) ∙ sym (λ i. laid given (none i) (root_found i))
+
+        by_tie : (b : Bool) → eq_by_cmp path_cmp q goal ≡ b → laid given (finite.get u q) (finite.find path_cmp q es') ≡ laid given (finite.get t q) (finite.find path_cmp q es')
+        by_tie true tie =
+            let same = same_path q goal tie in
+            ap (λ k. laid given (finite.get u k) (finite.find path_cmp k es')) same ∙ at_goal ∙ ap (λ k. laid given (finite.get t k) (finite.find path_cmp k es')) (sym same)
+        by_tie false tie = ap (λ o. laid given o (finite.find path_cmp q es')) (u_other q tie)
+
+    pub dir_made : land given es' u ≡ land_at given es' goal t
+    dir_made =
+        ap (λ r. r >>= λ _. Ok (laid_on given u es')) all_same
+        ∙ ap (λ x. all_land t es' >>= λ _. Ok x)
+        (finite.same_map path_cmp-IsTotalOrder path_cmp-IsAntisymmetric (laid_on given u es') (laid_on given t es') (λ q. get-laid_on given u es' q ∙ laid_same q ∙ sym (get-laid_on given t es' q)))
+        ∙ sym (ap (λ r. r >>= λ _. land given es' t) walks)
+
+    pub dir_is_made : is_dir (finite.get u goal) ≡ true
+    dir_is_made = ap is_dir u_goal
+
+-- ---- a file
+
+pub record HasFile (o : Option Entry) : Type 0 where
+  pub meta : MetaValue
+  pub content : List ℕ
+  pub is : o ≡ Some (File meta content)
+
+pub has_file : (o : Option Entry) → IsSome o → is_dir o ≡ false → HasFile o
+has_file None there not_dir = absurd (true≢false (sym there))
+has_file (Some (Dir m)) there not_dir = absurd (true≢false not_dir)
+has_file (Some (File m b)) there not_dir = record { meta = m; content = b; is = refl }
+
+module _ (given : MetaValue → MetaValue) (t : TreeMap) (goal : List (List ℕ)) (m : MetaValue) (b : List ℕ) (low : length goal ≤ 128) (tree : IsTree t) where
+  abbrev one : List Pair
+  one = (goal, File m b) ∷ []
+
+  pub file_refused : is_dir (finite.get t goal) ≡ true → land_at given one goal t ≡ Err Conflict
+  file_refused is =
+      by_there (finite.get t goal) refl is
+    where
+      by_there : (o : Option Entry) → finite.get t goal ≡ o → is_dir o ≡ true → land_at given one goal t ≡ Err Conflict
+      by_there None there is = absurd (true≢false (sym is))
+      by_there (Some (File n c)) there is = absurd (true≢false (sym is))
+      by_there (Some (Dir n)) there is =
+          ap (λ r. r >>= λ _. land given one t) (tree.closed goal (ap is_some there))
+          ∙ ap (λ r. (r >>= λ _. meets (finite.get t goal) (File m b) >>= λ _. Ok tt) >>= λ _. Ok (laid_on given t one)) (fits-Ok goal low)
+          ∙ ap (λ o. (meets o (File m b) >>= λ _. Ok tt) >>= λ _. Ok (laid_on given t one)) there
+
+  one_laid : laid_on given t one ≡ finite.insert t goal (File (given m) b)
+  one_laid = finite.same_map path_cmp-IsTotalOrder path_cmp-IsAntisymmetric (laid_on given t one) (finite.insert t goal (File (given m) b)) (λ q.
+      get-laid_on given t one q ∙ by_tie q (eq_by_cmp path_cmp q goal) ∙ sym (finite.get-insert path_cmp-IsTotalOrder t goal (File (given m) b) q))
+    where
+      own : (o : Option Entry) → landed given o (File m b) ≡ File (given m) b
+      own None = refl
+      own (Some (Dir n)) = refl
+      own (Some (File n c)) = refl
+
+      by_tie : (q : List (List ℕ)) (x : Bool) → laid given (finite.get t q) (cond x (Some (File m b)) None) ≡ cond x (Some (File (given m) b)) (finite.get t q)
+      by_tie q true = ap Some (own (finite.get t q))
+      by_tie q false = refl
+
+  pub file_lands : is_dir (finite.get t goal) ≡ false → land_at given one goal t ≡ put (File (given m) b) t goal
+  file_lands not_dir =
+      ap (λ x. walk (finite.get t) goal >>= λ _. x) (lands_one ∙ sym fits_one)
+      ∙ sym (ap (λ r. r >>= λ _. walk (finite.get t) goal >>= λ _. file_fits (finite.get t goal) >>= λ _. Ok (finite.insert t goal (File (given m) b))) (named goal refl))
+    where
+      meets_one : (o : Option Entry) → is_dir o ≡ false → meets o (File m b) ≡ Ok tt
+      meets_one None is = refl
+      meets_one (Some (Dir n)) is = absurd (true≢false is)
+      meets_one (Some (File n c)) is = refl
+
+      fits_file : (o : Option Entry) → is_dir o ≡ false → file_fits o ≡ Ok tt
+      fits_file None is = refl
+      fits_file (Some (Dir n)) is = absurd (true≢false is)
+      fits_file (Some (File n c)) is = refl
+
+      lands_one : land given one t ≡ Ok (finite.insert t goal (File (given m) b))
+      lands_one =
+          ap (λ r. (r >>= λ _. meets (finite.get t goal) (File m b) >>= λ _. Ok tt) >>= λ _. Ok (laid_on given t one)) (fits-Ok goal low)
+          ∙ ap (λ r. (r >>= λ _. Ok tt) >>= λ _. Ok (laid_on given t one)) (meets_one (finite.get t goal) not_dir)
+          ∙ ap (λ x. Ok x) one_laid
+
+      fits_one : (file_fits (finite.get t goal) >>= λ _. Ok (finite.insert t goal (File (given m) b))) ≡ Ok (finite.insert t goal (File (given m) b))
+      fits_one = ap (λ r. r >>= λ _. Ok (finite.insert t goal (File (given m) b))) (fits_file (finite.get t goal) not_dir)
+
+      named : (p : List (List ℕ)) → p ≡ goal → not_root goal ≡ Ok tt
+      named [] is = absurd (true≢false (sym (ap is_dir (ap (finite.get t) (sym is) ∙ tree.root.1)) ∙ not_dir))
+      named (n ∷ p) is = ap not_root (sym is)
+
+-- ---- the parents that are made
+
+keeps_dir : (m : MetaValue) (p : List (List ℕ)) (t u : TreeMap) → kept_or_made m p (finite.get t p) t ≡ Ok u → (q : List (List ℕ)) → IsDirAt (finite.get t) q → IsDirAt (finite.get u) q
+keeps_dir m p t u is q dir = by_there (finite.get t p) is
+  where
+    by_there : (o : Option Entry) → kept_or_made m p o t ≡ Ok u → IsDirAt (finite.get u) q
+    by_there (Some (Dir n)) is = let same : t ≡ u = same_Ok is in subst (λ x. IsDirAt (finite.get x) q) same dir
+    by_there (Some (File n b)) is = absurd cc
+    by_there None is =
+        let walks = bind_ok (walk (finite.get t) p) (λ _. dir_fits (finite.get t p) >>= λ _. Ok (finite.insert t p (Dir m))) u is in
+        let fit = bind_ok (dir_fits (finite.get t p)) (λ _. Ok (finite.insert t p (Dir m))) u walks.2 in
+        subst (λ x. IsDirAt (finite.get x) q) (same_Ok fit.2) (get-insert_cases (λ o. (n : MetaValue) × (o ≡ Some (Dir n))) t p (Dir m) q (λ same. (m, refl)) dir)
+
+makes_dir : (m : MetaValue) (p : List (List ℕ)) (t u : TreeMap) → kept_or_made m p (finite.get t p) t ≡ Ok u → IsDirAt (finite.get u) p
+makes_dir m p t u is = by_there (finite.get t p) refl is
+  where
+    by_there : (o : Option Entry) → finite.get t p ≡ o → kept_or_made m p o t ≡ Ok u → IsDirAt (finite.get u) p
+    by_there (Some (Dir n)) there is = subst (λ x. IsDirAt (finite.get x) p) (same_Ok is) (n, there)
+    by_there (Some (File n b)) there is = absurd cc
+    by_there None there is =
+        let walks = bind_ok (walk (finite.get t) p) (λ _. dir_fits (finite.get t p) >>= λ _. Ok (finite.insert t p (Dir m))) u is in
+        let fit = bind_ok (dir_fits (finite.get t p)) (λ _. Ok (finite.insert t p (Dir m))) u walks.2 in
+        subst (λ x. IsDirAt (finite.get x) p) (same_Ok fit.2)
+        (m, finite.get-insert path_cmp-IsTotalOrder t p (Dir m) p ∙ ap (λ b. cond b (Some (Dir m)) (finite.get t p)) (ties_itself p))
+
+all_keep : (m : MetaValue) (ps : List (List (List ℕ))) (t u : TreeMap) → make_all m ps t ≡ Ok u → (q : List (List ℕ)) → IsDirAt (finite.get t) q → IsDirAt (finite.get u) q
+all_keep m [] t u is q dir = subst (λ x. IsDirAt (finite.get x) q) (same_Ok is) dir
+all_keep m (p ∷ ps) t u is q dir =
+    let step = bind_ok (kept_or_made m p (finite.get t p) t) (make_all m ps) u is in
+    all_keep m ps step.0 u step.2 q (keeps_dir m p t step.0 step.1 q dir)
+
+all_made : (m : MetaValue) (ps : List (List (List ℕ))) (t u : TreeMap) → make_all m ps t ≡ Ok u → all_dirs (map (finite.get u) ps) ≡ Ok tt
+all_made m [] t u is = refl
+all_made m (p ∷ ps) t u is =
+    let step = bind_ok (kept_or_made m p (finite.get t p) t) (make_all m ps) u is in
+    let dir = all_keep m ps step.0 u step.2 p (makes_dir m p t step.0 step.1) in
+    ap (λ o. all_dirs (o ∷ map (finite.get u) ps)) dir.1 ∙ all_made m ps step.0 u step.2
+
+pub walk_after : (m : MetaValue) (p : List (List ℕ)) (t u : TreeMap) → make_all m (parents p) t ≡ Ok u → walk (finite.get u) p ≡ Ok tt
+walk_after m p t u is = all_made m (parents p) t u is
+
+-- the tree of what is below a directory
+pub subtree_is : (t : TreeMap) (p : List (List ℕ)) (u : TreeMap) → subtree t p ≡ Ok u → u ≡ tree_at t p
+subtree_is t p u is = sym (same_Ok (bind_ok (dir_there t p) (λ _. Ok (tree_at t p)) u is).2)
+
+pub dir_is : (o : Option Entry) → is_dir o ≡ true → (m : MetaValue) × (o ≡ Some (Dir m))
+dir_is None is = absurd (true≢false (sym is))
+dir_is (Some (File m b)) is = absurd (true≢false (sym is))
+dir_is (Some (Dir m)) is = (m, refl)

@@ -26,6 +26,7 @@ pub fn land_file(
     requires short { length goal.now ≤ 128 }
     requires there { IsSome (finite.get second.now source.now) }
     requires file { is_dir (finite.get second.now source.now) ≡ false }
+    requires tree { IsTree second.now }
     ensures { Gives (λ _. tree.new) result (land_at (copied action.now.mode action.now.owner) (at_target second.now source.now goal.now) goal.now tree.old) }
 {
     if is_dir(tree, goal) {
