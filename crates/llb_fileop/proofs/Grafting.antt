@@ -10,13 +10,15 @@ use Rattle.std.specs.FinMap.Entries.{below_all}
 use Rattle.llb_wire.specs.Answer.{◌>>=◌, bind_ok}
 use Rattle.llb_tree.specs.Path.{path_cmp, is_within}
 use Rattle.llb_tree.specs.PathOrder.{path_cmp-IsTotalOrder, path_cmp-IsAntisymmetric}
-use Rattle.llb_tree.specs.Meta.{MetaValue}
+use Rattle.llb_tree.specs.Meta.{MetaValue, root_meta}
 use Rattle.llb_tree.specs.Tree.{TreeMap, Entry, Dir, File, moved, with_tree, graft, subtree, tree_at, dir_there, places_fit, parents, all_dirs, walk, dir_fits, file_fits, not_root, put_dir, put_file, IsDirAt, IsTree}
 use Rattle.llb_tree.specs.declared.fault.TreeFault.{TreeFault}
 use Rattle.llb_tree.specs.declared.fault.TreeFault.TheVariants.{BadName, Conflict}
-use Rattle.llb_fileop.specs.Copying.{fits, meets, is_dir, landed, all_land, land, laid_on, at_target}
+use Rattle.llb_fileop.specs.Copying.{fits, meets, is_dir, landed, all_land, land, laid_on, at_target, parents_for, copy_to}
 use Rattle.llb_fileop.specs.Making.{kept_or_made, make_all}
-use Rattle.llb_fileop.specs.Parts.{put, put_some, laid, land_at, AgreeOn}
+use Rattle.llb_ops.specs.declared.file.CopyFile.{CopyFile}
+use Rattle.llb_fileop.specs.Owners.{copied}
+use Rattle.llb_fileop.specs.Parts.{put, put_some, laid, land_at, placed, AgreeOn}
 use Rattle.llb_fileop.proofs.Answering.{same_Ok}
 use Rattle.llb_fileop.proofs.Passing.{Pair, same_path, ties_itself, found_at}
 use Rattle.llb_fileop.proofs.Made.{get-insert_cases}
@@ -371,3 +373,40 @@ pub dir_is : (o : Option Entry) → is_dir o ≡ true → (m : MetaValue) × (o 
 dir_is None is = absurd (true≢false (sym is))
 dir_is (Some (File m b)) is = absurd (true≢false (sym is))
 dir_is (Some (Dir m)) is = (m, refl)
+
+-- ---- one source
+
+module _ (c : CopyFile) (second : TreeMap) (s place goal : List (List ℕ)) (t : TreeMap) (is : placed place ≡ Ok goal) where
+  place_is : place ≡ goal
+  place_is = same_Ok (bind_ok (fits place) (λ _. Ok place) goal is).2
+
+  pub place_short : length goal ≤ 128
+  place_short = fits_short goal (ap fits (sym place_is) ∙ (bind_ok (fits place) (λ _. Ok place) goal is).1)
+
+  abbrev given : MetaValue → MetaValue
+  given = copied c.mode c.owner
+
+  fits_place : copy_to c second s place t ≡ (parents_for c.create_dest_path goal t >>= land given (at_target second s goal))
+  fits_place =
+      ap (λ p. copy_to c second s p t) place_is
+      ∙ ap (λ r. r >>= λ _. parents_for c.create_dest_path goal t >>= land given (at_target second s goal)) (fits-Ok goal place_short)
+
+  pub copy_made : (u : TreeMap) → c.create_dest_path ≡ true → make_all root_meta (parents goal) t ≡ Ok u → copy_to c second s place t ≡ land_at given (at_target second s goal) goal u
+  copy_made u create made =
+      fits_place
+      ∙ ap (λ b. parents_for b goal t >>= land given (at_target second s goal)) create
+      ∙ ap (λ r. r >>= land given (at_target second s goal)) made
+      ∙ sym (ap (λ r. r >>= λ _. land given (at_target second s goal) u) (walk_after root_meta goal t u made))
+
+  pub copy_kept : c.create_dest_path ≡ false → copy_to c second s place t ≡ land_at given (at_target second s goal) goal t
+  copy_kept create = fits_place ∙ ap (λ b. parents_for b goal t >>= land given (at_target second s goal)) create ∙ by_walk (walk (finite.get t) goal)
+    where
+      by_walk : (r : Result (Unit {0}) TreeFault) → ((r >>= λ _. Ok t) >>= land given (at_target second s goal)) ≡ (r >>= λ _. land given (at_target second s goal) t)
+      by_walk (Ok x) = refl
+      by_walk (Err e) = refl
+
+  pub copy_refused : (e : TreeFault) → c.create_dest_path ≡ true → make_all root_meta (parents goal) t ≡ Err e → copy_to c second s place t ≡ Err e
+  copy_refused e create made =
+      fits_place
+      ∙ ap (λ b. parents_for b goal t >>= land given (at_target second s goal)) create
+      ∙ ap (λ r. r >>= land given (at_target second s goal)) made
