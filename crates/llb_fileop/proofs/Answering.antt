@@ -1,5 +1,5 @@
 -- Answers that are the same, and faults that never come.
-use Rattle.std.proofs.Common.{◌≡◌, Result, Ok, Err, Option, Some, None, is_some, Bool, false, true, true≢false, refl, sym, ap, ◌∙◌}
+use Rattle.std.proofs.Common.{◌≡◌, Result, Ok, Err, Option, Some, None, is_some, Bool, false, true, true≢false, refl, sym, ◌∙◌}
 use Rattle.llb_tree.specs.Faults.{is_memory}
 use Rattle.llb_tree.specs.declared.fault.TreeFault.{TreeFault}
 

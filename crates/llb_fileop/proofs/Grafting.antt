@@ -1,17 +1,16 @@
 -- A copy at its place: the merged part takes the place of what was there, and a file is put.
-use Rattle.std.proofs.Common.{◌≡◌, ◌≢◌, ℕ, zero, suc, ◌+◌, ◌<◌, ◌≤◌, Bool, true, false, cond, ◌&&◌, List, [], ◌∷◌, ◌++◌, map, length, drop, Option, Some, None, IsSome, is_some, Result, Ok, Err, T, refl, sym, ap, subst, ◌∙◌, true≢false, arith, length-append}
+use Rattle.std.proofs.Common.{◌≡◌, ℕ, zero, suc, ◌+◌, ◌≤◌, Bool, true, false, cond, ◌&&◌, List, [], ◌∷◌, ◌++◌, map, length, drop, Option, Some, None, IsSome, is_some, Result, Ok, Err, T, refl, sym, ap, subst, ◌∙◌, true≢false, arith, length-append}
 use Rattle.std.proofs.lemmas.List.{append-nil}
 use Rattle.std.proofs.lemmas.Bool.{le-ltb}
-use Rattle.std.specs.Prelude.{slice_get, nat_lt}
+use Rattle.std.specs.Prelude.{slice_get}
 use Rattle.std.specs.Ordering.{is_lt, eq_by_cmp}
-use Rattle.std.specs.declared.cmp.Ordering.TheVariants.{Less}
 use Rattle.std.specs.FinMap as finite
 use Rattle.std.specs.FinMap.Entries.{below_all}
 use Rattle.llb_wire.specs.Answer.{◌>>=◌, bind_ok}
 use Rattle.llb_tree.specs.Path.{path_cmp, is_within}
 use Rattle.llb_tree.specs.PathOrder.{path_cmp-IsTotalOrder, path_cmp-IsAntisymmetric}
 use Rattle.llb_tree.specs.Meta.{MetaValue, root_meta}
-use Rattle.llb_tree.specs.Tree.{TreeMap, Entry, Dir, File, moved, with_tree, graft, subtree, tree_at, dir_there, places_fit, parents, all_dirs, walk, dir_fits, file_fits, not_root, put_dir, put_file, IsDirAt, IsTree}
+use Rattle.llb_tree.specs.Tree.{TreeMap, Entry, Dir, File, moved, with_tree, graft, subtree, tree_at, dir_there, places_fit, parents, all_dirs, walk, dir_fits, file_fits, not_root, put_dir, IsDirAt, IsTree}
 use Rattle.llb_tree.specs.declared.fault.TreeFault.{TreeFault}
 use Rattle.llb_tree.specs.declared.fault.TreeFault.TheVariants.{BadName, Conflict}
 use Rattle.llb_fileop.specs.Copying.{fits, meets, is_dir, landed, all_land, land, laid_on, at_target, parents_for, copy_to}
@@ -187,7 +186,7 @@ module _ (given : MetaValue → MetaValue) (source t : TreeMap) (goal : List (Li
     u_is : finite.insert t goal (Dir (given dir.0)) ≡ u
     u_is =
         same_Ok (sym (ap (λ r. r >>= λ _. dir_fits (finite.get t goal) >>= λ _. Ok (finite.insert t goal (Dir (given dir.0)))) walks
-              ∙ ap (λ o. dir_fits o >>= λ _. Ok (finite.insert t goal (Dir (given dir.0)))) none) ∙ put_as_dir)
+        ∙ ap (λ o. dir_fits o >>= λ _. Ok (finite.insert t goal (Dir (given dir.0)))) none) ∙ put_as_dir)
 
     u_goal : finite.get u goal ≡ Some (Dir (given dir.0))
     u_goal =

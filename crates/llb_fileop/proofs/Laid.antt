@@ -1,9 +1,8 @@
 -- Trees that are laid on one another.
-use Rattle.std.proofs.Common.{◌≡◌, ◌≢◌, ℕ, suc, ◌+◌, ◌≤◌, Bool, true, false, cond, ◌⊎◌, List, [], ◌∷◌, ◌++◌, map, length, take, drop, Option, Some, None, IsSome, is_some, Result, Ok, Err, T, refl, sym, ap, subst, ◌∙◌, inl, inr, true≢false, arith}
+use Rattle.std.proofs.Common.{◌≡◌, ℕ, ◌+◌, Bool, true, false, cond, List, [], ◌∷◌, ◌++◌, map, take, Option, Some, None, is_some, Result, Ok, Err, refl, sym, ap, ◌∙◌}
 use Rattle.std.specs.Prelude.{slice_get}
 use Rattle.std.specs.Ordering.{eq_by_cmp}
 use Rattle.std.specs.FinMap as finite
-use Rattle.llb_wire.specs.Answer.{◌>>=◌}
 use Rattle.llb_tree.specs.Path.{path_cmp}
 use Rattle.llb_tree.specs.PathOrder.{path_cmp-IsTotalOrder, path_cmp-IsAntisymmetric}
 use Rattle.llb_tree.specs.Meta.{MetaValue}
@@ -11,7 +10,7 @@ use Rattle.llb_tree.specs.Tree.{TreeMap, Entry, Dir, File, walk, IsDirAt, IsTree
 use Rattle.llb_tree.specs.declared.fault.TreeFault.{TreeFault}
 use Rattle.llb_tree.specs.declared.fault.TreeFault.TheVariants.{Conflict}
 use Rattle.llb_fileop.specs.Copying.{meets, landed, landed_on, laid_on}
-use Rattle.llb_fileop.specs.Parts.{put, put_some, added, laid, is_root, IsMade, StaysMade, AgreeOn}
+use Rattle.llb_fileop.specs.Parts.{put_some, added, laid, is_root, IsMade, StaysMade, AgreeOn}
 use Rattle.llb_fileop.proofs.Passing.{Pair, same_path, found_at}
 use Rattle.llb_fileop.proofs.Made.{made_put, made_already, made_beside, stays_made, walk_made, put-Ok}
 use Rattle.llb_fileop.proofs.Below.{made_root}

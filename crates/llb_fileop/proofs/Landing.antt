@@ -1,19 +1,16 @@
 -- Entries that land at their places, one after another.
-use Rattle.std.proofs.Common.{◌≡◌, ◌≢◌, ℕ, zero, suc, ◌+◌, ◌<◌, ◌≤◌, Bool, true, false, cond, ◌&&◌, List, [], ◌∷◌, ◌++◌, map, length, take, drop, Option, Some, None, IsSome, is_some, Result, Ok, Err, T, refl, sym, ap, subst, ◌∙◌, true≢false, add-one, arith, length-append}
-use Rattle.std.proofs.lemmas.List.{append-nil, drop_all}
+use Rattle.std.proofs.Common.{◌≡◌, ℕ, zero, suc, ◌+◌, ◌<◌, ◌≤◌, Bool, true, false, cond, List, [], ◌∷◌, ◌++◌, map, length, drop, Some, None, Result, Ok, Err, refl, sym, ap, ◌∙◌, add-one, arith, length-append}
+use Rattle.std.proofs.lemmas.List.{drop_all}
 use Rattle.std.proofs.lemmas.Bool.{lt-ltb, le-ltb, ltb-false}
 use Rattle.std.specs.Prelude.{slice_get, nat_lt}
-use Rattle.std.specs.Ordering.{eq_by_cmp}
 use Rattle.std.specs.FinMap as finite
 use Rattle.llb_wire.specs.Answer.{◌>>=◌}
-use Rattle.llb_tree.specs.Path.{path_cmp}
-use Rattle.llb_tree.specs.PathOrder.{path_cmp-IsTotalOrder, path_cmp-IsAntisymmetric}
-use Rattle.llb_tree.specs.Tree.{TreeMap, Entry, Dir, File, moved}
+use Rattle.llb_tree.specs.Tree.{TreeMap, Entry, moved}
 use Rattle.llb_tree.specs.declared.fault.TreeFault.{TreeFault}
 use Rattle.llb_tree.specs.declared.fault.TreeFault.TheVariants.{BadName}
 use Rattle.llb_fileop.specs.Copying.{fits, meets, all_land}
 use Rattle.llb_fileop.specs.Parts.{meets_at}
-use Rattle.llb_fileop.proofs.Passing.{Pair, found_at, same_path}
+use Rattle.llb_fileop.proofs.Passing.{Pair, found_at}
 
 -- a path of 128 names fits, and a longer one does not
 pub fits-Ok : (p : List (List ℕ)) → length p ≤ 128 → fits p ≡ Ok tt

@@ -1,16 +1,13 @@
 -- A tree that is made entry by entry: an entry of the whole is put where its parents are there already.
-use Rattle.std.proofs.Common.{◌≡◌, ◌≢◌, ℕ, suc, ◌+◌, ◌≤◌, Bool, true, false, cond, ◌⊎◌, List, [], ◌∷◌, ◌++◌, map, length, take, Option, Some, None, IsSome, is_some, Result, Ok, Err, T, refl, sym, ap, subst, ◌∙◌, inl, inr, true≢false, add-one, arith}
+use Rattle.std.proofs.Common.{◌≡◌, ℕ, ◌+◌, ◌≤◌, Bool, true, false, cond, List, [], ◌∷◌, ◌++◌, map, length, take, Option, Some, None, IsSome, is_some, Ok, refl, sym, ap, subst, ◌∙◌, inl, inr, add-one}
 use Rattle.std.proofs.lemmas.List.{take_all}
 use Rattle.std.specs.Prelude.{slice_get}
-use Rattle.std.specs.declared.cmp.Ordering.TheVariants.{Less}
 use Rattle.std.specs.Ordering.{eq_by_cmp}
 use Rattle.std.specs.FinMap as finite
 use Rattle.llb_wire.specs.Answer.{◌>>=◌}
 use Rattle.llb_tree.specs.Path.{path_cmp}
 use Rattle.llb_tree.specs.PathOrder.{path_cmp-IsTotalOrder, path_cmp-IsAntisymmetric}
-use Rattle.llb_tree.specs.Tree.{TreeMap, Entry, Dir, File, Look, parents, all_dirs, walk, file_fits, dir_fits, not_root, put_file, put_dir, IsDirAt, IsTree}
-use Rattle.llb_tree.specs.Meta.{MetaValue}
-use Rattle.llb_tree.specs.declared.fault.TreeFault.{TreeFault}
+use Rattle.llb_tree.specs.Tree.{TreeMap, Entry, Dir, File, Look, parents, all_dirs, walk, file_fits, dir_fits, IsDirAt, IsTree}
 use Rattle.llb_fileop.specs.Parts.{put, IsMade, StaysMade}
 use Rattle.llb_fileop.proofs.Passing.{Pair, same_path, ties_itself, before_below, found_before, found_more, take_past}
 

@@ -1,5 +1,4 @@
-use Rattle.std.proofs.Common.{◌≡◌, List, ℕ, subst, sym, ap, ◌∙◌, Ok, true, false}
-use Rattle.std.specs.FinMap as finite
+use Rattle.std.proofs.Common.{◌≡◌, subst, sym, ap, ◌∙◌, Ok}
 use Rattle.llb_tree.specs.Tree.{Gives, parents, root_meta}
 use Rattle.llb_fileop.specs.Making.{make_all}
 use Rattle.llb_fileop.specs.Owners.{copied}
@@ -20,7 +19,7 @@ returns c =
           = ap (λ m. make_all m (parents c.in_ok-goal.goal) c.args.tree.now) (sym w.root_meta.ensures) ∙ w.in_ok-make_parents.ensures in
           ap (land_at given es c.in_ok-goal.goal) w.tree-is
           ∙ sym (copy_made c.args.action.now c.args.second.now c.args.source.now place c.in_ok-goal.goal c.args.tree.now c.in_ok-goal.ensures
-              w.make_parents.new.tree w.if-action.true made)
+          w.make_parents.new.tree w.if-action.true made)
       | else-action w ↦
           ap (land_at given es c.in_ok-goal.goal) w.tree-is
           ∙ sym (copy_kept c.args.action.now c.args.second.now c.args.source.now place c.in_ok-goal.goal c.args.tree.now c.in_ok-goal.ensures w.if-action.false)

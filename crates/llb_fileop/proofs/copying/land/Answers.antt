@@ -1,8 +1,7 @@
-use Rattle.std.proofs.Common.{◌≡◌, List, ℕ, [], map, subst, sym, ap, ◌∙◌, Ok, true, false}
+use Rattle.std.proofs.Common.{◌≡◌, map, subst, ap, ◌∙◌}
 use Rattle.std.specs.FinMap as finite
 use Rattle.llb_tree.specs.Tree.{Gives, moved, tree_at}
 use Rattle.llb_fileop.specs.Owners.{copied}
-use Rattle.llb_fileop.specs.Copying.{at_target, is_dir}
 use Rattle.llb_fileop.specs.Parts.{land_at}
 use Rattle.llb_fileop.proofs.Moved.{target_dir}
 use Rattle.llb_fileop.proofs.Grafting.{subtree_is}

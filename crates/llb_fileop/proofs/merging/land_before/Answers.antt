@@ -1,4 +1,4 @@
-use Rattle.std.proofs.Common.{rules, ◌≡◌, ◌≤◌, ◌+◌, length, take, sym, ap, subst, ◌∙◌, arith, Some, None, Ok, Err, false, true, ℕ, List}
+use Rattle.std.proofs.Common.{rules, ◌≡◌, ◌≤◌, ◌+◌, length, take, sym, subst, ◌∙◌, arith, Some, None, true}
 use Rattle.std.proofs.lemmas.List.{take_all}
 use Rattle.std.specs.Prelude.{slice_get}
 use Rattle.std.specs.FinMap as finite
@@ -9,7 +9,7 @@ use Rattle.llb_fileop.specs.Copying.{laid_on}
 use Rattle.llb_fileop.specs.Parts.{IsMade, StaysMade}
 use Rattle.llb_fileop.proofs.Answering.{same_Ok, only_memory}
 use Rattle.llb_fileop.proofs.Made.{made_past}
-use Rattle.llb_fileop.proofs.Laid.{Laid, grown, laid_source, made_grown, stays_grown}
+use Rattle.llb_fileop.proofs.Laid.{grown, laid_source, made_grown, stays_grown}
 use Rattle.llb_fileop.proofs.merging.land_before.Goals as goal
 use Rattle.llb_fileop.proofs.merging.land_before.Goals.{in-Some+else-is_gt+in_ok-lay, in_default}
 

@@ -1,4 +1,4 @@
-use Rattle.std.proofs.Common.{◌≡◌, List, ℕ, [], map, subst, sym, ap, ◌∙◌, Ok, Err, None, Some, IsSome, is_some, true≢false, true, false, refl}
+use Rattle.std.proofs.Common.{◌≡◌, [], map, subst, sym, ap, ◌∙◌, Ok, None, is_some, true≢false, true, false}
 use Rattle.std.specs.FinMap as finite
 use Rattle.llb_tree.specs.Tree.{Gives, moved}
 use Rattle.llb_fileop.specs.Owners.{copied}

@@ -1,9 +1,7 @@
-use Rattle.std.proofs.Common.{rules, ◌≡◌, ◌<◌, ◌≤◌, ◌+◌, length, drop, sym, ap, subst, ◌∙◌, arith, Some, None, Ok, Err, ℕ}
-use Rattle.std.specs.Prelude.{slice_get, Result}
+use Rattle.std.proofs.Common.{rules, ◌≡◌, ◌<◌, ◌≤◌, ◌+◌, length, sym, ap, ◌∙◌, arith, None, Ok, Err}
+use Rattle.std.specs.Prelude.{slice_get}
 use Rattle.std.specs.FinMap as finite
 use Rattle.llb_tree.specs.Rows.{seen}
-use Rattle.llb_tree.specs.declared.fault.TreeFault.{TreeFault}
-use Rattle.llb_wire.specs.Answer.{◌>>=◌}
 use Rattle.llb_fileop.proofs.Landing.{land_too_deep, land_next, land_past, land_end}
 use Rattle.llb_fileop.proofs.merging.may_land.Goals as goal
 use Rattle.llb_fileop.proofs.merging.may_land.Goals.{in-Some+else-depth-names-gt128+in_ok-meet, in_default}

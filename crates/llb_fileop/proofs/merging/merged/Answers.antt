@@ -1,4 +1,4 @@
-use Rattle.std.proofs.Common.{rules, ◌≡◌, ◌≤◌, ◌+◌, length, take, sym, ap, subst, ◌∙◌, arith, Some, None, Ok, Err, false, true, true≢false, ℕ, List, []}
+use Rattle.std.proofs.Common.{rules, ◌≡◌, ◌≤◌, ◌+◌, length, take, sym, ap, subst, ◌∙◌, arith, Some, None, Ok, Err, false, true≢false, []}
 use Rattle.std.proofs.lemmas.List.{take_all}
 use Rattle.std.specs.Prelude.{slice_get}
 use Rattle.std.specs.FinMap as finite
@@ -6,10 +6,10 @@ use Rattle.llb_tree.specs.Faults.{is_memory}
 use Rattle.llb_tree.specs.Rows.{seen}
 use Rattle.llb_fileop.specs.Owners.{copied}
 use Rattle.llb_fileop.specs.Copying.{laid_on}
-use Rattle.llb_fileop.specs.Parts.{IsMade, StaysMade}
+use Rattle.llb_fileop.specs.Parts.{IsMade}
 use Rattle.llb_fileop.proofs.Answering.{same_Ok, only_memory}
 use Rattle.llb_fileop.proofs.Made.{made_past}
-use Rattle.llb_fileop.proofs.Laid.{Laid, grown, made_start, laid_here, laid_whole, made_grown, beside_grown, stay_made}
+use Rattle.llb_fileop.proofs.Laid.{grown, made_start, laid_here, laid_whole, made_grown, beside_grown, stay_made}
 use Rattle.llb_fileop.proofs.merging.merged.Goals as goal
 use Rattle.llb_fileop.proofs.merging.merged.Goals.{in-Some+in_ok-next+in_ok-lay, in_default}
 

@@ -1,10 +1,10 @@
-use Rattle.std.proofs.Common.{rules, ◌≡◌, ◌≤◌, ◌+◌, IsSome, is_some, length, take, sym, ap, subst, ◌∙◌, arith, Some, None, Ok, Err, false, true, []}
+use Rattle.std.proofs.Common.{rules, ◌≡◌, ◌≤◌, ◌+◌, IsSome, length, take, sym, ap, subst, ◌∙◌, arith, Some, None, Ok, Err, false, true, []}
 use Rattle.std.specs.Prelude.{slice_get}
 use Rattle.std.specs.FinMap as finite
-use Rattle.llb_tree.specs.Tree.{IsTree, is_memory}
+use Rattle.llb_tree.specs.Tree.{is_memory}
 use Rattle.llb_tree.specs.Rows.{seen}
 use Rattle.llb_glob.specs.Matching.{path_matches}
-use Rattle.llb_fileop.specs.Parts.{IsMade, put, is_root}
+use Rattle.llb_fileop.specs.Parts.{IsMade, is_root}
 use Rattle.llb_fileop.specs.Removing.{left}
 use Rattle.llb_fileop.proofs.Answering.{same_Ok, never}
 use Rattle.llb_fileop.proofs.Made.{made_put, made_skip, made_past, made_whole}

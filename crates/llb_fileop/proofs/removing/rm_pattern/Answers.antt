@@ -1,7 +1,6 @@
-use Rattle.std.proofs.Common.{rules, ◌≡◌, ◌≢◌, [], subst, sym, ◌∙◌, Ok, true, false}
+use Rattle.std.proofs.Common.{◌≢◌, [], subst, sym, ◌∙◌}
 use Rattle.std.proofs.lemmas.Bool.{false≢true}
 use Rattle.llb_tree.specs.Tree as tree
-use Rattle.llb_fileop.specs.Removing.{rm_pattern}
 use Rattle.llb_fileop.proofs.Below.{rm_none, rm_some}
 use Rattle.llb_fileop.proofs.removing.rm_pattern.Goals as goal
 
