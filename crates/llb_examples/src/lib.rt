@@ -7,6 +7,8 @@ mod board;
 #[cfg(test)]
 mod faults;
 #[cfg(test)]
+mod fileop;
+#[cfg(test)]
 mod glob;
 #[cfg(test)]
 mod loader;

@@ -1,5 +1,5 @@
 -- What a file action leaves of a tree, or its first fault.
-use Rattle.std.specs.Prelude.{Option, Some, None, Result, Ok, Err}
+use Rattle.std.specs.Prelude.{Option, Some, None, Result, Ok}
 use Rattle.llb_ops.specs.declared.file.ActionKind.{ActionKind}
 use Rattle.llb_ops.specs.declared.file.ActionKind.TheVariants as kind
 use Rattle.llb_tree.specs.Tree.{TreeMap}

@@ -122,7 +122,11 @@ abbrev pub copy_each : CopyFile → List (List ℕ) × Bool → TreeMap → List
 copy_each c dest second [] t = Ok t
 copy_each c dest second (s ∷ ss) t = copy_one c dest second s t >>= copy_each c dest second ss
 
+-- the sources, one after another
+abbrev pub copy_chosen : CopyFile → List (List ℕ) × Bool → TreeMap → TreeMap → Chosen → Result TreeMap TreeFault
+copy_chosen c dest t second chosen = sources c.allow_empty_wildcard second chosen >>= λ ss. copy_each c dest second ss t
+
 -- the texts are read before anything else
 abbrev pub copy : CopyFile → TreeMap → TreeMap → Result TreeMap ActFault
 copy c t second =
-    chosen_by c >>= λ chosen. on_tree (resolved c.dest) >>= λ dest. on_tree (sources c.allow_empty_wildcard second chosen >>= λ ss. copy_each c dest second ss t)
+    chosen_by c >>= λ chosen. on_tree (resolved c.dest) >>= λ dest. on_tree (copy_chosen c dest t second chosen)

@@ -3,4 +3,5 @@ pub mod Owners
 pub mod Making
 pub mod Removing
 pub mod Copying
+pub mod Parts
 pub mod Act

@@ -36,6 +36,10 @@ matching pattern t = filter (path_matches pattern) (finite.keys t)
 abbrev pub is_below_any : List (List (List ℕ)) → List (List ℕ) → Bool
 is_below_any ps q = list_any (λ p. is_within p q) ps
 
+-- what is left where all that match go, with what is below them
+abbrev pub left : List (List Item) → TreeMap → TreeMap
+left pattern t = finite.retain_keys t (λ q. not (is_below_any (matching pattern t) q))
+
 -- all that match go, with what is below them
 abbrev pub removed_all : Bool → List (List (List ℕ)) → TreeMap → Result TreeMap TreeFault
 removed_all allowed [] t = absent allowed t

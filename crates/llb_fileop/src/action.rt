@@ -5,8 +5,11 @@ ghost use Rattle.llb_tree.specs.Tree.{empty_tree};
 ghost use Rattle.llb_fileop.specs.Faults.{Gives};
 ghost use Rattle.llb_fileop.specs.Act.{act};
 
+use crate::copying::copy;
 use crate::fault::ActFault;
-use llb_ops::Action;
+use crate::making::{mkdir, mkfile};
+use crate::removing::rm;
+use llb_ops::{Action, ActionKind};
 use llb_tree::Tree;
 use std::alloc::Global;
 
@@ -21,5 +24,14 @@ pub fn act(
 ) -> Result<Tree, ActFault>
     ensures { Gives (λ t. t) result (act action.now.kind base.now (unwrap_or (option_map (λ t. t.now) second.entry) empty_tree)) }
 {
-    Err(ActFault::Memory)
+    match &action.kind {
+        Some(ActionKind::MkFile(make)) => Ok(mkfile(alloc, make, base)?),
+        Some(ActionKind::MkDir(make)) => Ok(mkdir(alloc, make, base)?),
+        Some(ActionKind::Copy(copied)) => match second {
+            Some(second) => copy(alloc, copied, base, second),
+            None => copy(alloc, copied, base, &Tree::empty(alloc)?),
+        },
+        Some(ActionKind::Rm(remove)) => rm(alloc, remove, base),
+        None => Ok(base.copy()?),
+    }
 }

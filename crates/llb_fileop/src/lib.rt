@@ -3,7 +3,15 @@
 #![tactic(auto)]
 
 mod action;
+mod copying;
+mod dest;
 mod fault;
+mod making;
+mod merging;
+mod owner;
+mod parts;
+mod removing;
 
 pub use action::act;
+pub use dest::resolve;
 pub use fault::ActFault;

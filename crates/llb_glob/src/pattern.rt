@@ -1,10 +1,10 @@
 //! Patterns. A text is read as that of a path is, and then each part is cut into items. Reading looks the text through
 //! once without memory, so that a bad pattern is told from the want of memory, and then makes the pattern.
 
-ghost use Rattle.std.specs.Prelude.{◌≡◌, ◌↔◌, List, ℕ, [], is_ok, IsTrue};
+ghost use Rattle.std.specs.Prelude.{◌≡◌, ◌↔◌, List, ℕ, [], length, take, is_ok, IsTrue};
 ghost use Rattle.llb_tree.specs.Path.{enter};
 ghost use Rattle.llb_glob.specs.Faults.{Gives, MemoryLast};
-ghost use Rattle.llb_glob.specs.Matching.{Matches};
+ghost use Rattle.llb_glob.specs.Matching.{Matches, path_matches};
 ghost use Rattle.llb_glob.specs.Pattern.{each_cut, pattern_of};
 
 use crate::fault::PatternFault;
@@ -59,19 +59,20 @@ impl Pattern {
 
     /// Whether a path matches: it has as many names as the pattern has parts, and each matches the part at its place.
     pub fn matches(&self, path: &Path) -> bool
-        ensures { IsTrue result ↔ Matches self.now path.now }
+        ensures relation { IsTrue result ↔ Matches self.now path.now }
+        ensures test { result ≡ path_matches self.now path.now }
     {
-        let parts = self.parts.as_slice();
+        all_match(&self.parts, path.names())
+    }
+
+    /// Whether a path matches, or the one above it that has as many names as the pattern has parts.
+    pub fn matches_at_or_above(&self, path: &Path) -> bool
+        ensures { result ≡ path_matches self.now (take (length self.now) path.now) }
+    {
         let names = path.names();
-        if parts.len() != names.len() {
-            return false;
-        }
-        for (part, name) in parts.iter().zip(names) {
-            if !part.matches(name.as_str()) {
-                return false;
-            }
-        }
-        true
+        let count = self.parts.len().min(names.len());
+        let (front, _) = names.split_at(count);
+        all_match(&self.parts, front)
     }
 
     /// Whether the root alone matches.
@@ -80,6 +81,21 @@ impl Pattern {
     {
         self.parts.is_empty()
     }
+}
+
+// Whether there are as many names as parts, and each matches the part at its place.
+fn all_match(parts: &[Part], names: &[Name]) -> bool
+    ensures { IsTrue result ↔ Matches parts.now names.now }
+{
+    if parts.len() != names.len() {
+        return false;
+    }
+    for (part, name) in parts.iter().zip(names) {
+        if !part.matches(name.as_str()) {
+            return false;
+        }
+    }
+    true
 }
 
 // Whether a text reads as a pattern.

@@ -1,0 +1,161 @@
+//! Copies from a second tree: the texts are read, then the sources are copied one after another in path order, each to
+//! its target. What is done before a fault is done on a copy.
+
+ghost use Rattle.std.specs.Prelude.{◌≡◌, ◌≤◌, ◌++◌, length, IsSome};
+ghost use Rattle.std.specs.FinMap as finite;
+ghost use Rattle.llb_tree.specs.Tree as trees;
+ghost use Rattle.llb_tree.specs.Tree.{root_meta};
+ghost use Rattle.llb_fileop.specs.Faults.{Gives};
+ghost use Rattle.llb_fileop.specs.Owners.{copied};
+ghost use Rattle.llb_fileop.specs.Copying.{copy, copy_one, copy_chosen, OnePath, EachMatch, target, last_name, at_target};
+ghost use Rattle.llb_fileop.specs.Parts.{land_at, placed};
+
+use crate::dest::resolve;
+use crate::fault::ActFault;
+use crate::making::make_parents;
+use crate::merging::{land_dir, land_file};
+use crate::parts::{any_matches, is_dir};
+use llb_glob::Pattern;
+use llb_ops::CopyFile;
+use llb_tree::{Meta, Path, Tree, TreeFault};
+use std::alloc::Global;
+
+/// The tree with copies of what the source text names in the second tree.
+pub fn copy(alloc: Global, action: &CopyFile, base: &Tree, second: &Tree) -> Result<Tree, ActFault>
+    ensures { Gives (λ t. t) result (copy action.now base.now second.now) }
+{
+    if action.allow_wildcard {
+        let pattern = Pattern::read(alloc, action.src.as_str())?;
+        let (dest, inside) = resolve(alloc, action.dest.as_str())?;
+        let tree = copy_matches(alloc, action, &dest, inside, &pattern, base, second)?;
+        return Ok(tree);
+    }
+    let source = Path::read(alloc, action.src.as_str())?;
+    let (dest, inside) = resolve(alloc, action.dest.as_str())?;
+    let tree = copy_path(alloc, action, &dest, inside, &source, base, second)?;
+    Ok(tree)
+}
+
+// One path is copied.
+fn copy_path(
+    alloc: Global,
+    action: &CopyFile,
+    dest: &Path,
+    inside: bool,
+    source: &Path,
+    base: &Tree,
+    second: &Tree,
+) -> Result<Tree, TreeFault>
+    ensures { trees.Gives (λ t. t) result (copy_chosen action.now (dest.now, inside) base.now second.now (OnePath source.now)) }
+{
+    if second.get(source).is_none() {
+        return Err(TreeFault::NotFound);
+    }
+    let mut tree = base.copy()?;
+    copy_one(alloc, action, dest, inside, second, source, &mut tree)?;
+    Ok(tree)
+}
+
+// All paths that match are copied.
+fn copy_matches(
+    alloc: Global,
+    action: &CopyFile,
+    dest: &Path,
+    inside: bool,
+    pattern: &Pattern,
+    base: &Tree,
+    second: &Tree,
+) -> Result<Tree, TreeFault>
+    ensures { trees.Gives (λ t. t) result (copy_chosen action.now (dest.now, inside) base.now second.now (EachMatch pattern.now)) }
+{
+    if !action.allow_empty_wildcard && !any_matches(pattern, second) {
+        return Err(TreeFault::NotFound);
+    }
+    let mut tree = base.copy()?;
+    for at in 0..second.len() {
+        if let Some((path, _)) = second.entry(at) {
+            if pattern.matches(path) {
+                copy_one(alloc, action, dest, inside, second, path, &mut tree)?;
+            }
+        }
+    }
+    Ok(tree)
+}
+
+// One source is copied to its target.
+fn copy_one(
+    alloc: Global,
+    action: &CopyFile,
+    dest: &Path,
+    inside: bool,
+    second: &Tree,
+    source: &Path,
+    tree: &mut Tree,
+) -> Result<(), TreeFault>
+    requires { IsSome (finite.get second.now source.now) }
+    ensures { trees.Gives (λ _. tree.new) result (copy_one action.now (dest.now, inside) second.now source.now tree.old) }
+{
+    let goal = target(action, dest, inside, second, source, tree)?;
+    if action.create_dest_path {
+        make_parents(alloc, tree, &goal, root_meta())?;
+    }
+    land(alloc, action, second, source, &goal, tree)
+}
+
+// The mode and the owner of a parent that is made.
+fn root_meta() -> Meta
+    ensures { result ≡ root_meta }
+{
+    Meta::new(0o755, 0, 0).unwrap()
+}
+
+// Where a source is copied to.
+fn target(
+    action: &CopyFile,
+    dest: &Path,
+    inside: bool,
+    second: &Tree,
+    source: &Path,
+    tree: &Tree,
+) -> Result<Path, TreeFault>
+    ensures { trees.Gives (λ p. p) result (placed (target action.now (dest.now, inside) second.now source.now tree.now)) }
+{
+    if action.dir_copy_contents && is_dir(second, source) {
+        return dest.copy();
+    }
+    if inside || is_dir(tree, dest) {
+        return place_in(dest, source);
+    }
+    dest.copy()
+}
+
+// The place of a source's last name in a directory; of the root the directory itself.
+fn place_in(dest: &Path, source: &Path) -> Result<Path, TreeFault>
+    ensures { trees.Gives (λ p. p) result (placed (dest.now ++ last_name source.now)) }
+{
+    let mut goal = dest.copy()?;
+    if let Some(name) = source.names().last() {
+        goal.push(name.copy()?)?;
+    }
+    Ok(goal)
+}
+
+// What is at and below a source lands at and below its target.
+fn land(
+    alloc: Global,
+    action: &CopyFile,
+    second: &Tree,
+    source: &Path,
+    goal: &Path,
+    tree: &mut Tree,
+) -> Result<(), TreeFault>
+    requires short { length goal.now ≤ 128 }
+    requires there { IsSome (finite.get second.now source.now) }
+    ensures { trees.Gives (λ _. tree.new) result (land_at (copied action.now.mode action.now.owner) (at_target second.now source.now goal.now) goal.now tree.old) }
+{
+    if is_dir(second, source) {
+        let from = second.subtree(source)?;
+        return land_dir(alloc, action, &from, goal, tree);
+    }
+    land_file(action, second, source, goal, tree)
+}

@@ -1,0 +1,20 @@
+//! Where a text leads.
+
+ghost use Rattle.std.specs.Prelude.{◌≡◌};
+ghost use Rattle.llb_fileop.specs.Faults.{Gives, MemoryLast, on_tree};
+ghost use Rattle.llb_fileop.specs.Copying.{resolved};
+
+use crate::fault::ActFault;
+use llb_tree::Path;
+use std::alloc::Global;
+
+/// The path that a text reads as, from the root, and whether the text ends in `/`. 51 `File` with 26 `BadName` where it
+/// reads as none; else 53 `Memory`.
+pub fn resolve(alloc: Global, text: &str) -> Result<(Path, bool), ActFault>
+    ensures gives { Gives (λ r. r) result (on_tree (resolved text.now)) }
+    ensures last { MemoryLast result (on_tree (resolved text.now)) }
+{
+    let path = Path::read(alloc, text)?;
+    let ends = text.as_bytes().ends_with(b"/".as_slice());
+    Ok((path, ends))
+}

@@ -1,0 +1,80 @@
+//! The mode and the owner of what an action makes or copies.
+
+ghost use Rattle.std.specs.Prelude.{◌≡◌, ◌≤◌, option_map, unwrap_or};
+ghost use Rattle.llb_fileop.specs.Owners.{mode_of, mode_from, number_in, id_in, user_in, group_in, made, copied};
+
+use llb_ops::{ChownOpt, CopyFile, User, UserOpt};
+use llb_tree::Meta;
+
+/// The mode and the owner of what an action makes.
+pub fn made(mode: i32, owner: &Option<ChownOpt>) -> Meta
+    ensures { result ≡ made mode owner.now }
+{
+    let uid = user_in(owner).unwrap_or(0);
+    let gid = group_in(owner).unwrap_or(0);
+    Meta::new(low_bits(mode), uid, gid).unwrap()
+}
+
+/// The mode and the owner of what is copied: its own where the action gives none.
+pub fn copied(action: &CopyFile, own: Meta) -> Meta
+    ensures { result ≡ copied action.now.mode action.now.owner own }
+{
+    own.is_meta();
+    let uid = user_in(&action.owner).unwrap_or(own.uid());
+    let gid = group_in(&action.owner).unwrap_or(own.gid());
+    Meta::new(mode_from(action.mode, own.mode()), uid, gid).unwrap()
+}
+
+// The mode that is given, or its own where that is -1.
+fn mode_from(mode: i32, own: u16) -> u16
+    requires { own ≤ 4095 }
+    ensures value { result ≡ mode_from mode own }
+    ensures small { result ≤ 4095 }
+{
+    if mode == -1 { own } else { low_bits(mode) }
+}
+
+// The low 12 bits.
+fn low_bits(mode: i32) -> u16
+    ensures value { result ≡ mode_of mode }
+    ensures small { result ≤ 4095 }
+{
+    mode.rem_euclid(4096) as u16
+}
+
+fn user_in(owner: &Option<ChownOpt>) -> Option<u32>
+    ensures { result ≡ user_in owner.now }
+{
+    match owner {
+        Some(owner) => id_in(&owner.user),
+        None => None,
+    }
+}
+
+fn group_in(owner: &Option<ChownOpt>) -> Option<u32>
+    ensures { result ≡ group_in owner.now }
+{
+    match owner {
+        Some(owner) => id_in(&owner.group),
+        None => None,
+    }
+}
+
+fn id_in(given: &Option<UserOpt>) -> Option<u32>
+    ensures { result ≡ id_in given.now }
+{
+    match given {
+        Some(given) => number_in(&given.user),
+        None => None,
+    }
+}
+
+fn number_in(user: &Option<User>) -> Option<u32>
+    ensures { result ≡ number_in user.now }
+{
+    match user {
+        Some(User::ById(id)) => Some(*id),
+        Some(User::ByName(_)) => None,
+        None => None,
+    }
+}

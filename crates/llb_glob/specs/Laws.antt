@@ -1,0 +1,67 @@
+-- The test of a path against a pattern tells whether it matches.
+use Rattle.std.specs.Prelude.{◌≡◌, ◌==◌, ◌↔◌, ℕ, zero, suc, Bool, true, false, ◌&&◌, ◌||◌, List, [], ◌∷◌, drop, IsTrue}
+use Rattle.std.proofs.Common.{refl, sym, inl, inr, eqb-true, eq-eqb}
+use Rattle.std.proofs.lemmas.Bool.{and_parts, and_from, or_cases, or_left, or_right, false≢true}
+use Rattle.std.specs.Str.{chars}
+use Rattle.llb_glob.specs.declared.item.Item.{Item}
+use Rattle.llb_glob.specs.declared.item.Item.TheVariants.{Run, One}
+use Rattle.llb_glob.specs.declared.item.Letter.{Letter}
+use Rattle.llb_glob.specs.declared.item.Letter.TheVariants.{Any, Only}
+use Rattle.llb_glob.specs.Matching.{Takes, MatchesName, Matches, takes, any_suffix, name_matches, path_matches}
+
+-- a test that tells whether a fact holds
+abbrev pub Tells : Bool → Type 0 → Type 0
+Tells b P = IsTrue b ↔ P
+
+takes-tells : (l : Letter) (c : ℕ) → Tells (takes l c) (Takes l c)
+takes-tells Any c = (λ _. tt, λ _. refl)
+takes-tells (Only only) c = (eqb-true c only, eq-eqb c only)
+
+both : (a b : Bool) (P Q : Type 0) → Tells a P → Tells b Q → Tells (a && b) (P × Q)
+both a b P Q p q = (λ e. (p.0 (and_parts a b e).0, q.0 (and_parts a b e).1), λ h. and_from a b (p.1 h.0) (q.1 h.1))
+
+-- where a test tells of each name, it tells of the suffixes of one
+suffix-tells : (items : List Item) → ((name : List ℕ) → Tells (name_matches items name) (MatchesName items name)) → (name : List ℕ)
+    → Tells (any_suffix (name_matches items) name) ((n : ℕ) × MatchesName items (drop n name))
+suffix-tells items each [] = (λ e. (0, (each []).0 e), λ h. (each []).1 (at_end h.0 h.1))
+  where
+    at_end : (n : ℕ) → MatchesName items (drop n []) → MatchesName items []
+    at_end zero m = m
+    at_end (suc n) m = m
+suffix-tells items each (c ∷ cs) = (there (suffix-tells items each cs), λ h. back (suffix-tells items each cs) h.0 h.1)
+  where
+    there : Tells (any_suffix (name_matches items) cs) ((n : ℕ) × MatchesName items (drop n cs))
+        → IsTrue (name_matches items (c ∷ cs) || any_suffix (name_matches items) cs) → (n : ℕ) × MatchesName items (drop n (c ∷ cs))
+    there rest e =
+        elim (or_cases (name_matches items (c ∷ cs)) (any_suffix (name_matches items) cs) e) [
+          | inl here ↦ (0, (each (c ∷ cs)).0 here)
+          | inr later ↦ (suc (rest.0 later).0, (rest.0 later).1)
+        ]
+
+    back : Tells (any_suffix (name_matches items) cs) ((n : ℕ) × MatchesName items (drop n cs))
+        → (n : ℕ) → MatchesName items (drop n (c ∷ cs)) → IsTrue (name_matches items (c ∷ cs) || any_suffix (name_matches items) cs)
+    back rest zero m = or_left _ _ ((each (c ∷ cs)).1 m)
+    back rest (suc n) m = or_right _ _ (rest.1 (n, m))
+
+pub name_matches-tells : (items : List Item) (name : List ℕ) → Tells (name_matches items name) (MatchesName items name)
+name_matches-tells [] [] = (λ _. tt, λ _. refl)
+name_matches-tells [] (c ∷ name) = (λ e. absurd (false≢true e), λ h. absurd h)
+name_matches-tells (Run ∷ items) name = suffix-tells items (name_matches-tells items) name
+name_matches-tells (One letter ∷ items) [] = (λ e. absurd (false≢true e), λ h. absurd h)
+name_matches-tells (One letter ∷ items) (c ∷ name) = both _ _ _ _ (takes-tells letter c) (name_matches-tells items name)
+
+-- the test is the relation
+pub path_matches-tells : (parts : List (List Item)) (path : List (List ℕ)) → IsTrue (path_matches parts path) ↔ Matches parts path
+path_matches-tells [] [] = (λ _. tt, λ _. refl)
+path_matches-tells [] (name ∷ path) = (λ e. absurd (false≢true e), λ h. absurd h)
+path_matches-tells (part ∷ parts) [] = (λ e. absurd (false≢true e), λ h. absurd h)
+path_matches-tells (part ∷ parts) (name ∷ path) = both _ _ _ _ (name_matches-tells part (chars name)) (path_matches-tells parts path)
+
+-- what tells whether a path matches is the test
+pub is_the_test : (b : Bool) (parts : List (List Item)) (path : List (List ℕ)) → (IsTrue b ↔ Matches parts path) → b ≡ path_matches parts path
+is_the_test b parts path tells = same b (path_matches parts path) (λ e. (path_matches-tells parts path).1 (tells.0 e)) (λ e. tells.1 ((path_matches-tells parts path).0 e))
+  where
+    same : (a b : Bool) → (IsTrue a → IsTrue b) → (IsTrue b → IsTrue a) → a ≡ b
+    same true b there back = sym (there refl)
+    same false true there back = back refl
+    same false false there back = refl
