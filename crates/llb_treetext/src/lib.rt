@@ -6,6 +6,8 @@ mod digest;
 mod fault;
 mod line;
 mod print;
+mod read;
+mod row;
 
 pub use digest::tree_digest;
 pub use fault::{PrintFault, TextFault};
