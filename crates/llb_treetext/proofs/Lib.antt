@@ -4,4 +4,4 @@ pub mod Names
 pub mod Paths
 pub mod Written
 pub mod Rows
-
+pub mod Placing

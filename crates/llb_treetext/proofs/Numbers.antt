@@ -1,10 +1,10 @@
 -- Decimal digits behind a number, one at a time; and the digits that are written for a number give it back.
-use Rattle.std.proofs.Common.{◌≡◌, ℕ, zero, suc, ◌+◌, ◌-◌, ◌*◌, ◌/◌, ◌%◌, ◌^◌, ◌<◌, ◌≤◌, nat_lt, Bool, true, false, cond, List, [], ◌∷◌, ◌++◌, length, get_or, drop, Option, Some, None, refl, sym, ap, ◌∙◌, arith, add-one}
+use Rattle.std.proofs.Common.{◌≡◌, ℕ, zero, suc, ◌+◌, ◌-◌, ◌*◌, ◌/◌, ◌%◌, ◌^◌, ◌<◌, ◌≤◌, nat_lt, Bool, true, false, cond, List, [], ◌∷◌, ◌++◌, length, get_or, drop, Some, None, refl, sym, ap, ◌∙◌, arith, add-one}
 use Rattle.std.proofs.Math.Seq.{drop-cons}
 use Rattle.std.proofs.lemmas.Bool.{lt-ltb, le-ltb}
 use Rattle.std.proofs.lemmas.Fmt.{decimal_by_steps}
 use Rattle.std.specs.Fmt.{decimal}
-use Rattle.llb_treetext.specs.Fields.{on, number_from}
+use Rattle.llb_treetext.specs.Fields.{number_from}
 
 -- one more digit, where the number stays small
 pub number_more : (n b : ℕ) (text : List ℕ) → n * 10 + (b - 48) < 2 ^ 32 → number_from n (b ∷ text) ≡ number_from (n * 10 + (b - 48)) text

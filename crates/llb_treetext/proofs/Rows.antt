@@ -1,10 +1,9 @@
 -- Which rows have lines, and where the line of a row ends.
-use Rattle.std.proofs.Common.{◌≡◌, ◌≢◌, ℕ, zero, suc, ◌+◌, ◌<◌, nat_lt, nat_eq, Bool, true, false, not, cond, List, [], ◌∷◌, ◌++◌, length, take, drop, get_or, Option, Some, None, refl, sym, ap, subst, ◌∙◌, true≢false, arith, append_assoc, IsTrue, ◌↔◌, take-append-drop, length-append, length-drop}
-use Rattle.std.specs.Option.{option_map, MatchOption}
+use Rattle.std.proofs.Common.{◌≡◌, ◌≢◌, ℕ, ◌+◌, ◌<◌, nat_lt, nat_eq, Bool, true, false, not, cond, List, [], ◌∷◌, ◌++◌, length, take, drop, Option, Some, None, refl, sym, ap, subst, ◌∙◌, true≢false, append_assoc, IsTrue, ◌↔◌}
 use Rattle.std.specs.List.{position, position_or_len, before_first, after_first}
-use Rattle.std.proofs.lemmas.List.{take_at, drop_at, drop-drop, append-nil}
+use Rattle.std.proofs.lemmas.List.{drop-drop}
 use Rattle.std.proofs.lemmas.List.Sums.{split_at_first, passes_at_first}
-use Rattle.std.proofs.lemmas.Bool.{lt-ltb, ltb-true, eqb-true}
+use Rattle.std.proofs.lemmas.Bool.{ltb-true, eqb-true}
 use Rattle.hex.specs.Hex.{IsBytes}
 use Rattle.llb_tree.specs.Path.{IsPath}
 use Rattle.llb_tree.specs.Meta.{MetaValue, IsMeta}

@@ -1,5 +1,5 @@
 -- The line of an entry is read as the entry, and it is a text with no line end in it.
-use Rattle.std.proofs.Common.{◌≡◌, ◌≢◌, ℕ, zero, suc, ◌+◌, ◌-◌, ◌*◌, ◌/◌, ◌%◌, ◌^◌, ◌<◌, ◌≤◌, nat_lt, nat_eq, nat_le, Bool, true, false, not, cond, ◌&&◌, List, [], ◌∷◌, ◌++◌, length, get_or, take, drop, Option, Some, None, Ok, refl, sym, ap, subst, ◌∙◌, arith, append_assoc, length-append}
+use Rattle.std.proofs.Common.{◌≡◌, ℕ, suc, ◌+◌, ◌-◌, ◌*◌, ◌/◌, ◌%◌, ◌^◌, ◌<◌, ◌≤◌, nat_lt, nat_eq, nat_le, Bool, true, false, not, cond, ◌&&◌, List, [], ◌∷◌, ◌++◌, length, get_or, take, drop, Option, Some, None, refl, sym, ap, subst, ◌∙◌, arith, append_assoc, length-append}
 use Rattle.std.specs.Prelude.{codes}
 use Rattle.std.proofs.lemmas.Bool.{lt-ltb, le-ltb, lt-leb, ltb-true, ltb-false, eq-eqb, ne_eqb}
 use Rattle.std.proofs.lemmas.List.{take_at, append-nil, get_or_past}
@@ -8,7 +8,7 @@ use Rattle.std.proofs.lemmas.List.Sums.{AllPass-from_list_all}
 use Rattle.std.proofs.lemmas.Fmt.{decimal_digit, decimal_by_steps, IsAscii-decimal}
 use Rattle.std.proofs.lemmas.Str.{IsUtf8-append, IsUtf8-nil, IsUtf8-from_ascii}
 use Rattle.std.proofs.lemmas.Str.Ascii.{IsAscii-nil, IsAscii-cons}
-use Rattle.std.specs.List.{All, position_or_len, before_first, after_first, flat_map}
+use Rattle.std.specs.List.{All, position_or_len, before_first, after_first}
 use Rattle.std.specs.Str.{IsUtf8}
 use Rattle.std.specs.Fmt.{decimal}
 use Rattle.std.specs.Result.{result_ok}
@@ -17,9 +17,9 @@ use Rattle.hex.specs.Hex.{encode_with, encode_lower, lower_digits, hex_digit_val
 use Rattle.hex.proofs.HexLemmas.{decode_of-encode_lower, IsAscii-encode_with, IsDigits-lower_digits}
 use Rattle.llb_tree.specs.Path.{is_name, is_name_byte, IsPath, joined, path_of}
 use Rattle.llb_tree.specs.Meta.{MetaValue, IsMeta, meta_of}
-use Rattle.llb_tree.specs.Tree.{Entry, Dir, File, meta_in}
+use Rattle.llb_tree.specs.Tree.{Entry, Dir, File}
 use Rattle.llb_treetext.specs.TreeText.{octal, meta_text, content_text, names_text, path_text, row_text}
-use Rattle.llb_treetext.specs.Reading.{HasBytes, IsRow}
+use Rattle.llb_treetext.specs.Reading.{IsRow}
 use Rattle.llb_treetext.specs.Fields as fields
 use Rattle.llb_treetext.specs.Fields.{on, cut_at, octal_digit, mode_in, number_from, content_in, dir_in, file_in, row_in}
 use Rattle.llb_treetext.proofs.Names.{name-IsUtf8, passes_tests, from_space}
@@ -93,7 +93,7 @@ module _ (m : ℕ) (small : m ≤ 4095) where
   octal_solid =
       All-append (λ b. 33 ≤ b) (decimal (m / 512)) (decimal (m / 64 % 8) ++ (decimal (m / 8 % 8) ++ decimal (m % 8))) (decimal_solid (m / 512) (omega arith))
       (All-append (λ b. 33 ≤ b) (decimal (m / 64 % 8)) (decimal (m / 8 % 8) ++ decimal (m % 8)) (decimal_solid (m / 64 % 8) (omega arith))
-          (All-append (λ b. 33 ≤ b) (decimal (m / 8 % 8)) (decimal (m % 8)) (decimal_solid (m / 8 % 8) (omega arith)) (decimal_solid (m % 8) (omega arith))))
+      (All-append (λ b. 33 ≤ b) (decimal (m / 8 % 8)) (decimal (m % 8)) (decimal_solid (m / 8 % 8) (omega arith)) (decimal_solid (m % 8) (omega arith))))
 
 -- ---- the mode and the owners
 
@@ -116,11 +116,11 @@ module _ (m : MetaValue) (is : IsMeta m) where
       let gid = decimal_solid m.gid (omega (arith, is.gid)) in
       ap fields.meta_in (grouped rest)
       ∙ ap (λ o. on o (λ a. on (cut_at 32 a.1) (λ u. on (cut_at 32 u.1) (λ g. on (mode_in a.0) (λ mode. on (number_from 0 u.0) (λ uid. on (number_from 0 g.0) (λ gid. on (meta_of mode uid gid) (λ meta. Some (meta, g.1)))))))))
-          (word (octal m.mode) (decimal m.uid ++ 32 ∷ (decimal m.gid ++ 32 ∷ rest)) (octal_solid m.mode is.mode))
+      (word (octal m.mode) (decimal m.uid ++ 32 ∷ (decimal m.gid ++ 32 ∷ rest)) (octal_solid m.mode is.mode))
       ∙ ap (λ o. on o (λ u. on (cut_at 32 u.1) (λ g. on (mode_in (octal m.mode)) (λ mode. on (number_from 0 u.0) (λ uid. on (number_from 0 g.0) (λ gid. on (meta_of mode uid gid) (λ meta. Some (meta, g.1))))))))
-          (word (decimal m.uid) (decimal m.gid ++ 32 ∷ rest) uid)
+      (word (decimal m.uid) (decimal m.gid ++ 32 ∷ rest) uid)
       ∙ ap (λ o. on o (λ g. on (mode_in (octal m.mode)) (λ mode. on (number_from 0 (decimal m.uid)) (λ uid. on (number_from 0 g.0) (λ gid. on (meta_of mode uid gid) (λ meta. Some (meta, g.1)))))))
-          (word (decimal m.gid) rest gid)
+      (word (decimal m.gid) rest gid)
       ∙ ap (λ o. on o (λ mode. on (number_from 0 (decimal m.uid)) (λ uid. on (number_from 0 (decimal m.gid)) (λ gid. on (meta_of mode uid gid) (λ meta. Some (meta, rest)))))) (mode_is m.mode is.mode)
       ∙ ap (λ o. on o (λ uid. on (number_from 0 (decimal m.gid)) (λ gid. on (meta_of m.mode uid gid) (λ meta. Some (meta, rest))))) (number_written m.uid is.uid)
       ∙ ap (λ o. on o (λ gid. on (meta_of m.mode m.uid gid) (λ meta. Some (meta, rest)))) (number_written m.gid is.gid)
@@ -148,7 +148,7 @@ encode_solid (b ∷ content) bytes =
     let small : b < 256 = bytes 0 in
     All-cons (λ b. 33 ≤ b) (get_or lower_digits (b / 16) 0) (get_or lower_digits (b % 16) 0 ∷ encode_with lower_digits content) (digit_solid _ (b / 16) (IsDigits-lower_digits (b / 16) (omega arith)))
     (All-cons (λ b. 33 ≤ b) (get_or lower_digits (b % 16) 0) (encode_with lower_digits content) (digit_solid _ (b % 16) (IsDigits-lower_digits (b % 16) (omega arith)))
-        (encode_solid content (λ k. bytes (suc k))))
+    (encode_solid content (λ k. bytes (suc k))))
 
 content_solid : (content : List ℕ) → IsBytes content → Solid (content_text content)
 content_solid [] bytes = All-cons (λ b. 33 ≤ b) 45 [] (omega arith) (All-nil (λ b. 33 ≤ b))
@@ -196,12 +196,12 @@ one_solid c le = All-cons (λ b. 33 ≤ b) c [] le (All-nil (λ b. 33 ≤ b))
 pub row_is : (row : List (List ℕ) × Entry) → IsRow row → row_in (row_text row) ≡ Some row
 row_is (p, Dir m) is =
     ap (λ o. on o (λ k. on (fields.meta_in k.1) (λ m. cond (pointwise nat_eq k.0 (codes "d")) (dir_in m.0 m.1) (on (cut_at 32 m.1) (λ c. file_in m.0 c.0 c.1)))))
-        (word (100 ∷ []) (meta_text m ++ path_text p) (one_solid 100 (omega arith)))
+    (word (100 ∷ []) (meta_text m ++ path_text p) (one_solid 100 (omega arith)))
     ∙ ap (λ o. on o (λ (m : MetaValue × List ℕ). dir_in m.0 m.1)) (meta_is m is.stands.meta (path_text p))
     ∙ dir_is m p is.stands.path
 row_is (p, File m content) is =
     ap (λ o. on o (λ k. on (fields.meta_in k.1) (λ m. cond (pointwise nat_eq k.0 (codes "d")) (dir_in m.0 m.1) (on (cut_at 32 m.1) (λ c. file_in m.0 c.0 c.1)))))
-        (word (102 ∷ []) (meta_text m ++ (content_text content ++ 32 ∷ path_text p)) (one_solid 102 (omega arith)))
+    (word (102 ∷ []) (meta_text m ++ (content_text content ++ 32 ∷ path_text p)) (one_solid 102 (omega arith)))
     ∙ ap (λ o. on o (λ (m : MetaValue × List ℕ). on (cut_at 32 m.1) (λ c. file_in m.0 c.0 c.1))) (meta_is m is.stands.meta (content_text content ++ 32 ∷ path_text p))
     ∙ ap (λ o. on o (λ (c : List ℕ × List ℕ). file_in m c.0 c.1)) (word (content_text content) (path_text p) (content_solid content is.bytes))
     ∙ file_is m content p is.bytes is.stands.path
@@ -227,7 +227,7 @@ words_plain w rest solid plain = All-append (λ b. 32 ≤ b) w (32 ∷ rest) (so
 meta_plain : (m : MetaValue) (rest : List ℕ) → IsMeta m → Plain rest → Plain (meta_text m ++ rest)
 meta_plain m rest is plain = subst Plain (sym (grouped m is rest))
     (words_plain (octal m.mode) (decimal m.uid ++ 32 ∷ (decimal m.gid ++ 32 ∷ rest)) (octal_solid m.mode is.mode)
-        (words_plain (decimal m.uid) (decimal m.gid ++ 32 ∷ rest) (decimal_solid m.uid (omega (arith, is.uid))) (words_plain (decimal m.gid) rest (decimal_solid m.gid (omega (arith, is.gid))) plain)))
+    (words_plain (decimal m.uid) (decimal m.gid ++ 32 ∷ rest) (decimal_solid m.uid (omega (arith, is.uid))) (words_plain (decimal m.gid) rest (decimal_solid m.gid (omega (arith, is.gid))) plain)))
 
 pub row_plain : (row : List (List ℕ) × Entry) → IsRow row → Plain (row_text row)
 row_plain (p, Dir m) is = words_plain (100 ∷ []) (meta_text m ++ path_text p) (one_solid 100 (omega arith)) (meta_plain m (path_text p) is.stands.meta (path_plain p is.stands.path))
@@ -258,12 +258,12 @@ octal_utf8 : (m : ℕ) → m ≤ 4095 → IsUtf8 (octal m)
 octal_utf8 m small =
     IsUtf8-append (decimal (m / 512)) (decimal (m / 64 % 8) ++ (decimal (m / 8 % 8) ++ decimal (m % 8))) (decimal_utf8 (m / 512) (omega arith))
     (IsUtf8-append (decimal (m / 64 % 8)) (decimal (m / 8 % 8) ++ decimal (m % 8)) (decimal_utf8 (m / 64 % 8) (omega arith))
-        (IsUtf8-append (decimal (m / 8 % 8)) (decimal (m % 8)) (decimal_utf8 (m / 8 % 8) (omega arith)) (decimal_utf8 (m % 8) (omega arith))))
+    (IsUtf8-append (decimal (m / 8 % 8)) (decimal (m % 8)) (decimal_utf8 (m / 8 % 8) (omega arith)) (decimal_utf8 (m % 8) (omega arith))))
 
 meta_utf8 : (m : MetaValue) (rest : List ℕ) → IsMeta m → IsUtf8 rest → IsUtf8 (meta_text m ++ rest)
 meta_utf8 m rest is other = subst IsUtf8 (sym (grouped m is rest))
     (words_utf8 (octal m.mode) (decimal m.uid ++ 32 ∷ (decimal m.gid ++ 32 ∷ rest)) (octal_utf8 m.mode is.mode)
-        (words_utf8 (decimal m.uid) (decimal m.gid ++ 32 ∷ rest) (decimal_utf8 m.uid (omega (arith, is.uid))) (words_utf8 (decimal m.gid) rest (decimal_utf8 m.gid (omega (arith, is.gid))) other)))
+    (words_utf8 (decimal m.uid) (decimal m.gid ++ 32 ∷ rest) (decimal_utf8 m.uid (omega (arith, is.uid))) (words_utf8 (decimal m.gid) rest (decimal_utf8 m.gid (omega (arith, is.gid))) other)))
 
 digit_low : (c d : ℕ) → hex_digit_value c ≡ Some d → c < 128
 digit_low c d is = by_cases (nat_lt c 128) refl

@@ -12,3 +12,4 @@ mod row;
 pub use digest::tree_digest;
 pub use fault::{PrintFault, TextFault};
 pub use print::print_tree;
+pub use read::read_tree;

@@ -55,11 +55,7 @@ fn push_content(alloc: Global, line: &mut String, content: &[u8]) -> Result<(), 
 }
 
 // The line of an entry, without its end.
-pub(crate) fn row_text(
-    alloc: Global,
-    path: &Path,
-    entry: &Entry<'_>,
-) -> Result<String, AllocError>
+pub(crate) fn row_text(alloc: Global, path: &Path, entry: &Entry<'_>) -> Result<String, AllocError>
     ensures { IfOk result (λ s. string_bytes s ≡ row_text (path.now, seen entry.now)) }
 {
     let mut line = String::new(alloc);

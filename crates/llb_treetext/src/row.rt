@@ -128,12 +128,7 @@ fn dir_row(alloc: Global, meta: Meta, path: &str) -> Result<Option<Row>, Memory>
 }
 
 // A file with content of those digits, and a path of that text.
-fn file_row(
-    alloc: Global,
-    meta: Meta,
-    digits: &str,
-    path: &str,
-) -> Result<Option<Row>, Memory>
+fn file_row(alloc: Global, meta: Meta, digits: &str, path: &str) -> Result<Option<Row>, Memory>
     ensures { IfOk result (λ o. option_map pair_of o ≡ file_in meta digits.now path.now) }
 {
     let Some(content) = content_of(alloc, digits)? else {

@@ -1,5 +1,5 @@
 -- One digit is taken from the front of those that are left.
-use Rattle.std.proofs.Common.{◌≡◌, ℕ, List, Option, Some, sym, ap, ◌∙◌, arith}
+use Rattle.std.proofs.Common.{sym, ap, ◌∙◌, arith}
 use Rattle.llb_treetext.specs.Fields.{number_from}
 use Rattle.llb_treetext.proofs.Numbers.{number_next, number_stops, number_end}
 use Rattle.llb_treetext.proofs.row.number.Goals as goal

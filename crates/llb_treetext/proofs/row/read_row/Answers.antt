@@ -1,5 +1,5 @@
 -- A line that is an entry's is UTF-8, is read as that entry, and is its line.
-use Rattle.std.proofs.Common.{sym, subst, ap, ◌∙◌}
+use Rattle.std.proofs.Common.{sym, subst, ap}
 use Rattle.std.specs.Option.{option_map}
 use Rattle.std.specs.Str.{IsUtf8}
 use Rattle.llb_treetext.specs.Fields.{pair_of}
