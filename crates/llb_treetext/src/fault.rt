@@ -1,6 +1,7 @@
 //! Why a text of a tree is not read, and why a tree's text is not out. A fault prints what stands behind the word
 //! `fault` in a refusal: its number, and then its arguments.
 
+use llb_wire::Memory;
 use std::alloc::AllocError;
 use thiserror::Error;
 
@@ -28,6 +29,17 @@ impl From<AllocError> for TextFault {
     ghost from_gives = { λ _ e. e ≡ Memory };
 
     fn from(_: AllocError) -> TextFault {
+        TextFault::Memory
+    }
+}
+
+impl From<Memory> for TextFault {
+    ghost use Rattle.std.specs.Prelude.{◌≡◌};
+    ghost use Rattle.llb_treetext.specs.declared.fault.TextFault.TheVariants as text;
+
+    ghost from_gives = { λ _ e. e ≡ text.Memory };
+
+    fn from(_: Memory) -> TextFault {
         TextFault::Memory
     }
 }

@@ -6,7 +6,10 @@ mod digest;
 mod fault;
 mod line;
 mod print;
+mod read;
+mod row;
 
 pub use digest::tree_digest;
 pub use fault::{PrintFault, TextFault};
 pub use print::print_tree;
+pub use read::read_tree;

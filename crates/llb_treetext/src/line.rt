@@ -2,7 +2,7 @@
 
 ghost use Rattle.std.specs.Prelude.{◌≡◌, ◌++◌, IfOk, OnOk, string_bytes};
 ghost use Rattle.llb_tree.specs.Rows.{seen};
-ghost use Rattle.llb_treetext.specs.TreeText.{meta_text, content_text, names_text, path_text, line_of};
+ghost use Rattle.llb_treetext.specs.TreeText.{meta_text, content_text, names_text, path_text, row_text, line_of};
 
 use llb_tree::{Entry, Meta, Name, Path};
 use std::alloc::{AllocError, Global};
@@ -54,13 +54,9 @@ fn push_content(alloc: Global, line: &mut String, content: &[u8]) -> Result<(), 
     Ok(())
 }
 
-// The line of an entry.
-pub(crate) fn entry_line(
-    alloc: Global,
-    path: &Path,
-    entry: &Entry<'_>,
-) -> Result<String, AllocError>
-    ensures { IfOk result (λ s. string_bytes s ≡ line_of (path.now, seen entry.now)) }
+// The line of an entry, without its end.
+pub(crate) fn row_text(alloc: Global, path: &Path, entry: &Entry<'_>) -> Result<String, AllocError>
+    ensures { IfOk result (λ s. string_bytes s ≡ row_text (path.now, seen entry.now)) }
 {
     let mut line = String::new(alloc);
     match entry {
@@ -76,6 +72,18 @@ pub(crate) fn entry_line(
         }
     }
     push_path(&mut line, path)?;
+    Ok(line)
+}
+
+// The line of an entry.
+pub(crate) fn entry_line(
+    alloc: Global,
+    path: &Path,
+    entry: &Entry<'_>,
+) -> Result<String, AllocError>
+    ensures { IfOk result (λ s. string_bytes s ≡ line_of (path.now, seen entry.now)) }
+{
+    let mut line = row_text(alloc, path, entry)?;
     line.push_str("\n")?;
     Ok(line)
 }

@@ -1,0 +1,69 @@
+-- Decimal digits behind a number, one at a time; and the digits that are written for a number give it back.
+use Rattle.std.proofs.Common.{◌≡◌, ℕ, zero, suc, ◌+◌, ◌-◌, ◌*◌, ◌/◌, ◌%◌, ◌^◌, ◌<◌, ◌≤◌, nat_lt, Bool, true, false, cond, List, [], ◌∷◌, ◌++◌, length, get_or, drop, Some, None, refl, sym, ap, ◌∙◌, arith, add-one}
+use Rattle.std.proofs.Math.Seq.{drop-cons}
+use Rattle.std.proofs.lemmas.Bool.{lt-ltb, le-ltb}
+use Rattle.std.proofs.lemmas.Fmt.{decimal_by_steps}
+use Rattle.std.specs.Fmt.{decimal}
+use Rattle.llb_treetext.specs.Fields.{number_from}
+
+-- one more digit, where the number stays small
+pub number_more : (n b : ℕ) (text : List ℕ) → n * 10 + (b - 48) < 2 ^ 32 → number_from n (b ∷ text) ≡ number_from (n * 10 + (b - 48)) text
+unfolding number_from
+number_more n b text small = ap (λ t. cond t (number_from (n * 10 + (b - 48)) text) None) (lt-ltb _ _ small)
+
+pub number_past : (n b : ℕ) (text : List ℕ) → 2 ^ 32 ≤ n * 10 + (b - 48) → number_from n (b ∷ text) ≡ None
+unfolding number_from
+number_past n b text large = ap (λ t. cond t (number_from (n * 10 + (b - 48)) text) None) (le-ltb _ _ large)
+
+pub number_none : (n : ℕ) → number_from n [] ≡ Some n
+unfolding number_from
+number_none n = refl
+
+pub digit_at : (text : List ℕ) (k : ℕ) → k < length text → drop k text ≡ get_or text k 0 ∷ drop (k + 1) text
+digit_at text k lt = drop-cons text k 0 lt ∙ ap (λ j. get_or text k 0 ∷ drop j text) (sym (add-one k))
+
+drop_end : (text : List ℕ) (k : ℕ) → length text ≤ k → drop k text ≡ []
+drop_end [] zero le = refl
+drop_end [] (suc k) le = refl
+drop_end (b ∷ text) zero le = absurd (omega arith)
+drop_end (b ∷ text) (suc k) le = drop_end text k (omega arith)
+
+pub number_end : (n k : ℕ) (text : List ℕ) → length text ≤ k → number_from n (drop k text) ≡ Some n
+number_end n k text le = ap (number_from n) (drop_end text k le) ∙ number_none n
+
+module _ (n k d : ℕ) (text : List ℕ) (lt : k < length text) (digit : d ≡ get_or text k 0 - 48) where
+  pub number_next : n * 10 + d < 2 ^ 32 → number_from n (drop k text) ≡ number_from (n * 10 + d) (drop (k + 1) text)
+  number_next small =
+      ap (number_from n) (digit_at text k lt) ∙ number_more n (get_or text k 0) (drop (k + 1) text) (omega (arith, digit, small))
+      ∙ ap (λ e. number_from (n * 10 + e) (drop (k + 1) text)) (sym digit)
+
+  pub number_stops : 2 ^ 32 ≤ n * 10 + d → number_from n (drop k text) ≡ None
+  number_stops large = ap (number_from n) (digit_at text k lt) ∙ number_past n (get_or text k 0) (drop (k + 1) text) (omega (arith, digit, large))
+
+-- ---- what is written is read
+
+number_behind : (n k : ℕ) (xs : List ℕ) (b : ℕ) → k * 10 + (b - 48) < 2 ^ 32 → number_from n xs ≡ Some k → number_from n (xs ++ b ∷ []) ≡ Some (k * 10 + (b - 48))
+unfolding number_from
+number_behind n k [] b small is =
+    let same : n ≡ k = cc in
+    ap (λ m. number_from m (b ∷ [])) same ∙ number_more k b [] small ∙ number_none (k * 10 + (b - 48))
+number_behind n k (x ∷ xs) b small is = go (nat_lt (n * 10 + (x - 48)) (2 ^ 32)) refl (number_behind (n * 10 + (x - 48)) k xs b small) is
+  where
+    go : (t : Bool) → nat_lt (n * 10 + (x - 48)) (2 ^ 32) ≡ t → (number_from (n * 10 + (x - 48)) xs ≡ Some k → number_from (n * 10 + (x - 48)) (xs ++ b ∷ []) ≡ Some (k * 10 + (b - 48)))
+        → cond t (number_from (n * 10 + (x - 48)) xs) None ≡ Some k → cond (nat_lt (n * 10 + (x - 48)) (2 ^ 32)) (number_from (n * 10 + (x - 48)) (xs ++ b ∷ [])) None ≡ Some (k * 10 + (b - 48))
+    go false t rest is = absurd cc
+    go true t rest is = ap (λ t. cond t (number_from (n * 10 + (x - 48)) (xs ++ b ∷ [])) None) t ∙ rest is
+
+pub number_written : (n : ℕ) → n < 2 ^ 32 → number_from 0 (decimal n) ≡ Some n
+number_written n small = decimal_by_steps (λ n ds. n < 2 ^ 32 → number_from 0 ds ≡ Some n) one more n (omega arith) small
+  where
+    one : (n : ℕ) → n < 10 → n < 2 ^ 32 → number_from 0 ((48 + n) ∷ []) ≡ Some n
+    one n lt small = number_more 0 (48 + n) [] (omega arith) ∙ number_none (0 * 10 + (48 + n - 48)) ∙ ap (λ v. Some v) (value n)
+      where
+        value : (n : ℕ) → 0 * 10 + (48 + n - 48) ≡ n
+        value n = omega arith
+
+    more : (n : ℕ) (ds : List ℕ) → 10 ≤ n → (n / 10 < 2 ^ 32 → number_from 0 ds ≡ Some (n / 10)) → n < 2 ^ 32 → number_from 0 (ds ++ ((48 + n % 10) ∷ [])) ≡ Some n
+    more n ds le rest small =
+        let value : n / 10 * 10 + (48 + n % 10 - 48) ≡ n = omega arith in
+        number_behind 0 (n / 10) ds (48 + n % 10) (omega (arith, value)) (rest (omega arith)) ∙ ap (λ v. Some v) value

@@ -1,0 +1,265 @@
+-- A row behind all rows of a tree goes to the end of it, where its directories are there.
+use Rattle.std.proofs.Common.{◌≡◌, ◌≢◌, ℕ, zero, suc, ◌+◌, ◌-◌, ◌<◌, ◌≤◌, ◌==◌, Bool, true, false, cond, ◌&&◌, List, [], ◌∷◌, ◌++◌, length, map, Option, Some, None, IsSome, Result, Ok, Err, T, refl, sym, ap, subst, ◌∙◌, true≢false, arith, append_assoc, length-append, IsTrue, ◌↔◌, inr}
+use Rattle.std.specs.Prelude.{slice_get}
+use Rattle.std.specs.Result.{IsErrAnd}
+use Rattle.std.proofs.lemmas.Grind.{flat_map-append}
+use Rattle.std.proofs.lemmas.List.{append-nil}
+use Rattle.std.specs.declared.cmp.Ordering.{Ordering}
+use Rattle.std.specs.declared.cmp.Ordering.TheVariants.{Less, Equal, Greater}
+use Rattle.std.specs.Ordering.{is_lt, is_eq, eq_by_cmp, ordering_reverse}
+use Rattle.std.specs.FinMap as finite
+use Rattle.std.specs.FinMap.Entries.{by_order}
+use Rattle.llb_tree.specs.Path.{path_cmp}
+use Rattle.llb_tree.specs.PathOrder.{path_cmp-IsTotalOrder, path_cmp-IsAntisymmetric}
+use Rattle.llb_tree.specs.Meta.{MetaValue, root_meta}
+use Rattle.llb_tree.specs.Tree.{Entry, Dir, File, Look, TreeMap, parents, all_dirs, walk, dir_fits, file_fits, IsDirAt, CanStand, IsTree, empty_tree}
+use Rattle.llb_tree.specs.Faults as base
+use Rattle.llb_tree.specs.declared.fault.TreeFault.{TreeFault}
+use Rattle.llb_wire.specs.Answer.{◌>>=◌}
+use Rattle.llb_treetext.specs.TreeText.{row_text, line_of, lines_of, tree_text}
+use Rattle.llb_treetext.specs.Faults.{is_memory}
+use Rattle.llb_treetext.specs.Reading.{HasBytes, HaveBytes, IsRow, IsFault, Answers, comes_next}
+use Rattle.llb_treetext.specs.Placing.{put_row, refused, GoesOn, IsFront}
+use Rattle.llb_treetext.specs.Fields.{entry_of}
+use Rattle.llb_treetext.specs.declared.fault.TextFault.{TextFault}
+use Rattle.llb_treetext.specs.declared.fault.TextFault.TheVariants.{NoParent, Memory}
+use Rattle.llb_treetext.proofs.Rows.{Pair}
+
+-- ---- the last row
+
+pub last_row : (rows : List Pair) (n : ℕ) (x : Pair) (p : List (List ℕ)) → n ≡ length rows - 1 → slice_get rows n ≡ Some x → comes_next rows p ≡ is_lt (path_cmp x.0 p)
+last_row [] zero x p at is = absurd cc
+last_row [] (suc n) x p at is = absurd cc
+last_row (r ∷ []) zero x p at is = let same : r ≡ x = cc in ap (λ (y : Pair). is_lt (path_cmp y.0 p)) same
+last_row (r ∷ []) (suc n) x p at is = absurd (omega arith)
+last_row (r ∷ s ∷ rows) zero x p at is = absurd (omega arith)
+last_row (r ∷ s ∷ rows) (suc n) x p at is = last_row (s ∷ rows) n x p (omega arith) is
+
+pub no_rows : (rows : List Pair) (n : ℕ) (b : Bool) (p : List (List ℕ)) → n ≡ length rows - 1 → slice_get rows n ≡ None → (IsTrue b ↔ (p ≡ [])) → b ≡ comes_next rows p
+no_rows [] n b p at is root = by_path p root
+  where
+    by_path : (p : List (List ℕ)) → (IsTrue b ↔ (p ≡ [])) → b ≡ comes_next [] p
+    by_path [] root = root.1 refl
+    by_path (n ∷ p) root = go b root.0
+      where
+        go : (b : Bool) → (b ≡ true → n ∷ p ≡ []) → b ≡ false
+        go true at = let e = at refl in absurd cc
+        go false at = refl
+no_rows (r ∷ []) zero b p at is root = absurd cc
+no_rows (r ∷ []) (suc n) b p at is root = absurd (omega arith)
+no_rows (r ∷ s ∷ rows) zero b p at is root = absurd (omega arith)
+no_rows (r ∷ s ∷ rows) (suc n) b p at is root = let rest = no_rows (s ∷ rows) n b p (omega arith) is root in rest
+
+-- ---- behind all rows
+
+is_less : (o : Ordering) → T (is_lt o) → o ≡ Less
+is_less Less h = refl
+is_less Equal h = absurd h
+is_less Greater h = absurd h
+
+less_true : (o : Ordering) → is_lt o ≡ true → o ≡ Less
+less_true Less is = refl
+less_true Equal is = absurd (true≢false (sym is))
+less_true Greater is = absurd (true≢false (sym is))
+
+and_first : (a b : Bool) → T (a && b) → T a
+and_first true b h = tt
+and_first false b h = absurd h
+
+and_second : (a b : Bool) → T (a && b) → T b
+and_second true b h = h
+and_second false b h = absurd h
+
+turned : (p q : List (List ℕ)) → path_cmp p q ≡ Less → path_cmp q p ≡ Greater
+turned p q lt = path_cmp-IsTotalOrder.antisymm q p ∙ ap ordering_reverse lt
+
+first_less : (r : Pair) (rows : List Pair) (p : List (List ℕ)) → T (finite.is_sorted path_cmp (r ∷ rows)) → comes_next (r ∷ rows) p ≡ true → path_cmp r.0 p ≡ Less
+first_less r [] p h next = less_true _ next
+first_less r (s ∷ rows) p h next = path_cmp-IsTotalOrder.trans r.0 s.0 p (is_less _ (and_first _ _ (and_first _ _ h))) (first_less s rows p (and_second _ _ h) next)
+
+find_behind : (r : Pair) (rows : List Pair) (p : List (List ℕ)) → T (finite.is_sorted path_cmp (r ∷ rows)) → comes_next (r ∷ rows) p ≡ true → finite.find path_cmp p (r ∷ rows) ≡ None
+find_behind r [] p h next = ap (λ o. cond (is_eq o) (Some r.1) None) (turned r.0 p (first_less r [] p h next))
+find_behind r (s ∷ rows) p h next = ap (λ o. cond (is_eq o) (Some r.1) (finite.find path_cmp p (s ∷ rows))) (turned r.0 p (first_less r (s ∷ rows) p h next)) ∙ find_behind s rows p (and_second _ _ h) next
+
+put_behind : (r : Pair) (rows : List Pair) (p : List (List ℕ)) (e : Entry) → T (finite.is_sorted path_cmp (r ∷ rows)) → comes_next (r ∷ rows) p ≡ true → finite.put path_cmp p e (r ∷ rows) ≡ (r ∷ rows) ++ (p, e) ∷ []
+put_behind r [] p e h next = ap (λ o. by_order o ((p, e) ∷ r ∷ []) ((r.0, e) ∷ []) (r ∷ (p, e) ∷ [])) (turned r.0 p (first_less r [] p h next))
+put_behind r (s ∷ rows) p e h next =
+    ap (λ o. by_order o ((p, e) ∷ r ∷ s ∷ rows) ((r.0, e) ∷ s ∷ rows) (r ∷ finite.put path_cmp p e (s ∷ rows))) (turned r.0 p (first_less r (s ∷ rows) p h next))
+    ∙ ap (λ l. r ∷ l) (put_behind s rows p e (and_second _ _ h) next)
+
+-- ---- a tree with a row more
+
+tied : (o : Ordering) → is_eq o ≡ true → o ≡ Equal
+tied Less t = absurd (true≢false (sym t))
+tied Equal t = refl
+tied Greater t = absurd (true≢false (sym t))
+
+get-insert_cases : (P : Option Entry → Type 0) (t : TreeMap) (p : List (List ℕ)) (e : Entry) (q : List (List ℕ)) → (q ≡ p → P (Some e)) → P (finite.get t q) → P (finite.get (finite.insert t p e) q)
+get-insert_cases P t p e q here there = subst P (sym (finite.get-insert path_cmp-IsTotalOrder t p e q)) (by_test (eq_by_cmp path_cmp q p) refl)
+  where
+    by_test : (b : Bool) → eq_by_cmp path_cmp q p ≡ b → P (cond b (Some e) (finite.get t q))
+    by_test true is = here (path_cmp-IsAntisymmetric q p (tied _ is))
+    by_test false is = there
+
+map-map : {A B C : Type 0} (g : B → C) (f : A → B) (xs : List A) → map g (map f xs) ≡ map (λ x. g (f x)) xs
+map-map g f [] = refl
+map-map g f (x ∷ xs) = ap (λ ys. g (f x) ∷ ys) (map-map g f xs)
+
+walk-cons : (look : Look) (n : List ℕ) (p : List (List ℕ)) → walk look (n ∷ p) ≡ all_dirs (look [] ∷ map (λ q. look (n ∷ q)) (parents p))
+walk-cons look n p = ap (λ ys. all_dirs (look [] ∷ ys)) (map-map look (λ q. n ∷ q) (parents p))
+
+-- more directories let a walk through
+walk_more : (f g : Look) → ((r : List (List ℕ)) → IsDirAt f r → IsDirAt g r) → (p : List (List ℕ)) → walk f p ≡ Ok tt → walk g p ≡ Ok tt
+walk_more f g more [] walks = refl
+walk_more f g more (n ∷ p) walks =
+    by_root (f []) refl (sym (walk-cons f n p) ∙ walks) (walk_more (λ q. f (n ∷ q)) (λ q. g (n ∷ q)) (λ r. more (n ∷ r)) p)
+  where
+    by_root : (e : Option Entry) → f [] ≡ e → all_dirs (e ∷ map (λ q. f (n ∷ q)) (parents p)) ≡ Ok tt → (walk (λ q. f (n ∷ q)) p ≡ Ok tt → walk (λ q. g (n ∷ q)) p ≡ Ok tt) → walk g (n ∷ p) ≡ Ok tt
+    by_root None is walks rest = absurd cc
+    by_root (Some (File m b)) is walks rest = absurd cc
+    by_root (Some (Dir m)) is walks rest =
+        let own = more [] (m, is) in
+        walk-cons g n p ∙ ap (λ e. all_dirs (e ∷ map (λ q. g (n ∷ q)) (parents p))) own.1 ∙ rest walks
+
+module _ (t : TreeMap) (tree : IsTree t) (contents : HaveBytes t) (row : Pair) (is : IsRow row) (next : comes_next (finite.entries t) row.0 ≡ true) where
+  some_rows : (r : Pair) × ((rows : List Pair) × (finite.entries t ≡ r ∷ rows))
+  some_rows = go (finite.entries t) refl
+    where
+      go : (rows : List Pair) → finite.entries t ≡ rows → (r : Pair) × ((rows : List Pair) × (finite.entries t ≡ r ∷ rows))
+      go [] none = let e : ◌≡◌ {A = Option Entry} None (Some (Dir tree.root.0)) = ap (finite.find path_cmp []) (sym none) ∙ sym (finite.get-entries t []) ∙ tree.root.1 in absurd cc
+      go (r ∷ rows) same = (r, (rows, same))
+
+  sorted : T (finite.is_sorted path_cmp (some_rows.0 ∷ some_rows.1.0))
+  sorted = subst (λ es. T (finite.is_sorted path_cmp es)) some_rows.1.1 (finite.entries_sorted t)
+
+  behind : comes_next (some_rows.0 ∷ some_rows.1.0) row.0 ≡ true
+  behind = ap (λ es. comes_next es row.0) (sym some_rows.1.1) ∙ next
+
+  not_there : finite.get t row.0 ≡ None
+  not_there = finite.get-entries t row.0 ∙ ap (finite.find path_cmp row.0) some_rows.1.1 ∙ find_behind some_rows.0 some_rows.1.0 row.0 sorted behind
+
+  not_root : row.0 ≢ []
+  not_root at = let e : ◌≡◌ {A = Option Entry} None (Some (Dir tree.root.0)) = sym not_there ∙ ap (finite.get t) at ∙ tree.root.1 in absurd cc
+
+  entries_put : finite.entries (finite.insert t row.0 row.1) ≡ finite.entries t ++ row ∷ []
+  entries_put =
+      finite.entries-insert path_cmp-IsTotalOrder t row.0 row.1 ∙ ap (finite.put path_cmp row.0 row.1) some_rows.1.1
+      ∙ put_behind some_rows.0 some_rows.1.0 row.0 row.1 sorted behind ∙ ap (λ es. es ++ row ∷ []) (sym some_rows.1.1)
+
+  text_put : tree_text (finite.insert t row.0 row.1) ≡ tree_text t ++ line_of row
+  text_put = ap lines_of entries_put ∙ flat_map-append line_of (finite.entries t) (row ∷ []) ∙ ap (λ l. tree_text t ++ l) (append-nil (line_of row))
+
+  bytes_put : HaveBytes (finite.insert t row.0 row.1)
+  bytes_put p e = get-insert_cases (λ o. o ≡ Some e → HasBytes e) t row.0 row.1 p (λ same own. let one : row.1 ≡ e = cc in subst HasBytes one is.bytes) (contents p e)
+
+  tree_put : walk (finite.get t) row.0 ≡ Ok tt → IsTree (finite.insert t row.0 row.1)
+  tree_put walks = record {
+    root = more [] tree.root;
+    closed = λ q there. walk_more (finite.get t) (finite.get (finite.insert t row.0 row.1)) more q
+        (get-insert_cases (λ o. IsSome o → walk (finite.get t) q ≡ Ok tt) t row.0 row.1 q (λ same some. ap (walk (finite.get t)) same ∙ walks) (tree.closed q) there);
+    stands = λ q d. get-insert_cases (λ o. o ≡ Some d → CanStand q d) t row.0 row.1 q (λ same own. let one : row.1 ≡ d = cc in subst (λ x. CanStand x d) (sym same) (subst (CanStand row.0) one is.stands)) (tree.stands q d);
+  }
+    where
+      more : (q : List (List ℕ)) → IsDirAt (finite.get t) q → IsDirAt (finite.get (finite.insert t row.0 row.1)) q
+      more q dir = get-insert_cases (λ o. (m : MetaValue) × (o ≡ Some (Dir m))) t row.0 row.1 q
+          (λ same. let e : ◌≡◌ {A = Option Entry} None (Some (Dir dir.0)) = sym not_there ∙ ap (finite.get t) (sym same) ∙ dir.1 in absurd cc) dir
+
+  put_ok : (p : List (List ℕ)) (e : Entry) → p ≢ [] → finite.get t p ≡ None → walk (finite.get t) p ≡ Ok tt → put_row t (p, e) ≡ Ok (finite.insert t p e)
+  put_ok p (Dir m) named none walks = ap (λ r. r >>= λ _. dir_fits (finite.get t p) >>= λ _. Ok (finite.insert t p (Dir m))) walks ∙ ap (λ o. dir_fits o >>= λ _. Ok (finite.insert t p (Dir m))) none
+  put_ok [] (File m c) named none walks = absurd (named refl)
+  put_ok (n ∷ p) (File m c) named none walks = ap (λ r. r >>= λ _. file_fits (finite.get t (n ∷ p)) >>= λ _. Ok (finite.insert t (n ∷ p) (File m c))) walks ∙ ap (λ o. file_fits o >>= λ _. Ok (finite.insert t (n ∷ p) (File m c))) none
+
+  put_err : (p : List (List ℕ)) (e : Entry) (f : TreeFault) → p ≢ [] → walk (finite.get t) p ≡ Err f → put_row t (p, e) ≡ Err f
+  put_err p (Dir m) f named walks = ap (λ r. r >>= λ _. dir_fits (finite.get t p) >>= λ _. Ok (finite.insert t p (Dir m))) walks
+  put_err [] (File m c) f named walks = absurd (named refl)
+  put_err (n ∷ p) (File m c) f named walks = ap (λ r. r >>= λ _. file_fits (finite.get t (n ∷ p)) >>= λ _. Ok (finite.insert t (n ∷ p) (File m c))) walks
+
+  pub goes_on : (new : TreeMap) (rest later : List ℕ) → rest ≡ line_of row ++ later → put_row t row ≡ Ok new → GoesOn t new rest later
+  goes_on new rest later begins put = by_walk (walk (finite.get t) row.0) refl
+    where
+      by_walk : (r : Result (Unit {0}) TreeFault) → walk (finite.get t) row.0 ≡ r → GoesOn t new rest later
+      by_walk (Err f) walks = let e : ◌≡◌ {A = Result TreeMap TreeFault} (Err f) (Ok new) = sym (put_err row.0 row.1 f not_root walks) ∙ put in absurd cc
+      by_walk (Ok u) walks =
+          let e : ◌≡◌ {A = Result TreeMap TreeFault} (Ok (finite.insert t row.0 row.1)) (Ok new) = sym (put_ok row.0 row.1 not_root not_there walks) ∙ put in
+          let own : finite.insert t row.0 row.1 ≡ new = cc in
+          record {
+            tree = subst IsTree own (tree_put walks);
+            contents = subst HaveBytes own bytes_put;
+            text = ap (λ l. tree_text t ++ l) begins ∙ sym (append_assoc (tree_text t) (line_of row) later) ∙ ap (λ l. l ++ later) (sym text_put ∙ ap tree_text own);
+            shorter = omega (arith, ap length begins, length-append (line_of row) later, length-append (row_text row) (10 ∷ []));
+          }
+
+  pub no_parent : (f : TreeFault) → put_row t row ≡ Err f → walk (λ q. finite.find path_cmp q (finite.entries t)) row.0 ≢ Ok tt
+  no_parent f put walks =
+      let e : ◌≡◌ {A = Result TreeMap TreeFault} (Ok (finite.insert t row.0 row.1)) (Err f) = sym (put_ok row.0 row.1 not_root not_there (ap (λ look. walk look row.0) (λ i q. finite.get-entries t q i) ∙ walks)) ∙ put in absurd cc
+
+  -- what the refusal of a row says
+  pub refused_is : (rest later : List ℕ) (n : ℕ) (f : TreeFault) → n ≡ length (finite.entries t) + 1 → rest ≡ line_of row ++ later → (base.is_memory f ≡ false → put_row t row ≡ Err f) → is_memory (refused f n) ≡ false → IsFault (finite.entries t) rest (refused f n)
+  refused_is rest later n f number begins put = go (base.is_memory f) refl
+    where
+      go : (b : Bool) → base.is_memory f ≡ b → is_memory (cond b Memory (NoParent n)) ≡ false → IsFault (finite.entries t) rest (cond b Memory (NoParent n))
+      go true m no_memory = absurd (true≢false no_memory)
+      go false m no_memory = (number, (row, (is, (later, begins)), next, no_parent f (put m)))
+
+-- ---- the first line
+
+pub same_tree : (x y : TreeMap) → ◌≡◌ {A = Result TreeMap TreeFault} (Ok x) (Ok y) → x ≡ y
+same_tree x y is = cc
+
+root_entry : (m : MetaValue) (o : Option (List ℕ)) → ((k : MetaValue) × (entry_of m o ≡ Dir k)) → entry_of m o ≡ Dir m
+root_entry m None is = refl
+root_entry m (Some content) is = let e = is.1 in absurd cc
+
+none_empty : finite.entries (finite.empty {X = Entry} {R = path_cmp}) ≡ []
+none_empty = no_length (finite.entries (finite.empty {X = Entry} {R = path_cmp})) (sym (finite.len-entries (finite.empty {X = Entry} {R = path_cmp})) ∙ finite.len-empty path_cmp Entry)
+  where
+    no_length : (es : List Pair) → length es ≡ 0 → es ≡ []
+    no_length [] is = refl
+    no_length (e ∷ es) is = absurd (omega arith)
+
+module _ (m : MetaValue) where
+  root_entries : finite.entries (finite.insert empty_tree [] (Dir m)) ≡ ([], Dir m) ∷ []
+  root_entries =
+      finite.entries-insert path_cmp-IsTotalOrder empty_tree [] (Dir m)
+      ∙ ap (finite.put path_cmp [] (Dir m)) (finite.entries-insert path_cmp-IsTotalOrder finite.empty [] (Dir root_meta) ∙ ap (finite.put path_cmp [] (Dir root_meta)) none_empty)
+
+  root_bytes : HaveBytes (finite.insert empty_tree [] (Dir m))
+  root_bytes p e = get-insert_cases (λ o. o ≡ Some e → HasBytes e) empty_tree [] (Dir m) p (λ same own. let one : Dir m ≡ e = cc in subst HasBytes one tt)
+      (get-insert_cases (λ o. o ≡ Some e → HasBytes e) finite.empty [] (Dir root_meta) p (λ same own. let one : Dir root_meta ≡ e = cc in subst HasBytes one tt)
+      (λ there. let none : ◌≡◌ {A = Option Entry} None (Some e) = sym (finite.get-empty path_cmp p) ∙ there in absurd cc))
+
+  pub root_front : (p : List (List ℕ)) (o : Option (List ℕ)) (t : TreeMap) (bytes later : List ℕ) → IsRow (p, entry_of m o) → bytes ≡ line_of (p, entry_of m o) ++ later → p ≡ [] → finite.insert empty_tree [] (Dir m) ≡ t → IsTree t → IsFront bytes t later
+  root_front p o t bytes later row begins at is tree = record {
+    tree = tree;
+    contents = subst HaveBytes is root_bytes;
+    text = begins ∙ (λ i. line_of (at i, root_entry m o (row.root at) i) ++ later) ∙ ap (λ l. l ++ later) (sym (append-nil (line_of ([], Dir m))) ∙ ap lines_of (sym root_entries) ∙ ap tree_text is);
+  }
+
+-- ---- the whole text
+
+-- each row has a line of its own
+pub few_rows : (rows : List Pair) → length rows ≤ length (lines_of rows)
+few_rows [] = omega arith
+few_rows (r ∷ rows) = omega (arith, few_rows rows, length-append (line_of r) (lines_of rows), length-append (row_text r) (10 ∷ []))
+
+module _ (bytes : List ℕ) (t : TreeMap) (rest : List ℕ) (front : IsFront bytes t rest) where
+  pub some_left : (b : Bool) → b ≡ (length rest == 0) → b ≡ false → 0 < length rest
+  some_left b is no_b = by_length (length rest) (sym is ∙ no_b)
+    where
+      by_length : (n : ℕ) → (n == 0) ≡ false → 0 < n
+      by_length zero e = absurd (true≢false e)
+      by_length (suc n) e = omega arith
+
+  pub few_lines : 0 < length rest → finite.len t < length bytes
+  few_lines some = omega (arith, few_rows (finite.entries t), finite.len-entries t, ap length front.text, length-append (tree_text t) rest, some)
+
+  pub stops_later : (r : Result TreeMap TextFault) (e : TextFault) → IsErrAnd r (λ x. x ≡ e) → 0 < length rest → (is_memory e ≡ false → IsFault (finite.entries t) rest e) → Answers bytes r
+  stops_later (Ok u) e is some fault = absurd is
+  stops_later (Err d) e is some fault = λ no_memory. record {
+    rows = finite.entries t;
+    rest = rest;
+    before = inr (t, front.tree, front.contents, refl);
+    split = front.text;
+    more = λ none. absurd (omega (arith, ap length none, some));
+    fault = subst (IsFault (finite.entries t) rest) (sym is) (fault (ap is_memory (sym is) ∙ no_memory));
+  }

@@ -1,0 +1,301 @@
+-- The line of an entry is read as the entry, and it is a text with no line end in it.
+use Rattle.std.proofs.Common.{◌≡◌, ℕ, suc, ◌+◌, ◌-◌, ◌*◌, ◌/◌, ◌%◌, ◌^◌, ◌<◌, ◌≤◌, nat_lt, nat_eq, nat_le, Bool, true, false, not, cond, ◌&&◌, List, [], ◌∷◌, ◌++◌, length, get_or, take, drop, Option, Some, None, refl, sym, ap, subst, ◌∙◌, arith, append_assoc, length-append}
+use Rattle.std.specs.Prelude.{codes}
+use Rattle.std.proofs.lemmas.Bool.{lt-ltb, le-ltb, lt-leb, ltb-true, ltb-false, eq-eqb, ne_eqb}
+use Rattle.std.proofs.lemmas.List.{take_at, append-nil, get_or_past}
+use Rattle.std.proofs.lemmas.List.Elements.{All-nil, All-cons, All-head, All-tail, All-append, All-weaker}
+use Rattle.std.proofs.lemmas.List.Sums.{AllPass-from_list_all}
+use Rattle.std.proofs.lemmas.Fmt.{decimal_digit, decimal_by_steps, IsAscii-decimal}
+use Rattle.std.proofs.lemmas.Str.{IsUtf8-append, IsUtf8-nil, IsUtf8-from_ascii}
+use Rattle.std.proofs.lemmas.Str.Ascii.{IsAscii-nil, IsAscii-cons}
+use Rattle.std.specs.List.{All, position_or_len, before_first, after_first}
+use Rattle.std.specs.Str.{IsUtf8}
+use Rattle.std.specs.Fmt.{decimal}
+use Rattle.std.specs.Result.{result_ok}
+use Rattle.std.specs.Cmp.Lexicographic.{pointwise}
+use Rattle.hex.specs.Hex.{encode_with, encode_lower, lower_digits, hex_digit_value, decode_of, IsBytes}
+use Rattle.hex.proofs.HexLemmas.{decode_of-encode_lower, IsAscii-encode_with, IsDigits-lower_digits}
+use Rattle.llb_tree.specs.Path.{is_name, is_name_byte, IsPath, joined, path_of}
+use Rattle.llb_tree.specs.Meta.{MetaValue, IsMeta, meta_of}
+use Rattle.llb_tree.specs.Tree.{Entry, Dir, File}
+use Rattle.llb_treetext.specs.TreeText.{octal, meta_text, content_text, names_text, path_text, row_text}
+use Rattle.llb_treetext.specs.Reading.{IsRow}
+use Rattle.llb_treetext.specs.Fields as fields
+use Rattle.llb_treetext.specs.Fields.{on, cut_at, octal_digit, mode_in, number_from, content_in, dir_in, file_in, row_in}
+use Rattle.llb_treetext.proofs.Names.{name-IsUtf8, passes_tests, from_space}
+use Rattle.llb_treetext.proofs.Numbers.{number_written}
+use Rattle.llb_treetext.proofs.Paths.{reads_back}
+
+-- ---- a text is cut at the first byte of a kind
+
+module _ (c : ℕ) where
+  place : (w rest : List ℕ) → All (λ b. nat_eq b c ≡ false) w → position_or_len (λ b. nat_eq b c) (w ++ c ∷ rest) ≡ length w
+  place [] rest all = ap (λ t. cond (not t) (1 + position_or_len (λ b. nat_eq b c) rest) 0) (eq-eqb c c refl)
+  place (x ∷ w) rest all =
+      ap (λ t. cond (not t) (1 + position_or_len (λ b. nat_eq b c) (w ++ c ∷ rest)) 0) (All-head (λ b. nat_eq b c ≡ false) x w all)
+      ∙ ap (λ n. 1 + n) (place w rest (All-tail (λ b. nat_eq b c ≡ false) x w all)) ∙ one_more (length w)
+    where
+      one_more : (n : ℕ) → 1 + n ≡ suc n
+      one_more n = omega arith
+
+  take_front : (w rest : List ℕ) → take (length w) (w ++ c ∷ rest) ≡ w
+  take_front w rest = take_at w (c ∷ rest) (length w) refl
+
+  drop_front : (w rest : List ℕ) (n : ℕ) → n ≡ suc (length w) → drop n (w ++ c ∷ rest) ≡ rest
+  drop_front [] rest n is = ap (λ k. drop k (c ∷ rest)) is
+  drop_front (x ∷ w) rest n is = ap (λ k. drop k (x ∷ w ++ c ∷ rest)) is ∙ drop_front w rest (suc (length w)) refl
+
+  pub cut_is : (w rest : List ℕ) → All (λ b. nat_eq b c ≡ false) w → cut_at c (w ++ c ∷ rest) ≡ Some (w, rest)
+  cut_is w rest all =
+      let at = place w rest all in
+      let long = length-append w (c ∷ rest) in
+      ap (λ t. cond t (Some (before_first (λ b. nat_eq b c) (w ++ c ∷ rest), after_first (λ b. nat_eq b c) (w ++ c ∷ rest))) None) (lt-ltb _ _ (omega (arith, at, long)))
+      ∙ (λ i. Some (take (at i) (w ++ c ∷ rest), drop (at i + 1) (w ++ c ∷ rest)))
+      ∙ (λ i. Some (take_front w rest i, drop_front w rest (length w + 1) (omega arith) i))
+
+-- bytes above a space, and above the control bytes
+abbrev pub Solid : List ℕ → Type 0
+Solid w = All (λ b. 33 ≤ b) w
+
+abbrev pub Plain : List ℕ → Type 0
+Plain w = All (λ b. 32 ≤ b) w
+
+pub solid_plain : (w : List ℕ) → Solid w → Plain w
+solid_plain w solid = All-weaker (λ b. 33 ≤ b) (λ b. 32 ≤ b) (λ b h. omega arith) w solid
+
+no_space : (w : List ℕ) → Solid w → All (λ b. nat_eq b 32 ≡ false) w
+no_space w solid = All-weaker (λ b. 33 ≤ b) (λ b. nat_eq b 32 ≡ false) (λ b h. ne_eqb b 32 (λ e. omega arith)) w solid
+
+pub no_end : (w : List ℕ) → Plain w → All (λ b. nat_eq b 10 ≡ false) w
+no_end w plain = All-weaker (λ b. 32 ≤ b) (λ b. nat_eq b 10 ≡ false) (λ b h. ne_eqb b 10 (λ e. omega arith)) w plain
+
+word : (w rest : List ℕ) → Solid w → cut_at 32 (w ++ 32 ∷ rest) ≡ Some (w, rest)
+word w rest solid = cut_is 32 w rest (no_space w solid)
+
+-- ---- digits
+
+decimal_solid : (n : ℕ) → n < 2 ^ 64 → Solid (decimal n)
+decimal_solid n small = decimal_by_steps (λ n ds. Solid ds)
+    (λ n lt. All-cons (λ b. 33 ≤ b) (48 + n) [] (omega arith) (All-nil (λ b. 33 ≤ b)))
+    (λ n ds le solid. All-append (λ b. 33 ≤ b) ds ((48 + n % 10) ∷ []) solid (All-cons (λ b. 33 ≤ b) (48 + n % 10) [] (omega arith) (All-nil (λ b. 33 ≤ b)))) n small
+
+module _ (m : ℕ) (small : m ≤ 4095) where
+  octal_is : octal m ≡ (48 + m / 512) ∷ (48 + m / 64 % 8) ∷ (48 + m / 8 % 8) ∷ (48 + m % 8) ∷ []
+  octal_is = λ i. decimal_digit (m / 512) (omega arith) i ++ (decimal_digit (m / 64 % 8) (omega arith) i ++ (decimal_digit (m / 8 % 8) (omega arith) i ++ decimal_digit (m % 8) (omega arith) i))
+
+  octal_value : octal_digit (48 + m / 512) * 512 + octal_digit (48 + m / 64 % 8) * 64 + octal_digit (48 + m / 8 % 8) * 8 + octal_digit (48 + m % 8) ≡ m
+  octal_value = omega arith
+
+  mode_is : mode_in (octal m) ≡ Some m
+  mode_is = ap mode_in octal_is ∙ ap (λ v. Some v) octal_value
+
+  octal_solid : Solid (octal m)
+  octal_solid =
+      All-append (λ b. 33 ≤ b) (decimal (m / 512)) (decimal (m / 64 % 8) ++ (decimal (m / 8 % 8) ++ decimal (m % 8))) (decimal_solid (m / 512) (omega arith))
+      (All-append (λ b. 33 ≤ b) (decimal (m / 64 % 8)) (decimal (m / 8 % 8) ++ decimal (m % 8)) (decimal_solid (m / 64 % 8) (omega arith))
+      (All-append (λ b. 33 ≤ b) (decimal (m / 8 % 8)) (decimal (m % 8)) (decimal_solid (m / 8 % 8) (omega arith)) (decimal_solid (m % 8) (omega arith))))
+
+-- ---- the mode and the owners
+
+module _ (m : MetaValue) (is : IsMeta m) where
+  new_meta : meta_of m.mode m.uid m.gid ≡ Some m
+  new_meta = ap (λ t. cond t None (Some m)) (le_not 4095 m.mode is.mode)
+    where
+      le_not : (a b : ℕ) → b ≤ a → nat_lt a b ≡ false
+      le_not a b le = le-ltb a b le
+
+  grouped : (rest : List ℕ) → meta_text m ++ rest ≡ octal m.mode ++ 32 ∷ (decimal m.uid ++ 32 ∷ (decimal m.gid ++ 32 ∷ rest))
+  grouped rest =
+      append_assoc (octal m.mode) (32 ∷ (decimal m.uid ++ (32 ∷ (decimal m.gid ++ 32 ∷ [])))) rest
+      ∙ ap (λ x. octal m.mode ++ 32 ∷ x) (append_assoc (decimal m.uid) (32 ∷ (decimal m.gid ++ 32 ∷ [])) rest)
+      ∙ ap (λ x. octal m.mode ++ 32 ∷ (decimal m.uid ++ 32 ∷ x)) (append_assoc (decimal m.gid) (32 ∷ []) rest)
+
+  pub meta_is : (rest : List ℕ) → fields.meta_in (meta_text m ++ rest) ≡ Some (m, rest)
+  meta_is rest =
+      let uid = decimal_solid m.uid (omega (arith, is.uid)) in
+      let gid = decimal_solid m.gid (omega (arith, is.gid)) in
+      ap fields.meta_in (grouped rest)
+      ∙ ap (λ o. on o (λ a. on (cut_at 32 a.1) (λ u. on (cut_at 32 u.1) (λ g. on (mode_in a.0) (λ mode. on (number_from 0 u.0) (λ uid. on (number_from 0 g.0) (λ gid. on (meta_of mode uid gid) (λ meta. Some (meta, g.1)))))))))
+      (word (octal m.mode) (decimal m.uid ++ 32 ∷ (decimal m.gid ++ 32 ∷ rest)) (octal_solid m.mode is.mode))
+      ∙ ap (λ o. on o (λ u. on (cut_at 32 u.1) (λ g. on (mode_in (octal m.mode)) (λ mode. on (number_from 0 u.0) (λ uid. on (number_from 0 g.0) (λ gid. on (meta_of mode uid gid) (λ meta. Some (meta, g.1))))))))
+      (word (decimal m.uid) (decimal m.gid ++ 32 ∷ rest) uid)
+      ∙ ap (λ o. on o (λ g. on (mode_in (octal m.mode)) (λ mode. on (number_from 0 (decimal m.uid)) (λ uid. on (number_from 0 g.0) (λ gid. on (meta_of mode uid gid) (λ meta. Some (meta, g.1)))))))
+      (word (decimal m.gid) rest gid)
+      ∙ ap (λ o. on o (λ mode. on (number_from 0 (decimal m.uid)) (λ uid. on (number_from 0 (decimal m.gid)) (λ gid. on (meta_of mode uid gid) (λ meta. Some (meta, rest)))))) (mode_is m.mode is.mode)
+      ∙ ap (λ o. on o (λ uid. on (number_from 0 (decimal m.gid)) (λ gid. on (meta_of m.mode uid gid) (λ meta. Some (meta, rest))))) (number_written m.uid is.uid)
+      ∙ ap (λ o. on o (λ gid. on (meta_of m.mode m.uid gid) (λ meta. Some (meta, rest)))) (number_written m.gid is.gid)
+      ∙ ap (λ o. on o (λ meta. Some (meta, rest))) new_meta
+
+-- ---- the content
+
+digit_solid : (c d : ℕ) → hex_digit_value c ≡ Some d → 33 ≤ c
+digit_solid c d is = by_cases (nat_lt c 33) refl
+  where
+    none : c < 33 → hex_digit_value c ≡ None
+    none lt = (λ i. cond (high 65 (omega arith) i && nat_le c 70) (Some (c - 55)) (cond (high 97 (omega arith) i && nat_le c 102) (Some (c - 87)) (cond (high 48 (omega arith) i && nat_le c 57) (Some (c - 48)) None)))
+      where
+        high : (k : ℕ) → c < k → nat_le k c ≡ false
+        high k lt = lt-leb k c lt
+
+    by_cases : (t : Bool) → nat_lt c 33 ≡ t → 33 ≤ c
+    by_cases true t = let e : ◌≡◌ {A = Option ℕ} (Some d) None = sym is ∙ none (ltb-true c 33 t) in absurd cc
+    by_cases false t = ltb-false c 33 t
+
+encode_solid : (content : List ℕ) → IsBytes content → Solid (encode_with lower_digits content)
+unfolding encode_with
+encode_solid [] bytes = All-nil (λ b. 33 ≤ b)
+encode_solid (b ∷ content) bytes =
+    let small : b < 256 = bytes 0 in
+    All-cons (λ b. 33 ≤ b) (get_or lower_digits (b / 16) 0) (get_or lower_digits (b % 16) 0 ∷ encode_with lower_digits content) (digit_solid _ (b / 16) (IsDigits-lower_digits (b / 16) (omega arith)))
+    (All-cons (λ b. 33 ≤ b) (get_or lower_digits (b % 16) 0) (encode_with lower_digits content) (digit_solid _ (b % 16) (IsDigits-lower_digits (b % 16) (omega arith)))
+    (encode_solid content (λ k. bytes (suc k))))
+
+content_solid : (content : List ℕ) → IsBytes content → Solid (content_text content)
+content_solid [] bytes = All-cons (λ b. 33 ≤ b) 45 [] (omega arith) (All-nil (λ b. 33 ≤ b))
+content_solid (b ∷ content) bytes = encode_solid (b ∷ content) bytes
+
+no_dash : (b : ℕ) (content : List ℕ) → pointwise nat_eq (encode_lower (b ∷ content)) (codes "-") ≡ false
+unfolding encode_with
+no_dash b content = and_false (nat_eq (get_or lower_digits (b / 16) 0) 45)
+  where
+    and_false : (t : Bool) → (t && false) ≡ false
+    and_false true = refl
+    and_false false = refl
+
+content_is : (content : List ℕ) → IsBytes content → content_in (content_text content) ≡ Some content
+content_is [] bytes = refl
+content_is (b ∷ content) bytes = ap (λ t. cond t (Some []) (result_ok (decode_of (encode_lower (b ∷ content))))) (no_dash b content) ∙ ap result_ok (decode_of-encode_lower (b ∷ content) bytes)
+
+-- ---- the path
+
+path_joined : (p : List (List ℕ)) → path_text p ≡ 47 ∷ joined p
+path_joined [] = refl
+path_joined (n ∷ p) = go n p
+  where
+    go : (n : List ℕ) (p : List (List ℕ)) → names_text (n ∷ p) ≡ 47 ∷ joined (n ∷ p)
+    go n [] = ap (λ x. 47 ∷ x) (append-nil n)
+    go n (m ∷ p) = ap (λ x. 47 ∷ (n ++ x)) (go m p)
+
+path_is : (p : List (List ℕ)) → IsPath p → result_ok (path_of (path_text p)) ≡ Some p
+path_is p path = ap (λ t. result_ok (path_of t)) (path_joined p) ∙ ap result_ok (reads_back p path).absolute
+
+-- ---- the line
+
+dir_is : (m : MetaValue) (p : List (List ℕ)) → IsPath p → dir_in m (path_text p) ≡ Some (p, Dir m)
+dir_is m p path = ap (λ o. on o (λ q. Some (q, Dir m))) (path_is p path)
+
+file_is : (m : MetaValue) (content : List ℕ) (p : List (List ℕ)) → IsBytes content → IsPath p → file_in m (content_text content) (path_text p) ≡ Some (p, File m content)
+file_is m content p bytes path =
+    ap (λ o. on o (λ c. on (result_ok (path_of (path_text p))) (λ q. Some (q, File m c)))) (content_is content bytes)
+    ∙ ap (λ o. on o (λ q. Some (q, File m content))) (path_is p path)
+
+one_solid : (c : ℕ) → 33 ≤ c → Solid (c ∷ [])
+one_solid c le = All-cons (λ b. 33 ≤ b) c [] le (All-nil (λ b. 33 ≤ b))
+
+-- the entry that the line of an entry is read as
+pub row_is : (row : List (List ℕ) × Entry) → IsRow row → row_in (row_text row) ≡ Some row
+row_is (p, Dir m) is =
+    ap (λ o. on o (λ k. on (fields.meta_in k.1) (λ m. cond (pointwise nat_eq k.0 (codes "d")) (dir_in m.0 m.1) (on (cut_at 32 m.1) (λ c. file_in m.0 c.0 c.1)))))
+    (word (100 ∷ []) (meta_text m ++ path_text p) (one_solid 100 (omega arith)))
+    ∙ ap (λ o. on o (λ (m : MetaValue × List ℕ). dir_in m.0 m.1)) (meta_is m is.stands.meta (path_text p))
+    ∙ dir_is m p is.stands.path
+row_is (p, File m content) is =
+    ap (λ o. on o (λ k. on (fields.meta_in k.1) (λ m. cond (pointwise nat_eq k.0 (codes "d")) (dir_in m.0 m.1) (on (cut_at 32 m.1) (λ c. file_in m.0 c.0 c.1)))))
+    (word (102 ∷ []) (meta_text m ++ (content_text content ++ 32 ∷ path_text p)) (one_solid 102 (omega arith)))
+    ∙ ap (λ o. on o (λ (m : MetaValue × List ℕ). on (cut_at 32 m.1) (λ c. file_in m.0 c.0 c.1))) (meta_is m is.stands.meta (content_text content ++ 32 ∷ path_text p))
+    ∙ ap (λ o. on o (λ (c : List ℕ × List ℕ). file_in m c.0 c.1)) (word (content_text content) (path_text p) (content_solid content is.bytes))
+    ∙ file_is m content p is.bytes is.stands.path
+
+-- ---- no line end, and UTF-8
+
+name_plain : (name : List ℕ) → is_name name ≡ true → Plain name
+name_plain name is = All-weaker (λ b. is_name_byte b ≡ true) (λ b. 32 ≤ b) from_space name (AllPass-from_list_all is_name_byte name (passes_tests name is).plain)
+
+names_plain : (p : List (List ℕ)) → All (λ name. is_name name ≡ true) p → Plain (names_text p)
+names_plain [] all = All-nil (λ b. 32 ≤ b)
+names_plain (n ∷ p) all =
+    All-cons (λ b. 32 ≤ b) 47 (n ++ names_text p) (omega arith)
+    (All-append (λ b. 32 ≤ b) n (names_text p) (name_plain n (All-head (λ name. is_name name ≡ true) n p all)) (names_plain p (All-tail (λ name. is_name name ≡ true) n p all)))
+
+path_plain : (p : List (List ℕ)) → IsPath p → Plain (path_text p)
+path_plain [] path = All-cons (λ b. 32 ≤ b) 47 [] (omega arith) (All-nil (λ b. 32 ≤ b))
+path_plain (n ∷ p) path = names_plain (n ∷ p) path.named
+
+words_plain : (w rest : List ℕ) → Solid w → Plain rest → Plain (w ++ 32 ∷ rest)
+words_plain w rest solid plain = All-append (λ b. 32 ≤ b) w (32 ∷ rest) (solid_plain w solid) (All-cons (λ b. 32 ≤ b) 32 rest (omega arith) plain)
+
+meta_plain : (m : MetaValue) (rest : List ℕ) → IsMeta m → Plain rest → Plain (meta_text m ++ rest)
+meta_plain m rest is plain = subst Plain (sym (grouped m is rest))
+    (words_plain (octal m.mode) (decimal m.uid ++ 32 ∷ (decimal m.gid ++ 32 ∷ rest)) (octal_solid m.mode is.mode)
+    (words_plain (decimal m.uid) (decimal m.gid ++ 32 ∷ rest) (decimal_solid m.uid (omega (arith, is.uid))) (words_plain (decimal m.gid) rest (decimal_solid m.gid (omega (arith, is.gid))) plain)))
+
+pub row_plain : (row : List (List ℕ) × Entry) → IsRow row → Plain (row_text row)
+row_plain (p, Dir m) is = words_plain (100 ∷ []) (meta_text m ++ path_text p) (one_solid 100 (omega arith)) (meta_plain m (path_text p) is.stands.meta (path_plain p is.stands.path))
+row_plain (p, File m content) is =
+    words_plain (102 ∷ []) (meta_text m ++ (content_text content ++ 32 ∷ path_text p)) (one_solid 102 (omega arith))
+    (meta_plain m (content_text content ++ 32 ∷ path_text p) is.stands.meta (words_plain (content_text content) (path_text p) (content_solid content is.bytes) (path_plain p is.stands.path)))
+
+one_text : (c : ℕ) → c < 128 → IsUtf8 (c ∷ [])
+one_text c lt = IsUtf8-from_ascii (c ∷ []) (IsAscii-cons c [] lt IsAscii-nil)
+
+decimal_utf8 : (n : ℕ) → n < 2 ^ 64 → IsUtf8 (decimal n)
+decimal_utf8 n small = IsUtf8-from_ascii (decimal n) (IsAscii-decimal n small)
+
+names_utf8 : (p : List (List ℕ)) → All (λ name. is_name name ≡ true) p → IsUtf8 (names_text p)
+names_utf8 [] all = IsUtf8-nil
+names_utf8 (n ∷ p) all =
+    IsUtf8-append (47 ∷ []) (n ++ names_text p) (one_text 47 (omega arith))
+    (IsUtf8-append n (names_text p) (name-IsUtf8 n (All-head (λ name. is_name name ≡ true) n p all)) (names_utf8 p (All-tail (λ name. is_name name ≡ true) n p all)))
+
+path_utf8 : (p : List (List ℕ)) → IsPath p → IsUtf8 (path_text p)
+path_utf8 [] path = one_text 47 (omega arith)
+path_utf8 (n ∷ p) path = names_utf8 (n ∷ p) path.named
+
+words_utf8 : (w rest : List ℕ) → IsUtf8 w → IsUtf8 rest → IsUtf8 (w ++ 32 ∷ rest)
+words_utf8 w rest one other = IsUtf8-append w (32 ∷ rest) one (IsUtf8-append (32 ∷ []) rest (one_text 32 (omega arith)) other)
+
+octal_utf8 : (m : ℕ) → m ≤ 4095 → IsUtf8 (octal m)
+octal_utf8 m small =
+    IsUtf8-append (decimal (m / 512)) (decimal (m / 64 % 8) ++ (decimal (m / 8 % 8) ++ decimal (m % 8))) (decimal_utf8 (m / 512) (omega arith))
+    (IsUtf8-append (decimal (m / 64 % 8)) (decimal (m / 8 % 8) ++ decimal (m % 8)) (decimal_utf8 (m / 64 % 8) (omega arith))
+    (IsUtf8-append (decimal (m / 8 % 8)) (decimal (m % 8)) (decimal_utf8 (m / 8 % 8) (omega arith)) (decimal_utf8 (m % 8) (omega arith))))
+
+meta_utf8 : (m : MetaValue) (rest : List ℕ) → IsMeta m → IsUtf8 rest → IsUtf8 (meta_text m ++ rest)
+meta_utf8 m rest is other = subst IsUtf8 (sym (grouped m is rest))
+    (words_utf8 (octal m.mode) (decimal m.uid ++ 32 ∷ (decimal m.gid ++ 32 ∷ rest)) (octal_utf8 m.mode is.mode)
+    (words_utf8 (decimal m.uid) (decimal m.gid ++ 32 ∷ rest) (decimal_utf8 m.uid (omega (arith, is.uid))) (words_utf8 (decimal m.gid) rest (decimal_utf8 m.gid (omega (arith, is.gid))) other)))
+
+digit_low : (c d : ℕ) → hex_digit_value c ≡ Some d → c < 128
+digit_low c d is = by_cases (nat_lt c 128) refl
+  where
+    none : 128 ≤ c → hex_digit_value c ≡ None
+    none le = (λ i. cond (past 65 70 (omega arith) i) (Some (c - 55)) (cond (past 97 102 (omega arith) i) (Some (c - 87)) (cond (past 48 57 (omega arith) i) (Some (c - 48)) None)))
+      where
+        past : (j k : ℕ) → k < c → (nat_le j c && nat_le c k) ≡ false
+        past j k lt = ap (λ t. nat_le j c && t) (lt-leb c k lt) ∙ and_false (nat_le j c)
+          where
+            and_false : (t : Bool) → (t && false) ≡ false
+            and_false true = refl
+            and_false false = refl
+
+    by_cases : (t : Bool) → nat_lt c 128 ≡ t → c < 128
+    by_cases true t = ltb-true c 128 t
+    by_cases false t = let e : ◌≡◌ {A = Option ℕ} (Some d) None = sym is ∙ none (ltb-false c 128 t) in absurd cc
+
+-- a digit of the table, and what stands where there is none
+digit_ascii : (k : ℕ) → get_or lower_digits k 0 < 128
+digit_ascii k = by_cases (nat_lt k 16) refl
+  where
+    by_cases : (t : Bool) → nat_lt k 16 ≡ t → get_or lower_digits k 0 < 128
+    by_cases true t = digit_low _ k (IsDigits-lower_digits k (ltb-true k 16 t))
+    by_cases false t = subst (λ v. v < 128) (sym (get_or_past lower_digits k 0 (ltb-false k 16 t))) (omega arith)
+
+content_utf8 : (content : List ℕ) → IsBytes content → IsUtf8 (content_text content)
+content_utf8 [] bytes = one_text 45 (omega arith)
+content_utf8 (b ∷ content) bytes = IsUtf8-from_ascii (encode_lower (b ∷ content)) (IsAscii-encode_with lower_digits (b ∷ content) digit_ascii)
+
+pub row_utf8 : (row : List (List ℕ) × Entry) → IsRow row → IsUtf8 (row_text row)
+row_utf8 (p, Dir m) is = words_utf8 (100 ∷ []) (meta_text m ++ path_text p) (one_text 100 (omega arith)) (meta_utf8 m (path_text p) is.stands.meta (path_utf8 p is.stands.path))
+row_utf8 (p, File m content) is =
+    words_utf8 (102 ∷ []) (meta_text m ++ (content_text content ++ 32 ∷ path_text p)) (one_text 102 (omega arith))
+    (meta_utf8 m (content_text content ++ 32 ∷ path_text p) is.stands.meta (words_utf8 (content_text content) (path_text p) (content_utf8 content is.bytes) (path_utf8 p is.stands.path)))
