@@ -3,3 +3,4 @@ pub mod Driving
 pub mod Answering
 pub mod Entering
 pub mod Matching
+pub mod Gathering

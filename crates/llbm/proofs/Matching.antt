@@ -18,7 +18,7 @@ by_entries : (id : Text) (es : List Entry) → words_at id es ≡ all_of id (map
 by_entries id [] = refl
 by_entries id (e ∷ es) =
     elim (bytes_eq e.0.now id) as (λ b. option_map raw_values (option_map (λ e. e.1) (cond b (Some e) (find (λ e. bytes_eq e.0.now id) es)))
-        ≡ option_map (λ (r : Row). r.values) (cond b (Some (row_of e)) (find (λ (r : Row). bytes_eq r.id id) (map row_of es)))) [
+    ≡ option_map (λ (r : Row). r.values) (cond b (Some (row_of e)) (find (λ (r : Row). bytes_eq r.id id) (map row_of es)))) [
       | true ↦ refl
       | false ↦ by_entries id es
     ]

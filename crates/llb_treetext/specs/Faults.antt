@@ -1,0 +1,23 @@
+-- How the calls of this crate answer: what their rule gives, or the want of memory. A rule is a function into values
+-- or faults that never gives the want of memory.
+use Rattle.std.specs.Prelude.{ℕ, List, Bool, true, false, Option, Result}
+use Rattle.llb_wire.specs.Answer as answer
+use Rattle.llb_treetext.specs.declared.fault.TextFault.{TextFault}
+use Rattle.llb_treetext.specs.declared.fault.TextFault.TheVariants as text
+
+-- want of memory, which no rule gives
+abbrev pub is_memory : TextFault → Bool
+is_memory text.Memory = true
+is_memory (text.BadLine n) = false
+is_memory (text.Order n) = false
+is_memory (text.NoParent n) = false
+
+-- what a call answers, seen by view, is what the rule gives
+abbrev pub Gives : {X Y : Type 0} → (X → Y) → Result X TextFault → Result Y TextFault → Type 0
+Gives = answer.Gives is_memory
+
+-- and want of memory comes last: it is answered only where the rule has no refusal
+abbrev pub MemoryLast : {X Y : Type 0} → Result X TextFault → Result Y TextFault → Type 0
+MemoryLast = answer.MemoryLast is_memory
+
+

@@ -1,0 +1,71 @@
+-- Which texts are the texts of trees, and what a text that is none has wrong first. Nothing here knows how a text is read.
+use Rattle.std.specs.Prelude.{◌≡◌, ◌≢◌, ℕ, ◌+◌, Bool, true, false, List, [], ◌∷◌, ◌++◌, length, Option, Some, None, Result, Ok, Err, ◌⊎◌}
+use Rattle.std.specs.Cmp.Lexicographic.{pointwise}
+use Rattle.std.specs.Ordering.{is_lt}
+use Rattle.std.specs.FinMap as finite
+use Rattle.hex.specs.Hex.{IsBytes}
+use Rattle.llb_tree.specs.Path.{path_cmp}
+use Rattle.llb_tree.specs.Meta.{MetaValue}
+use Rattle.llb_tree.specs.Tree.{Entry, Dir, File, TreeMap, CanStand, IsTree, walk}
+use Rattle.llb_treetext.specs.TreeText.{line_of, lines_of, tree_text}
+use Rattle.llb_treetext.specs.Faults.{is_memory}
+use Rattle.llb_treetext.specs.declared.fault.TextFault.{TextFault}
+use Rattle.llb_treetext.specs.declared.fault.TextFault.TheVariants.{BadLine, Order, NoParent, Memory}
+
+-- the content of a file is bytes
+abbrev pub HasBytes : Entry → Type 0
+HasBytes (Dir m) = Unit {0}
+HasBytes (File m content) = IsBytes content
+
+-- an entry that has a line: it can stand at its path, and the root is a directory
+pub record IsRow (row : List (List ℕ) × Entry) : Type 0 where
+  pub stands : CanStand row.0 row.1
+  pub bytes : HasBytes row.1
+  pub root : row.0 ≡ [] → (m : MetaValue) × (row.1 ≡ Dir m)
+
+-- the contents of all files are bytes
+abbrev pub HaveBytes : TreeMap → Type 0
+HaveBytes t = (p : List (List ℕ)) (e : Entry) → finite.get t p ≡ Some e → HasBytes e
+
+-- the bytes are the text of a tree
+pub record IsText (bytes : List ℕ) (t : TreeMap) : Type 0 where
+  pub tree : IsTree t
+  pub contents : HaveBytes t
+  pub text : bytes ≡ tree_text t
+
+-- no rows yet, or those of a tree
+abbrev pub AreBefore : List (List (List ℕ) × Entry) → Type 0
+AreBefore rows = (rows ≡ []) ⊎ ((t : TreeMap) × IsTree t × HaveBytes t × (rows ≡ finite.entries t))
+
+-- the root comes first, and then each path behind the last one
+abbrev pub comes_next : List (List (List ℕ) × Entry) → List (List ℕ) → Bool
+comes_next [] [] = true
+comes_next [] (n ∷ p) = false
+comes_next (r ∷ []) p = is_lt (path_cmp r.0 p)
+comes_next (r ∷ s ∷ rows) p = comes_next (s ∷ rows) p
+
+-- the line that a text begins with, and its entry
+abbrev pub Begins : List ℕ → List (List ℕ) × Entry → Type 0
+Begins text row = IsRow row × ((later : List ℕ) × (text ≡ line_of row ++ later))
+
+-- what is wrong with the line behind some rows, the first that is: it is no entry's; or its path is not behind the last one;
+-- or that path's directories are not there
+abbrev pub IsFault : List (List (List ℕ) × Entry) → List ℕ → TextFault → Type 0
+IsFault rows rest (BadLine n) = (n ≡ length rows + 1) × ((row : List (List ℕ) × Entry) → ¬ Begins rest row)
+IsFault rows rest (Order n) = (n ≡ length rows + 1) × ((row : List (List ℕ) × Entry) × Begins rest row × (comes_next rows row.0 ≡ false))
+IsFault rows rest (NoParent n) = (n ≡ length rows + 1) × ((row : List (List ℕ) × Entry) × Begins rest row × (comes_next rows row.0 ≡ true) × (walk (λ q. finite.find path_cmp q rows) row.0 ≢ Ok tt))
+IsFault rows rest Memory = ⊥
+
+-- the text begins with the rows of a tree, or with none, and the line behind them is faulty; no line at all is one with no rows
+pub record Stops (bytes : List ℕ) (e : TextFault) : Type 0 where
+  pub rows : List (List (List ℕ) × Entry)
+  pub rest : List ℕ
+  pub before : AreBefore rows
+  pub split : bytes ≡ lines_of rows ++ rest
+  pub more : rest ≡ [] → rows ≡ []
+  pub fault : IsFault rows rest e
+
+-- what a text is: the text of a tree, or one with a first faulty line; want of memory is the one open answer
+abbrev pub Answers : List ℕ → Result TreeMap TextFault → Type 0
+Answers bytes (Ok t) = IsText bytes t
+Answers bytes (Err e) = is_memory e ≡ false → Stops bytes e
