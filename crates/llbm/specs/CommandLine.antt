@@ -1,12 +1,15 @@
 -- The command line of the program, as `clap` sees it, and what its words say.
-use Rattle.std.specs.Prelude.{◌≡◌, ◌≢◌, ◌⊎◌, ℕ, List, [], ◌++◌, Option, Some, None, Result, Ok, Err, true, codes}
+use Rattle.std.specs.Prelude.{◌≡◌, ◌≢◌, ◌⊎◌, ◌==◌, ℕ, nat_lt, Bool, true, not, if◌then◌else◌, List, [], ◌++◌, length, map, find, Option, Some, None, is_some, unwrap_or, Result, Ok, Err, codes}
+use Rattle.std.specs.List.{position_or_len, before_first, after_first}
 use Rattle.std.specs.Io.KnownBytes.{Appends}
-use Rattle.clap.specs.Words.{App, Kinds, Row, Text, new_app, with_subcommand}
+use Rattle.clap.specs.Words.{App, Kinds, Row, Rule, Text, all_of, new_app, new_rule, with_rule, with_subcommand}
+use Rattle.clap.specs.declared.builder.action.ArgAction.TheVariants.{Append}
 use Rattle.clap.specs.declared.error.kind.ErrorKind.{ErrorKind}
 use Rattle.clap.specs.declared.error.kind.ErrorKind.TheVariants.{OutOfMemory}
 use Rattle.llbm.specs.declared.words.Command.{Command}
 use Rattle.llbm.specs.declared.words.Command.TheVariants.{Run, Show}
 use Rattle.llbm.specs.declared.words.Line.{Line}
+use Rattle.llbm.specs.declared.words.Local.{Local}
 use Rattle.llbm.specs.declared.words.WordsFault.{WordsFault}
 use Rattle.llbm.specs.declared.words.WordsFault.TheVariants.{Words, Memory}
 
@@ -17,9 +20,16 @@ base_app = record {
   subs = [];
 }
 
--- the commands, none of which takes a word
+-- words that name local sources, as many as there are
+abbrev pub local_rule : Rule
+local_rule = record (new_rule (codes "local")) { action = Some Append }
+
+abbrev pub run_app : App
+run_app = with_rule (new_app (codes "run")) local_rule
+
+-- the commands: `run` takes local sources, and `show` no word
 abbrev pub llbm_app : App
-llbm_app = with_subcommand (with_subcommand base_app (new_app (codes "run")).top) (new_app (codes "show")).top
+llbm_app = with_subcommand (with_subcommand base_app run_app.top) (new_app (codes "show")).top
 
 abbrev pub name_of : Command → Text
 name_of Run = codes "run"
@@ -29,27 +39,68 @@ name_of Show = codes "show"
 abbrev pub IsName : Text → Type 0
 IsName name = (name ≡ codes "run") ⊎ (name ≡ codes "show")
 
--- the command of that name, with no word of its own
-pub record SaysCommand (name : Text) (line : Line) : Type 0 where
+-- the byte `=`
+abbrev pub is_equals : ℕ → Bool
+is_equals b = b == 61
+
+-- the name before the first `=` of a word and the file behind it, and none where the word has no `=`
+abbrev pub split_word : Text → Option (Text × Text)
+split_word word = if nat_lt (position_or_len is_equals word) (length word) then Some (before_first is_equals word, after_first is_equals word) else None
+
+abbrev pub named_file : Local → Option (Text × Text)
+named_file l = Some (l.name.now, l.file.now)
+
+-- the words are split into these, in their order
+abbrev pub AreSplit : List Text → List Local → Type 0
+AreSplit words locals = map split_word words ≡ map named_file locals
+
+abbrev pub is_unsplit : Text → Bool
+is_unsplit word = not (is_some (split_word word))
+
+-- the word is the first that has no `=`
+abbrev pub IsUnsplit : List Text → Text → Type 0
+IsUnsplit words word = find is_unsplit words ≡ Some word
+
+-- the command that is named in the matches; no words are the command run
+abbrev pub named : Option (Text × List Row) → Text
+named None = codes "run"
+named (Some p) = p.0
+
+-- the words for local sources among the matches
+abbrev pub local_words : List Row → List Text
+local_words rows = unwrap_or (all_of (codes "local") rows) []
+
+abbrev pub given : Option (Text × List Row) → List Text
+given None = []
+given (Some p) = local_words p.1
+
+-- the command of that name, on local sources of these words
+pub record SaysCommand (name : Text) (words : List Text) (line : Line) : Type 0 where
   pub command : name_of line.command ≡ name
   pub workers : line.workers ≡ 1
   pub file : line.file ≡ None
-  pub locals : line.locals ≡ []
+  pub locals : AreSplit words line.locals
 
--- what a line says, by the subcommand in the matches; no words are the command run
+-- what a line says, by the subcommand in the matches
 abbrev pub Says : Option (Text × List Row) → Line → Type 0
-Says None line = SaysCommand (codes "run") line
-Says (Some p) line = SaysCommand p.0 line
+Says met line = SaysCommand (named met) (given met) line
 
--- no word is named where `clap` refuses for another cause than memory, and there is no other refusal
-abbrev pub Refuses : Kinds → WordsFault → Type 0
-Refuses kinds (Words None) = kinds ≢ []
-Refuses kinds (Words (Some w)) = ⊥
-Refuses kinds Memory = Unit {0}
+-- No word is named where `clap` refuses for another cause than memory. Where it does not, a word is: the first for a local source that has no `=`.
+abbrev pub Refuses : Kinds → List Text → WordsFault → Type 0
+Refuses kinds words (Words None) = kinds ≢ []
+Refuses kinds words (Words (Some w)) = (kinds ≡ []) × IsUnsplit words w.now
+Refuses kinds words Memory = Unit {0}
 
-abbrev pub IsByClap : Kinds → Result Line WordsFault → Type 0
-IsByClap kinds (Ok line) = kinds ≡ []
-IsByClap kinds (Err e) = Refuses kinds e
+-- there is no other refusal
+abbrev pub IsByWords : Kinds → List Text → Result Line WordsFault → Type 0
+IsByWords kinds words (Ok line) = kinds ≡ []
+IsByWords kinds words (Err e) = Refuses kinds words e
+
+-- a word for a local source is refused, or memory
+abbrev pub RefusesWord : List Text → WordsFault → Type 0
+RefusesWord words (Words None) = ⊥
+RefusesWord words (Words (Some w)) = IsUnsplit words w.now
+RefusesWord words Memory = Unit {0}
 
 -- what a refusal by `clap` comes to
 abbrev pub StandsFor : ErrorKind → WordsFault → Type 0

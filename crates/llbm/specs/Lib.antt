@@ -5,4 +5,5 @@ pub mod Running
 pub mod Output
 pub mod GraphText
 pub mod CommandLine
+pub mod Sources
 pub use Rattle.std.specs.Io.KnownBytes.{Appends, Consumes, IsAtEnd, Keeps}

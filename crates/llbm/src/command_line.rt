@@ -1,24 +1,53 @@
-//! The command line, which `clap` reads: no words or `run`, and `show`.
+//! The command line, which `clap` reads: no words or `run`, which takes local sources as NAME=FILE, and `show`.
 
-ghost use Rattle.std.specs.Prelude.{◌≡◌, codes, map, IfOk};
-ghost use Rattle.clap.specs.Words.{app_of, kind_of, fault_of, subcommand_of};
-ghost use Rattle.llbm.specs.CommandLine.{llbm_app, IsName, name_of, Says, SaysCommand, IsByClap, StandsFor};
+ghost use Rattle.std.specs.Prelude.{◌≡◌, false, None, map, IfOk, IfErr};
+ghost use Rattle.clap.specs.Words.{app_of, kind_of, fault_of, found_of, rows_of, rule_of, subcommand_of};
+ghost use Rattle.clap.specs.declared.builder.command.Command.TheViews.{out-Command as fields_of};
+ghost use Rattle.llbm.specs.CommandLine.{
+  llbm_app,
+  run_app,
+  local_rule,
+  local_words,
+  given,
+  AreSplit,
+  IsName,
+  name_of,
+  Says,
+  IsByWords,
+  RefusesWord,
+  StandsFor,
+};
 
-use crate::words::{Command, Line, WordsFault};
-use clap::Error;
+use crate::words::{Command, Line, Local, WordsFault};
 use clap::error::ErrorKind;
+use clap::{Arg, ArgAction, ArgMatches, Error};
 use llb_wire::Many;
 use std::alloc::{AllocError, Global};
 use std::convert::AsStr;
 
-// The commands, none of which takes a word yet.
+// The words for local sources.
+fn local_arg<'a>(alloc: Global) -> Arg<'a>
+    ensures rule { rule_of result ≡ local_rule }
+    ensures plain { result.global ≡ false }
+{
+    Arg::new(alloc, "local").action(ArgAction::Append)
+}
+
+fn run_command<'a>(alloc: Global) -> Result<clap::Command<'a>, AllocError>
+    ensures app { IfOk result (λ c. app_of c ≡ run_app) }
+    ensures plain { IfOk result (λ c. (fields_of c).has_globals ≡ false) }
+{
+    clap::Command::new(alloc, "run").arg(local_arg(alloc))
+}
+
+// The commands.
 fn llbm_command<'a>(alloc: Global) -> Result<clap::Command<'a>, AllocError>
     ensures { IfOk result (λ c. app_of c ≡ llbm_app) }
 {
     clap::Command::new(alloc, "llbm")
         .no_binary_name(true)
         .disable_help_subcommand(true)
-        .subcommand(clap::Command::new(alloc, "run"))?
+        .subcommand(run_command(alloc)?)?
         .subcommand(clap::Command::new(alloc, "show"))
 }
 
@@ -34,15 +63,44 @@ fn command_named(name: &str) -> Command
     }
 }
 
-// A command without words of its own.
-fn line_of<'a>(alloc: Global, command: Command) -> Line<'a>
-    ensures { SaysCommand (name_of command) result }
+// Splits each word at its first `=`.
+fn split_words<'a>(alloc: Global, words: &[&'a str]) -> Result<Many<Local<'a>>, WordsFault<'a>>
+    ensures split { IfOk result (AreSplit (map (λ w. w.now) words.now)) }
+    ensures refuses { IfErr result (RefusesWord (map (λ w. w.now) words.now)) }
+{
+    let mut locals = Vec::new(alloc);
+    for word in words {
+        match word.split_once('=') {
+            Some((name, file)) => locals.push(Local { name, file })?,
+            None => return Err(WordsFault::Words(Some(word))),
+        }
+    }
+    Ok(Many::new(locals))
+}
+
+// The local sources in the matches of a command.
+fn locals_in<'a>(alloc: Global, matches: &ArgMatches<'a>) -> Result<Many<Local<'a>>, WordsFault<'a>>
+    ensures split { IfOk result (AreSplit (local_words (rows_of (found_of matches.now)))) }
+    ensures refuses { IfErr result (RefusesWord (local_words (rows_of (found_of matches.now)))) }
+{
+    match matches.get_strs("local") {
+        Some(words) => split_words(alloc, words),
+        None => Ok(Many::new(Vec::new(alloc))),
+    }
+}
+
+// A command on its local sources.
+fn line_of<'a>(command: Command, locals: Many<Local<'a>>) -> Line<'a>
+    ensures command { result.command ≡ command }
+    ensures workers { result.workers ≡ 1 }
+    ensures file { result.file ≡ None }
+    ensures locals { result.locals ≡ locals.entry }
 {
     Line {
         command,
         workers: 1,
         file: None,
-        locals: Many::new(Vec::new(alloc)),
+        locals,
     }
 }
 
@@ -58,10 +116,10 @@ fn refused_by<'a>(error: Error) -> WordsFault<'a>
 }
 
 /// What the words behind the program's name say: no words are `run`. 183 without a word where `clap` refuses them, a
-/// request for help among them; 184.
+/// request for help among them; 183 with the first word for a local source that has no `=`; 184.
 pub fn command_of<'a, S: AsStr>(alloc: Global, words: &'a [S]) -> Result<Line<'a>, WordsFault<'a>>
     ensures says { IfOk result (Says (subcommand_of llbm_app (map S.text words.entry.now))) }
-    ensures refuses { IsByClap (fault_of llbm_app (map S.text words.entry.now)) result }
+    ensures refuses { IsByWords (fault_of llbm_app (map S.text words.entry.now)) (given (subcommand_of llbm_app (map S.text words.entry.now))) result }
 {
     let command = llbm_command(alloc)?;
     let matches = match command.try_get_matches_from(words) {
@@ -69,7 +127,7 @@ pub fn command_of<'a, S: AsStr>(alloc: Global, words: &'a [S]) -> Result<Line<'a
         Err(error) => return Err(refused_by(error)),
     };
     match matches.subcommand() {
-        Some((name, _)) => Ok(line_of(alloc, command_named(name))),
-        None => Ok(line_of(alloc, Command::Run)),
+        Some((name, own)) => Ok(line_of(command_named(name), locals_in(alloc, own)?)),
+        None => Ok(line_of(Command::Run, Many::new(Vec::new(alloc)))),
     }
 }

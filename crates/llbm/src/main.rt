@@ -1,4 +1,5 @@
-//! The program: its words, its readers and writers, and its exit status. What it does stands in `run` and `show`.
+//! The program: its words, its files, its readers and writers, and its exit status. What it does stands in `run` and
+//! `show`.
 #![tactic(auto)]
 
 ghost use Rattle.llbm.specs.Answer.{Performs};
@@ -11,6 +12,7 @@ pub mod graph_text;
 mod input;
 pub mod run;
 pub mod show;
+pub mod sources;
 #[cfg(test)]
 mod tests;
 pub mod words;
@@ -19,9 +21,11 @@ use crate::command_line::command_of;
 use crate::fault::{ProgramFault, refusal};
 use crate::run::run_over;
 use crate::show::show_over;
+use crate::sources::{Sources, locals_of, source_refusal};
 use crate::words::{Command, WordsFault, words_refusal};
 use llb_loader::Locals;
 use std::alloc::Global;
+use std::fs::File;
 use std::io::{BufWriter, ErrorKind, Read, Write};
 use std::process::ExitCode;
 use std::{env, io};
@@ -34,6 +38,19 @@ fn words_given(rt: &HostRuntime) -> Result<Vec<String>, WordsFault<'static>> {
         Err(_) => return Err(WordsFault::Words(None)),
     };
     Ok(words.skip(1).collect(rt.alloc())?)
+}
+
+// The machine's own files. Nothing is known of their bytes.
+impl Sources for HostRuntime {
+    ghost use Rattle.std.specs.Prelude.{None};
+
+    type Input = File;
+
+    ghost bytes = { λ _ _. None };
+
+    fn open(&self, file: &str) -> io::Result<File> {
+        File::open(self, file)
+    }
 }
 
 // Does what the command says.
@@ -64,16 +81,13 @@ fn main(rt: HostRuntime) -> ExitCode {
         Ok(line) => line,
         Err(fault) => return ExitCode::from(words_refusal(&fault, &mut err)),
     };
+    let locals = match locals_of(alloc, &rt, line.locals.as_slice()) {
+        Ok(locals) => locals,
+        Err(fault) => return ExitCode::from(source_refusal(&fault, &mut err)),
+    };
     let mut input = rt.reader();
     let Ok(mut out) = BufWriter::new(alloc, io::writer(&rt)) else {
         return ExitCode::from(refusal(&ProgramFault::Memory, &mut err));
     };
-    ExitCode::from(perform(
-        alloc,
-        line.command,
-        Locals::new(alloc),
-        &mut input,
-        &mut out,
-        &mut err,
-    ))
+    ExitCode::from(perform(alloc, line.command, locals, &mut input, &mut out, &mut err))
 }

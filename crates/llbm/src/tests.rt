@@ -5,4 +5,5 @@ mod devices;
 mod reading;
 mod run;
 mod show;
+mod sources;
 mod words;

@@ -4,7 +4,7 @@ ghost use Rattle.std.specs.Prelude.{Some};
 ghost use Rattle.llbm.specs.CommandLine.{words_text, TellsWords};
 
 use llb_wire::Many;
-use std::alloc::AllocError;
+use std::alloc::{AllocError, AllocFailed};
 use std::fmt;
 use std::io::Write;
 
@@ -39,7 +39,7 @@ pub struct Line<'a> {
 /// Why words say nothing. A fault prints what stands behind the word `fault`.
 #[derive(Clone, Copy, Debug)]
 pub enum WordsFault<'a> {
-    /// 183: that word is refused, or none by itself.
+    /// 183: that word is refused, since it has no `=`, or none by itself.
     Words(Option<&'a str>),
     /// 184: memory was refused.
     Memory,
@@ -64,6 +64,17 @@ impl From<AllocError> for WordsFault<'_> {
     ghost from_gives = { λ _ e. e ≡ Memory };
 
     fn from(_: AllocError) -> Self {
+        WordsFault::Memory
+    }
+}
+
+impl<T: Drop> From<AllocFailed<T>> for WordsFault<'_> {
+    ghost use Rattle.std.specs.Prelude.{◌≡◌};
+    ghost use Rattle.llbm.specs.declared.words.WordsFault.TheVariants.{Memory};
+
+    ghost from_gives = { λ _ e. e ≡ Memory };
+
+    fn from(_: AllocFailed<T>) -> Self {
         WordsFault::Memory
     }
 }

@@ -2,7 +2,9 @@
 
 use super::devices::Narrow;
 use crate::command_line::command_of;
-use crate::words::{Command, WordsFault, words_refusal};
+use crate::words::{Command, Local, WordsFault, words_refusal};
+use std::alloc::Global;
+use std::fmt::Write;
 use std::test::Fail;
 
 #[test]
@@ -25,12 +27,48 @@ fn show_is_the_command_show(rt: HostRuntime) -> Result<(), Fail> {
     Ok(())
 }
 
+// The names and the files that the words give to the command `run`, in one line.
+fn local_sources(alloc: Global, words: &[&str]) -> Result<String, Fail> {
+    let mut text = String::new(alloc);
+    let line = match command_of(alloc, words) {
+        Ok(line) => line,
+        Err(fault) => {
+            write!(text, "fault {fault}")?;
+            return Ok(text);
+        }
+    };
+    for Local { name, file } in line.locals.as_slice() {
+        write!(text, "({name})({file})")?;
+    }
+    Ok(text)
+}
+
+#[test]
+fn words_behind_run_are_names_and_files(rt: HostRuntime) -> Result<(), Fail> {
+    let rows: [(&[&str], &str); 9] = [
+        (&["run"], ""),
+        (&["run", "a=b", "c=d=e", "x="], "(a)(b)(c)(d=e)(x)()"),
+        (&["run", "a=1", "b=2", "a=3"], "(a)(1)(b)(2)(a)(3)"),
+        (&["run", "=", "=f"], "()()()(f)"),
+        (&["run", "--", "-x=--help"], "(-x)(--help)"),
+        (&["run", "nosuch"], "fault 183 nosuch"),
+        (&["run", "a=b", "one", "two"], "fault 183 one"),
+        (&["run", "show"], "fault 183 show"),
+        (&["run", ""], "fault 183 "),
+    ];
+    for (words, wanted) in rows {
+        let text = local_sources(rt.alloc(), words)?;
+        assert_eq!(rt; text.as_str(), wanted);
+    }
+    Ok(())
+}
+
 #[test]
 fn any_other_words_are_refused_without_a_word(rt: HostRuntime) -> Result<(), Fail> {
-    let rows: [&[&str]; 10] = [
+    let rows: [&[&str]; 11] = [
         &["show", "x"],
-        &["run", "x"],
-        &["run", "show"],
+        &["show", "a=b"],
+        &["a=b"],
         &["Run"],
         &["x"],
         &[""],
@@ -38,6 +76,7 @@ fn any_other_words_are_refused_without_a_word(rt: HostRuntime) -> Result<(), Fai
         &["--help"],
         &["show", "--workers", "2"],
         &["run", "-x"],
+        &["run", "nosuch", "-x=y"],
     ];
     for words in rows {
         let refused = match command_of(rt.alloc(), words) {

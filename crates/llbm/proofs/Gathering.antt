@@ -1,0 +1,18 @@
+-- The file of one more source is read, or is not.
+use Rattle.std.proofs.Common.{◌≡◌, ◌<◌, ◌+◌, ℕ, List, ◌∷◌, length, drop, get_or, sym, subst, inl, inr, Option}
+use Rattle.std.specs.Prelude.{Result, Ok, Err}
+use Rattle.std.proofs.lemmas.List.{drop_more}
+use Rattle.llb_tree.specs.Tree.{TreeMap}
+use Rattle.llb_loader.specs.Locals as given
+use Rattle.llb_loader.specs.Locals.{with_local}
+use Rattle.llbm.specs.declared.words.Local.{Local}
+use Rattle.llbm.specs.declared.sources.SourceFault.{SourceFault}
+use Rattle.llbm.specs.Sources.{Reads, Gathers}
+
+pub gathers_more : (files : List ℕ → Option (List ℕ)) (ls : List Local) (i : ℕ) (d : Local) (trees : List given.Local) (t : TreeMap) (r : Result (List given.Local) SourceFault)
+    → i < length ls → Reads (files (get_or ls i d).file.now) (Ok t) → Gathers files (drop (i + 1) ls) (with_local trees (get_or ls i d).name.now t) r → Gathers files (drop i ls) trees r
+gathers_more files ls i d trees t r lt reads rest = subst (λ xs. Gathers files xs trees r) (sym (drop_more ls i d lt)) (inr (t, reads, rest))
+
+pub gathers_none : (files : List ℕ → Option (List ℕ)) (ls : List Local) (i : ℕ) (d : Local) (trees : List given.Local) (e : SourceFault) (r : Result (List given.Local) SourceFault)
+    → i < length ls → Reads (files (get_or ls i d).file.now) (Err e) → r ≡ Err e → Gathers files (drop i ls) trees r
+gathers_none files ls i d trees e r lt reads is = subst (λ xs. Gathers files xs trees r) (sym (drop_more ls i d lt)) (inl (e, reads, is))
