@@ -19,4 +19,6 @@ mod subtrees;
 #[cfg(test)]
 mod tree;
 #[cfg(test)]
+mod treetext;
+#[cfg(test)]
 mod wire;
