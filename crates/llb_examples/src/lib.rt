@@ -25,4 +25,6 @@ mod subtrees;
 #[cfg(test)]
 mod tree;
 #[cfg(test)]
+mod treetext;
+#[cfg(test)]
 mod wire;

@@ -5,3 +5,4 @@ pub mod Paths
 pub mod Written
 pub mod Rows
 pub mod Placing
+pub mod Unique

@@ -1,5 +1,5 @@
 -- Which texts are the texts of trees, and what a text that is none has wrong first. Nothing here knows how a text is read.
-use Rattle.std.specs.Prelude.{◌≡◌, ◌≢◌, ℕ, ◌+◌, Bool, true, false, List, [], ◌∷◌, ◌++◌, length, Some, Result, Ok, Err, ◌⊎◌}
+use Rattle.std.specs.Prelude.{◌≡◌, ◌≢◌, ℕ, ◌+◌, Bool, true, false, List, [], ◌∷◌, ◌++◌, length, Some, Result, Ok, Err, MatchResult, ◌⊎◌}
 use Rattle.std.specs.Ordering.{is_lt}
 use Rattle.std.specs.FinMap as finite
 use Rattle.hex.specs.Hex.{IsBytes}
@@ -68,3 +68,13 @@ pub record Stops (bytes : List ℕ) (e : TextFault) : Type 0 where
 abbrev pub Answers : List ℕ → Result TreeMap TextFault → Type 0
 Answers bytes (Ok t) = IsText bytes t
 Answers bytes (Err e) = is_memory e ≡ false → Stops bytes e
+
+-- a text has one tree at most, or one first fault, and never both
+pub record HasOneAnswer (bytes : List ℕ) : Type 0 where
+  pub trees : (t u : TreeMap) → IsText bytes t → IsText bytes u → t ≡ u
+  pub apart : (t : TreeMap) (e : TextFault) → IsText bytes t → ¬ Stops bytes e
+  pub faults : (e d : TextFault) → Stops bytes e → Stops bytes d → e ≡ d
+
+-- what is read of the text of a tree is the tree; want of memory is the one other answer
+abbrev pub ReadsBack : TreeMap → Type 0
+ReadsBack t = IsTree t → HaveBytes t → (r : Result TreeMap TextFault) → Answers (tree_text t) r → MatchResult r (λ u. u ≡ t) (λ e. is_memory e ≡ true)

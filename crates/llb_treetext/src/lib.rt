@@ -4,6 +4,7 @@
 
 mod digest;
 mod fault;
+mod laws;
 mod line;
 mod print;
 mod read;
@@ -11,5 +12,6 @@ mod row;
 
 pub use digest::tree_digest;
 pub use fault::{PrintFault, TextFault};
+pub use laws::{one_answer, reads_back};
 pub use print::print_tree;
 pub use read::read_tree;

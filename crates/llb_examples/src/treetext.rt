@@ -1,0 +1,177 @@
+//! The text of a tree: written, named by its digest, and read. A text is read and written again, or its fault printed.
+
+use llb_tree::{Meta, Path, Tree, TreeFault};
+use llb_treetext::{TextFault, print_tree, read_tree, tree_digest};
+use llb_wire::{Bytes, Over};
+use std::alloc::{AllocError, Global};
+
+// The text of a tree, as it is printed.
+fn printed(alloc: Global, tree: &Tree) -> Result<Vec<u8>, AllocError> {
+    let mut text: Vec<u8> = Vec::new(alloc);
+    let mut out = Over::new(&mut text);
+    if print_tree(alloc, tree, &mut out).is_err() {
+        return Err(AllocError);
+    }
+    Ok(text)
+}
+
+// What a text is read as, printed again; or the fault.
+fn answer(alloc: Global, text: &str) -> Result<String, AllocError> {
+    match read_tree(alloc, text.as_bytes()) {
+        Err(fault) => fault.to_string(alloc),
+        Ok(tree) => {
+            let again = printed(alloc, &tree)?;
+            match str::from_utf8(again.as_slice()) {
+                Ok(again) => String::from_str(alloc, again),
+                Err(_) => Ok(String::new(alloc)),
+            }
+        }
+    }
+}
+
+fn answers(alloc: Global, text: &str, wanted: &str) -> bool {
+    match answer(alloc, text) {
+        Ok(told) => told.as_str() == wanted,
+        Err(_) => false,
+    }
+}
+
+#[test]
+fn a_text_is_read_as_the_tree_whose_text_it_is(rt: HostRuntime) {
+    let texts = [
+        "d 0755 0 0 /\n",
+        "d 0755 0 0 /\nf 0600 1 1 - /old\n",
+        "d 0755 0 0 /\nf 0644 0 0 6869 /f\n",
+        "d 7777 4294967295 10 /\nd 0000 0 0 /a b\nf 4755 1 2 00ff0a /a b/ c\nd 0755 0 0 /a b-\n",
+    ];
+    for text in texts {
+        assert!(rt; answers(rt.alloc(), text, text), "{text:?}");
+    }
+}
+
+#[test]
+fn the_first_faulty_line_has_its_first_fault(rt: HostRuntime) {
+    let rows = [
+        ("", "31 1"),
+        ("d 0755 0 0 /", "31 1"),
+        ("\n", "31 1"),
+        ("f 0755 0 0 - /\n", "31 1"),
+        ("d 0755 0 0 /\nf 0644 0 0 - /\n", "31 2"),
+        ("d 0755 0 0 /\nd 0755 0 0 /b\nd 0755 0 0 /a\n", "32 3"),
+        ("d 0755 0 0 /a\n", "32 1"),
+        ("d 0755 0 0 /\nd 0755 0 0 /\n", "32 2"),
+        ("d 0755 0 0 /\nd 0755 0 0 /a\nf 0644 0 0 - /a\n", "32 3"),
+        ("d 0755 0 0 /\nd 0755 0 0 /a/b\n", "33 2"),
+        ("d 0755 0 0 /\nf 0644 0 0 - /a\nd 0755 0 0 /a/b\n", "33 3"),
+        ("d 0755 0 0 /\nd 0755 0 0 /a/b\nd 755 0 0 /c\n", "33 2"),
+        ("d 0755 0 0 /\nd 0755 0 0 /b\nd 0755 0 0 /a/c", "31 3"),
+        ("d 0755 0 0 /\nd 0755 0 0 /b\nd 0755 0 0 /a/c\n", "32 3"),
+        ("d 0755 0 0 /\nd 0755 0 0 /a\nd 0755 0 0 /b", "31 3"),
+    ];
+    for (text, wanted) in rows {
+        assert!(rt; answers(rt.alloc(), text, wanted), "{text:?}");
+    }
+}
+
+// The text of a good root, and then of one line.
+fn second_line(alloc: Global, line: &str) -> Result<String, AllocError> {
+    let text = format!(in alloc; "d 0755 0 0 /\n{line}\n")?;
+    answer(alloc, text.as_str())
+}
+
+#[test]
+fn only_the_written_spelling_is_read(rt: HostRuntime) {
+    let lines = [
+        "f 0644 0 0 6A /f",
+        "f 0644 0 0 6a6 /f",
+        "f 0644 0 0  /f",
+        "f 644 0 0 6a /f",
+        "f 0844 0 0 6a /f",
+        "f 00644 0 0 6a /f",
+        "f 0644 00 0 6a /f",
+        "f 0644 0 01 6a /f",
+        "f 0644 +1 0 6a /f",
+        "f 0644 4294967296 0 6a /f",
+        "f 0644 0  0 6a /f",
+        "f 0644 0 0 6a f",
+        "f 0644 0 0 6a /f/",
+        "f 0644 0 0 6a //f",
+        "f 0644 0 0 6a /./f",
+        "f 0644 0 0 6a /a/../f",
+        "f 0644 0 0 /f",
+        "d 0755 0 0 - /d",
+        "D 0755 0 0 /d",
+        " d 0755 0 0 /d",
+        "d 0755 0 0 /d\r",
+        "d 0755 0 0 /d\x00",
+        "",
+    ];
+    for line in lines {
+        let bad = match second_line(rt.alloc(), line) {
+            Ok(told) => told.as_str() == "31 2",
+            Err(_) => false,
+        };
+        assert!(rt; bad, "{line:?}");
+    }
+}
+
+fn put(alloc: Global, tree: &mut Tree) -> Result<(), TreeFault> {
+    let (Some(dir), Some(file)) = (Meta::new(0o700, 1, 2), Meta::new(0o644, 0, 0)) else {
+        return Ok(());
+    };
+    tree.put_dir(&Path::read(alloc, "/a")?, dir)?;
+    let content = Bytes::from_slice(alloc, b"hi".as_slice())?;
+    tree.put_file(&Path::read(alloc, "/a/b")?, file, content)
+}
+
+// Whether a tree that is printed is read as the same tree.
+fn is_read_back(alloc: Global) -> Result<bool, TreeFault> {
+    let mut tree = Tree::empty(alloc)?;
+    put(alloc, &mut tree)?;
+    let text = printed(alloc, &tree)?;
+    match read_tree(alloc, text.as_slice()) {
+        Ok(read) => Ok(read.same(&tree)),
+        Err(_) => Ok(false),
+    }
+}
+
+#[test]
+fn what_is_printed_is_read_back(rt: HostRuntime) {
+    assert!(rt; is_read_back(rt.alloc()) == Ok(true));
+}
+
+fn digest(alloc: Global) -> Result<bool, TreeFault> {
+    let tree = Tree::empty(alloc)?;
+    match tree_digest(alloc, &tree) {
+        Ok(text) => Ok(
+            text.as_str()
+                == "sha256:5de211d85590268925259f8c7cd45d229b00372355255c350a38752ed1c86a47",
+        ),
+        Err(_) => Ok(false),
+    }
+}
+
+#[test]
+fn a_digest_is_that_of_the_text(rt: HostRuntime) {
+    assert!(rt; digest(rt.alloc()) == Ok(true));
+}
+
+fn prints(alloc: Global, fault: TextFault, wanted: &str) -> bool {
+    match fault.to_string(alloc) {
+        Ok(text) => text.as_str() == wanted,
+        Err(_) => false,
+    }
+}
+
+#[test]
+fn a_fault_prints_its_number_and_the_line(rt: HostRuntime) {
+    let rows = [
+        (TextFault::BadLine(1), "31 1"),
+        (TextFault::Order(2), "32 2"),
+        (TextFault::NoParent(70000), "33 70000"),
+        (TextFault::Memory, "34"),
+    ];
+    for (fault, wanted) in rows {
+        assert!(rt; prints(rt.alloc(), fault, wanted), "{wanted}");
+    }
+}

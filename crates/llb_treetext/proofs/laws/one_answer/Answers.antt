@@ -1,0 +1,6 @@
+-- A law of the definitions.
+use Rattle.llb_treetext.proofs.Unique.{one_answer}
+use Rattle.llb_treetext.proofs.laws.one_answer.Goals as goal
+
+pub returns : goal.returns
+returns c = one_answer c.args.bytes.now
