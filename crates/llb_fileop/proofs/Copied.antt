@@ -1,26 +1,20 @@
 -- A granted copy of one source, path by path.
-use Rattle.std.proofs.Common.{◌≡◌, ◌≢◌, ℕ, zero, suc, ◌+◌, ◌<◌, ◌≤◌, Bool, true, false, cond, ◌⊎◌, List, [], ◌∷◌, ◌++◌, map, length, drop, Option, Some, None, IsSome, is_some, Result, Ok, Err, refl, sym, ap, subst, ◌∙◌, inl, inr, true≢false, arith, length-append}
-use Rattle.std.proofs.lemmas.List.{append-nil}
-use Rattle.std.specs.Prelude.{ℤ, negsuc}
-use Rattle.std.specs.Ordering.{is_eq, eq_by_cmp}
+use Rattle.std.proofs.Common.{◌≡◌, ℕ, Bool, true, false, cond, ◌⊎◌, List, [], ◌∷◌, ◌++◌, map, length, Option, Some, None, Ok, refl, sym, ap, subst, ◌∙◌, inl, inr, arith, length-append}
+use Rattle.std.specs.Ordering.{eq_by_cmp}
 use Rattle.std.specs.FinMap as finite
-use Rattle.std.specs.FinMap.Entries.{where_key}
 use Rattle.llb_wire.specs.Answer.{◌>>=◌, bind_ok}
 use Rattle.llb_ops.specs.declared.file.CopyFile.{CopyFile}
-use Rattle.llb_ops.specs.declared.file.ChownOpt.{ChownOpt}
 use Rattle.llb_tree.specs.Path.{path_cmp, is_within}
 use Rattle.llb_tree.specs.PathOrder.{path_cmp-IsTotalOrder}
 use Rattle.llb_tree.specs.Meta.{MetaValue, root_meta}
-use Rattle.llb_tree.specs.Tree.{TreeMap, Entry, Dir, File, moved, tree_at, parents, walk, dir_fits}
-use Rattle.llb_tree.specs.declared.fault.TreeFault.{TreeFault}
+use Rattle.llb_tree.specs.Tree.{TreeMap, Entry, Dir, File, tree_at, parents, walk, dir_fits}
 use Rattle.llb_fileop.specs.Owners.{copied}
 use Rattle.llb_fileop.specs.Making.{kept_or_made, make_all}
 use Rattle.llb_fileop.specs.Copying.{fits, all_land, laid_on, land, at_target, parents_for, copy_to}
 use Rattle.llb_fileop.specs.Parts.{laid}
-use Rattle.llb_fileop.specs.Laws.{IsMadeParent, IsCopied}
+use Rattle.llb_fileop.specs.Laws.{IsCopied}
 use Rattle.llb_fileop.proofs.Answering.{same_Ok}
-use Rattle.llb_fileop.proofs.Passing.{Pair, same_path, ties_itself}
-use Rattle.llb_fileop.proofs.Made.{get-insert_cases}
+use Rattle.llb_fileop.proofs.Passing.{Pair, same_path}
 use Rattle.llb_fileop.proofs.Laid.{get-laid_on}
 use Rattle.llb_fileop.proofs.Moved.{within-append, find_moved, find_beside, target_dir, get-tree_at}
 
@@ -70,9 +64,9 @@ made_there P m (p ∷ ps) t u each is q =
             → (finite.get u q ≡ finite.get v q) ⊎ IsMadeHere P m v u q → (finite.get u q ≡ finite.get t q) ⊎ IsMadeHere P m t u q
         by_tie true tie v_q (inl same) =
             inr (record {
-                one = subst P (sym (same_path q p tie)) each.0;
-                was = ap (finite.get t) (same_path q p tie) ∙ there;
-                is = same ∙ v_q ∙ ap (λ b. cond b (Some (Dir m)) (finite.get t q)) tie;
+              one = subst P (sym (same_path q p tie)) each.0;
+              was = ap (finite.get t) (same_path q p tie) ∙ there;
+              is = same ∙ v_q ∙ ap (λ b. cond b (Some (Dir m)) (finite.get t q)) tie;
             })
         by_tie true tie v_q (inr made) =
             let no : None ≡ Some (Dir m) = sym made.was ∙ v_q ∙ ap (λ b. cond b (Some (Dir m)) (finite.get t q)) tie in absurd cc
@@ -107,9 +101,9 @@ lands_on true goal t v is =
     let made = made_there (IsAbove goal) root_meta (parents goal) t v (parents_above goal) is in
     record {
       below = λ q. elim (made (goal ++ q)) [
-          | inl same ↦ same
-          | inr above ↦ absurd (omega (arith, ap length above.one.is, length-append (goal ++ q) (above.one.name ∷ above.one.rest), length-append goal q))
-        ];
+        | inl same ↦ same
+        | inr above ↦ absurd (omega (arith, ap length above.one.is, length-append (goal ++ q) (above.one.name ∷ above.one.rest), length-append goal q))
+      ];
       others = made;
     }
 
@@ -147,10 +141,10 @@ module _ (c : CopyFile) (second t u : TreeMap) (s goal : List (List ℕ)) (grant
                 elim (on.others q) [
                   | inl stays ↦ inl (same ∙ stays)
                   | inr made ↦ inr (record {
-                      above = ap (is_within q) made.one.is ∙ within-append q (made.one.name ∷ made.one.rest);
-                      was = made.was;
-                      is = same ∙ made.is;
-                    })
+                    above = ap (is_within q) made.one.is ∙ within-append q (made.one.name ∷ made.one.rest);
+                    was = made.was;
+                    is = same ∙ made.is;
+                  })
                 ];
           }
         where

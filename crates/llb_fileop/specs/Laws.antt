@@ -1,5 +1,5 @@
 -- What a granted copy of one source is, path by path.
-use Rattle.std.specs.Prelude.{◌≡◌, ℕ, zero, ℤ, negsuc, Bool, true, false, List, ◌++◌, Option, Some, None, Ok, ◌⊎◌}
+use Rattle.std.specs.Prelude.{◌≡◌, ℕ, zero, negsuc, Bool, true, false, List, ◌++◌, Some, None, Ok, ◌⊎◌}
 use Rattle.std.specs.FinMap as finite
 use Rattle.llb_ops.specs.declared.file.CopyFile.{CopyFile}
 use Rattle.llb_tree.specs.Path.{is_within}
