@@ -8,3 +8,4 @@ pub mod Landing
 pub mod Moved
 pub mod Grafting
 pub mod Sources
+pub mod Copied

@@ -171,3 +171,25 @@ target_file second s goal m b tree is =
     same q =
         find-where_key path_cmp (is_within s) q (λ x tie. ap (is_within s) (sym (path_cmp-IsAntisymmetric q x tie))) (finite.entries second)
         ∙ by_tie q (eq_by_cmp path_cmp q s) (is_within s q) refl refl
+
+-- what is found from below a path
+find_inside : (p q : List (List ℕ)) (es : List Pair) → finite.find path_cmp q (inside p es) ≡ finite.find path_cmp (p ++ q) es
+find_inside p q [] = refl
+find_inside p q (e ∷ es) = by_test (is_within p e.0) refl (find_inside p q es)
+  where
+    by_test : (b : Bool) → is_within p e.0 ≡ b → finite.find path_cmp q (inside p es) ≡ finite.find path_cmp (p ++ q) es
+        → finite.find path_cmp q (map (moved (length p) []) (cond b (e ∷ where_key path_cmp (is_within p) es) (where_key path_cmp (is_within p) es)))
+        ≡ finite.find path_cmp (p ++ q) (e ∷ es)
+    by_test true is rest =
+        let ties : eq_by_cmp path_cmp q (drop (length p) e.0) ≡ eq_by_cmp path_cmp (p ++ q) e.0 =
+        ap is_eq (sym (cmp-append p q (drop (length p) e.0)) ∙ ap (path_cmp (p ++ q)) (sym (within_split p e.0 is))) in
+        λ i. cond (ties i) (Some e.1) (rest i)
+    by_test false is rest = rest ∙ sym (by_tie (eq_by_cmp path_cmp (p ++ q) e.0) refl)
+      where
+        by_tie : (t : Bool) → eq_by_cmp path_cmp (p ++ q) e.0 ≡ t → cond t (Some e.1) (finite.find path_cmp (p ++ q) es) ≡ finite.find path_cmp (p ++ q) es
+        by_tie false t = refl
+        by_tie true t = absurd (true≢false (sym (within-append p q) ∙ ap (is_within p) (same_path (p ++ q) e.0 t) ∙ is))
+
+pub get-tree_at : (t : TreeMap) (p q : List (List ℕ)) → finite.get (tree_at t p) q ≡ finite.get t (p ++ q)
+get-tree_at t p q =
+    finite.get-from_entries path_cmp-IsTotalOrder (inside p (finite.entries t)) q ∙ find_inside p q (finite.entries t) ∙ sym (finite.get-entries t (p ++ q))

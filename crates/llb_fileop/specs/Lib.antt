@@ -5,3 +5,4 @@ pub mod Removing
 pub mod Copying
 pub mod Parts
 pub mod Act
+pub mod Laws
