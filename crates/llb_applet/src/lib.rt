@@ -1,0 +1,18 @@
+//! Scripts of applets: a text is read as calls of small commands, and a command is a function on the trees of a view.
+//! Here are the reading of a script, which refuses what no command would run, and the running of one command.
+//! Nothing here knows a process, a shell beyond `&&`, or an operation.
+#![tactic(auto)]
+
+mod applet;
+mod command;
+mod fault;
+mod mode;
+mod script;
+mod words;
+
+pub use command::{Command, Kind};
+pub use fault::{Memory, ScriptFault};
+pub use llb_tree::{Path, Tree};
+pub use llb_wire::{Many, Text};
+pub use mode::Mode;
+pub use script::{Script, read_script};
