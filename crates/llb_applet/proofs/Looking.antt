@@ -31,7 +31,7 @@ spread-split p (b ∷ text) = first (p b) (slice_split p text) (spread-split p t
 pub at_part :
     (end : ℕ) (called : Bool) (at : ℕ) (part : List ℕ) (parts : List (List ℕ))
     → bad_place end called (filter is_word (placed at (part ∷ parts)))
-      ≡ option_or (option_map (λ k. at + k) (bad_in called part)) (bad_place end (called_after called part) (filter is_word (placed (at + length part + 1) parts)))
+    ≡ option_or (option_map (λ k. at + k) (bad_in called part)) (bad_place end (called_after called part) (filter is_word (placed (at + length part + 1) parts)))
 at_part end called at [] parts = refl
 at_part end called at (b ∷ bs) parts =
     let some : (length (b ∷ bs) == 0) ≡ false = ne_eqb _ _ (omega arith) in

@@ -4,3 +4,4 @@ pub mod Applets
 pub mod Modes
 pub mod Calls
 pub mod Scripts
+pub mod Reading

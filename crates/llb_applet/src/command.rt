@@ -190,11 +190,7 @@ fn form(applet: Applet, words: Vec<Text>) -> Option<Command>
 
 /// The command of a call, which has a number: 71 `NoApplet` where its first word is no applet's name, 72 `Usage` where the
 /// others are none of its forms; 74 `Memory`.
-pub fn command_of(
-    alloc: Global,
-    number: usize,
-    words: Vec<Text>,
-) -> Result<Command, ScriptFault>
+pub fn command_of(alloc: Global, number: usize, words: Vec<Text>) -> Result<Command, ScriptFault>
     ensures { Gives (λ c. c) result (command_of number words.items) }
 {
     let mut words = words;

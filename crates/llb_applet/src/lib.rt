@@ -4,6 +4,7 @@
 #![tactic(auto)]
 
 mod applet;
+mod call;
 mod command;
 mod fault;
 mod mode;
