@@ -1,0 +1,35 @@
+//! A mount as it is shown: a tree under a dest. Its dest and its selector are paths; a mount that shows its whole tree has
+//! the root as its selector.
+
+ghost use Rattle.std.specs.Prelude.{◌≡◌, IfOk};
+
+use crate::fault::Memory;
+use llb_tree::{Path, Tree};
+
+/// A tree that is shown at a dest: what is below the dest is looked up in the tree below the selector, which need not be
+/// there. Only the tree of a mount that is not read-only is changed.
+#[derive(Drop)]
+pub struct Shown {
+    pub dest: Path,
+    pub selector: Path,
+    pub readonly: bool,
+    pub tree: Tree,
+}
+
+impl Shown {
+    /// An equal second owner; 62 `Memory`.
+    pub fn copy(&self) -> Result<Shown, Memory>
+        ensures { IfOk result (λ m. m ≡ self.now) }
+    {
+        let dest = self.dest.copy()?;
+        let selector = self.selector.copy()?;
+        let tree = self.tree.copy()?;
+        let readonly = self.readonly;
+        Ok(Shown {
+            dest,
+            selector,
+            readonly,
+            tree,
+        })
+    }
+}

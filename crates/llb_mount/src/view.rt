@@ -1,0 +1,184 @@
+//! The view. Contracts see the list of its mounts, in the order in which they were given; a mount's number is its place in
+//! it. The dests never change, so that one of them is the root and no two are the same from `make` on.
+
+ghost use Rattle.std.specs.Prelude.{◌≡◌, ◌≢◌, ◌↔◌, IsTrue, ℕ, ◌<◌, ◌≤◌, List, length, IfOk, IfErr, OnOk, OnErr, is_err, Contains, AllPairs};
+ghost use Rattle.llb_mount.specs.View.{IsView, dests, mount_at, with_tree_of};
+ghost use Rattle.llb_mount.specs.Route.{IsRoute, route};
+
+use crate::fault::{Memory, ReadOnly};
+use crate::shown::Shown;
+use llb_tree::{Name, Path, Tree};
+use llb_wire::Many;
+use std::marker::Model;
+use std::mem;
+
+/// Mounts under dests of which one is the root and no two are the same. Contracts see the list of the mounts.
+#[derive(Drop)]
+pub struct View {
+    mounts: Vec<Shown>,
+}
+
+impl Model for View {
+    ghost use Rattle.std.specs.Coded.{codes};
+    ghost use Rattle.std.specs.Prelude.{List};
+    ghost use Rattle.llb_tree.specs.Tree.{coded_tree};
+    ghost use Rattle.llb_mount.specs.declared.shown.Shown.{Shown};
+    ghost use Rattle.llb_mount.specs.View.{IsView};
+
+    ghost Value = { List Shown };
+
+    ghost coded = { Prim.hlevel (codes, coded_tree) };
+
+    ghost view = { λ v. v.mounts.items };
+
+    ghost invariant = { λ v. IsView v.mounts.items };
+}
+
+// Whether a mount is at the dest of these names.
+fn is_taken(mounts: &[Shown], names: &[Name]) -> bool
+    ensures { IsTrue result ↔ Contains (dests mounts.now) names.now }
+{
+    for shown in mounts {
+        if shown.dest.names() == names {
+            return true;
+        }
+    }
+    false
+}
+
+// Whether no two mounts are at one dest.
+fn all_differ(mounts: &[Shown]) -> bool
+    ensures { IsTrue result ↔ AllPairs (λ d e. d ≢ e) (dests mounts.now) }
+{
+    for i in 0..mounts.len() {
+        let (before, _) = mounts.split_at(i);
+        if is_taken(before, mounts[i].dest.names()) {
+            return false;
+        }
+    }
+    true
+}
+
+impl View {
+    /// Whether a view can be made of these mounts. Takes no memory, and time in the square of their number.
+    pub fn can_make(mounts: &[Shown]) -> bool
+        ensures { IsTrue result ↔ IsView mounts.now }
+    {
+        if mounts.len() > u32::MAX as usize {
+            return false;
+        }
+        if !is_taken(mounts, &[]) {
+            return false;
+        }
+        all_differ(mounts)
+    }
+
+    /// The view of these mounts, numbered from 0 in their order: one dest is the root, no two are the same, and there are
+    /// less than 2^32. 62 `Memory`.
+    pub fn make(mounts: Many<Shown>) -> Result<View, Memory>
+        requires { IsView mounts }
+        ensures { IfOk result (λ v. v ≡ mounts) }
+    {
+        let mounts = mounts.into_vec();
+        Ok(View { mounts })
+    }
+
+    /// The mounts, by number. Takes no memory.
+    pub fn mounts(&self) -> &[Shown]
+        ensures all { result.now ≡ self.now }
+        ensures view { IsView self.now }
+    {
+        self.mounts.as_slice()
+    }
+
+    /// The number of the mount that has the longest dest that is a prefix of the path, by names, and how many names that
+    /// dest has, which are dropped of the path. Takes no memory, and time in the number of mounts.
+    pub fn route(&self, path: &Path) -> (u32, u32)
+        ensures route { result ≡ route self.now path.now }
+        ensures longest { IsRoute self.now path.now result }
+        ensures only { (to : ℕ × ℕ) → IsRoute self.now path.now to → to ≡ result }
+        ensures mount { result.0 < length self.now }
+        ensures dropped { result.1 ≤ length path.now }
+    {
+        let names = path.names();
+        let mut number = 0;
+        let mut dropped = 0;
+        for (i, shown) in self.mounts.iter().enumerate() {
+            let dest = shown.dest.names();
+            if dest.len() >= dropped && names.starts_with(dest) {
+                number = i;
+                dropped = dest.len();
+            }
+        }
+        (number as u32, dropped as u32)
+    }
+
+    /// Where a mount is. Takes no memory.
+    pub fn dest(&self, mount: u32) -> &Path
+        requires { mount < length self.now }
+        ensures { result.now ≡ (mount_at self.now mount).dest }
+    {
+        &self.mounts[mount as usize].dest
+    }
+
+    /// The path in a mount's tree that its dest shows; the root where it shows the whole tree. Takes no memory.
+    pub fn selector(&self, mount: u32) -> &Path
+        requires { mount < length self.now }
+        ensures { result.now ≡ (mount_at self.now mount).selector }
+    {
+        &self.mounts[mount as usize].selector
+    }
+
+    /// Whether a mount's tree may not be set. Takes no memory.
+    pub fn is_read_only(&self, mount: u32) -> bool
+        requires { mount < length self.now }
+        ensures { result ≡ (mount_at self.now mount).readonly }
+    {
+        self.mounts[mount as usize].readonly
+    }
+
+    /// A mount's tree. Takes no memory.
+    pub fn tree_of(&self, mount: u32) -> &Tree
+        requires { mount < length self.now }
+        ensures { result.now ≡ (mount_at self.now mount).tree }
+    {
+        &self.mounts[mount as usize].tree
+    }
+
+    /// Puts a tree in the place of a mount's; 61 `ReadOnly` where the mount is read-only, and then the tree comes back and
+    /// the view is unchanged. Takes no memory.
+    pub fn set_tree(&mut self, mount: u32, tree: Tree) -> Result<(), ReadOnly>
+        requires { mount < length self.old }
+        ensures set { OnOk result (self.new ≡ with_tree_of self.old mount tree) }
+        ensures refused { is_err result ≡ (mount_at self.old mount).readonly }
+        ensures back { IfErr result (λ e. e.tree ≡ tree) }
+        ensures err { OnErr result (self.new ≡ self.old) }
+    {
+        let shown = &mut self.mounts[mount as usize];
+        if shown.readonly {
+            return Err(ReadOnly { tree });
+        }
+        shown.tree = tree;
+        Ok(())
+    }
+
+    /// Puts a tree in the place of a mount's, a read-only one's too, and answers the tree that was there. Takes no memory.
+    pub fn swap_tree(&mut self, mount: u32, tree: Tree) -> Tree
+        requires { mount < length self.old }
+        ensures old { result ≡ (mount_at self.old mount).tree }
+        ensures new { self.new ≡ with_tree_of self.old mount tree }
+    {
+        mem::replace(&mut self.mounts[mount as usize].tree, tree)
+    }
+
+    /// An equal second owner; 62 `Memory`.
+    pub fn copy(&self) -> Result<View, Memory>
+        ensures { IfOk result (λ v. v ≡ self.now) }
+    {
+        let mut mounts = Vec::new(*self.mounts.allocator());
+        for shown in &self.mounts {
+            mounts.push(shown.copy()?)?;
+        }
+        Ok(View { mounts })
+    }
+}
