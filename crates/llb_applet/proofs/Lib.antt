@@ -1,2 +1,4 @@
 pub mod Looking
 pub mod Gathering
+pub mod Exchanged
+pub mod Undone

@@ -5,3 +5,6 @@ pub mod Modes
 pub mod Calls
 pub mod Scripts
 pub mod Reading
+pub mod Spots
+pub mod Commands
+pub mod Changes

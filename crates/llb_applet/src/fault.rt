@@ -1,6 +1,7 @@
 //! Why a script is refused, and the want of memory of a command. A fault prints what stands behind the word `fault` in a
 //! refusal: its number, and its argument. Refusals of memory of any kind become `Memory` by `?`.
 
+use llb_tree::TreeFault;
 use llb_wire::Text;
 use std::alloc::{AllocError, AllocFailed};
 use thiserror::Error;
@@ -59,3 +60,28 @@ impl From<llb_wire::Memory> for ScriptFault {
 #[derive(Clone, Copy, Debug, PartialEq, Eq, Error)]
 #[error("75")]
 pub struct Memory;
+
+impl From<AllocError> for Memory {
+    fn from(_: AllocError) -> Memory {
+        Memory
+    }
+}
+
+impl<T: Drop> From<AllocFailed<T>> for Memory {
+    fn from(_: AllocFailed<T>) -> Memory {
+        Memory
+    }
+}
+
+impl From<llb_wire::Memory> for Memory {
+    fn from(_: llb_wire::Memory) -> Memory {
+        Memory
+    }
+}
+
+/// Of a copy of a name, a path or a tree, which can only lack memory.
+impl From<TreeFault> for Memory {
+    fn from(_: TreeFault) -> Memory {
+        Memory
+    }
+}

@@ -5,15 +5,20 @@
 
 mod applet;
 mod call;
+mod change;
 mod command;
 mod fault;
 mod mode;
 mod script;
+mod setting;
+mod spot;
 mod words;
 
 pub use command::{Command, Kind};
 pub use fault::{Memory, ScriptFault};
+pub use llb_mount::View;
 pub use llb_tree::{Path, Tree};
 pub use llb_wire::{Many, Text};
 pub use mode::Mode;
 pub use script::{Script, read_script};
+pub use setting::Setting;
