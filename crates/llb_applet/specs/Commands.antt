@@ -1,6 +1,6 @@
 -- What a command leaves of a view, by cases on the applet: the view after it, with status 0, or nothing, and then the status is 1 and the
 -- view stays as it was.
-use Rattle.std.specs.Prelude.{ℕ, Bool, true, false, ◌&&◌, if◌then◌else◌, List, [], ◌∷◌, ◌++◌, drop, Option, Some, None, is_some, option_map, option_and_then, unwrap_or, codes}
+use Rattle.std.specs.Prelude.{ℕ, Bool, true, false, ◌&&◌, if◌then◌else◌, List, [], ◌∷◌, ◌++◌, length, ◌-◌, slice_get, Option, Some, None, is_some, option_map, option_and_then, unwrap_or, codes}
 use Rattle.std.specs.List.{flat_map}
 use Rattle.std.specs.Result.{result_ok}
 use Rattle.std.specs.FinMap as finite
@@ -59,9 +59,7 @@ appended view spot word = written view spot (unwrap_or (option_map (λ f. f.1) (
 
 -- the last name of a path
 abbrev pub last_name : List (List ℕ) → Option (List ℕ)
-last_name [] = None
-last_name (n ∷ []) = Some n
-last_name (n ∷ m ∷ ns) = last_name (m ∷ ns)
+last_name path = slice_get path (length path - 1)
 
 -- where a copy goes: to the path, or into the directory there under the last name of the source
 abbrev pub target_of : Mounts → List (List ℕ) → List (List ℕ) → Option Spot
@@ -96,9 +94,12 @@ is_kind Something e = is_some e
 is_kind File e = is_some (file_in e)
 is_kind Dir e = is_dir e
 
--- the names in a directory, a directory's with `/` behind, each with a line end
+-- a name in a directory, with `/` behind where it is a directory's, and a line end
+abbrev pub line_of : TreeMap → List (List ℕ) → List ℕ → List ℕ
+line_of t p name = name ++ (if is_dir (finite.get t (p ++ name ∷ [])) then codes "/" else []) ++ 10 ∷ []
+
 abbrev pub listed : TreeMap → List (List ℕ) → List (List ℕ) → List ℕ
-listed t p names = flat_map (λ n. n ++ (if is_dir (finite.get t (p ++ n ∷ [])) then codes "/" else []) ++ 10 ∷ []) names
+listed t p names = flat_map (line_of t p) names
 
 -- the text of the directory that a word means
 abbrev pub listing_by : Setting → Mounts → List ℕ → Option (List ℕ)

@@ -1,5 +1,5 @@
 -- What a path means on a view, and the changes of a view there. A view is the list of its mounts; a change that is refused gives nothing.
-use Rattle.std.specs.Prelude.{ℕ, ◌==◌, nat_lt, Bool, true, false, ◌||◌, ◌&&◌, not, if◌then◌else◌, List, [], ◌∷◌, ◌++◌, length, drop, Option, Some, None, is_some, Result, Ok, Err}
+use Rattle.std.specs.Prelude.{◌≡◌, ℕ, ◌<◌, ◌≤◌, ◌==◌, nat_lt, Bool, true, false, ◌||◌, ◌&&◌, not, if◌then◌else◌, List, [], ◌∷◌, ◌++◌, length, drop, Option, Some, None, is_some, Result, Ok, Err}
 use Rattle.std.specs.FinMap as finite
 use Rattle.llb_wire.specs.Answer as answer
 use Rattle.llb_tree.specs.declared.fault.TreeFault.{TreeFault}
@@ -22,6 +22,12 @@ spot_of view path =
     let selector = (mount_at view to.0).selector in
     let place = place_in selector to.1 path in
     if nat_lt 128 (length place) then None else Some (record { mount = to.0; base = length selector; place = place })
+
+-- a spot is in one of the mounts, at or below its selector
+pub record IsSpot (view : Mounts) (spot : Spot) : Type 0 where
+  pub mount : spot.mount < length view
+  pub base : spot.base ≡ length (mount_at view spot.mount).selector
+  pub below : spot.base ≤ length spot.place
 
 -- the tree that is meant
 abbrev pub tree_at : Mounts → Spot → TreeMap

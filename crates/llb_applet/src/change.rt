@@ -5,8 +5,7 @@ ghost use Rattle.std.specs.Prelude.{◌≡◌, ◌+◌, ◌<◌, ◌≤◌, leng
 ghost use Rattle.std.specs.FinMap as finite;
 ghost use Rattle.llb_tree.specs.Tree as tree;
 ghost use Rattle.llb_tree.specs.Tree.{IsTree, Gives, root_meta};
-ghost use Rattle.llb_mount.specs.View.{mount_at};
-ghost use Rattle.llb_applet.specs.Spots.{tree_at, is_dir, with_change, with_file, with_dir, without_spot, with_new_dir, with_dirs, dirs_below};
+ghost use Rattle.llb_applet.specs.Spots.{IsSpot, tree_at, is_dir, with_change, with_file, with_dir, without_spot, with_new_dir, with_dirs, dirs_below};
 ghost use Rattle.llb_applet.specs.Changes.{Does, settled};
 
 use crate::fault::Memory;
@@ -125,9 +124,7 @@ pub fn make_dir(alloc: Global, view: &mut View, spot: &Spot) -> Result<bool, Mem
 
 /// Makes a directory and its missing parents below the dest, where it is not there.
 pub fn make_dirs(alloc: Global, view: &mut View, spot: &Spot) -> Result<bool, Memory>
-    requires mount { spot.now.mount < length view.old }
-    requires base { spot.now.base ≤ length spot.now.place }
-    requires selector { spot.now.base ≡ length (mount_at view.old spot.now.mount).selector }
+    requires { IsSpot view.old spot.now }
     ensures { Does result (with_dirs view.old spot.now) view.old view.new }
 {
     if spot.is_dir(view) {

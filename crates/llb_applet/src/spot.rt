@@ -4,7 +4,7 @@
 ghost use Rattle.std.specs.Prelude.{◌≡◌, ◌<◌, ◌++◌, length, IfOk, IfSome, option_map, is_some};
 ghost use Rattle.llb_tree.specs.Tree.{meta_in};
 ghost use Rattle.llb_tree.specs.Rows.{seen};
-ghost use Rattle.llb_applet.specs.Spots.{spot_of, entry_at, is_dest, is_dir, file_in};
+ghost use Rattle.llb_applet.specs.Spots.{IsSpot, spot_of, entry_at, is_dest, is_dir, file_in};
 ghost use Rattle.llb_applet.specs.Commands.{path_by, spot_by, new_meta, meta_there};
 
 use crate::fault::Memory;
@@ -36,7 +36,7 @@ pub fn path_by(alloc: Global, setting: &Setting, word: &Text) -> Result<Option<P
 /// What a path means.
 pub fn spot_of(view: &View, path: &Path) -> Result<Option<Spot>, Memory>
     ensures means { IfOk result (λ s. s ≡ spot_of view.now path.now) }
-    ensures mount { IfOk result (λ s. IfSome s (λ spot. spot.mount < length view.now)) }
+    ensures spot { IfOk result (λ s. IfSome s (λ spot. IsSpot view.now spot)) }
 {
     let (mount, dropped) = view.route(path);
     let selector = view.selector(mount);
@@ -85,7 +85,7 @@ pub fn spot_by(
     word: &Text,
 ) -> Result<Option<Spot>, Memory>
     ensures means { IfOk result (λ s. s ≡ spot_by setting.now view.now word.now) }
-    ensures mount { IfOk result (λ s. IfSome s (λ spot. spot.mount < length view.now)) }
+    ensures spot { IfOk result (λ s. IfSome s (λ spot. IsSpot view.now spot)) }
 {
     match path_by(alloc, setting, word)? {
         Some(path) => spot_of(view, &path),
