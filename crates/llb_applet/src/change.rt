@@ -6,13 +6,25 @@ ghost use Rattle.std.specs.FinMap as finite;
 ghost use Rattle.llb_tree.specs.Tree as tree;
 ghost use Rattle.llb_tree.specs.Tree.{IsTree, Gives, root_meta};
 ghost use Rattle.llb_applet.specs.Spots.{IsSpot, tree_at, is_dir, with_change, with_file, with_dir, without_spot, with_new_dir, with_dirs, dirs_below};
-ghost use Rattle.llb_applet.specs.Changes.{Does, settled};
+ghost use Rattle.llb_applet.specs.Changes.{PutsAside, Does, settled};
 
 use crate::fault::Memory;
 use crate::spot::Spot;
 use llb_mount::View;
 use llb_tree::{Bytes, Entry, Meta, Name, Path, Tree, TreeFault};
 use std::alloc::Global;
+
+// Takes a mount's tree out of the view, with an empty one in its place; nothing where the mount is read-only.
+fn put_aside(alloc: Global, view: &mut View, mount: u32) -> Result<Option<Tree>, Memory>
+    requires { mount < length view.old }
+    ensures { PutsAside result view.old mount view.new }
+{
+    if view.is_read_only(mount) {
+        return Ok(None);
+    }
+    let empty = Tree::empty(alloc)?;
+    Ok(Some(view.swap_tree(mount, empty)))
+}
 
 // Whether a change is done.
 fn settled(change: Result<(), TreeFault>) -> Result<bool, Memory>
@@ -60,34 +72,29 @@ fn put_there(
     requires { spot.now.mount < length view.old }
     ensures { Does result (with_change view.old spot.now.mount (tree.put_file (tree_at view.old spot.now) spot.now.place meta content)) view.old view.new }
 {
-    if view.is_read_only(spot.mount) {
-        return Ok(false);
+    match put_aside(alloc, view, spot.mount)? {
+        None => Ok(false),
+        Some(mut tree) => {
+            let change = tree.put_file(&spot.place, meta, content);
+            let _aside = view.swap_tree(spot.mount, tree);
+            settled(change)
+        }
     }
-    let aside = Tree::empty(alloc)?;
-    let mut tree = view.swap_tree(spot.mount, aside);
-    let change = tree.put_file(&spot.place, meta, content);
-    let _aside = view.swap_tree(spot.mount, tree);
-    settled(change)
 }
 
 /// Gives a directory that is there another mode and owner, or makes one below its parent.
-pub fn put_dir(
-    alloc: Global,
-    view: &mut View,
-    spot: &Spot,
-    meta: Meta,
-) -> Result<bool, Memory>
+pub fn put_dir(alloc: Global, view: &mut View, spot: &Spot, meta: Meta) -> Result<bool, Memory>
     requires { spot.now.mount < length view.old }
     ensures { Does result (with_dir view.old spot.now meta) view.old view.new }
 {
-    if view.is_read_only(spot.mount) {
-        return Ok(false);
+    match put_aside(alloc, view, spot.mount)? {
+        None => Ok(false),
+        Some(mut tree) => {
+            let change = tree.put_dir(&spot.place, meta);
+            let _aside = view.swap_tree(spot.mount, tree);
+            settled(change)
+        }
     }
-    let aside = Tree::empty(alloc)?;
-    let mut tree = view.swap_tree(spot.mount, aside);
-    let change = tree.put_dir(&spot.place, meta);
-    let _aside = view.swap_tree(spot.mount, tree);
-    settled(change)
 }
 
 /// Takes away what is at or below the spot; a dest stays.
@@ -98,14 +105,14 @@ pub fn remove(alloc: Global, view: &mut View, spot: &Spot) -> Result<bool, Memor
     if spot.is_dest() {
         return Ok(false);
     }
-    if view.is_read_only(spot.mount) {
-        return Ok(false);
+    match put_aside(alloc, view, spot.mount)? {
+        None => Ok(false),
+        Some(mut tree) => {
+            let change = tree.remove(&spot.place);
+            let _aside = view.swap_tree(spot.mount, tree);
+            settled(change)
+        }
     }
-    let aside = Tree::empty(alloc)?;
-    let mut tree = view.swap_tree(spot.mount, aside);
-    let change = tree.remove(&spot.place);
-    let _aside = view.swap_tree(spot.mount, tree);
-    settled(change)
 }
 
 /// Makes a directory where nothing stands, below the dest.
@@ -133,16 +140,16 @@ pub fn make_dirs(alloc: Global, view: &mut View, spot: &Spot) -> Result<bool, Me
     if spot.is_dest() {
         return Ok(false);
     }
-    if view.is_read_only(spot.mount) {
-        return Ok(false);
-    }
     let selector = view.selector(spot.mount).copy()?;
     let (_, names) = spot.place.names().split_at(spot.base);
-    let aside = Tree::empty(alloc)?;
-    let mut tree = view.swap_tree(spot.mount, aside);
-    let change = dirs_below(&mut tree, &selector, names);
-    let _aside = view.swap_tree(spot.mount, tree);
-    settled(change)
+    match put_aside(alloc, view, spot.mount)? {
+        None => Ok(false),
+        Some(mut tree) => {
+            let change = dirs_below(&mut tree, &selector, names);
+            let _aside = view.swap_tree(spot.mount, tree);
+            settled(change)
+        }
+    }
 }
 
 // Makes a directory for each of the names, one below the other, where none is there. A refusal takes away what was made.

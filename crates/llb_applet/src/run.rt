@@ -41,12 +41,7 @@ fn mkdir(
 }
 
 // Takes away what is at or below a path.
-fn rm(
-    alloc: Global,
-    path: &Text,
-    setting: &Setting,
-    view: &mut View,
-) -> Result<bool, Memory>
+fn rm(alloc: Global, path: &Text, setting: &Setting, view: &mut View) -> Result<bool, Memory>
     ensures { Does result (run setting.now view.old (command.Rm path.now)) view.old view.new }
 {
     match spot_by(alloc, setting, view, path)? {
