@@ -1,5 +1,5 @@
 -- Gathering the words of calls from a text, part by part: what a part changes of what becomes of the calls.
-use Rattle.std.proofs.Common.{◌≡◌, ℕ, ◌+◌, ◌==◌, Bool, true, false, cond, if◌then◌else◌, ◌||◌, List, [], ◌∷◌, ◌++◌, length, map, filter, not, Result, Ok, Err, is_ok, refl, sym, ap, ◌∙◌, append-nil, append_assoc, ne_eqb, arith}
+use Rattle.std.proofs.Common.{◌≡◌, ℕ, ◌+◌, ◌==◌, Bool, true, false, cond, ◌||◌, List, [], ◌∷◌, ◌++◌, length, map, filter, not, Result, Ok, Err, is_ok, refl, sym, ap, ◌∙◌, append-nil, append_assoc, ne_eqb, arith}
 use Rattle.std.specs.List.{slice_split, onto_first, flat_map}
 use Rattle.std.specs.Result.{OnOk}
 use Rattle.std.proofs.lemmas.List.{length_push}

@@ -1,5 +1,5 @@
 -- Looking a text through part by part: what its bytes are counted by, and where its first bad place is.
-use Rattle.std.proofs.Common.{◌≡◌, ℕ, suc, ◌+◌, ◌<◌, ◌==◌, Bool, true, false, not, cond, if◌then◌else◌, List, [], ◌∷◌, length, drop, get_or, filter, Option, Some, None, option_map, refl, sym, ap, ◌∙◌, add-one, drop-cons, ne_eqb, arith}
+use Rattle.std.proofs.Common.{◌≡◌, ℕ, suc, ◌+◌, ◌<◌, ◌==◌, Bool, true, false, not, cond, if◌then◌else◌, List, [], ◌∷◌, length, drop, get_or, filter, Some, None, option_map, refl, sym, ap, ◌∙◌, add-one, drop-cons, ne_eqb, arith}
 use Rattle.std.specs.List.{slice_split, onto_first, position}
 use Rattle.std.specs.Option.{option_or}
 use Rattle.llb_applet.specs.Words.{Word, placed, is_word, is_word_byte, is_and, bad_in, called_after, bad_place}

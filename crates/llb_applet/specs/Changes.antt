@@ -1,5 +1,5 @@
 -- How the changes of a view answer: whether they are done, and what they leave.
-use Rattle.std.specs.Prelude.{◌≡◌, ℕ, Bool, true, false, List, Option, Some, None, Result, Ok, Err}
+use Rattle.std.specs.Prelude.{◌≡◌, ℕ, Bool, true, false, Option, Some, None, Result, Ok, Err}
 use Rattle.llb_tree.specs.declared.fault.TreeFault.{TreeFault}
 use Rattle.llb_tree.specs.declared.fault.TreeFault.TheVariants as tree
 use Rattle.llb_tree.specs.Tree.{TreeMap, empty_tree}

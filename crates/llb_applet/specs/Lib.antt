@@ -8,3 +8,4 @@ pub mod Reading
 pub mod Spots
 pub mod Commands
 pub mod Changes
+pub mod Laws

@@ -9,6 +9,7 @@ mod change;
 mod command;
 mod content;
 mod fault;
+mod laws;
 mod mode;
 mod run;
 mod script;
@@ -18,6 +19,7 @@ mod words;
 
 pub use command::{Command, Kind};
 pub use fault::{Memory, ScriptFault};
+pub use laws::reads_again;
 pub use llb_mount::View;
 pub use llb_tree::{Path, Tree};
 pub use llb_wire::{Many, Text};

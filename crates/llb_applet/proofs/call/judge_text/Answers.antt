@@ -1,4 +1,4 @@
-use Rattle.std.proofs.Common.{◌≡◌, ℕ, ◌+◌, ◌≤◌, ◌++◌, List, [], length, drop, refl, sym, ap, ◌∙◌, subst, lit<, arith}
+use Rattle.std.proofs.Common.{◌≡◌, ◌+◌, [], length, drop, refl, sym, ap, ◌∙◌, subst, lit<, arith}
 use Rattle.std.specs.List.{flat_map}
 use Rattle.std.proofs.lemmas.Iterator.{YieldsList}
 use Rattle.std.proofs.lemmas.Iterator.Splits.{YieldsList-from_str_split}
@@ -7,9 +7,9 @@ use Rattle.std.proofs.lemmas.List.{length_push, drop_all}
 use Rattle.std.proofs.lemmas.Result.{err_from_is_err_and}
 use Rattle.std.specs.Str.Pattern.{FindsChar}
 use Rattle.std.specs.Str.Iter.{split_steps, split_text, split_has_more, split_pattern}
-use Rattle.llb_applet.specs.Words.{parts_of, calls_of}
+use Rattle.llb_applet.specs.Words.{parts_of}
 use Rattle.llb_applet.specs.Scripts.{commands_of}
-use Rattle.llb_applet.specs.Reading.{some_word, judged, verdict, IsBegun, Refuses}
+use Rattle.llb_applet.specs.Reading.{some_word, judged, verdict, Refuses}
 use Rattle.llb_applet.proofs.Looking.{at_drop}
 use Rattle.llb_applet.proofs.Gathering.{calls_in, refuses_last, gives_last, memory_last}
 use Rattle.llb_applet.proofs.call.judge_text.Goals as goal

@@ -1,7 +1,7 @@
-use Rattle.std.proofs.Common.{◌≡◌, Bool, true, false, Result, Ok, Err, is_err, sym, ap, subst, ◌∙◌, true≢false}
+use Rattle.std.proofs.Common.{◌≡◌, true, false, Result, Ok, Err, is_err, sym, ap, subst, ◌∙◌, true≢false}
 use Rattle.std.specs.Result.{OnErr}
 use Rattle.llb_tree.specs.declared.fault.TreeFault.{TreeFault}
-use Rattle.llb_tree.specs.Tree.{TreeMap, Gives, remove, put_dir}
+use Rattle.llb_tree.specs.Tree.{Gives, remove, put_dir}
 use Rattle.llb_applet.proofs.Undone.{undone}
 use Rattle.llb_applet.proofs.change.+dirs_below.Goals as goal
 use Rattle.llb_applet.proofs.change.+dirs_below.Goals.{then-is_err, else-is_err}

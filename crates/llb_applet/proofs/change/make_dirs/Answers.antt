@@ -1,4 +1,4 @@
-use Rattle.std.proofs.Common.{◌≡◌, cond, None, Some, Ok, Result, sym, ap, subst, ◌∙◌, OnErr, drop}
+use Rattle.std.proofs.Common.{◌≡◌, cond, None, Some, Ok, sym, ap, subst, ◌∙◌, OnErr, drop}
 use Rattle.llb_tree.specs.Tree.{Gives, empty_tree}
 use Rattle.llb_mount.specs.View.{mount_at}
 use Rattle.llb_applet.specs.Spots.{tree_at, with_change, dirs_below, is_dest}

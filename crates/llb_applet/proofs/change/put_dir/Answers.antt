@@ -1,4 +1,4 @@
-use Rattle.std.proofs.Common.{◌≡◌, Ok, Result, sym, ap, subst, ◌∙◌, OnErr}
+use Rattle.std.proofs.Common.{◌≡◌, Ok, subst, OnErr}
 use Rattle.llb_tree.specs.Tree as tree
 use Rattle.llb_tree.specs.Tree.{Gives, empty_tree}
 use Rattle.llb_applet.specs.Spots.{tree_at}

@@ -1,8 +1,8 @@
-use Rattle.std.proofs.Common.{◌≡◌, ℕ, ◌<◌, Bool, true, false, not, cond, List, length, Option, Some, None, IfSome, sym, ap, ◌∙◌, rules, tests}
+use Rattle.std.proofs.Common.{◌≡◌, not, sym, ◌∙◌, rules, tests}
 use Rattle.std.specs.List.{position}
 use Rattle.std.proofs.lemmas.Iterator.{YieldsList-from_slice}
 use Rattle.std.proofs.lemmas.Iterator.Search.{position_from_yields_List}
-use Rattle.llb_applet.specs.Words.{is_word_byte, is_and, bad_in}
+use Rattle.llb_applet.specs.Words.{is_word_byte}
 use Rattle.llb_applet.proofs.Looking.{bad_in-word}
 use Rattle.llb_applet.proofs.words.bad_in.Goals as goal
 

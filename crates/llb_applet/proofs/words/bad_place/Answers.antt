@@ -1,11 +1,11 @@
-use Rattle.std.proofs.Common.{◌≡◌, ℕ, ◌+◌, ◌==◌, ◌<◌, [], ◌∷◌, length, drop, refl, sym, ap, ◌∙◌, subst, lit<, arith, filter, cond, Some, None}
+use Rattle.std.proofs.Common.{◌≡◌, ◌+◌, ◌==◌, ◌<◌, length, drop, refl, sym, ap, ◌∙◌, lit<, arith, filter, cond, Some, None}
 use Rattle.std.proofs.lemmas.Iterator.Splits.{YieldsList-from_str_split}
 use Rattle.std.proofs.lemmas.Iterator.Consumers.{YieldsList-turn, YieldsList-end}
 use Rattle.std.proofs.lemmas.List.{length_push, drop_all}
 use Rattle.std.proofs.lemmas.Iterator.{YieldsList}
 use Rattle.std.specs.Str.Pattern.{FindsChar}
 use Rattle.std.specs.Str.Iter.{split_steps, split_text, split_has_more, split_pattern}
-use Rattle.llb_applet.specs.Words.{parts_of, placed, is_word, bad_place, bad_place_of, called_after}
+use Rattle.llb_applet.specs.Words.{parts_of, placed, is_word, bad_place, bad_place_of}
 use Rattle.llb_applet.proofs.Looking.{at_drop, spread, spread-split, bad_here, bad_later}
 use Rattle.llb_applet.proofs.words.bad_place.Goals as goal
 use Rattle.llb_applet.proofs.words.bad_place.Goals.{After-into_iter-part-iterator}
