@@ -1,5 +1,5 @@
 -- The script that arguments are: the text behind `/bin/sh -c`, or else one call.
-use Rattle.std.specs.Prelude.{ℕ, ◌+◌, ◌&&◌, if◌then◌else◌, List, [], ◌∷◌, Option, Some, None, Result, Ok, Err, codes}
+use Rattle.std.specs.Prelude.{ℕ, ◌+◌, ◌==◌, Bool, ◌&&◌, if◌then◌else◌, List, [], ◌∷◌, length, slice_index_or, Option, Some, None, Result, Ok, Err, codes}
 use Rattle.llb_wire.specs.Answer.{◌>>=◌}
 use Rattle.llb_applet.specs.declared.fault.ScriptFault.{ScriptFault}
 use Rattle.llb_applet.specs.declared.fault.ScriptFault.TheVariants.{ShellSyntax}
@@ -22,7 +22,10 @@ commands_unless None text = commands_of 0 (calls_of text)
 abbrev pub commands_in : List ℕ → Result (List Command) ScriptFault
 commands_in text = commands_unless (bad_place_of text) text
 
--- the script of arguments
+-- arguments are `/bin/sh`, `-c` and one text
+abbrev pub is_shell : List (List ℕ) → Bool
+is_shell args = (length args == 3) && spells (codes "/bin/sh") (slice_index_or args 0 []) && spells (codes "-c") (slice_index_or args 1 [])
+
+-- the script of arguments: that text, or else they are one call
 abbrev pub script_of : List (List ℕ) → Result (List Command) ScriptFault
-script_of (a ∷ b ∷ text ∷ []) = if spells (codes "/bin/sh") a && spells (codes "-c") b then commands_in text else commands_of 0 ((a ∷ b ∷ text ∷ []) ∷ [])
-script_of args = commands_of 0 (args ∷ [])
+script_of args = if is_shell args then commands_in (slice_index_or args 2 []) else commands_of 0 (args ∷ [])

@@ -14,7 +14,7 @@ use llb_wire::Text;
 use std::alloc::Global;
 
 /// How a call begins: its number, how many words it has, and the first two.
-#[derive(Clone, Copy)]
+#[derive(Drop)]
 pub struct Begun<'a> {
     pub number: usize,
     pub count: usize,

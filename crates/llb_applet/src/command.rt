@@ -12,7 +12,7 @@ use llb_wire::{Many, Text};
 use std::alloc::Global;
 
 /// What `test` asks about a path.
-#[derive(Clone, Copy, Debug)]
+#[derive(Clone, Copy)]
 pub enum Kind {
     /// `-e`: something is there.
     Something,
@@ -23,7 +23,7 @@ pub enum Kind {
 }
 
 /// A call of an applet with its words. Paths are words as yet: they are read when the command runs.
-#[derive(Debug, Drop)]
+#[derive(Drop)]
 pub enum Command {
     /// `true`.
     True,

@@ -6,7 +6,7 @@ ghost use Rattle.llb_applet.specs.Modes.{mode_of, is_octal_digit};
 use std::marker::Model;
 
 /// A mode, at most 4095. Contracts see the number.
-#[derive(Clone, Copy, Debug)]
+#[derive(Clone, Copy)]
 pub struct Mode {
     bits: u16,
 }

@@ -1,9 +1,9 @@
 //! Scripts. A text is looked through without memory first, so that a refusal is told from the want of memory, and then its
 //! calls are made into commands.
 
-ghost use Rattle.std.specs.Prelude.{◌≡◌, ◌+◌, ◌≤◌, ◌<◌, ◌^◌, ◌++◌, ◌∷◌, [], List, ℕ, length, OnOk, slice_index_or};
+ghost use Rattle.std.specs.Prelude.{◌≡◌, ◌+◌, ◌≤◌, ◌<◌, ◌^◌, ◌++◌, ◌∷◌, [], List, ℕ, length, OnOk, IsTrue, slice_index_or};
 ghost use Rattle.llb_applet.specs.Faults.{Gives, MemoryLast};
-ghost use Rattle.llb_applet.specs.Scripts.{script_of, commands_in, commands_of};
+ghost use Rattle.llb_applet.specs.Scripts.{is_shell, script_of, commands_in, commands_of};
 ghost use Rattle.llb_applet.specs.Words.{calls_of};
 
 use crate::applet::is_word;
@@ -17,7 +17,7 @@ use std::marker::Model;
 use std::mem;
 
 /// A script: commands that are run one after another. Contracts see the list of them.
-#[derive(Debug, Drop)]
+#[derive(Drop)]
 pub struct Script {
     commands: Vec<Command>,
 }
@@ -124,6 +124,17 @@ fn read_call(alloc: Global, args: &[Text]) -> Result<Vec<Command>, ScriptFault>
     Ok(commands)
 }
 
+// Whether arguments are `/bin/sh`, `-c` and one text.
+fn is_shell(args: &[Text]) -> bool
+    ensures value { result ≡ is_shell args.now }
+    ensures three { IsTrue result → length args.now ≡ 3 }
+{
+    if args.len() != 3 {
+        return false;
+    }
+    is_word(args[0].as_str(), b"/bin/sh") && is_word(args[1].as_str(), b"-c")
+}
+
 // The second of some texts, empty where there is none.
 fn second(args: &[Text]) -> &str
     ensures { result.now ≡ slice_index_or args.now 1 [] }
@@ -156,15 +167,7 @@ pub fn read_script(alloc: Global, args: &[Text]) -> Result<Script, ScriptFault>
     ensures gives { Gives (λ s. s) result (script_of args.now) }
     ensures last { MemoryLast result (script_of args.now) }
 {
-    if args.len() != 3 {
-        let commands = read_call(alloc, args)?;
-        return Ok(Script { commands });
-    }
-    if !is_word(args[0].as_str(), b"/bin/sh") {
-        let commands = read_call(alloc, args)?;
-        return Ok(Script { commands });
-    }
-    if !is_word(args[1].as_str(), b"-c") {
+    if !is_shell(args) {
         let commands = read_call(alloc, args)?;
         return Ok(Script { commands });
     }
