@@ -3,6 +3,8 @@
 #![tactic(auto)]
 
 #[cfg(test)]
+mod applet;
+#[cfg(test)]
 mod board;
 #[cfg(test)]
 mod faults;

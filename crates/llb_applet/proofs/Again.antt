@@ -1,0 +1,216 @@
+-- A text with no bad place, and the text that its calls make.
+use Rattle.std.proofs.Common.{◌≡◌, ℕ, suc, ◌+◌, ◌==◌, nat_lt, Bool, true, false, not, cond, ◌&&◌, ◌||◌, List, [], ◌∷◌, ◌++◌, length, map, filter, Option, Some, None, option_map, refl, sym, ap, subst, ◌∙◌, true≢false, ne_eqb, arith}
+use Rattle.std.specs.List.{slice_split, onto_first, flat_map, list_all, join_with_byte, position, position_or_len, All}
+use Rattle.std.specs.Option.{option_or}
+use Rattle.std.specs.Cmp.Lexicographic.{bytes_decides}
+use Rattle.std.proofs.lemmas.Bool.{false≢true}
+use Rattle.std.proofs.lemmas.Bool.Decides.{nat_tests}
+use Rattle.std.proofs.lemmas.List.Elements.{All-cons, All-nil}
+use Rattle.std.proofs.lemmas.List.Splits.{slice_split_none, slice_split_at, slice_split-cons_yes, slice_split-cons_no}
+use Rattle.llb_applet.specs.Words.{Word, parts_of, placed, words_of, is_word, is_and, is_word_byte, bad_in, bad_place, bad_place_of, calls_of}
+use Rattle.llb_applet.specs.Reading.{some_word}
+use Rattle.llb_applet.specs.Scripts.{commands_of, commands_in, commands_unless}
+use Rattle.llb_applet.specs.Laws.{is_plain_word, is_call, with_ands, text_of, IsShellText}
+use Rattle.llb_applet.proofs.Gathering.{words_in}
+
+both : (a b : Bool) → (a && b) ≡ true → (a ≡ true) × (b ≡ true)
+both true b e = (refl, e)
+both false b e = absurd (false≢true e)
+
+-- ---- the calls of a text
+
+-- no bad byte: each is a byte of words
+all_bytes : (word : List ℕ) → position (λ b. not (is_word_byte b)) word ≡ None → list_all is_word_byte word ≡ true
+all_bytes word none = counted word (closed (nat_lt (position_or_len (λ b. not (is_word_byte b)) word) (length word)) _ none)
+  where
+    closed : (b : Bool) (n : ℕ) → cond b (Some n) None ≡ None → b ≡ false
+    closed true n e = absurd cc
+    closed false n e = refl
+
+    step : (b : Bool) (n m : ℕ) (rest : Bool) → (nat_lt n m ≡ false → rest ≡ true) → nat_lt (cond (not (not b)) (1 + n) 0) (suc m) ≡ false → (b && rest) ≡ true
+    step true n m rest more e = more (grind (arith, nat_tests))
+    step false n m rest more e = absurd (true≢false (grind (arith, nat_tests)))
+
+    counted : (word : List ℕ) → nat_lt (position_or_len (λ b. not (is_word_byte b)) word) (length word) ≡ false → list_all is_word_byte word ≡ true
+    counted [] e = refl
+    counted (b ∷ bs) e = step (is_word_byte b) (position_or_len (λ b. not (is_word_byte b)) bs) (length bs) (list_all is_word_byte bs) (counted bs) e
+
+-- neither of two places is bad
+neither : {A : Type 0} (a b : Option A) → option_or a b ≡ None → (a ≡ None) × (b ≡ None)
+neither None b e = (refl, e)
+neither (Some x) b e = absurd cc
+
+no_place : (f : ℕ → ℕ) (o : Option ℕ) → option_map f o ≡ None → o ≡ None
+no_place f None e = refl
+no_place f (Some n) e = absurd cc
+
+-- what is known of the calls of words: the first has a word, or one stands before it
+abbrev Front : Bool → List (List (List ℕ)) → Type 0
+Front called [] = ⊥
+Front called (c ∷ cs) = (list_all is_plain_word c ≡ true) × ((called || not (length c == 0)) ≡ true) × (list_all is_call cs ≡ true)
+
+all_calls : (calls : List (List (List ℕ))) → Front false calls → list_all is_call calls ≡ true
+all_calls [] f = absurd f
+all_calls (c ∷ cs) f = (λ i. (f.1 i && f.0 i) && f.2 i)
+
+fronts : (end : ℕ) (called : Bool) (ws : List Word) → list_all is_word ws ≡ true → bad_place end called ws ≡ None → Front called (slice_split is_and (map (λ w. w.bytes) ws))
+fronts end true [] words none = (refl, refl, refl)
+fronts end false [] words none = absurd cc
+fronts end called (w ∷ ws) words none =
+    let word = both (is_word w) (list_all is_word ws) words in
+    let places = neither (option_map (λ k. w.place + k) (bad_in called w.bytes)) (bad_place end (not (is_and w.bytes)) ws) none in
+    first (is_and w.bytes) refl word.0 (no_place (λ k. w.place + k) (bad_in called w.bytes) places.0) (λ b is. fronts end (not b) ws word.1 (ap (λ a. bad_place end (not a) ws) (sym is) ∙ places.1))
+  where
+    calls : List (List (List ℕ))
+    calls = slice_split is_and (map (λ (w : Word). w.bytes) ws)
+
+    after_and : (called : Bool) → cond {A = Option ℕ} called None (Some 0) ≡ None → Front false calls → Front called ([] ∷ calls)
+    after_and true none f = (refl, refl, all_calls calls f)
+    after_and false none f = absurd cc
+
+    or_true : (b : Bool) → (b || true) ≡ true
+    or_true true = refl
+    or_true false = refl
+
+    in_call : (cs : List (List (List ℕ))) → is_plain_word w.bytes ≡ true → Front true cs → Front called (onto_first w.bytes cs)
+    in_call [] plain f = absurd f
+    in_call (c ∷ cs) plain f = ((λ i. plain i && f.0 i), ap (λ b. called || not b) (ne_eqb (length (w.bytes ∷ c)) 0 (omega arith)) ∙ or_true called, f.2)
+
+    first : (b : Bool) → is_and w.bytes ≡ b → is_word w ≡ true → bad_in called w.bytes ≡ None → ((b : Bool) → is_and w.bytes ≡ b → Front (not b) calls) → Front called (slice_split is_and (w.bytes ∷ map (λ (w : Word). w.bytes) ws))
+    first true is word none rest =
+        subst (Front called) (sym (slice_split-cons_yes is_and w.bytes (map (λ (w : Word). w.bytes) ws) is))
+        (after_and called (sym (ap (λ b. cond {A = Option ℕ} b (cond {A = Option ℕ} called None (Some 0)) (position (λ b. not (is_word_byte b)) w.bytes)) is) ∙ none) (rest true is))
+    first false is word none rest =
+        let bytes = all_bytes w.bytes (sym (ap (λ b. cond {A = Option ℕ} b (cond {A = Option ℕ} called None (Some 0)) (position (λ b. not (is_word_byte b)) w.bytes)) is) ∙ none) in
+        subst (Front called) (sym (slice_split-cons_no is_and w.bytes (map (λ (w : Word). w.bytes) ws) is))
+        (in_call calls (λ i. word i && bytes i) (rest false is))
+
+-- ---- the text of the calls
+
+abbrev IsSome_list : {A : Type 0} → List A → Type 0
+IsSome_list [] = ⊥
+IsSome_list (x ∷ xs) = Unit {0}
+
+split_some : (ws : List (List ℕ)) → IsSome_list (slice_split is_and ws)
+split_some [] = tt
+split_some (w ∷ ws) = first (is_and w) (slice_split is_and ws)
+  where
+    first : (yes : Bool) (calls : List (List (List ℕ))) → IsSome_list (cond yes ([] ∷ calls) (onto_first w calls))
+    first true calls = tt
+    first false [] = tt
+    first false (c ∷ cs) = tt
+
+-- the words of the calls, with `&&` between them, are the words
+joined_again : (ws : List (List ℕ)) → with_ands (slice_split is_and ws) ≡ ws
+joined_again [] = refl
+joined_again (w ∷ ws) = step (is_and w) refl (slice_split is_and ws) (split_some ws) (joined_again ws)
+  where
+    step : (b : Bool) → is_and w ≡ b → (calls : List (List (List ℕ))) → IsSome_list calls → with_ands calls ≡ ws → with_ands (cond b ([] ∷ calls) (onto_first w calls)) ≡ w ∷ ws
+    step b is [] some e = absurd some
+    step true is (c ∷ cs) some e = let same : w ≡ 38 ∷ 38 ∷ [] = (bytes_decides w (38 ∷ 38 ∷ [])).0 is in (λ i. sym same i ∷ e i)
+    step false is (c ∷ []) some e = ap (λ r. w ∷ r) e
+    step false is (c ∷ d ∷ cs) some e = ap (λ r. w ∷ r) e
+
+abbrev lacks : List ℕ → Bool
+lacks word = list_all (λ b. not (b == 32)) word
+
+abbrev has_byte : List ℕ → Bool
+has_byte word = not (length word == 0)
+
+parts_lack : (text : List ℕ) → list_all lacks (slice_split (λ b. b == 32) text) ≡ true
+parts_lack [] = refl
+parts_lack (b ∷ bs) = step (b == 32) refl (slice_split (λ b. b == 32) bs) (parts_lack bs)
+  where
+    step : (yes : Bool) → (b == 32) ≡ yes → (parts : List (List ℕ)) → list_all lacks parts ≡ true → list_all lacks (cond yes ([] ∷ parts) (onto_first b parts)) ≡ true
+    step true is parts e = e
+    step false is [] e = (λ i. (not (is i) && true) && true)
+    step false is (p ∷ ps) e = let halves = both (lacks p) (list_all lacks ps) e in (λ i. (not (is i) && halves.0 i) && halves.1 i)
+
+words_lack : (parts : List (List ℕ)) → list_all lacks parts ≡ true → list_all lacks (flat_map some_word parts) ≡ true
+words_lack [] e = refl
+words_lack (p ∷ ps) e = let halves = both (lacks p) (list_all lacks ps) e in step (length p == 0) halves.0 (words_lack ps halves.1)
+  where
+    step : (none : Bool) → lacks p ≡ true → list_all lacks (flat_map some_word ps) ≡ true → list_all lacks (cond none [] (p ∷ []) ++ flat_map some_word ps) ≡ true
+    step true one rest = rest
+    step false one rest = (λ i. one i && rest i)
+
+words_have : (parts : List (List ℕ)) → list_all has_byte (flat_map some_word parts) ≡ true
+words_have [] = refl
+words_have (p ∷ ps) = step (length p == 0) refl (words_have ps)
+  where
+    step : (none : Bool) → (length p == 0) ≡ none → list_all has_byte (flat_map some_word ps) ≡ true → list_all has_byte (cond none [] (p ∷ []) ++ flat_map some_word ps) ≡ true
+    step true is rest = rest
+    step false is rest = (λ i. not (is i) && rest i)
+
+words_stay : (ws : List (List ℕ)) → list_all has_byte ws ≡ true → flat_map some_word ws ≡ ws
+words_stay [] e = refl
+words_stay (w ∷ ws) e = let halves = both (has_byte w) (list_all has_byte ws) e in step (length w == 0) refl halves.0 (words_stay ws halves.1)
+  where
+    step : (none : Bool) → (length w == 0) ≡ none → has_byte w ≡ true → flat_map some_word ws ≡ ws → cond none [] (w ∷ []) ++ flat_map some_word ws ≡ w ∷ ws
+    step true is some rest = absurd (false≢true (sym (ap not is) ∙ some))
+    step false is some rest = ap (λ r. w ∷ r) rest
+
+none_of : (word : List ℕ) → lacks word ≡ true → All (λ b. (b == 32) ≡ false) word
+none_of [] e = All-nil (λ b. (b == 32) ≡ false)
+none_of (b ∷ bs) e = let halves = both (not (b == 32)) (lacks bs) e in All-cons (λ b. (b == 32) ≡ false) b bs (other (b == 32) halves.0) (none_of bs halves.1)
+  where
+    other : (yes : Bool) → not yes ≡ true → yes ≡ false
+    other true e = absurd (false≢true e)
+    other false e = refl
+
+join_parts : (ws : List (List ℕ)) → IsSome_list ws → list_all lacks ws ≡ true → slice_split (λ b. b == 32) (join_with_byte 32 ws) ≡ ws
+join_parts [] some e = absurd some
+join_parts (x ∷ []) some e = slice_split_none (λ b. b == 32) x (none_of x (both (lacks x) true e).0)
+join_parts (x ∷ y ∷ xs) some e =
+    let halves = both (lacks x) (list_all lacks (y ∷ xs)) e in
+    slice_split_at (λ b. b == 32) x 32 (join_with_byte 32 (y ∷ xs)) (none_of x halves.0) refl
+    ∙ ap (λ r. x ∷ r) (join_parts (y ∷ xs) tt halves.1)
+
+-- the places of words decide only where a place is bad, and not whether
+none_again :
+    (end last : ℕ) (called : Bool) (ws vs : List Word) → map (λ (w : Word). w.bytes) ws ≡ map (λ (w : Word). w.bytes) vs
+    → bad_place end called ws ≡ None → bad_place last called vs ≡ None
+none_again end last true [] [] same none = refl
+none_again end last false [] [] same none = absurd cc
+none_again end last called [] (v ∷ vs) same none = absurd cc
+none_again end last called (w ∷ ws) [] same none = absurd cc
+none_again end last called (w ∷ ws) (v ∷ vs) same none =
+    let bytes : w.bytes ≡ v.bytes = cc in
+    let rest : map (λ (w : Word). w.bytes) ws ≡ map (λ (w : Word). w.bytes) vs = cc in
+    let places = neither (option_map (λ k. w.place + k) (bad_in called w.bytes)) (bad_place end (not (is_and w.bytes)) ws) none in
+    let here : bad_in called v.bytes ≡ None = ap (bad_in called) (sym bytes) ∙ no_place (λ k. w.place + k) (bad_in called w.bytes) places.0 in
+    let later : bad_place last (not (is_and v.bytes)) vs ≡ None = none_again end last (not (is_and v.bytes)) ws vs rest (ap (λ b. bad_place end (not (is_and b)) ws) (sym bytes) ∙ places.1) in
+    (λ i. option_or (option_map (λ k. v.place + k) (here i)) (later i))
+
+filtered : (ws : List Word) → list_all is_word (filter is_word ws) ≡ true
+filtered [] = refl
+filtered (w ∷ ws) = step (is_word w) refl (filtered ws)
+  where
+    step : (b : Bool) → is_word w ≡ b → list_all is_word (filter is_word ws) ≡ true → list_all is_word (cond b (w ∷ filter is_word ws) (filter is_word ws)) ≡ true
+    step true is rest = (λ i. is i && rest i)
+    step false is rest = rest
+
+has_words : (end : ℕ) (ws : List Word) (bytes : List (List ℕ)) → map (λ (w : Word). w.bytes) ws ≡ bytes → bad_place end false ws ≡ None → IsSome_list bytes
+has_words end [] bytes is none = absurd cc
+has_words end (w ∷ ws) [] is none = absurd cc
+has_words end (w ∷ ws) (b ∷ bs) is none = tt
+
+pub reads_again : (text : List ℕ) → bad_place_of text ≡ None → IsShellText text
+reads_again text none =
+    let words = flat_map some_word (parts_of text) in
+    let are : map (λ (w : Word). w.bytes) (words_of text) ≡ words = words_in 0 (parts_of text) in
+    let some = has_words (length text) (words_of text) words are none in
+    let printed = join_with_byte 32 words in
+    let prints : text_of (calls_of text) ≡ printed = ap (λ ws. join_with_byte 32 (with_ands (slice_split is_and ws))) are ∙ ap (join_with_byte 32) (joined_again words) in
+    let parts : parts_of printed ≡ words = join_parts words some (words_lack (parts_of text) (parts_lack text)) in
+    let same : map (λ (w : Word). w.bytes) (words_of printed) ≡ words = words_in 0 (parts_of printed) ∙ ap (flat_map some_word) parts ∙ words_stay words (words_have (parts_of text)) in
+    let calls : calls_of printed ≡ calls_of text = ap (slice_split is_and) (same ∙ sym are) in
+    let fine : bad_place_of printed ≡ None = none_again (length text) (length printed) false (words_of text) (words_of printed) (are ∙ sym same) none in
+    record {
+      calls = all_calls (calls_of text) (fronts (length text) false (words_of text) (filtered (placed 0 (parts_of text))) none);
+      again =
+          ap commands_in prints
+          ∙ ap (λ bad. commands_unless bad printed) fine
+          ∙ ap (commands_of 0) calls
+          ∙ ap (λ bad. commands_unless bad text) (sym none);
+    }

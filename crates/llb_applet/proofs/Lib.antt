@@ -1,0 +1,5 @@
+pub mod Looking
+pub mod Gathering
+pub mod Exchanged
+pub mod Undone
+pub mod Again

@@ -1,0 +1,29 @@
+use Rattle.std.proofs.Common.{◌≡◌, ℕ, ◌+◌, ◌++◌, List, drop, Option, Some, None, option_map, refl, sym, ap, ◌∙◌, append_assoc}
+use Rattle.llb_tree.specs.Meta.{MetaValue}
+use Rattle.llb_applet.specs.Commands.{◌>>=◌, file_by, joined}
+use Rattle.llb_applet.proofs.Looking.{at_drop}
+use Rattle.llb_applet.proofs.content.joined.Goals as goal
+
+-- one file more
+one_more :
+    (content part : List ℕ) (file : Option (MetaValue × List ℕ)) → option_map (λ f. f.1) file ≡ Some part
+    → (rest : Option (List ℕ))
+    → option_map (λ more. content ++ more) (file >>= λ f. rest >>= λ more. Some (f.1 ++ more)) ≡ option_map (λ more. (content ++ part) ++ more) rest
+one_more content part None is rest = absurd cc
+one_more content part (Some f) is None = refl
+one_more content part (Some f) is (Some more) = let same : f.1 ≡ part = cc in ap (λ p. Some (content ++ (p ++ more))) same ∙ ap Some (sym (append_assoc content part more))
+
+pub loop-word-preserved : goal.loop-word-preserved
+loop-word-preserved c =
+    let setting = c.args.setting.now in
+    let view = c.args.view.now in
+    let words = c.args.words.now in
+    let i = c.loop-word.word-index in
+    let here = at_drop words i c.word-item.result c.loop-word-test.true c.word-item.is in
+    let rest = joined setting view (drop (i + 1) words) in
+    let given : option_map (λ f. f.1) (file_by setting view c.word-item.result) ≡ Some c.in-Some.part.now = sym c.in_ok-content_by.ensures ∙ ap (option_map (λ b. b.now)) c.in-Some.is in
+    let longer : c.extend_from_slice.new.self.items ≡ c.loop-word.content.items ++ c.in-Some.part.now = c.in_ok-extend_from_slice-in-Some.ensures.items ∙ ap (λ p. c.loop-word.content.items ++ p) c.as_slice.ensures in
+    ap (λ front. option_map (λ more. front ++ more) rest) longer
+    ∙ sym (one_more c.loop-word.content.items c.in-Some.part.now (file_by setting view c.word-item.result) given rest)
+    ∙ ap (λ ws. option_map (λ more. c.loop-word.content.items ++ more) (joined setting view ws)) (sym here)
+    ∙ c.loop-word.invariant

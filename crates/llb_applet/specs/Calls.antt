@@ -1,0 +1,82 @@
+-- Which words make which command: an applet's name, and words in one of the applet's forms.
+use Rattle.std.specs.Prelude.{◌≡◌, ℕ, true, false, if◌then◌else◌, List, [], ◌∷◌, length, drop, Option, Some, None, option_map, option_and_then, Result, Err, codes, slice_index_or}
+use Rattle.std.specs.Option.{ok_or, option_or}
+use Rattle.llb_applet.specs.declared.fault.ScriptFault.{ScriptFault}
+use Rattle.llb_applet.specs.declared.fault.ScriptFault.TheVariants.{NoApplet, Usage}
+use Rattle.llb_applet.specs.declared.command.Kind.{Kind}
+use Rattle.llb_applet.specs.declared.command.Kind.TheVariants.{Something, File, Dir}
+use Rattle.llb_applet.specs.declared.command.Command.{Command}
+use Rattle.llb_applet.specs.declared.command.Command.TheVariants as command
+use Rattle.llb_applet.specs.declared.applet.Applet.{Applet}
+use Rattle.llb_applet.specs.declared.applet.Applet.TheVariants.{True, False, Mkdir, Rm, Write, Append, Cp, Concat, Chmod, Test, Listing, Envfile, Sha256}
+use Rattle.llb_applet.specs.Applets.{spells, applet_of}
+use Rattle.llb_applet.specs.Modes.{mode_of}
+
+abbrev Word : Type 0
+Word = List ℕ
+
+-- the word of a list of one
+abbrev pub alone : List Word → Option Word
+alone [] = None
+alone (a ∷ []) = Some a
+alone (a ∷ b ∷ ws) = None
+
+-- the words of a list of two
+abbrev pub pair : List Word → Option (Word × Word)
+pair [] = None
+pair (a ∷ []) = None
+pair (a ∷ b ∷ []) = Some (a, b)
+pair (a ∷ b ∷ c ∷ ws) = None
+
+abbrev pub no_words : List Word → Command → Option Command
+no_words [] c = Some c
+no_words (w ∷ ws) c = None
+
+abbrev pub one_word : List Word → (Word → Command) → Option Command
+one_word ws f = option_map f (alone ws)
+
+abbrev pub two_words : List Word → (Word → Word → Option Command) → Option Command
+two_words ws f = option_and_then (λ p. f p.0 p.1) (pair ws)
+
+-- what the options of `test` ask
+abbrev pub kind_of : Word → Option Kind
+kind_of word =
+    if spells (codes "-e") word then Some Something
+    else (if spells (codes "-f") word then Some File
+    else (if spells (codes "-d") word then Some Dir else None))
+
+-- an output and one or more inputs
+abbrev pub concat_of : List Word → Option Command
+concat_of [] = None
+concat_of (out ∷ []) = None
+concat_of (out ∷ a ∷ ws) = Some (command.Concat out (a ∷ ws))
+
+-- the command of an applet and the words behind its name, where they are one of its forms
+abbrev pub form : Applet → List Word → Option Command
+form True ws = no_words ws command.True
+form False ws = no_words ws command.False
+form Mkdir ws = option_or (one_word ws (λ path. command.Mkdir false path)) (two_words ws (λ option path. if spells (codes "-p") option then Some (command.Mkdir true path) else None))
+form Rm ws = one_word ws (λ path. command.Rm path)
+form Write ws = two_words ws (λ path word. Some (command.Write path word))
+form Append ws = two_words ws (λ path word. Some (command.Append path word))
+form Cp ws = two_words ws (λ from to. Some (command.Cp from to))
+form Concat ws = concat_of ws
+form Chmod ws = two_words ws (λ mode path. option_map (λ m. command.Chmod m path) (mode_of mode))
+form Test ws = two_words ws (λ kind path. option_map (λ k. command.Test k path) (kind_of kind))
+form Listing ws = two_words ws (λ path out. Some (command.Listing path out))
+form Envfile ws = one_word ws (λ out. command.Envfile out)
+form Sha256 ws = two_words ws (λ path out. Some (command.Sha256 path out))
+
+-- a list has so many words, and this one first, where it has any
+pub record IsFront (words : List Word) (count : ℕ) (word : Word) : Type 0 where
+  pub counted : count ≡ length words
+  pub first : word ≡ slice_index_or words 0 []
+
+-- the command of an applet that a word may name
+abbrev pub command_by : ℕ → List Word → Option Applet → Result Command ScriptFault
+command_by number call None = Err (NoApplet (slice_index_or call 0 []))
+command_by number call (Some applet) = ok_or (form applet (drop 1 call)) (Usage number)
+
+-- the command of a call, which has a number: its first word is an applet's name, and the others are one of its forms
+abbrev pub command_of : ℕ → List Word → Result Command ScriptFault
+command_of number call = command_by number call (applet_of (slice_index_or call 0 []))

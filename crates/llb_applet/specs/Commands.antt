@@ -1,0 +1,139 @@
+-- What a command leaves of a view, by cases on the applet: the view after it, with status 0, or nothing, and then the status is 1 and the
+-- view stays as it was.
+use Rattle.std.specs.Prelude.{ℕ, Bool, true, false, if◌then◌else◌, List, [], ◌∷◌, ◌++◌, length, ◌-◌, slice_get, Option, Some, None, is_some, option_map, option_and_then, unwrap_or, codes}
+use Rattle.std.specs.List.{flat_map}
+use Rattle.std.specs.Result.{result_ok}
+use Rattle.std.specs.FinMap as finite
+use Rattle.sha2.specs.Sha256.{sha256}
+use Rattle.hex.specs.Hex.{encode_lower}
+use Rattle.llb_tree.specs.Path.{path_from, below}
+use Rattle.llb_tree.specs.Tree as tree
+use Rattle.llb_tree.specs.Tree.{Entry, TreeMap, MetaValue, list}
+use Rattle.llb_applet.specs.declared.setting.Setting.{Setting}
+use Rattle.llb_applet.specs.declared.spot.Spot.{Spot}
+use Rattle.llb_applet.specs.declared.command.Kind.{Kind}
+use Rattle.llb_applet.specs.declared.command.Kind.TheVariants.{Something, File, Dir}
+use Rattle.llb_applet.specs.declared.command.Command.{Command}
+use Rattle.llb_applet.specs.declared.command.Command.TheVariants as command
+use Rattle.llb_applet.specs.Spots.{Mounts, spot_of, tree_at, entry_at, is_dir, file_in, with_file, with_dir, without_spot, with_new_dir, with_dirs}
+
+infixl 10 ◌>>=◌
+abbrev pub ◌>>=◌ : {A B : Type 0} → Option A → (A → Option B) → Option B
+o >>= f = option_and_then f o
+
+-- the path that a word is, read from the cwd
+abbrev pub path_by : Setting → List ℕ → Option (List (List ℕ))
+path_by setting word = result_ok (path_from setting.cwd word)
+
+-- what a word means
+abbrev pub spot_by : Setting → Mounts → List ℕ → Option Spot
+spot_by setting view word = path_by setting word >>= spot_of view
+
+-- a new file is 0644 0:0
+abbrev pub new_meta : MetaValue
+new_meta = record { mode = 420; uid = 0; gid = 0 }
+
+-- the mode and owner of what is there, or those of a new file
+abbrev pub meta_there : Option Entry → MetaValue
+meta_there (Some e) = tree.meta_in e
+meta_there None = new_meta
+
+-- the file that a word means
+abbrev pub file_by : Setting → Mounts → List ℕ → Option (MetaValue × List ℕ)
+file_by setting view word = spot_by setting view word >>= λ spot. file_in (entry_at view spot)
+
+-- writing: the content is put in the file that is there, whose mode and owner stay, or in a new one
+abbrev pub written : Mounts → Spot → List ℕ → Option Mounts
+written view spot content = with_file view spot (meta_there (entry_at view spot)) content
+
+abbrev pub writes : Setting → Mounts → List ℕ → List ℕ → Option Mounts
+writes setting view word content = spot_by setting view word >>= λ spot. written view spot content
+
+-- words with a line end
+abbrev pub line : List ℕ → List ℕ
+line word = word ++ 10 ∷ []
+
+-- the content that is there, and one line more
+abbrev pub appended : Mounts → Spot → List ℕ → Option Mounts
+appended view spot word = written view spot (unwrap_or (option_map (λ f. f.1) (file_in (entry_at view spot))) [] ++ line word)
+
+-- the last name of a path
+abbrev pub last_name : List (List ℕ) → Option (List ℕ)
+last_name path = slice_get path (length path - 1)
+
+-- where a copy goes: to the path, or into the directory there under the last name of the source
+abbrev pub target_of : Mounts → List (List ℕ) → List (List ℕ) → Option Spot
+target_of view source path =
+    spot_of view path >>= λ spot.
+    if is_dir (entry_at view spot) then (last_name source >>= λ name. result_ok (below path name) >>= spot_of view) else Some spot
+
+-- a file, with its mode and owner
+abbrev pub copied : Setting → Mounts → List ℕ → List ℕ → Option Mounts
+copied setting view from to =
+    path_by setting from >>= λ source.
+    spot_of view source >>= λ spot.
+    file_in (entry_at view spot) >>= λ file.
+    path_by setting to >>= λ path.
+    target_of view source path >>= λ target.
+    with_file view target file.0 file.1
+
+-- the contents of files, one behind the other
+abbrev pub joined : Setting → Mounts → List (List ℕ) → Option (List ℕ)
+joined setting view [] = Some []
+joined setting view (word ∷ words) = file_by setting view word >>= λ file. joined setting view words >>= λ more. Some (file.1 ++ more)
+
+-- another mode for what is there, whose owner stays
+abbrev pub with_mode : Mounts → Spot → ℕ → Option Entry → Option Mounts
+with_mode view spot mode None = None
+with_mode view spot mode (Some (tree.Dir m)) = with_dir view spot (record m { mode = mode })
+with_mode view spot mode (Some (tree.File m content)) = with_file view spot (record m { mode = mode }) content
+
+-- whether what is there is of the kind
+abbrev pub is_kind : Kind → Option Entry → Bool
+is_kind Something e = is_some e
+is_kind File e = is_some (file_in e)
+is_kind Dir e = is_dir e
+
+-- a name in a directory, with `/` behind where it is a directory's, and a line end
+abbrev pub line_of : TreeMap → List (List ℕ) → List ℕ → List ℕ
+line_of t p name = name ++ (if is_dir (finite.get t (p ++ name ∷ [])) then codes "/" else []) ++ 10 ∷ []
+
+abbrev pub listed : TreeMap → List (List ℕ) → List (List ℕ) → List ℕ
+listed t p names = flat_map (line_of t p) names
+
+-- the text of the directory that a word means
+abbrev pub listing_by : Setting → Mounts → List ℕ → Option (List ℕ)
+listing_by setting view word =
+    spot_by setting view word >>= λ spot.
+    result_ok (list (tree_at view spot) spot.place) >>= λ names.
+    Some (listed (tree_at view spot) spot.place names)
+
+-- the 64 digits of the SHA-256 of bytes
+abbrev pub digits_of : List ℕ → List ℕ
+digits_of bytes = encode_lower (sha256 bytes)
+
+-- the view that a command leaves with status 0, where it does
+abbrev pub run : Setting → Mounts → Command → Option Mounts
+run setting view command.True = Some view
+run setting view command.False = None
+run setting view (command.Mkdir false path) = spot_by setting view path >>= with_new_dir view
+run setting view (command.Mkdir true path) = spot_by setting view path >>= with_dirs view
+run setting view (command.Rm path) = spot_by setting view path >>= without_spot view
+run setting view (command.Write path word) = writes setting view path (line word)
+run setting view (command.Append path word) = spot_by setting view path >>= λ spot. appended view spot word
+run setting view (command.Cp from to) = copied setting view from to
+run setting view (command.Concat out parts) = joined setting view parts >>= writes setting view out
+run setting view (command.Chmod mode path) = spot_by setting view path >>= λ spot. with_mode view spot mode (entry_at view spot)
+run setting view (command.Test kind path) = spot_by setting view path >>= λ spot. if is_kind kind (entry_at view spot) then Some view else None
+run setting view (command.Listing path out) = listing_by setting view path >>= writes setting view out
+run setting view (command.Envfile out) = writes setting view out (flat_map line setting.env)
+run setting view (command.Sha256 path out) = file_by setting view path >>= λ file. writes setting view out (line (digits_of file.1))
+
+-- the status
+abbrev pub status_of : Option Mounts → ℕ
+status_of (Some view) = 0
+status_of None = 1
+
+-- the view that is left
+abbrev pub left : Mounts → Option Mounts → Mounts
+left view outcome = unwrap_or outcome view

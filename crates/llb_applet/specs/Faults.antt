@@ -1,0 +1,30 @@
+-- How the calls of this crate answer: what their rule gives, or the want of memory. A rule is a function into values
+-- or faults that never gives the want of memory.
+use Rattle.std.specs.Prelude.{◌≡◌, Bool, true, false, ◌||◌, Result, Ok, Err, is_ok}
+use Rattle.llb_wire.specs.Answer as answer
+use Rattle.llb_applet.specs.declared.fault.ScriptFault.{ScriptFault}
+use Rattle.llb_applet.specs.declared.fault.ScriptFault.TheVariants.{NoApplet, Usage, ShellSyntax, Memory}
+
+-- want of memory, which no rule gives
+abbrev pub is_memory : ScriptFault → Bool
+is_memory Memory = true
+is_memory (NoApplet word) = false
+is_memory (Usage number) = false
+is_memory (ShellSyntax place) = false
+
+-- what a call answers, seen by view, is what the rule gives
+abbrev pub Gives : {X Y : Type 0} → (X → Y) → Result X ScriptFault → Result Y ScriptFault → Type 0
+Gives = answer.Gives is_memory
+
+-- a refusal that holds a text
+abbrev pub names_word : {Y : Type 0} → Result Y ScriptFault → Bool
+names_word (Ok y) = false
+names_word (Err (NoApplet word)) = true
+names_word (Err (Usage number)) = false
+names_word (Err (ShellSyntax place)) = false
+names_word (Err Memory) = false
+
+-- want of memory comes last: it is answered only where the rule has no refusal, or one that holds a text
+abbrev pub MemoryLast : {X Y : Type 0} → Result X ScriptFault → Result Y ScriptFault → Type 0
+MemoryLast (Ok x) rule = Unit {0}
+MemoryLast (Err e) rule = is_memory e ≡ true → (is_ok rule || names_word rule) ≡ true

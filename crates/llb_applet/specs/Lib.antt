@@ -1,0 +1,11 @@
+pub mod Faults
+pub mod Words
+pub mod Applets
+pub mod Modes
+pub mod Calls
+pub mod Scripts
+pub mod Reading
+pub mod Spots
+pub mod Commands
+pub mod Changes
+pub mod Laws

@@ -1,0 +1,68 @@
+-- Calls while they are read from a text, part by part: what is known of the call at hand, and what the words that are left make of it.
+use Rattle.std.specs.Prelude.{◌≡◌, ℕ, ◌==◌, true, false, if◌then◌else◌, List, [], ◌∷◌, ◌++◌, length, Result, Ok, Err, slice_index_or}
+use Rattle.std.specs.List.{slice_split}
+use Rattle.llb_wire.specs.Answer.{◌>>=◌}
+use Rattle.llb_applet.specs.declared.fault.ScriptFault.{ScriptFault}
+use Rattle.llb_applet.specs.declared.command.Command.{Command}
+use Rattle.llb_applet.specs.declared.script.Reading.{Reading}
+use Rattle.llb_applet.specs.declared.call.Begun.{Begun}
+use Rattle.llb_applet.specs.Faults.{is_memory, names_word}
+use Rattle.llb_applet.specs.Words.{is_and}
+use Rattle.llb_applet.specs.Calls.{command_of}
+use Rattle.llb_applet.specs.Scripts.{commands_of}
+
+-- the word that stands between two spaces, where there is one
+abbrev pub some_word : List ℕ → List (List ℕ)
+some_word part = if length part == 0 then [] else part ∷ []
+
+-- calls, where the first has these words in front
+abbrev pub front : List (List ℕ) → List (List (List ℕ)) → List (List (List ℕ))
+front call [] = call ∷ []
+front call (first ∷ calls) = (call ++ first) ∷ calls
+
+-- commands, with these in front
+abbrev pub behind : List Command → Result (List Command) ScriptFault → Result (List Command) ScriptFault
+behind commands rest = rest >>= λ more. Ok (commands ++ more)
+
+-- what becomes of calls that are read, where these words are left
+abbrev pub ahead : Reading → List (List ℕ) → Result (List Command) ScriptFault
+ahead reading words = behind reading.commands.items (commands_of (length reading.commands.items) (front reading.words.items (slice_split is_and words)))
+
+-- the commands with that of the call at hand behind them
+abbrev pub with_call : Reading → Result (List Command) ScriptFault
+with_call reading = command_of (length reading.commands.items) reading.words.items >>= λ c. Ok (reading.commands.items ++ c ∷ [])
+
+-- a step changes nothing of what becomes of it, or its refusal is that, or it lacked memory
+abbrev pub Reads : Result (Unit {0}) ScriptFault → Result (List Command) ScriptFault → Result (List Command) ScriptFault → Type 0
+Reads (Ok _) before after = before ≡ after
+Reads (Err e) before after = is_memory e ≡ false → before ≡ Err e
+
+-- the fault alone
+abbrev pub verdict : {A : Type 0} → Result A ScriptFault → Result (Unit {0}) ScriptFault
+verdict (Ok x) = Ok tt
+verdict (Err e) = Err e
+
+-- a call begins so: how many words it has, and the first two
+pub record IsBegun (call : List (List ℕ)) (begun : Begun) : Type 0 where
+  pub counted : begun.count ≡ length call
+  pub named : begun.name.now ≡ slice_index_or call 0 []
+  pub option : begun.first.now ≡ slice_index_or call 1 []
+
+-- what is wrong with a call of this number that begins so, and with those behind it
+abbrev pub judged : ℕ → List (List ℕ) → List (List ℕ) → Result (Unit {0}) ScriptFault
+judged number call words = verdict (commands_of number (front call (slice_split is_and words)))
+
+-- a refusal is that of the rule, or it lacked memory for the text of a fault
+pub record Refuses (e : ScriptFault) (rule : Result (Unit {0}) ScriptFault) : Type 0 where
+  pub known : is_memory e ≡ false → rule ≡ Err e
+  pub last : is_memory e ≡ true → names_word rule ≡ true
+
+-- a step changes nothing of what is wrong, or its refusal is that
+abbrev pub Judges : Result (Unit {0}) ScriptFault → List ℕ → List (List ℕ) → Begun → Begun → Type 0
+Judges (Ok _) part call old new = (next : List (List ℕ)) × IsBegun next new × ((rest : List (List ℕ)) → judged old.number call (some_word part ++ rest) ≡ judged new.number next rest)
+Judges (Err e) part call old new = (rest : List (List ℕ)) → Refuses e (judged old.number call (some_word part ++ rest))
+
+-- the call at hand is judged
+abbrev pub JudgesCall : Result (Unit {0}) ScriptFault → ℕ → List (List ℕ) → Type 0
+JudgesCall (Ok _) number call = verdict (command_of number call) ≡ Ok tt
+JudgesCall (Err e) number call = Refuses e (verdict (command_of number call))

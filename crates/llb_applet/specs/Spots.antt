@@ -1,0 +1,92 @@
+-- What a path means on a view, and the changes of a view there. A view is the list of its mounts; a change that is refused gives nothing.
+use Rattle.std.specs.Prelude.{◌≡◌, ℕ, ◌<◌, ◌≤◌, ◌==◌, nat_lt, Bool, true, false, ◌||◌, ◌&&◌, not, if◌then◌else◌, List, [], ◌∷◌, ◌++◌, length, drop, Option, Some, None, is_some, Result, Ok, Err}
+use Rattle.std.specs.FinMap as finite
+use Rattle.llb_wire.specs.Answer as answer
+use Rattle.llb_tree.specs.declared.fault.TreeFault.{TreeFault}
+use Rattle.llb_tree.specs.Tree as tree
+use Rattle.llb_tree.specs.Tree.{Entry, TreeMap, MetaValue, root_meta, put_file, put_dir, remove}
+use Rattle.llb_mount.specs.declared.shown.Shown.{Shown}
+use Rattle.llb_mount.specs.View.{mount_at, with_tree_of}
+use Rattle.llb_mount.specs.Route.{route, place_in}
+use Rattle.llb_applet.specs.declared.spot.Spot.{Spot}
+
+-- a view, as the list of its mounts
+abbrev pub Mounts : Type 0
+Mounts = List Shown
+
+-- what a path means: the mount that it is routed to, and in the mount's tree what is left of it below the selector; nothing, where that is
+-- longer than a path can be
+abbrev pub spot_of : Mounts → List (List ℕ) → Option Spot
+spot_of view path =
+    let to = route view path in
+    let selector = (mount_at view to.0).selector in
+    let place = place_in selector to.1 path in
+    if nat_lt 128 (length place) then None else Some (record { mount = to.0; base = length selector; place = place })
+
+-- a spot is in one of the mounts, at or below its selector
+pub record IsSpot (view : Mounts) (spot : Spot) : Type 0 where
+  pub mount : spot.mount < length view
+  pub base : spot.base ≡ length (mount_at view spot.mount).selector
+  pub below : spot.base ≤ length spot.place
+
+-- the tree that is meant
+abbrev pub tree_at : Mounts → Spot → TreeMap
+tree_at view spot = (mount_at view spot.mount).tree
+
+-- what stands there
+abbrev pub entry_at : Mounts → Spot → Option Entry
+entry_at view spot = finite.get (tree_at view spot) spot.place
+
+-- it is the dest of a mount
+abbrev pub is_dest : Spot → Bool
+is_dest spot = length spot.place == spot.base
+
+abbrev pub is_dir : Option Entry → Bool
+is_dir None = false
+is_dir (Some (tree.Dir m)) = true
+is_dir (Some (tree.File m bytes)) = false
+
+-- the mode and owner of a file, and its content
+abbrev pub file_in : Option Entry → Option (MetaValue × List ℕ)
+file_in None = None
+file_in (Some (tree.Dir m)) = None
+file_in (Some (tree.File m bytes)) = Some (m, bytes)
+
+-- the view with a mount's tree changed, where the change is not refused and the mount is not read-only
+abbrev pub with_change : Mounts → ℕ → Result TreeMap TreeFault → Option Mounts
+with_change view mount (Ok t) = if (mount_at view mount).readonly then None else Some (with_tree_of view mount t)
+with_change view mount (Err e) = None
+
+-- a file is put; at a dest only in the place of one that is there
+abbrev pub with_file : Mounts → Spot → MetaValue → List ℕ → Option Mounts
+with_file view spot meta content =
+    if is_dest spot && not (is_some (entry_at view spot)) then None
+    else with_change view spot.mount (put_file (tree_at view spot) spot.place meta content)
+
+-- a directory that is there takes another mode and owner
+abbrev pub with_dir : Mounts → Spot → MetaValue → Option Mounts
+with_dir view spot meta = with_change view spot.mount (put_dir (tree_at view spot) spot.place meta)
+
+-- what is at or below it goes; a dest stays
+abbrev pub without_spot : Mounts → Spot → Option Mounts
+without_spot view spot = if is_dest spot then None else with_change view spot.mount (remove (tree_at view spot) spot.place)
+
+-- a directory is made where nothing stands, below the dest
+abbrev pub with_new_dir : Mounts → Spot → Option Mounts
+with_new_dir view spot = if is_dest spot || is_some (entry_at view spot) then None else with_change view spot.mount (put_dir (tree_at view spot) spot.place root_meta)
+
+-- the tree with a directory at a path, made where none is there
+abbrev pub dir_at : TreeMap → List (List ℕ) → Result TreeMap TreeFault
+dir_at t p = if is_dir (finite.get t p) then Ok t else put_dir t p root_meta
+
+-- and with directories for each of these names, one below the other
+abbrev pub dirs_below : TreeMap → List (List ℕ) → List (List ℕ) → Result TreeMap TreeFault
+dirs_below t p [] = Ok t
+dirs_below t p (n ∷ ns) = answer.◌>>=◌ (dir_at t (p ++ n ∷ [])) (λ next. dirs_below next (p ++ n ∷ []) ns)
+
+-- a directory and its missing parents are made below the dest, or it is there
+abbrev pub with_dirs : Mounts → Spot → Option Mounts
+with_dirs view spot =
+    if is_dir (entry_at view spot) then Some view
+    else (if is_dest spot then None
+    else with_change view spot.mount (dirs_below (tree_at view spot) (mount_at view spot.mount).selector (drop spot.base spot.place)))

@@ -1,0 +1,61 @@
+-- The words of a script's text with their places, and the first place at which the text is no calls of words with `&&`
+-- between them. A place is the number of bytes before it.
+use Rattle.std.specs.Prelude.{ℕ, ◌+◌, ◌==◌, nat_eq, nat_le, Bool, false, ◌&&◌, ◌||◌, not, if◌then◌else◌, List, [], ◌∷◌, length, map, filter, Option, Some, None, option_map, codes}
+use Rattle.std.specs.List.{slice_split, position, list_any}
+use Rattle.std.specs.Option.{option_or}
+use Rattle.std.specs.Cmp.Lexicographic.{pointwise}
+
+-- a word, and the place of its first byte
+pub record Word : Type 0 where
+  pub place : ℕ
+  pub bytes : List ℕ
+
+-- what stands between the spaces of a text
+abbrev pub parts_of : List ℕ → List (List ℕ)
+parts_of = slice_split (λ b. b == 32)
+
+-- parts with one byte between them, each with the place of its first byte, where this is the place of the first
+abbrev pub placed : ℕ → List (List ℕ) → List Word
+placed at [] = []
+placed at (part ∷ parts) = record { place = at; bytes = part } ∷ placed (at + length part + 1) parts
+
+-- it has a byte
+abbrev pub is_word : Word → Bool
+is_word w = not (length w.bytes == 0)
+
+-- the words of a text: the parts that are not empty
+abbrev pub words_of : List ℕ → List Word
+words_of text = filter is_word (placed 0 (parts_of text))
+
+-- the word `&&`
+abbrev pub is_and : List ℕ → Bool
+is_and word = pointwise nat_eq word (38 ∷ 38 ∷ [])
+
+-- a digit, a letter, one of `_ - . / , : + @ % =`, or a byte of a character past ASCII
+abbrev pub is_word_byte : ℕ → Bool
+is_word_byte b =
+    (nat_le 48 b && nat_le b 57) || (nat_le 65 b && nat_le b 90) || (nat_le 97 b && nat_le b 122)
+    || list_any (λ c. c == b) (codes "_-./,:+@%=") || nat_le 128 b
+
+-- where a word has its first bad byte: a `&&` at its first where no call stands before it, and another word at the first that is no
+-- byte of words
+abbrev pub bad_in : Bool → List ℕ → Option ℕ
+bad_in called word = if is_and word then (if called then None else Some 0) else position (λ b. not (is_word_byte b)) word
+
+-- whether a word of a call stands right before what follows a part
+abbrev pub called_after : Bool → List ℕ → Bool
+called_after called part = if length part == 0 then called else not (is_and part)
+
+-- the first bad place among words, where the text has this many bytes, and a word of a call stands right before them or not; at the end
+-- a call must have begun
+abbrev pub bad_place : ℕ → Bool → List Word → Option ℕ
+bad_place end called [] = if called then None else Some end
+bad_place end called (w ∷ ws) = option_or (option_map (λ k. w.place + k) (bad_in called w.bytes)) (bad_place end (not (is_and w.bytes)) ws)
+
+-- the first place at which a text is no script
+abbrev pub bad_place_of : List ℕ → Option ℕ
+bad_place_of text = bad_place (length text) false (words_of text)
+
+-- the calls of a text, each the list of its words: what stands between the `&&`
+abbrev pub calls_of : List ℕ → List (List (List ℕ))
+calls_of text = slice_split is_and (map (λ w. w.bytes) (words_of text))

@@ -1,0 +1,81 @@
+//! The applets by their names.
+
+ghost use Rattle.std.specs.Prelude.{◌≡◌, option_map};
+ghost use Rattle.std.specs.List.{find};
+ghost use Rattle.llb_applet.specs.Applets.{name_of, applet_of, spells};
+
+/// An applet.
+#[derive(Clone, Copy)]
+pub enum Applet {
+    True,
+    False,
+    Mkdir,
+    Rm,
+    Write,
+    Append,
+    Cp,
+    Concat,
+    Chmod,
+    Test,
+    Listing,
+    Envfile,
+    Sha256,
+}
+
+const APPLETS: [Applet; 13] = [
+    Applet::True,
+    Applet::False,
+    Applet::Mkdir,
+    Applet::Rm,
+    Applet::Write,
+    Applet::Append,
+    Applet::Cp,
+    Applet::Concat,
+    Applet::Chmod,
+    Applet::Test,
+    Applet::Listing,
+    Applet::Envfile,
+    Applet::Sha256,
+];
+
+impl Applet {
+    /// The name by which a call asks for the applet.
+    fn name(self) -> &'static [u8]
+        ensures { result.now ≡ name_of self }
+    {
+        match self {
+            Applet::True => b"true",
+            Applet::False => b"false",
+            Applet::Mkdir => b"mkdir",
+            Applet::Rm => b"rm",
+            Applet::Write => b"write",
+            Applet::Append => b"append",
+            Applet::Cp => b"cp",
+            Applet::Concat => b"concat",
+            Applet::Chmod => b"chmod",
+            Applet::Test => b"test",
+            Applet::Listing => b"listing",
+            Applet::Envfile => b"envfile",
+            Applet::Sha256 => b"sha256",
+        }
+    }
+
+    /// The applet of that name.
+    pub fn find(word: &str) -> Option<Applet>
+        ensures { result ≡ applet_of word.now }
+    {
+        for applet in APPLETS {
+            if is_word(word, applet.name()) {
+                return Some(applet);
+            }
+        }
+        None
+    }
+}
+
+/// Whether a word is this one.
+pub fn is_word(word: &str, this: &[u8]) -> bool
+    ensures { result ≡ spells this.now word.now }
+{
+    word.as_bytes() == this
+}

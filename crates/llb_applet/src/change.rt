@@ -1,0 +1,196 @@
+//! The changes of a view at a spot. A change puts the mount's tree aside, changes it in place and puts it back, so that no
+//! tree is copied; one that is refused, or lacks memory, leaves the view as it was.
+
+ghost use Rattle.std.specs.Prelude.{◌≡◌, ◌+◌, ◌<◌, ◌≤◌, length, OnErr};
+ghost use Rattle.std.specs.FinMap as finite;
+ghost use Rattle.llb_tree.specs.Tree as tree;
+ghost use Rattle.llb_tree.specs.Tree.{IsTree, Gives, root_meta};
+ghost use Rattle.llb_applet.specs.Spots.{IsSpot, tree_at, is_dir, with_change, with_file, with_dir, without_spot, with_new_dir, with_dirs, dirs_below};
+ghost use Rattle.llb_applet.specs.Changes.{PutsAside, Does, settled};
+
+use crate::fault::Memory;
+use crate::spot::Spot;
+use llb_mount::View;
+use llb_tree::{Bytes, Entry, Meta, Name, Path, Tree, TreeFault};
+use std::alloc::Global;
+
+// Takes a mount's tree out of the view, with an empty one in its place; nothing where the mount is read-only.
+fn put_aside(alloc: Global, view: &mut View, mount: u32) -> Result<Option<Tree>, Memory>
+    requires { mount < length view.old }
+    ensures { PutsAside result view.old mount view.new }
+{
+    if view.is_read_only(mount) {
+        return Ok(None);
+    }
+    let empty = Tree::empty(alloc)?;
+    Ok(Some(view.swap_tree(mount, empty)))
+}
+
+// Whether a change is done.
+fn settled(change: Result<(), TreeFault>) -> Result<bool, Memory>
+    ensures { result ≡ settled change }
+{
+    match change {
+        Ok(()) => Ok(true),
+        Err(TreeFault::Memory) => Err(Memory),
+        Err(TreeFault::NotFound) => Ok(false),
+        Err(TreeFault::NotDir) => Ok(false),
+        Err(TreeFault::IsDir) => Ok(false),
+        Err(TreeFault::Conflict) => Ok(false),
+        Err(TreeFault::Root) => Ok(false),
+        Err(TreeFault::BadName) => Ok(false),
+    }
+}
+
+/// Puts a file; at a dest only in the place of one that is there.
+pub fn put_file(
+    alloc: Global,
+    view: &mut View,
+    spot: &Spot,
+    meta: Meta,
+    content: Bytes,
+) -> Result<bool, Memory>
+    requires { spot.now.mount < length view.old }
+    ensures { Does result (with_file view.old spot.now meta content) view.old view.new }
+{
+    if spot.is_dest() {
+        if !spot.is_there(view) {
+            return Ok(false);
+        }
+    }
+    put_there(alloc, view, spot, meta, content)
+}
+
+// Puts a file where one may stand.
+fn put_there(
+    alloc: Global,
+    view: &mut View,
+    spot: &Spot,
+    meta: Meta,
+    content: Bytes,
+) -> Result<bool, Memory>
+    requires { spot.now.mount < length view.old }
+    ensures { Does result (with_change view.old spot.now.mount (tree.put_file (tree_at view.old spot.now) spot.now.place meta content)) view.old view.new }
+{
+    match put_aside(alloc, view, spot.mount)? {
+        None => Ok(false),
+        Some(mut tree) => {
+            let change = tree.put_file(&spot.place, meta, content);
+            let _aside = view.swap_tree(spot.mount, tree);
+            settled(change)
+        }
+    }
+}
+
+/// Gives a directory that is there another mode and owner, or makes one below its parent.
+pub fn put_dir(alloc: Global, view: &mut View, spot: &Spot, meta: Meta) -> Result<bool, Memory>
+    requires { spot.now.mount < length view.old }
+    ensures { Does result (with_dir view.old spot.now meta) view.old view.new }
+{
+    match put_aside(alloc, view, spot.mount)? {
+        None => Ok(false),
+        Some(mut tree) => {
+            let change = tree.put_dir(&spot.place, meta);
+            let _aside = view.swap_tree(spot.mount, tree);
+            settled(change)
+        }
+    }
+}
+
+/// Takes away what is at or below the spot; a dest stays.
+pub fn remove(alloc: Global, view: &mut View, spot: &Spot) -> Result<bool, Memory>
+    requires { spot.now.mount < length view.old }
+    ensures { Does result (without_spot view.old spot.now) view.old view.new }
+{
+    if spot.is_dest() {
+        return Ok(false);
+    }
+    match put_aside(alloc, view, spot.mount)? {
+        None => Ok(false),
+        Some(mut tree) => {
+            let change = tree.remove(&spot.place);
+            let _aside = view.swap_tree(spot.mount, tree);
+            settled(change)
+        }
+    }
+}
+
+/// Makes a directory where nothing stands, below the dest.
+pub fn make_dir(alloc: Global, view: &mut View, spot: &Spot) -> Result<bool, Memory>
+    requires { spot.now.mount < length view.old }
+    ensures { Does result (with_new_dir view.old spot.now) view.old view.new }
+{
+    if spot.is_dest() {
+        return Ok(false);
+    }
+    if spot.is_there(view) {
+        return Ok(false);
+    }
+    put_dir(alloc, view, spot, new_dir_meta())
+}
+
+/// Makes a directory and its missing parents below the dest, where it is not there.
+pub fn make_dirs(alloc: Global, view: &mut View, spot: &Spot) -> Result<bool, Memory>
+    requires { IsSpot view.old spot.now }
+    ensures { Does result (with_dirs view.old spot.now) view.old view.new }
+{
+    if spot.is_dir(view) {
+        return Ok(true);
+    }
+    if spot.is_dest() {
+        return Ok(false);
+    }
+    let selector = view.selector(spot.mount).copy()?;
+    let (_, names) = spot.place.names().split_at(spot.base);
+    match put_aside(alloc, view, spot.mount)? {
+        None => Ok(false),
+        Some(mut tree) => {
+            let change = dirs_below(&mut tree, &selector, names);
+            let _aside = view.swap_tree(spot.mount, tree);
+            settled(change)
+        }
+    }
+}
+
+// Makes a directory for each of the names, one below the other, where none is there. A refusal takes away what was made.
+fn dirs_below(tree: &mut Tree, at: &Path, names: &[Name]) -> Result<(), TreeFault>
+    requires { length at.now + length names.now ≤ 128 }
+    ensures gives { Gives (λ _. tree.new) result (dirs_below tree.old at.now names.now) }
+    ensures err { OnErr result (tree.new ≡ tree.old) }
+{
+    match names.split_first() {
+        None => Ok(()),
+        Some((name, more)) => {
+            let mut next = at.copy()?;
+            next.push(name.copy()?)?;
+            if is_dir(tree, &next) {
+                return dirs_below(tree, &next, more);
+            }
+            tree.put_dir(&next, new_dir_meta())?;
+            let made = dirs_below(tree, &next, more);
+            if made.is_err() {
+                let _taken = tree.remove(&next);
+            }
+            made
+        }
+    }
+}
+
+// Whether a directory stands at a path.
+fn is_dir(tree: &Tree, path: &Path) -> bool
+    ensures value { result ≡ is_dir (finite.get tree.now path.now) }
+    ensures tree { IsTree tree.now }
+{
+    match tree.get(path) {
+        Some(Entry::Dir(_)) => true,
+        Some(Entry::File(_, _)) => false,
+        None => false,
+    }
+}
+
+// The mode and owner of a new directory.
+fn new_dir_meta() -> Meta
+    ensures { result ≡ root_meta }
+{
+    Meta::new(0o755, 0, 0).unwrap()
+}

@@ -1,0 +1,244 @@
+//! Commands: a call whose applet is known and whose words are one of its forms. What runs a command needs to look at no form again.
+
+ghost use Rattle.std.specs.Prelude.{◌≡◌, List, ℕ, is_some};
+ghost use Rattle.llb_applet.specs.declared.applet.Applet.TheVariants.{Mkdir, Concat, Chmod, Test};
+ghost use Rattle.llb_applet.specs.Faults.{Gives};
+ghost use Rattle.llb_applet.specs.Calls.{alone, pair, kind_of, form, command_of, IsFront};
+
+use crate::applet::{Applet, is_word};
+use crate::fault::ScriptFault;
+use crate::mode::Mode;
+use llb_wire::{Many, Text};
+use std::alloc::Global;
+
+/// What `test` asks about a path.
+#[derive(Clone, Copy)]
+pub enum Kind {
+    /// `-e`: something is there.
+    Something,
+    /// `-f`: a file is there.
+    File,
+    /// `-d`: a directory is there.
+    Dir,
+}
+
+/// A call of an applet with its words. Paths are words as yet: they are read when the command runs.
+#[derive(Drop)]
+pub enum Command {
+    /// `true`.
+    True,
+    /// `false`.
+    False,
+    /// `mkdir P`, or `mkdir -p P` with its parents.
+    Mkdir { parents: bool, path: Text },
+    /// `rm P`.
+    Rm { path: Text },
+    /// `write P W`.
+    Write { path: Text, word: Text },
+    /// `append P W`.
+    Append { path: Text, word: Text },
+    /// `cp A B`.
+    Cp { from: Text, to: Text },
+    /// `concat OUT A ..`, with one or more A.
+    Concat { out: Text, parts: Many<Text> },
+    /// `chmod MODE P`.
+    Chmod { mode: Mode, path: Text },
+    /// `test -e P`, `test -f P`, `test -d P`.
+    Test { kind: Kind, path: Text },
+    /// `listing P OUT`.
+    Listing { path: Text, out: Text },
+    /// `envfile OUT`.
+    Envfile { out: Text },
+    /// `sha256 P OUT`.
+    Sha256 { path: Text, out: Text },
+}
+
+/// The kind that an option of `test` asks for.
+fn kind_of(word: &str) -> Option<Kind>
+    ensures { result ≡ kind_of word.now }
+{
+    if is_word(word, b"-e") {
+        return Some(Kind::Something);
+    }
+    if is_word(word, b"-f") {
+        return Some(Kind::File);
+    }
+    if is_word(word, b"-d") {
+        return Some(Kind::Dir);
+    }
+    None
+}
+
+// The word of a list of one.
+fn alone(words: Vec<Text>) -> Option<Text>
+    ensures { result ≡ alone words.items }
+{
+    let mut words = words;
+    if words.len() != 1 {
+        return None;
+    }
+    Some(words.remove(0))
+}
+
+// The words of a list of two.
+fn pair(words: Vec<Text>) -> Option<(Text, Text)>
+    ensures { result ≡ pair words.items }
+{
+    let mut words = words;
+    if words.len() != 2 {
+        return None;
+    }
+    let first = words.remove(0);
+    Some((first, words.remove(0)))
+}
+
+// `mkdir` with these words behind it.
+fn mkdir_of(words: Vec<Text>) -> Option<Command>
+    ensures { result ≡ form Mkdir words.items }
+{
+    if words.len() == 1 {
+        let path = alone(words)?;
+        return Some(Command::Mkdir {
+            parents: false,
+            path,
+        });
+    }
+    let (option, path) = pair(words)?;
+    if !is_word(option.as_str(), b"-p") {
+        return None;
+    }
+    Some(Command::Mkdir {
+        parents: true,
+        path,
+    })
+}
+
+// `concat` with these words behind it.
+fn concat_of(words: Vec<Text>) -> Option<Command>
+    ensures { result ≡ form Concat words.items }
+{
+    let mut words = words;
+    if words.len() < 2 {
+        return None;
+    }
+    let out = words.remove(0);
+    Some(Command::Concat {
+        out,
+        parts: Many::new(words),
+    })
+}
+
+// `chmod` with these words behind it.
+fn chmod_of(words: Vec<Text>) -> Option<Command>
+    ensures { result ≡ form Chmod words.items }
+{
+    let (mode, path) = pair(words)?;
+    let mode = Mode::read(mode.as_str())?;
+    Some(Command::Chmod { mode, path })
+}
+
+// `test` with these words behind it.
+fn test_of(words: Vec<Text>) -> Option<Command>
+    ensures { result ≡ form Test words.items }
+{
+    let (option, path) = pair(words)?;
+    let kind = kind_of(option.as_str())?;
+    Some(Command::Test { kind, path })
+}
+
+// The command of an applet and the words behind its name.
+fn form(applet: Applet, words: Vec<Text>) -> Option<Command>
+    ensures { result ≡ form applet words.items }
+{
+    match applet {
+        Applet::True => words.is_empty().then_some(Command::True),
+        Applet::False => words.is_empty().then_some(Command::False),
+        Applet::Mkdir => mkdir_of(words),
+        Applet::Concat => concat_of(words),
+        Applet::Chmod => chmod_of(words),
+        Applet::Test => test_of(words),
+        Applet::Rm => {
+            let path = alone(words)?;
+            Some(Command::Rm { path })
+        }
+        Applet::Envfile => {
+            let out = alone(words)?;
+            Some(Command::Envfile { out })
+        }
+        Applet::Write => {
+            let (path, word) = pair(words)?;
+            Some(Command::Write { path, word })
+        }
+        Applet::Append => {
+            let (path, word) = pair(words)?;
+            Some(Command::Append { path, word })
+        }
+        Applet::Cp => {
+            let (from, to) = pair(words)?;
+            Some(Command::Cp { from, to })
+        }
+        Applet::Listing => {
+            let (path, out) = pair(words)?;
+            Some(Command::Listing { path, out })
+        }
+        Applet::Sha256 => {
+            let (path, out) = pair(words)?;
+            Some(Command::Sha256 { path, out })
+        }
+    }
+}
+
+/// The command of a call, which has a number: 71 `NoApplet` where its first word is no applet's name, 72 `Usage` where the
+/// others are none of its forms; 74 `Memory`.
+pub fn command_of(alloc: Global, number: usize, words: Vec<Text>) -> Result<Command, ScriptFault>
+    ensures { Gives (λ c. c) result (command_of number words.items) }
+{
+    let mut words = words;
+    if words.is_empty() {
+        return Err(ScriptFault::NoApplet(Text::new(String::new(alloc))));
+    }
+    let name = words.remove(0);
+    match Applet::find(name.as_str()) {
+        None => Err(ScriptFault::NoApplet(name)),
+        Some(applet) => match form(applet, words) {
+            Some(command) => Ok(command),
+            None => Err(ScriptFault::Usage(number)),
+        },
+    }
+}
+
+/// Whether so many words behind an applet's name, with this one first, are one of the applet's forms.
+pub fn is_form(applet: Applet, count: usize, first: &str) -> bool
+    ensures { (words : List (List ℕ)) → IsFront words count first.now → result ≡ is_some (form applet words) }
+{
+    match applet {
+        Applet::True => count == 0,
+        Applet::False => count == 0,
+        Applet::Mkdir => {
+            if count == 2 {
+                return is_word(first, b"-p");
+            }
+            count == 1
+        }
+        Applet::Rm => count == 1,
+        Applet::Envfile => count == 1,
+        Applet::Concat => count >= 2,
+        Applet::Chmod => {
+            if count != 2 {
+                return false;
+            }
+            Mode::read(first).is_some()
+        }
+        Applet::Test => {
+            if count != 2 {
+                return false;
+            }
+            kind_of(first).is_some()
+        }
+        Applet::Write => count == 2,
+        Applet::Append => count == 2,
+        Applet::Cp => count == 2,
+        Applet::Listing => count == 2,
+        Applet::Sha256 => count == 2,
+    }
+}

@@ -1,0 +1,177 @@
+//! The contents that commands write.
+
+ghost use Rattle.std.specs.Prelude.{◌≡◌, ◌++◌, [], length, ◌∷◌, IfOk, OnOk, option_map, unwrap_or};
+ghost use Rattle.std.specs.List.{flat_map};
+ghost use Rattle.std.specs.FinMap as finite;
+ghost use Rattle.llb_applet.specs.Spots.{IsSpot, entry_at, file_in, is_dir};
+ghost use Rattle.llb_applet.specs.Commands.{line, file_by, joined, listed, line_of, listing_by, digits_of};
+
+use crate::fault::Memory;
+use crate::setting::Setting;
+use crate::spot::{Spot, spot_by};
+use llb_mount::View;
+use llb_tree::{Bytes, Entry, Name, Path, Tree, TreeFault};
+use llb_wire::Text;
+use sha2::{Digest, Sha256};
+use std::alloc::Global;
+
+// Puts a word and a line end behind a content.
+fn push_line(content: &mut Vec<u8>, word: &str) -> Result<(), Memory>
+    ensures { OnOk result (content.new.items ≡ content.old.items ++ line word.now) }
+{
+    content.extend_from_slice(word.as_bytes())?;
+    content.push(b'\n')?;
+    Ok(())
+}
+
+/// A word and a line end.
+pub fn line(alloc: Global, word: &str) -> Result<Bytes, Memory>
+    ensures { IfOk result (λ b. b ≡ line word.now) }
+{
+    let mut content = Vec::new(alloc);
+    push_line(&mut content, word)?;
+    Ok(Bytes::new(content))
+}
+
+/// The content that is there, none where there is no file, and one line more.
+pub fn more(alloc: Global, view: &View, spot: &Spot, word: &Text) -> Result<Bytes, Memory>
+    requires { IsSpot view.now spot.now }
+    ensures { IfOk result (λ b. b ≡ unwrap_or (option_map (λ f. f.1) (file_in (entry_at view.now spot.now))) [] ++ line word.now) }
+{
+    let mut content = Vec::new(alloc);
+    if let Some(old) = spot.content(view) {
+        content.extend_from_slice(old.as_slice())?;
+    }
+    push_line(&mut content, word.as_str())?;
+    Ok(Bytes::new(content))
+}
+
+// The content of the file that a word means.
+fn content_by<'v>(
+    alloc: Global,
+    setting: &Setting,
+    view: &'v View,
+    word: &Text,
+) -> Result<Option<&'v Bytes>, Memory>
+    ensures { IfOk result (λ b. option_map (λ b. b.now) b ≡ option_map (λ f. f.1) (file_by setting.now view.now word.now)) }
+{
+    match spot_by(alloc, setting, view, word)? {
+        None => Ok(None),
+        Some(spot) => Ok(spot.content(view)),
+    }
+}
+
+/// The contents of the files that words mean, one behind the other; nothing where one is no file.
+pub fn joined(
+    alloc: Global,
+    words: &[Text],
+    setting: &Setting,
+    view: &View,
+) -> Result<Option<Bytes>, Memory>
+    ensures { IfOk result (λ b. b ≡ joined setting.now view.now words.now) }
+{
+    let mut content = Vec::new(alloc);
+    for word in words {
+        match content_by(alloc, setting, view, word)? {
+            None => return Ok(None),
+            Some(part) => content.extend_from_slice(part.as_slice())?,
+        }
+    }
+    Ok(Some(Bytes::new(content)))
+}
+
+// Whether a directory stands one name below a path.
+fn is_dir_below(tree: &Tree, path: &Path, name: &Name) -> Result<bool, Memory>
+    ensures { IfOk result (λ yes. yes ≡ is_dir (finite.get tree.now (path.now ++ name.now ∷ []))) }
+{
+    let mut below = path.copy()?;
+    match below.push(name.copy()?) {
+        Ok(()) => {}
+        Err(TreeFault::Memory) => return Err(Memory),
+        Err(_) => {
+            let _there = tree.get(path);
+            return Ok(false);
+        }
+    }
+    match tree.get(&below) {
+        Some(Entry::Dir(_)) => Ok(true),
+        Some(Entry::File(_, _)) => Ok(false),
+        None => Ok(false),
+    }
+}
+
+// The lines of the names in a directory.
+fn listed(alloc: Global, tree: &Tree, path: &Path, names: &[Name]) -> Result<Bytes, Memory>
+    ensures { IfOk result (λ b. b ≡ listed tree.now path.now names.now) }
+{
+    let mut content = Vec::new(alloc);
+    for name in names {
+        push_name(&mut content, tree, path, name)?;
+    }
+    Ok(Bytes::new(content))
+}
+
+// The line of a name in a directory.
+fn push_name(content: &mut Vec<u8>, tree: &Tree, path: &Path, name: &Name) -> Result<(), Memory>
+    ensures { OnOk result (content.new.items ≡ content.old.items ++ line_of tree.now path.now name.now) }
+{
+    content.extend_from_slice(name.as_str().as_bytes())?;
+    if is_dir_below(tree, path, name)? {
+        content.push(b'/')?;
+    }
+    content.push(b'\n')?;
+    Ok(())
+}
+
+/// The lines of the directory that a word means; nothing where it means none.
+pub fn listing_by(
+    alloc: Global,
+    path: &Text,
+    setting: &Setting,
+    view: &View,
+) -> Result<Option<Bytes>, Memory>
+    ensures { IfOk result (λ b. b ≡ listing_by setting.now view.now path.now) }
+{
+    let Some(spot) = spot_by(alloc, setting, view, path)? else {
+        return Ok(None);
+    };
+    let tree = view.tree_of(spot.mount);
+    match tree.list(&spot.place) {
+        Ok(names) => {
+            let content = listed(alloc, tree, &spot.place, names.as_slice())?;
+            Ok(Some(content))
+        }
+        Err(TreeFault::Memory) => Err(Memory),
+        Err(_) => Ok(None),
+    }
+}
+
+/// The env entries, each with a line end.
+pub fn envfile(alloc: Global, setting: &Setting) -> Result<Bytes, Memory>
+    ensures { IfOk result (λ b. b ≡ flat_map line setting.now.env) }
+{
+    let mut content = Vec::new(alloc);
+    for entry in setting.env.as_slice() {
+        push_line(&mut content, entry.as_str())?;
+    }
+    Ok(Bytes::new(content))
+}
+
+/// The 64 digits of the SHA-256 of the file that a word means, and a line end; nothing where it means none.
+pub fn sha256_by(
+    alloc: Global,
+    path: &Text,
+    setting: &Setting,
+    view: &View,
+) -> Result<Option<Bytes>, Memory>
+    ensures { IfOk result (λ b. b ≡ option_map (λ f. line (digits_of f.1)) (file_by setting.now view.now path.now)) }
+{
+    match content_by(alloc, setting, view, path)? {
+        None => Ok(None),
+        Some(content) => {
+            let digits = hex::encode(alloc, Sha256::digest(content.as_slice()))?;
+            let content = line(alloc, digits.as_str())?;
+            Ok(Some(content))
+        }
+    }
+}

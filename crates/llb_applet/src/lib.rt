@@ -1,0 +1,29 @@
+//! Scripts of applets: a text is read as calls of small commands, and a command is a function on the trees of a view.
+//! Here are the reading of a script, which refuses what no command would run, and the running of one command.
+//! Nothing here knows a process, a shell beyond `&&`, or an operation.
+#![tactic(auto)]
+
+mod applet;
+mod call;
+mod change;
+mod command;
+mod content;
+mod fault;
+mod laws;
+mod mode;
+mod run;
+mod script;
+mod setting;
+mod spot;
+mod words;
+
+pub use command::{Command, Kind};
+pub use fault::{Memory, ScriptFault};
+pub use laws::reads_again;
+pub use llb_mount::View;
+pub use llb_tree::{Path, Tree};
+pub use llb_wire::{Many, Text};
+pub use mode::Mode;
+pub use run::run_command;
+pub use script::{Script, read_script};
+pub use setting::Setting;

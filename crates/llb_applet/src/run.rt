@@ -1,0 +1,295 @@
+//! Running a command on a view. A command that is done leaves the view with one mount's tree changed in place, or as it was;
+//! one that is not, or that lacks memory, leaves it as it was.
+
+ghost use Rattle.std.specs.Prelude.{◌≡◌, ◌≢◌, IfOk, IfSome, OnOk, OnErr, option_and_then};
+ghost use Rattle.llb_applet.specs.declared.command.Command.TheVariants as command;
+ghost use Rattle.llb_applet.specs.Spots.{IsSpot, entry_at};
+ghost use Rattle.llb_applet.specs.Commands.{run, status_of, left, writes, written, copied, target_of, with_mode, is_kind};
+ghost use Rattle.llb_applet.specs.Changes.{Does};
+
+use crate::change::{make_dir, make_dirs, put_dir, put_file, remove};
+use crate::command::{Command, Kind};
+use crate::content::{envfile, joined, line, listing_by, more, sha256_by};
+use crate::fault::Memory;
+use crate::mode::Mode;
+use crate::setting::Setting;
+use crate::spot::{Spot, meta_in, path_by, spot_by, spot_of};
+use llb_mount::View;
+use llb_tree::{Bytes, Entry, Meta, Path, TreeFault};
+use llb_wire::Text;
+use std::alloc::Global;
+
+// Makes a directory.
+fn mkdir(
+    alloc: Global,
+    parents: bool,
+    path: &Text,
+    setting: &Setting,
+    view: &mut View,
+) -> Result<bool, Memory>
+    ensures { Does result (run setting.now view.old (command.Mkdir parents path.now)) view.old view.new }
+{
+    match spot_by(alloc, setting, view, path)? {
+        None => Ok(false),
+        Some(spot) => {
+            if parents {
+                return make_dirs(alloc, view, &spot);
+            }
+            make_dir(alloc, view, &spot)
+        }
+    }
+}
+
+// Takes away what is at or below a path.
+fn rm(alloc: Global, path: &Text, setting: &Setting, view: &mut View) -> Result<bool, Memory>
+    ensures { Does result (run setting.now view.old (command.Rm path.now)) view.old view.new }
+{
+    match spot_by(alloc, setting, view, path)? {
+        None => Ok(false),
+        Some(spot) => remove(alloc, view, &spot),
+    }
+}
+
+// Writes a content.
+fn write(
+    alloc: Global,
+    path: &Text,
+    content: Bytes,
+    setting: &Setting,
+    view: &mut View,
+) -> Result<bool, Memory>
+    ensures { Does result (writes setting.now view.old path.now content) view.old view.new }
+{
+    match spot_by(alloc, setting, view, path)? {
+        None => Ok(false),
+        Some(spot) => write_at(alloc, view, &spot, content),
+    }
+}
+
+// Writes a content at a spot.
+fn write_at(alloc: Global, view: &mut View, spot: &Spot, content: Bytes) -> Result<bool, Memory>
+    requires { IsSpot view.old spot.now }
+    ensures { Does result (written view.old spot.now content) view.old view.new }
+{
+    let meta = spot.meta(view);
+    put_file(alloc, view, spot, meta, content)
+}
+
+// Writes what may be there.
+fn write_some(
+    alloc: Global,
+    path: &Text,
+    content: Option<Bytes>,
+    setting: &Setting,
+    view: &mut View,
+) -> Result<bool, Memory>
+    ensures { Does result (option_and_then (writes setting.now view.old path.now) content) view.old view.new }
+{
+    match content {
+        None => Ok(false),
+        Some(content) => write(alloc, path, content, setting, view),
+    }
+}
+
+// Writes the content that is there, and one line more.
+fn append(
+    alloc: Global,
+    path: &Text,
+    word: &Text,
+    setting: &Setting,
+    view: &mut View,
+) -> Result<bool, Memory>
+    ensures { Does result (run setting.now view.old (command.Append path.now word.now)) view.old view.new }
+{
+    match spot_by(alloc, setting, view, path)? {
+        None => Ok(false),
+        Some(spot) => {
+            let content = more(alloc, view, &spot, word)?;
+            write_at(alloc, view, &spot, content)
+        }
+    }
+}
+
+// Copies a file with its mode and owner.
+fn cp(
+    alloc: Global,
+    from: &Text,
+    to: &Text,
+    setting: &Setting,
+    view: &mut View,
+) -> Result<bool, Memory>
+    ensures { Does result (copied setting.now view.old from.now to.now) view.old view.new }
+{
+    let Some(source) = path_by(alloc, setting, from)? else {
+        return Ok(false);
+    };
+    let Some(spot) = spot_of(view, &source)? else {
+        return Ok(false);
+    };
+    let Some(content) = spot.content(view) else {
+        return Ok(false);
+    };
+    let content = content.copy()?;
+    let meta = spot.meta(view);
+    let Some(path) = path_by(alloc, setting, to)? else {
+        return Ok(false);
+    };
+    let Some(target) = target_of(view, &source, path)? else {
+        return Ok(false);
+    };
+    put_file(alloc, view, &target, meta, content)
+}
+
+// Where a copy of a file goes.
+fn target_of(view: &View, source: &Path, path: Path) -> Result<Option<Spot>, Memory>
+    ensures means { IfOk result (λ s. s ≡ target_of view.now source.now path) }
+    ensures spot { IfOk result (λ s. IfSome s (λ spot. IsSpot view.now spot)) }
+{
+    let Some(spot) = spot_of(view, &path)? else {
+        return Ok(None);
+    };
+    if !spot.is_dir(view) {
+        return Ok(Some(spot));
+    }
+    let Some(name) = source.names().last() else {
+        return Ok(None);
+    };
+    let mut path = path;
+    match path.push(name.copy()?) {
+        Ok(()) => spot_of(view, &path),
+        Err(TreeFault::Memory) => Err(Memory),
+        Err(_) => Ok(None),
+    }
+}
+
+// Gives what is there another mode.
+fn chmod(
+    alloc: Global,
+    mode: Mode,
+    path: &Text,
+    setting: &Setting,
+    view: &mut View,
+) -> Result<bool, Memory>
+    ensures { Does result (run setting.now view.old (command.Chmod mode path.now)) view.old view.new }
+{
+    match spot_by(alloc, setting, view, path)? {
+        None => Ok(false),
+        Some(spot) => chmod_at(alloc, view, &spot, mode),
+    }
+}
+
+// Gives what is at a spot another mode.
+fn chmod_at(alloc: Global, view: &mut View, spot: &Spot, mode: Mode) -> Result<bool, Memory>
+    requires { IsSpot view.old spot.now }
+    ensures { Does result (with_mode view.old spot.now mode (entry_at view.old spot.now)) view.old view.new }
+{
+    let Some(entry) = spot.entry(view) else {
+        return Ok(false);
+    };
+    let meta = with_bits(&meta_in(&entry), mode);
+    if spot.is_dir(view) {
+        return put_dir(alloc, view, spot, meta);
+    }
+    let Some(content) = spot.content(view) else {
+        return Ok(false);
+    };
+    let content = content.copy()?;
+    put_file(alloc, view, spot, meta, content)
+}
+
+// The same owner with another mode.
+fn with_bits(meta: &Meta, mode: Mode) -> Meta
+    ensures { result ≡ record meta.now { mode = mode } }
+{
+    Meta::new(mode.bits(), meta.uid(), meta.gid()).unwrap()
+}
+
+// Whether what is there is of the kind.
+fn test(
+    alloc: Global,
+    kind: Kind,
+    path: &Text,
+    setting: &Setting,
+    view: &View,
+) -> Result<bool, Memory>
+    ensures { Does result (run setting.now view.now (command.Test kind path.now)) view.now view.now }
+{
+    match spot_by(alloc, setting, view, path)? {
+        None => Ok(false),
+        Some(spot) => Ok(is_kind(view, &spot, kind)),
+    }
+}
+
+// Whether what is at a spot is of the kind.
+fn is_kind(view: &View, spot: &Spot, kind: Kind) -> bool
+    requires { IsSpot view.now spot.now }
+    ensures { result ≡ is_kind kind (entry_at view.now spot.now) }
+{
+    match kind {
+        Kind::Something => spot.is_there(view),
+        Kind::File => spot.content(view).is_some(),
+        Kind::Dir => spot.is_dir(view),
+    }
+}
+
+// Whether a command is done.
+fn done(
+    alloc: Global,
+    command: &Command,
+    setting: &Setting,
+    view: &mut View,
+) -> Result<bool, Memory>
+    ensures { Does result (run setting.now view.old command.now) view.old view.new }
+{
+    match command {
+        Command::True => Ok(true),
+        Command::False => Ok(false),
+        Command::Mkdir { parents, path } => mkdir(alloc, *parents, path, setting, view),
+        Command::Rm { path } => rm(alloc, path, setting, view),
+        Command::Write { path, word } => {
+            let content = line(alloc, word.as_str())?;
+            write(alloc, path, content, setting, view)
+        }
+        Command::Append { path, word } => append(alloc, path, word, setting, view),
+        Command::Cp { from, to } => cp(alloc, from, to, setting, view),
+        Command::Concat { out, parts } => {
+            let content = joined(alloc, parts.as_slice(), setting, view)?;
+            write_some(alloc, out, content, setting, view)
+        }
+        Command::Chmod { mode, path } => chmod(alloc, *mode, path, setting, view),
+        Command::Test { kind, path } => test(alloc, *kind, path, setting, view),
+        Command::Listing { path, out } => {
+            let content = listing_by(alloc, path, setting, view)?;
+            write_some(alloc, out, content, setting, view)
+        }
+        Command::Envfile { out } => {
+            let content = envfile(alloc, setting)?;
+            write(alloc, out, content, setting, view)
+        }
+        Command::Sha256 { path, out } => {
+            let content = sha256_by(alloc, path, setting, view)?;
+            write_some(alloc, out, content, setting, view)
+        }
+    }
+}
+
+/// Runs a command on a view. The status is 0 where it is done; it is 1, and the view as it was, where a path is none, something
+/// is not there or is of the wrong sort, or the change would be below a read-only mount. Paths are read from the setting's cwd
+/// and looked up by `View::route`, below the mount's selector. 75 `Memory`, and then the view is as it was. A command changes one
+/// mount's tree in place, and copies no tree.
+pub fn run_command(
+    alloc: Global,
+    command: &Command,
+    setting: &Setting,
+    view: &mut View,
+) -> Result<u8, Memory>
+    ensures status { IfOk result (λ status. status ≡ status_of (run setting.now view.old command.now)) }
+    ensures view { OnOk result (view.new ≡ left view.old (run setting.now view.old command.now)) }
+    ensures kept { IfOk result (λ status. status ≢ 0 → view.new ≡ view.old) }
+    ensures err { OnErr result (view.new ≡ view.old) }
+{
+    if done(alloc, command, setting, view)? {
+        return Ok(0);
+    }
+    Ok(1)
+}

@@ -1,0 +1,176 @@
+//! Scripts. A text is looked through without memory first, so that a refusal is told from the want of memory, and then its
+//! calls are made into commands.
+
+ghost use Rattle.std.specs.Prelude.{◌≡◌, ◌+◌, ◌≤◌, ◌<◌, ◌^◌, ◌++◌, ◌∷◌, [], List, ℕ, length, OnOk, IsTrue, slice_index_or};
+ghost use Rattle.llb_applet.specs.Faults.{Gives, MemoryLast};
+ghost use Rattle.llb_applet.specs.Scripts.{is_shell, script_of, commands_in, commands_of};
+ghost use Rattle.llb_applet.specs.Words.{calls_of};
+
+use crate::applet::is_word;
+use crate::call::{Begun, judge_text};
+use crate::command::{Command, command_of};
+use crate::fault::ScriptFault;
+use crate::words::{bad_place, is_and};
+use llb_wire::Text;
+use std::alloc::Global;
+use std::marker::Model;
+use std::mem;
+
+/// A script: commands that are run one after another. Contracts see the list of them.
+#[derive(Drop)]
+pub struct Script {
+    commands: Vec<Command>,
+}
+
+impl Model for Script {
+    ghost use Rattle.std.specs.Prelude.{List};
+    ghost use Rattle.llb_applet.specs.declared.command.Command.{Command};
+
+    ghost Value = { List Command };
+
+    ghost view = { λ s. s.commands.items };
+}
+
+impl Script {
+    /// The commands in their order.
+    pub fn commands(&self) -> &[Command]
+        ensures { result.now ≡ self.now }
+    {
+        self.commands.as_slice()
+    }
+}
+
+// Calls while they are read: the commands that are whole, and the words of the call at hand.
+#[derive(Drop)]
+pub struct Reading {
+    commands: Vec<Command>,
+    words: Vec<Text>,
+}
+
+impl Reading {
+    ghost use Rattle.llb_applet.specs.Reading.{some_word, ahead, with_call, Reads};
+
+    // Takes what stands between two spaces: a `&&` ends the call at hand, another word is one of it, and no bytes are none.
+    fn take(&mut self, alloc: Global, part: &str) -> Result<(), ScriptFault>
+        ensures { (rest : List (List ℕ)) → Reads result (ahead self.old (some_word part.now ++ rest)) (ahead self.new rest) }
+    {
+        if is_and(part) {
+            return self.end_call(alloc);
+        }
+        if part.is_empty() {
+            return Ok(());
+        }
+        let word = Text::from_str(alloc, part)?;
+        self.words.push(word)?;
+        Ok(())
+    }
+
+    // Makes the words of the call at hand into a command.
+    fn end_call(&mut self, alloc: Global) -> Result<(), ScriptFault>
+        ensures gives { Gives (λ _. self.new.commands.items) result (with_call self.old) }
+        ensures words { OnOk result (self.new.words.items ≡ []) }
+    {
+        let words = mem::replace(&mut self.words, Vec::new(alloc));
+        let command = command_of(alloc, self.commands.len(), words)?;
+        self.commands.push(command)?;
+        Ok(())
+    }
+}
+
+// The commands of a text.
+fn read_text(alloc: Global, text: &str) -> Result<Vec<Command>, ScriptFault>
+    ensures { Gives (λ c. c.items) result (commands_of 0 (calls_of text.now)) }
+{
+    let mut reading = Reading {
+        commands: Vec::new(alloc),
+        words: Vec::new(alloc),
+    };
+    for part in text.split(' ') {
+        reading.take(alloc, part)?;
+    }
+    reading.end_call(alloc)?;
+    Ok(reading.commands)
+}
+
+// The script of a text.
+fn read_shell(alloc: Global, text: &str) -> Result<Vec<Command>, ScriptFault>
+    ensures gives { Gives (λ c. c.items) result (commands_in text.now) }
+    ensures last { MemoryLast result (commands_in text.now) }
+{
+    if let Some(place) = bad_place(text) {
+        return Err(ScriptFault::ShellSyntax(place));
+    }
+    judge_text(alloc, text)?;
+    read_text(alloc, text)
+}
+
+// The script of one call.
+fn read_call(alloc: Global, args: &[Text]) -> Result<Vec<Command>, ScriptFault>
+    requires { 0 < length args.now }
+    ensures gives { Gives (λ c. c.items) result (commands_of 0 (args.now ∷ [])) }
+    ensures last { MemoryLast result (commands_of 0 (args.now ∷ [])) }
+{
+    let begun = Begun {
+        number: 0,
+        count: args.len(),
+        name: args[0].as_str(),
+        first: second(args),
+    };
+    begun.judge(alloc)?;
+    let words = copies(alloc, args)?;
+    let command = command_of(alloc, 0, words)?;
+    let mut commands = Vec::new(alloc);
+    commands.push(command)?;
+    Ok(commands)
+}
+
+// Whether arguments are `/bin/sh`, `-c` and one text.
+fn is_shell(args: &[Text]) -> bool
+    ensures value { result ≡ is_shell args.now }
+    ensures three { IsTrue result → length args.now ≡ 3 }
+{
+    if args.len() != 3 {
+        return false;
+    }
+    is_word(args[0].as_str(), b"/bin/sh") && is_word(args[1].as_str(), b"-c")
+}
+
+// The second of some texts, empty where there is none.
+fn second(args: &[Text]) -> &str
+    ensures { result.now ≡ slice_index_or args.now 1 [] }
+{
+    if args.len() < 2 {
+        return "";
+    }
+    args[1].as_str()
+}
+
+// Copies of texts.
+fn copies(alloc: Global, args: &[Text]) -> Result<Vec<Text>, ScriptFault>
+    ensures { Gives (λ v. v.items) result (Ok args.now) }
+{
+    let mut words = Vec::new(alloc);
+    for arg in args {
+        words.push(arg.copy()?)?;
+    }
+    Ok(words)
+}
+
+/// The script that arguments are: `/bin/sh`, `-c` and one text, or else one call, an applet's name and its words. In a text
+/// words stand between spaces, and a word `&&` between calls; another word has only ASCII letters and digits, `_ - . / , : + @ % =`
+/// and characters past ASCII. 73 `ShellSyntax` at the first bad place of the text: a byte that no word may have, a `&&` with no
+/// call before it, or the text's end where the last call is missing. Then for each call in order 71 `NoApplet` where its first
+/// word is no applet's name, and 72 `Usage` where the others are none of the applet's forms. 74 `Memory`, where there is no
+/// other fault, or in place of 71 where there is no memory for its text.
+pub fn read_script(alloc: Global, args: &[Text]) -> Result<Script, ScriptFault>
+    requires { 0 < length args.now }
+    ensures gives { Gives (λ s. s) result (script_of args.now) }
+    ensures last { MemoryLast result (script_of args.now) }
+{
+    if !is_shell(args) {
+        let commands = read_call(alloc, args)?;
+        return Ok(Script { commands });
+    }
+    let commands = read_shell(alloc, args[2].as_str())?;
+    Ok(Script { commands })
+}

@@ -1,0 +1,154 @@
+//! What a path means on a view: a mount, and a place in its tree. A path that is none, or whose place has more names than
+//! a path can have, means nothing.
+
+ghost use Rattle.std.specs.Prelude.{◌≡◌, ◌<◌, ◌++◌, length, IfOk, IfSome, option_map, is_some};
+ghost use Rattle.llb_tree.specs.Tree.{meta_in};
+ghost use Rattle.llb_tree.specs.Rows.{seen};
+ghost use Rattle.llb_applet.specs.Spots.{IsSpot, spot_of, entry_at, is_dest, is_dir, file_in};
+ghost use Rattle.llb_applet.specs.Commands.{path_by, spot_by, new_meta, meta_there};
+
+use crate::fault::Memory;
+use crate::setting::Setting;
+use llb_mount::View;
+use llb_tree::{Bytes, Entry, Meta, Name, Path, TreeFault};
+use llb_wire::Text;
+use std::alloc::Global;
+
+/// A place in a mount's tree; so many names of it are the mount's selector.
+#[derive(Drop)]
+pub struct Spot {
+    pub mount: u32,
+    pub base: usize,
+    pub place: Path,
+}
+
+/// The path that a word is, read from the cwd.
+pub fn path_by(alloc: Global, setting: &Setting, word: &Text) -> Result<Option<Path>, Memory>
+    ensures { IfOk result (λ p. p ≡ path_by setting.now word.now) }
+{
+    match Path::read_from(alloc, &setting.cwd, word.as_str()) {
+        Ok(path) => Ok(Some(path)),
+        Err(TreeFault::Memory) => Err(Memory),
+        Err(_) => Ok(None),
+    }
+}
+
+/// What a path means.
+pub fn spot_of(view: &View, path: &Path) -> Result<Option<Spot>, Memory>
+    ensures means { IfOk result (λ s. s ≡ spot_of view.now path.now) }
+    ensures spot { IfOk result (λ s. IfSome s (λ spot. IsSpot view.now spot)) }
+{
+    let (mount, dropped) = view.route(path);
+    let selector = view.selector(mount);
+    let base = selector.names().len();
+    let (_, rest) = path.names().split_at(dropped as usize);
+    if base + rest.len() > 128 {
+        return Ok(None);
+    }
+    let place = extended(selector, rest)?;
+    Ok(Some(Spot { mount, base, place }))
+}
+
+// A path with more names behind it.
+fn extended(path: &Path, names: &[Name]) -> Result<Path, Memory>
+    ensures { IfOk result (λ p. p ≡ path.now ++ names.now) }
+{
+    let mut longer = path.copy()?;
+    for name in names {
+        longer.push(name.copy()?)?;
+    }
+    Ok(longer)
+}
+
+/// The mode and owner of an entry.
+pub fn meta_in(entry: &Entry<'_>) -> Meta
+    ensures { result ≡ meta_in (seen entry.now) }
+{
+    match entry {
+        Entry::Dir(meta) => *meta,
+        Entry::File(meta, _) => *meta,
+    }
+}
+
+// The mode and owner of a new file.
+fn new_meta() -> Meta
+    ensures { result ≡ new_meta }
+{
+    Meta::new(0o644, 0, 0).unwrap()
+}
+
+/// What a word means.
+pub fn spot_by(
+    alloc: Global,
+    setting: &Setting,
+    view: &View,
+    word: &Text,
+) -> Result<Option<Spot>, Memory>
+    ensures means { IfOk result (λ s. s ≡ spot_by setting.now view.now word.now) }
+    ensures spot { IfOk result (λ s. IfSome s (λ spot. IsSpot view.now spot)) }
+{
+    match path_by(alloc, setting, word)? {
+        Some(path) => spot_of(view, &path),
+        None => Ok(None),
+    }
+}
+
+impl Spot {
+    /// What stands there.
+    pub fn entry<'v>(&self, view: &'v View) -> Option<Entry<'v>>
+        requires { self.now.mount < length view.now }
+        ensures { option_map seen result ≡ entry_at view.now self.now }
+    {
+        view.tree_of(self.mount).get(&self.place)
+    }
+
+    /// Whether something stands there.
+    pub fn is_there(&self, view: &View) -> bool
+        requires { self.now.mount < length view.now }
+        ensures { result ≡ is_some (entry_at view.now self.now) }
+    {
+        self.entry(view).is_some()
+    }
+
+    /// Whether a directory stands there.
+    pub fn is_dir(&self, view: &View) -> bool
+        requires { self.now.mount < length view.now }
+        ensures { result ≡ is_dir (entry_at view.now self.now) }
+    {
+        match self.entry(view) {
+            Some(Entry::Dir(_)) => true,
+            Some(Entry::File(_, _)) => false,
+            None => false,
+        }
+    }
+
+    /// The content of the file that stands there.
+    pub fn content<'v>(&self, view: &'v View) -> Option<&'v Bytes>
+        requires { self.now.mount < length view.now }
+        ensures { option_map (λ b. b.now) result ≡ option_map (λ f. f.1) (file_in (entry_at view.now self.now)) }
+    {
+        match self.entry(view) {
+            Some(Entry::Dir(_)) => None,
+            Some(Entry::File(_, content)) => Some(content),
+            None => None,
+        }
+    }
+
+    /// The mode and owner of what stands there, or those of a new file, 0644 0:0.
+    pub fn meta(&self, view: &View) -> Meta
+        requires { self.now.mount < length view.now }
+        ensures { result ≡ meta_there (entry_at view.now self.now) }
+    {
+        match self.entry(view) {
+            Some(entry) => meta_in(&entry),
+            None => new_meta(),
+        }
+    }
+
+    /// Whether this is where a mount is.
+    pub fn is_dest(&self) -> bool
+        ensures { result ≡ is_dest self.now }
+    {
+        self.place.names().len() == self.base
+    }
+}
