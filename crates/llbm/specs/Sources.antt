@@ -1,5 +1,5 @@
 -- What is read of the files of local sources.
-use Rattle.std.specs.Prelude.{◌≡◌, ◌<◌, ◌≤◌, ◌⊎◌, ℕ, List, [], ◌∷◌, length, Bool, true, false, if◌then◌else◌, Option, Some, Result, Ok, Err, IfSome}
+use Rattle.std.specs.Prelude.{◌≡◌, ◌<◌, ◌≤◌, ◌⊎◌, ℕ, List, [], ◌∷◌, length, if◌then◌else◌, Option, Result, Ok, Err, IfSome}
 use Rattle.llb_tree.specs.Tree.{TreeMap}
 use Rattle.llb_treetext.specs.Faults.{is_memory}
 use Rattle.llb_treetext.specs.Reading.{Answers}

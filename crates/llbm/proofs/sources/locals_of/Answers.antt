@@ -1,4 +1,4 @@
-use Rattle.std.proofs.Common.{rules, ◌+◌, sym, subst, drop}
+use Rattle.std.proofs.Common.{rules, ◌+◌, subst, drop}
 use Rattle.llbm.specs.Sources.{Gathers}
 use Rattle.llbm.proofs.Gathering.{gathers_more, gathers_none}
 use Rattle.llbm.proofs.sources.locals_of.Goals as goal
