@@ -1,4 +1,4 @@
-use Rattle.std.proofs.Common.{◌≡◌, ◌↔◌, List, ℕ, IsTrue, subst, ◌∙◌}
+use Rattle.std.proofs.Common.{◌↔◌, List, ℕ, IsTrue, subst, ◌∙◌}
 use Rattle.llb_glob.specs.declared.item.Item.{Item}
 use Rattle.llb_glob.specs.Matching.{Matches}
 use Rattle.llb_glob.specs.Laws.{is_the_test}
