@@ -1,11 +1,10 @@
 //! A text is read as a tree, a line at a time: each line lies behind the line before, and is put at the end of the tree.
 
-ghost use Rattle.std.specs.Prelude.{◌≡◌, ◌+◌, ◌<◌, ◌^◌, [], ◌++◌, length, Ok, Err, IfOk, IfErr, false};
+ghost use Rattle.std.specs.Prelude.{◌≡◌, ◌+◌, [], IfOk, IfErr, false};
 ghost use Rattle.std.specs.FinMap as finite;
 ghost use Rattle.llb_tree.specs.Tree as base;
 ghost use Rattle.llb_tree.specs.Tree.{Dir, IsTree, empty_tree};
 ghost use Rattle.llb_treetext.specs.Faults.{is_memory};
-ghost use Rattle.llb_treetext.specs.TreeText.{tree_text};
 ghost use Rattle.llb_treetext.specs.Reading.{Answers, HaveBytes, IsFault, comes_next};
 ghost use Rattle.llb_treetext.specs.Fields.{pair_of};
 ghost use Rattle.llb_treetext.specs.Placing.{put_row, refused, GoesOn, IsFront};
@@ -116,7 +115,6 @@ fn read_root(alloc: Global, bytes: &[u8]) -> Result<(Tree, &[u8]), TextFault>
 pub fn read_tree(alloc: Global, bytes: &[u8]) -> Result<Tree, TextFault>
     ensures { Answers bytes.now result }
 {
-    let _len = bytes.len();
     let (mut tree, mut rest) = read_root(alloc, bytes)?;
     while !rest.is_empty() {
         let number = tree.len() as u64 + 1;
