@@ -1,6 +1,8 @@
 //! One tree laid over another. A tree is a table of its paths, and what is laid is told in a line of text: the entries.
 
-use llb_merge::{Memory, lay};
+use llb_merge::{
+    Memory, at_each_path, lay, over_itself, over_the_empty_tree, under_the_empty_tree,
+};
 use llb_tree::{Entry, Meta, Path, Tree, TreeFault};
 use llb_wire::Bytes;
 use std::alloc::{AllocError, Global};
@@ -13,6 +15,23 @@ const Q: &[Row] = &[("/p", 0o755, None), ("/p/q", 0o644, Some("1"))];
 const FILE: &[Row] = &[("/p", 0o644, Some("2"))];
 
 const R: &[Row] = &[("/p", 0o755, None), ("/p/r", 0o644, Some("3"))];
+
+const LOWER: &[Row] = &[
+    ("/", 0o700, None),
+    ("/a", 0o700, None),
+    ("/a/x", 0o600, Some("low")),
+    ("/a/y", 0o600, Some("low")),
+    ("/c", 0o600, Some("low")),
+    ("/z", 0o700, None),
+];
+
+const UPPER: &[Row] = &[
+    ("/a", 0o755, None),
+    ("/a/x", 0o644, Some("up")),
+    ("/b", 0o755, None),
+    ("/c", 0o755, None),
+    ("/c/d", 0o644, Some("up")),
+];
 
 fn put(alloc: Global, tree: &mut Tree, row: &Row) -> Result<(), TreeFault> {
     let (path, mode, content) = *row;
@@ -39,6 +58,7 @@ fn tree_of(alloc: Global, rows: &[Row]) -> Result<Tree, TreeFault> {
 
 fn over(alloc: Global, lower: &Tree, rows: &[Row]) -> Result<Tree, TreeFault> {
     let upper = tree_of(alloc, rows)?;
+    at_each_path(lower, &upper);
     match lay(alloc, lower, &upper) {
         Ok(laid) => Ok(laid),
         Err(Memory) => Err(TreeFault::Memory),
@@ -87,6 +107,9 @@ fn push_tree(alloc: Global, text: &mut String, tree: &Tree) -> Result<(), AllocE
 
 fn told(alloc: Global, tree: Result<Tree, TreeFault>) -> Result<String, TreeFault> {
     let tree = tree?;
+    over_itself(&tree);
+    over_the_empty_tree(&tree);
+    under_the_empty_tree(&tree);
     let mut text = String::new(alloc);
     push_tree(alloc, &mut text, &tree)?;
     Ok(text)
@@ -135,29 +158,14 @@ fn which_two_of_three_are_laid_first_makes_a_difference(rt: HostRuntime) {
 
 #[test]
 fn the_upper_entry_stands_and_neighbours_of_both_stay(rt: HostRuntime) {
-    let lower: &[Row] = &[
-        ("/", 0o700, None),
-        ("/a", 0o700, None),
-        ("/a/x", 0o600, Some("low")),
-        ("/a/y", 0o600, Some("low")),
-        ("/c", 0o600, Some("low")),
-        ("/z", 0o700, None),
-    ];
-    let upper: &[Row] = &[
-        ("/a", 0o755, None),
-        ("/a/x", 0o644, Some("up")),
-        ("/b", 0o755, None),
-        ("/c", 0o755, None),
-        ("/c/d", 0o644, Some("up")),
-    ];
     let wanted =
         " 755 dir|/a 755 dir|/a/x 644 up|/a/y 600 low|/b 755 dir|/c 755 dir|/c/d 644 up|/z 700 dir|";
     let alloc = rt.alloc();
-    assert!(rt; is_told(alloc, fold(alloc, &[lower, upper]), wanted));
+    assert!(rt; is_told(alloc, fold(alloc, &[LOWER, UPPER]), wanted));
     let same = " 700 dir|/a 700 dir|/a/x 600 low|/a/y 600 low|/c 600 low|/z 700 dir|";
-    assert!(rt; is_told(alloc, fold(alloc, &[lower, lower]), same));
+    assert!(rt; is_told(alloc, fold(alloc, &[LOWER, LOWER]), same));
     let under = " 755 dir|/a 700 dir|/a/x 600 low|/a/y 600 low|/c 600 low|/z 700 dir|";
-    assert!(rt; is_told(alloc, fold(alloc, &[lower, &[]]), under));
+    assert!(rt; is_told(alloc, fold(alloc, &[LOWER, &[]]), under));
 }
 
 fn printed(alloc: Global) -> Result<bool, AllocError> {

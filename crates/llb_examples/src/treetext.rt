@@ -1,7 +1,7 @@
 //! The text of a tree: written, named by its digest, and read. A text is read and written again, or its fault printed.
 
 use llb_tree::{Meta, Path, Tree, TreeFault};
-use llb_treetext::{TextFault, print_tree, read_tree, tree_digest};
+use llb_treetext::{TextFault, one_answer, print_tree, read_tree, reads_back, tree_digest};
 use llb_wire::{Bytes, Over};
 use std::alloc::{AllocError, Global};
 
@@ -17,6 +17,7 @@ fn printed(alloc: Global, tree: &Tree) -> Result<Vec<u8>, AllocError> {
 
 // What a text is read as, printed again; or the fault.
 fn answer(alloc: Global, text: &str) -> Result<String, AllocError> {
+    one_answer(text.as_bytes());
     match read_tree(alloc, text.as_bytes()) {
         Err(fault) => fault.to_string(alloc),
         Ok(tree) => {
@@ -128,6 +129,7 @@ fn put(alloc: Global, tree: &mut Tree) -> Result<(), TreeFault> {
 fn is_read_back(alloc: Global) -> Result<bool, TreeFault> {
     let mut tree = Tree::empty(alloc)?;
     put(alloc, &mut tree)?;
+    reads_back(&tree);
     let text = printed(alloc, &tree)?;
     match read_tree(alloc, text.as_slice()) {
         Ok(read) => Ok(read.same(&tree)),
