@@ -184,7 +184,12 @@ impl View {
 }
 
 // One of the inputs laid over a tree; -1 is the empty tree.
-fn laid_over(alloc: Global, lower: &Tree, inputs: &[Tree], input: &MergeInput) -> Result<Tree, StepFault>
+fn laid_over(
+    alloc: Global,
+    lower: &Tree,
+    inputs: &[Tree],
+    input: &MergeInput,
+) -> Result<Tree, StepFault>
     ensures ok { IfOk result (λ t. t ≡ lay lower.now (base_in input.now.input inputs.now)) }
     ensures memory { IfErr result (λ e. step_memory e ≡ true) }
 {

@@ -27,6 +27,7 @@ const D_ON_A_AND_B: &[u8] =
 
 // The local source `p`, and the local source `q`.
 const SOURCE_P: &[u8] = b"\x1A\x0B\x0A\x09local://p";
+
 const SOURCE_Q: &[u8] = b"\x1A\x0B\x0A\x09local://q";
 
 // P, then Q, then the empty tree, laid over each other.
@@ -387,7 +388,12 @@ fn a_board_gives_its_graph_and_its_local_trees_back(rt: HostRuntime) {
 }
 
 fn sources_and(alloc: Global, last: &[u8]) -> Option<Graph> {
-    let rows = [("P", SOURCE_P), ("Q", SOURCE_Q), ("D", last), ("T", NAMES_D)];
+    let rows = [
+        ("P", SOURCE_P),
+        ("Q", SOURCE_Q),
+        ("D", last),
+        ("T", NAMES_D),
+    ];
     graph_of(alloc, &rows)
 }
 
