@@ -2,7 +2,9 @@
 //! of a script's commands, up to the first that is not 0, and then each mount's tree: a `d` or an `f` and the path of each entry,
 //! its mode and owner where they are not those of a new one, and a file's content.
 
-use llb_applet::{Command, Many, Memory, Path, ScriptFault, Setting, Text, Tree, View, read_script, run_command};
+use llb_applet::{
+    Command, Many, Memory, Path, ScriptFault, Setting, Text, Tree, View, read_script, run_command,
+};
 use llb_mount::Shown;
 use llb_tree::{Bytes, Entry, Meta, TreeFault};
 use std::alloc::{AllocError, AllocFailed, Global};
@@ -439,7 +441,15 @@ fn files_go_from_mount_to_mount(rt: HostRuntime) {
 fn a_failed_command_leaves_the_view(rt: HostRuntime) {
     let alloc = rt.alloc();
     let as_before = "01| d f/a=x\n| d| d d/sub f/sub/f=hi";
-    assert!(rt; tells(alloc, &THREE, "/", "write /a x && false && write /b y", as_before));
+    assert!(rt;
+        tells(
+            alloc,
+            &THREE,
+            "/",
+            "write /a x && false && write /b y",
+            as_before
+        )
+    );
     assert!(rt; tells(alloc, &THREE, "/", "write a x && write /a/b y", as_before));
 }
 
@@ -458,7 +468,10 @@ fn directories_are_made(rt: HostRuntime) {
         ("mkdir -p /f/a", "1| d d/d f/f=x"),
         ("mkdir -p /f", "1| d d/d f/f=x"),
         ("mkdir -p", "0| d d/-p d/d f/f=x"),
-        ("chmod 700 /d && mkdir -p /d/a", "00| d d/d(700 0:0) d/d/a f/f=x"),
+        (
+            "chmod 700 /d && mkdir -p /d/a",
+            "00| d d/d(700 0:0) d/d/a f/f=x",
+        ),
     ];
     assert!(rt; all_tell(rt.alloc(), &rows, &scripts));
 }
@@ -490,7 +503,10 @@ fn contents_are_written(rt: HostRuntime) {
         ("append /g k && append /g l", "00| d d/d f/f=x f/g=k\nl\n"),
         ("append /d k", "1| d d/d f/f=x"),
         ("concat /g /f /f", "0| d d/d f/f=x f/g=xx"),
-        ("write /a 1 && concat /f /a /f /a", "00| d f/a=1\n d/d f/f=1\nx1\n"),
+        (
+            "write /a 1 && concat /f /a /f /a",
+            "00| d f/a=1\n d/d f/f=1\nx1\n",
+        ),
         ("concat /g /f /d", "1| d d/d f/f=x"),
         ("envfile /g", "0| d d/d f/f=x f/g=A=1\nB\n\n"),
     ];
@@ -503,7 +519,10 @@ fn files_are_copied(rt: HostRuntime) {
     let scripts = [
         ("cp /f /g", "0| d d/d d/d/e f/f=x f/g=x"),
         ("cp /f /d", "0| d d/d d/d/e f/d/f=x f/f=x"),
-        ("chmod 640 /f && cp f d/g", "00| d d/d d/d/e f/d/g(640 0:0)=x f/f(640 0:0)=x"),
+        (
+            "chmod 640 /f && cp f d/g",
+            "00| d d/d d/d/e f/d/g(640 0:0)=x f/f(640 0:0)=x",
+        ),
         ("write /g y && cp /f /g", "00| d d/d d/d/e f/f=x f/g=x"),
         ("write /e y && cp /e /d", "01| d d/d d/d/e f/e=y\n f/f=x"),
         ("cp / /g", "1| d d/d d/d/e f/f=x"),
@@ -543,9 +562,17 @@ fn what_is_there_is_asked(rt: HostRuntime) {
 
 #[test]
 fn a_listing_has_a_line_for_each_name(rt: HostRuntime) {
-    let rows = [("/b", None), ("/b/c", Some("")), ("/a", Some("")), ("/b-", None)];
+    let rows = [
+        ("/b", None),
+        ("/b/c", Some("")),
+        ("/a", Some("")),
+        ("/b-", None),
+    ];
     let scripts = [
-        ("listing / /b/l", "0| d f/a= d/b f/b/c= f/b/l=a\nb/\nb-/\n d/b-"),
+        (
+            "listing / /b/l",
+            "0| d f/a= d/b f/b/c= f/b/l=a\nb/\nb-/\n d/b-",
+        ),
         ("listing /b- /l", "0| d f/a= d/b f/b/c= d/b- f/l="),
         ("listing /a /l", "1| d f/a= d/b f/b/c= d/b-"),
         ("listing /x /l", "1| d f/a= d/b f/b/c= d/b-"),
@@ -555,7 +582,8 @@ fn a_listing_has_a_line_for_each_name(rt: HostRuntime) {
 
 #[test]
 fn a_digest_is_that_of_the_content(rt: HostRuntime) {
-    let wanted = "0| d f/f=abc f/h=ba7816bf8f01cfea414140de5dae2223b00361a396177a9cb410ff61f20015ad\n";
+    let wanted =
+        "0| d f/f=abc f/h=ba7816bf8f01cfea414140de5dae2223b00361a396177a9cb410ff61f20015ad\n";
     let rows = [("/f", Some("abc"))];
     let scripts = [
         ("sha256 /f /h", wanted),
