@@ -87,15 +87,16 @@ fronts end called (w ∷ ws) words none =
 
 -- ---- the text of the calls
 
-abbrev IsSome_list : {A : Type 0} → List A → Type 0
-IsSome_list [] = ⊥
-IsSome_list (x ∷ xs) = Unit {0}
+-- there is a first
+abbrev HasFirst : {A : Type 0} → List A → Type 0
+HasFirst [] = ⊥
+HasFirst (x ∷ xs) = Unit {0}
 
-split_some : (ws : List (List ℕ)) → IsSome_list (slice_split is_and ws)
+split_some : (ws : List (List ℕ)) → HasFirst (slice_split is_and ws)
 split_some [] = tt
 split_some (w ∷ ws) = first (is_and w) (slice_split is_and ws)
   where
-    first : (yes : Bool) (calls : List (List (List ℕ))) → IsSome_list (cond yes ([] ∷ calls) (onto_first w calls))
+    first : (yes : Bool) (calls : List (List (List ℕ))) → HasFirst (cond yes ([] ∷ calls) (onto_first w calls))
     first true calls = tt
     first false [] = tt
     first false (c ∷ cs) = tt
@@ -105,7 +106,7 @@ joined_again : (ws : List (List ℕ)) → with_ands (slice_split is_and ws) ≡ 
 joined_again [] = refl
 joined_again (w ∷ ws) = step (is_and w) refl (slice_split is_and ws) (split_some ws) (joined_again ws)
   where
-    step : (b : Bool) → is_and w ≡ b → (calls : List (List (List ℕ))) → IsSome_list calls → with_ands calls ≡ ws → with_ands (cond b ([] ∷ calls) (onto_first w calls)) ≡ w ∷ ws
+    step : (b : Bool) → is_and w ≡ b → (calls : List (List (List ℕ))) → HasFirst calls → with_ands calls ≡ ws → with_ands (cond b ([] ∷ calls) (onto_first w calls)) ≡ w ∷ ws
     step b is [] some e = absurd some
     step true is (c ∷ cs) some e = let same : w ≡ 38 ∷ 38 ∷ [] = (bytes_decides w (38 ∷ 38 ∷ [])).0 is in (λ i. sym same i ∷ e i)
     step false is (c ∷ []) some e = ap (λ r. w ∷ r) e
@@ -158,7 +159,7 @@ none_of (b ∷ bs) e = let halves = both (not (b == 32)) (lacks bs) e in All-con
     other true e = absurd (false≢true e)
     other false e = refl
 
-join_parts : (ws : List (List ℕ)) → IsSome_list ws → list_all lacks ws ≡ true → slice_split (λ b. b == 32) (join_with_byte 32 ws) ≡ ws
+join_parts : (ws : List (List ℕ)) → HasFirst ws → list_all lacks ws ≡ true → slice_split (λ b. b == 32) (join_with_byte 32 ws) ≡ ws
 join_parts [] some e = absurd some
 join_parts (x ∷ []) some e = slice_split_none (λ b. b == 32) x (none_of x (both (lacks x) true e).0)
 join_parts (x ∷ y ∷ xs) some e =
@@ -190,7 +191,7 @@ filtered (w ∷ ws) = step (is_word w) refl (filtered ws)
     step true is rest = (λ i. is i && rest i)
     step false is rest = rest
 
-has_words : (end : ℕ) (ws : List Word) (bytes : List (List ℕ)) → map (λ (w : Word). w.bytes) ws ≡ bytes → bad_place end false ws ≡ None → IsSome_list bytes
+has_words : (end : ℕ) (ws : List Word) (bytes : List (List ℕ)) → map (λ (w : Word). w.bytes) ws ≡ bytes → bad_place end false ws ≡ None → HasFirst bytes
 has_words end [] bytes is none = absurd cc
 has_words end (w ∷ ws) [] is none = absurd cc
 has_words end (w ∷ ws) (b ∷ bs) is none = tt
