@@ -2,7 +2,6 @@
 use Rattle.std.proofs.Common.{◌≡◌, ℕ, zero, suc, ◌≤◌, List, [], ◌∷◌, map, length, refl, sym, ap, ◌∙◌, subst, arith}
 use Rattle.std.specs.Prelude.{Bool, false, replicate}
 use Rattle.std.proofs.lemmas.List.{length-replicate}
-use Rattle.llb_loader.specs.Graph.{Numbered}
 use Rattle.llb_model.specs.Program.{Build}
 use Rattle.llb_model.specs.State as model
 use Rattle.llb_model.specs.State.{Opening}

@@ -11,7 +11,7 @@ use Rattle.llb_tree.specs.Tree.{TreeMap, empty_tree}
 use Rattle.llb_ops.specs.declared.op.Kind.{Kind}
 use Rattle.llb_ops.specs.declared.op.Kind.TheVariants as kind
 use Rattle.llb_ops.specs.declared.merge.MergeInput.{MergeInput}
-use Rattle.llb_model.specs.Program.{MicroStep, Act, LayInput, View, LocalTree, Files, Layers, result_for, is_output, output_from, outputs_of, steps_of}
+use Rattle.llb_model.specs.Program.{MicroStep, Act, LayInput, LocalTree, Files, Layers, result_for, is_output, output_from, outputs_of, steps_of}
 use Rattle.llb_board.specs.Jobs.{placed, placed_by, first_placed, actions_in}
 use Rattle.llb_board.proofs.Lists.{get_map, length_map}
 

@@ -1,21 +1,18 @@
 -- A micro-step of an execution, as it is done.
-use Rattle.std.proofs.Common.{◌≡◌, ℕ, ℤ, zero, suc, inl, inr, ◌+◌, ◌<◌, ◌≤◌, List, [], ◌∷◌, map, length, refl, ap, sym, ◌∙◌, arith}
-use Rattle.std.specs.Prelude.{Bool, true, false, Option, Some, None, Result, Ok, Err, slice_get, nat_le, if◌then◌else◌}
+use Rattle.std.proofs.Common.{◌≡◌, ℕ, ℤ, zero, suc, inl, inr, ◌+◌, ◌<◌, ◌≤◌, List, [], ◌∷◌, length, refl, ap, sym, ◌∙◌, arith}
+use Rattle.std.specs.Prelude.{Bool, true, false, Option, Some, None, Ok, Err, slice_get, nat_le, if◌then◌else◌}
 use Rattle.std.proofs.lemmas.Bool.{le-leb, leb-true, cases_lt}
 use Rattle.llb_fileop.specs.declared.fault.ActFault.{ActFault}
-use Rattle.llb_ops.specs.declared.op.Kind.{Kind}
-use Rattle.llb_ops.specs.declared.op.Kind.TheVariants as kind
 use Rattle.llb_ops.specs.declared.file.Action.{Action}
 use Rattle.llb_tree.specs.Tree.{TreeMap}
 use Rattle.llb_loader.specs.declared.graph.Vertex.{Vertex}
 use Rattle.llb_model.specs.declared.fault.VertexFault.{VertexFault}
 use Rattle.llb_model.specs.declared.fault.VertexFault.TheVariants as fault
-use Rattle.llb_model.specs.Program.{MicroStep, ReadLocal, Act, LayInput, View, Work, trees_in, with_tree, act_among, lay_on, micro_step, with_own, with_result, step_on, tried, fault_number, steps_of, program_at}
-use Rattle.llb_model.specs.State.{Execution, is_finished, next_step}
-use Rattle.llb_model.specs.Table.{Reply, HasRead, Acted, HasMerged, Faulted}
+use Rattle.llb_model.specs.Program.{MicroStep, ReadLocal, Act, LayInput, View, Work, trees_in, with_tree, act_among, lay_on, micro_step, with_own, with_result, tried, fault_number, steps_of, program_at}
+use Rattle.llb_model.specs.State.{Execution, next_step}
+use Rattle.llb_model.specs.Table.{HasRead, Acted, HasMerged, Faulted}
 use Rattle.llb_board.specs.Jobs.{kind_of}
 use Rattle.llb_board.specs.Rules.{worked, worked_by, stepped_to}
-use Rattle.llb_board.proofs.Lists.{length_map}
 
 -- an execution that has not faulted
 abbrev pub clean : ℕ → ℕ → View → Execution

@@ -1,5 +1,5 @@
 -- The vertices of a board's graph, one after another.
-use Rattle.std.proofs.Common.{◌≡◌, ℕ, ◌+◌, ◌<◌, ◌≤◌, List, [], ◌∷◌, drop, map, length, sym, ap, subst, ◌∙◌, drop-cons, add-one}
+use Rattle.std.proofs.Common.{◌≡◌, ℕ, ◌+◌, ◌≤◌, List, ◌∷◌, drop, length, sym, ap, subst, ◌∙◌, drop-cons, add-one}
 use Rattle.std.specs.Prelude.{Option, Some, None, is_some, true, false, slice_get, if◌then◌else◌}
 use Rattle.std.proofs.lemmas.Option.{slice_get_within, get_or_from_slice_get}
 use Rattle.std.proofs.lemmas.List.{drop_all}

@@ -1,5 +1,5 @@
 -- What a job's parts stand for, in the words of the machine's definitions.
-use Rattle.std.specs.Prelude.{ℕ, ℤ, pos, negsuc, slice_set, Option, Some, None, List, [], ◌∷◌, map}
+use Rattle.std.specs.Prelude.{ℤ, pos, negsuc, slice_set, Option, Some, None, List, [], ◌∷◌, map}
 use Rattle.llb_ops.specs.declared.op.Kind.{Kind}
 use Rattle.llb_ops.specs.declared.op.Kind.TheVariants as kind
 use Rattle.llb_ops.specs.declared.file.Action.{Action}

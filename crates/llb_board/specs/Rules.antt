@@ -3,7 +3,7 @@ use Rattle.std.specs.Prelude.{ℕ, ◌==◌, Bool, true, false, List, [], Option
 use Rattle.llb_wire.specs.Answer as answer
 use Rattle.llb_loader.specs.declared.graph.Vertex.{Vertex}
 use Rattle.llb_tree.specs.Tree.{TreeMap}
-use Rattle.llb_model.specs.Program.{Build, MicroStep, Work, Left, Start, start_with, begin, step_on}
+use Rattle.llb_model.specs.Program.{Build, MicroStep, Work, Left, start_with, begin, step_on}
 use Rattle.llb_model.specs.State.{missing_local, Status, Settled, At, Idle, Runs, Execution, program_in, is_finished, next_step, ending_from}
 use Rattle.llb_model.specs.ClaimCause as no_claim
 use Rattle.llb_model.specs.ClaimCause.{ClaimCause}

@@ -1,5 +1,5 @@
 -- The file of one more source is read, or is not.
-use Rattle.std.proofs.Common.{◌≡◌, ◌<◌, ◌+◌, ℕ, List, ◌∷◌, length, drop, get_or, sym, subst, inl, inr, Option}
+use Rattle.std.proofs.Common.{◌≡◌, ◌<◌, ◌+◌, ℕ, List, length, drop, get_or, sym, subst, inl, inr, Option}
 use Rattle.std.specs.Prelude.{Result, Ok, Err}
 use Rattle.std.proofs.lemmas.List.{drop_more}
 use Rattle.llb_tree.specs.Tree.{TreeMap}

@@ -1,8 +1,8 @@
-use Rattle.std.proofs.Common.{◌≡◌, ◌+◌, map, length, true, refl, sym, ap, ◌∙◌, rules}
+use Rattle.std.proofs.Common.{◌≡◌, ◌+◌, map, length, refl, sym, ap, ◌∙◌, rules}
 use Rattle.std.specs.Prelude.{slice_get, Some, Ok, Err, is_ok}
 use Rattle.std.proofs.lemmas.Option.{slice_get_read}
 use Rattle.llb_model.specs.declared.fault.VertexFault.TheVariants as fault
-use Rattle.llb_model.specs.Program.{Act, act_among, trees_in, fault_number}
+use Rattle.llb_model.specs.Program.{Act, act_among, trees_in}
 use Rattle.llb_model.specs.Table.{Acted, Faulted}
 use Rattle.llb_board.proofs.Lists.{get_map}
 use Rattle.llb_board.proofs.Steps.{as_clean, worked_at, acted, act_failed}

@@ -1,11 +1,11 @@
-use Rattle.std.proofs.Common.{◌≡◌, ◌+◌, map, length, refl, sym, ap, ◌∙◌}
-use Rattle.std.specs.Prelude.{slice_get, Some, None, Ok}
+use Rattle.std.proofs.Common.{◌≡◌, ◌+◌, map, length, refl, sym, ◌∙◌}
+use Rattle.std.specs.Prelude.{slice_get, Some, Ok}
 use Rattle.std.proofs.lemmas.Option.{slice_get_read}
 use Rattle.llb_ops.specs.declared.merge.MergeInput.{MergeInput}
 use Rattle.llb_model.specs.Program.{MicroStep, LayInput}
 use Rattle.llb_model.specs.Table.{HasMerged}
 use Rattle.llb_board.proofs.Lists.{get_map}
-use Rattle.llb_board.proofs.Steps.{as_clean, clean, worked_at, merged}
+use Rattle.llb_board.proofs.Steps.{as_clean, worked_at, merged}
 use Rattle.llb_board.proofs.micro_step.lay_step.Goals as goal
 
 pub returns-clause-gives : goal.returns-clause-gives

@@ -1,5 +1,5 @@
-use Rattle.std.proofs.Common.{◌≡◌, ◌∷◌, [], refl, sym, ap, ◌∙◌, arith}
-use Rattle.std.specs.Prelude.{Ok, None}
+use Rattle.std.proofs.Common.{◌≡◌, ◌∷◌, [], refl, sym, ◌∙◌, arith}
+use Rattle.std.specs.Prelude.{Ok}
 use Rattle.llb_model.specs.Program.{ReadLocal}
 use Rattle.llb_model.specs.Table.{HasRead}
 use Rattle.llb_board.specs.Rules.{worked}

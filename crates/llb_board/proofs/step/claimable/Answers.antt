@@ -1,6 +1,5 @@
-use Rattle.std.proofs.Common.{◌≡◌, ◌∙◌, map, length, refl, sym, ap}
+use Rattle.std.proofs.Common.{◌≡◌, ◌∙◌, map, refl, sym, ap}
 use Rattle.std.specs.Prelude.{true, false, Option, Some, None, Err, is_ok, is_some, slice_get}
-use Rattle.std.proofs.lemmas.Option.{slice_get_read, slice_get_past}
 use Rattle.llb_model.specs.Program.{Start}
 use Rattle.llb_model.specs.State.{At, Idle}
 use Rattle.llb_model.specs.Table.{claim_start}

@@ -2,7 +2,6 @@ use Rattle.std.proofs.Common.{◌≡◌, ◌∙◌, map, length, refl, sym, ap, 
 use Rattle.std.specs.Prelude.{Ok, slice_set, replicate}
 use Rattle.std.proofs.lemmas.Option.{slice_get_within}
 use Rattle.llb_tree.specs.Tree.{empty_tree}
-use Rattle.llb_model.specs.Program.{Build}
 use Rattle.llb_model.specs.State.{Waiting, Idle}
 use Rattle.llb_model.specs.Table.{Claim}
 use Rattle.llb_model.proofs.Lists.{length_set}

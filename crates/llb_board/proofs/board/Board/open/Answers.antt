@@ -1,4 +1,4 @@
-use Rattle.std.proofs.Common.{◌≡◌, ℕ, List, true, refl, ap, ◌∙◌, rules}
+use Rattle.std.proofs.Common.{◌≡◌, ℕ, List, true, refl, rules}
 use Rattle.std.specs.Prelude.{Option, Some, None, is_some}
 use Rattle.llb_model.specs.Program.{Build}
 use Rattle.llb_model.specs.State.{missing_local}

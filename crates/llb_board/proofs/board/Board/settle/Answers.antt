@@ -2,7 +2,6 @@ use Rattle.std.proofs.Common.{◌≡◌, ◌∙◌, ◌++◌, [], map, take, dro
 use Rattle.std.specs.Prelude.{Ok, Some, slice_set}
 use Rattle.std.proofs.lemmas.Option.{slice_get_within}
 use Rattle.llb_model.specs.ByNumber.{by_number}
-use Rattle.llb_model.specs.Program.{Build}
 use Rattle.llb_model.specs.State.{Running, is_failed, ending_of, next_stopped, stopped}
 use Rattle.llb_model.specs.Table.{Settle, settle_reply}
 use Rattle.llb_model.proofs.Lists.{length_set}

@@ -1,12 +1,8 @@
-use Rattle.std.proofs.Common.{◌≡◌, List, length, rules, refl, sym, ap, ◌∙◌, true, false}
-use Rattle.std.specs.Prelude.{slice_get, Some, None, is_some, option_map}
+use Rattle.std.proofs.Common.{◌≡◌, length, rules, refl, sym, ap, ◌∙◌, true, false}
+use Rattle.std.specs.Prelude.{slice_get, Some, None, is_some}
 use Rattle.std.proofs.lemmas.Option.{slice_get_read}
-use Rattle.llb_loader.specs.declared.graph.Vertex.{Vertex}
-use Rattle.llb_loader.specs.Graph.{Numbered}
-use Rattle.llb_loader.specs.Locals.{Local, local_name, tree_of_local}
-use Rattle.llb_model.specs.Program.{Build}
-use Rattle.llb_model.specs.State.{missing_local}
-use Rattle.llb_board.proofs.Vertices.{AsMissing, missing_there, missing_passed, missing_unnamed, missing_end}
+use Rattle.llb_loader.specs.Locals.{local_name, tree_of_local}
+use Rattle.llb_board.proofs.Vertices.{missing_there, missing_passed, missing_unnamed, missing_end}
 use Rattle.llb_board.proofs.build.Build.missing.Goals as goal
 use Rattle.llb_board.proofs.build.Build.missing.Goals.{in-Some+else-is_none, in_default}
 
