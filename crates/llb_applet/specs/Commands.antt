@@ -4,8 +4,7 @@ use Rattle.std.specs.Prelude.{ℕ, Bool, true, false, if◌then◌else◌, List,
 use Rattle.std.specs.List.{flat_map}
 use Rattle.std.specs.Result.{result_ok}
 use Rattle.std.specs.FinMap as finite
-use Rattle.sha2.specs.Sha256.{sha256}
-use Rattle.hex.specs.Hex.{encode_lower}
+use Rattle.llb_wire.specs.Digest.{digits_of}
 use Rattle.llb_tree.specs.Path.{path_from, below}
 use Rattle.llb_tree.specs.Tree as tree
 use Rattle.llb_tree.specs.Tree.{Entry, TreeMap, MetaValue, list}
@@ -107,10 +106,6 @@ listing_by setting view word =
     spot_by setting view word >>= λ spot.
     result_ok (list (tree_at view spot) spot.place) >>= λ names.
     Some (listed (tree_at view spot) spot.place names)
-
--- the 64 digits of the SHA-256 of bytes
-abbrev pub digits_of : List ℕ → List ℕ
-digits_of bytes = encode_lower (sha256 bytes)
 
 -- the view that a command leaves with status 0, where it does
 abbrev pub run : Setting → Mounts → Command → Option Mounts

@@ -4,7 +4,8 @@ ghost use Rattle.std.specs.Prelude.{◌≡◌, ◌++◌, [], length, ◌∷◌, 
 ghost use Rattle.std.specs.List.{flat_map};
 ghost use Rattle.std.specs.FinMap as finite;
 ghost use Rattle.llb_applet.specs.Spots.{IsSpot, entry_at, file_in, is_dir};
-ghost use Rattle.llb_applet.specs.Commands.{line, file_by, joined, listed, line_of, listing_by, digits_of};
+ghost use Rattle.llb_applet.specs.Commands.{line, file_by, joined, listed, line_of, listing_by};
+ghost use Rattle.llb_wire.specs.Digest.{digits_of};
 
 use crate::fault::Memory;
 use crate::setting::Setting;

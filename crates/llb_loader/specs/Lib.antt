@@ -6,7 +6,6 @@ pub mod Graph
 pub mod Numbering
 pub mod Placing
 pub mod Faults
-pub mod Digest
 pub mod Naming
 pub mod Locals
 pub mod Features

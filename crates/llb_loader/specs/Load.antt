@@ -5,7 +5,7 @@ use Rattle.llb_ops.specs.Definition.{definition_of}
 use Rattle.llb_loader.specs.declared.row.Row.{Row}
 use Rattle.llb_loader.specs.declared.fault.LoadFault.{LoadFault}
 use Rattle.llb_loader.specs.declared.fault.LoadFault.TheVariants.{Definition}
-use Rattle.llb_loader.specs.Digest.{digest_text}
+use Rattle.llb_wire.specs.Digest.{digest_text}
 use Rattle.llb_loader.specs.Graph.{Numbered}
 use Rattle.llb_loader.specs.Link.{IsGraphOf, IsRefusalOf}
 

@@ -1,7 +1,7 @@
 //! The digest text of an entry, by which inputs name it.
 
 ghost use Rattle.std.specs.Prelude.{◌≡◌, IfOk};
-ghost use Rattle.llb_loader.specs.Digest.{digest_text};
+ghost use Rattle.llb_wire.specs.Digest.{digest_text};
 
 use llb_wire::{Memory, Text};
 use sha2::{Digest, Sha256};

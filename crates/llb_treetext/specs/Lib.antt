@@ -1,7 +1,6 @@
 pub mod TreeText
 pub mod Faults
 pub mod Output
-pub mod Digest
 pub mod Reading
 pub mod Fields
 pub mod Placing

@@ -6,3 +6,4 @@ pub mod Laws
 pub mod Sink
 pub use Rattle.std.specs.Io.KnownBytes.{Appends, Keeps}
 pub mod Hashing
+pub mod Digest

@@ -8,7 +8,7 @@ use Rattle.llb_ops.specs.Definition.{definition_of}
 use Rattle.llb_loader.specs.Faults.{is_memory, definition_fault}
 use Rattle.llb_loader.specs.Load.{IsRefusalIn}
 use Rattle.llb_loader.specs.declared.row.Row.{Row}
-use Rattle.llb_loader.specs.Digest.{digest_text}
+use Rattle.llb_wire.specs.Digest.{digest_text}
 use Rattle.llb_loader.specs.Link.{IsRefusalOf}
 use Rattle.llb_loader.proofs.loading.load.Goals as goal
 

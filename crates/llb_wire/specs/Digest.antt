@@ -1,0 +1,12 @@
+-- The digest of bytes, as it is written.
+use Rattle.std.specs.Prelude.{ℕ, List, ◌++◌, codes}
+use Rattle.sha2.specs.Sha256.{sha256}
+use Rattle.hex.specs.Hex.{encode_lower}
+
+-- the 64 digits of the SHA-256 of bytes
+abbrev pub digits_of : List ℕ → List ℕ
+digits_of bytes = encode_lower (sha256 bytes)
+
+-- `sha256:` and the digits
+abbrev pub digest_text : List ℕ → List ℕ
+digest_text bytes = codes "sha256:" ++ digits_of bytes
