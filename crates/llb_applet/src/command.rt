@@ -74,10 +74,7 @@ impl Command {
                 let (parents, path) = (*parents, path.copy()?);
                 Ok(Command::Mkdir { parents, path })
             }
-            Command::Rm { path } => {
-                let path = path.copy()?;
-                Ok(Command::Rm { path })
-            }
+            Command::Rm { path } => Ok(Command::Rm { path: path.copy()? }),
             Command::Write { path, word } => {
                 let (path, word) = both(path, word)?;
                 Ok(Command::Write { path, word })
@@ -107,10 +104,7 @@ impl Command {
                 let (path, out) = both(path, out)?;
                 Ok(Command::Listing { path, out })
             }
-            Command::Envfile { out } => {
-                let out = out.copy()?;
-                Ok(Command::Envfile { out })
-            }
+            Command::Envfile { out } => Ok(Command::Envfile { out: out.copy()? }),
             Command::Sha256 { path, out } => {
                 let (path, out) = both(path, out)?;
                 Ok(Command::Sha256 { path, out })
