@@ -1,6 +1,6 @@
 //! Commands: a call whose applet is known and whose words are one of its forms. What runs a command needs to look at no form again.
 
-ghost use Rattle.std.specs.Prelude.{◌≡◌, List, ℕ, is_some};
+ghost use Rattle.std.specs.Prelude.{◌≡◌, List, ℕ, is_some, Ok};
 ghost use Rattle.llb_applet.specs.declared.applet.Applet.TheVariants.{Mkdir, Concat, Chmod, Test};
 ghost use Rattle.llb_applet.specs.Faults.{Gives};
 ghost use Rattle.llb_applet.specs.Calls.{alone, pair, kind_of, form, command_of, IsFront};
@@ -8,6 +8,7 @@ ghost use Rattle.llb_applet.specs.Calls.{alone, pair, kind_of, form, command_of,
 use crate::applet::{Applet, is_word};
 use crate::fault::ScriptFault;
 use crate::mode::Mode;
+use crate::texts::copies;
 use llb_wire::{Many, Text};
 use std::alloc::Global;
 
@@ -51,6 +52,65 @@ pub enum Command {
     Envfile { out: Text },
     /// `sha256 P OUT`.
     Sha256 { path: Text, out: Text },
+}
+
+// Copies of two texts.
+fn both(first: &Text, second: &Text) -> Result<(Text, Text), ScriptFault>
+    ensures { Gives (λ p. p) result (Ok (first.now, second.now)) }
+{
+    let first = first.copy()?;
+    Ok((first, second.copy()?))
+}
+
+impl Command {
+    /// An equal second owner; 74 `Memory`.
+    pub fn copy(&self, alloc: Global) -> Result<Command, ScriptFault>
+        ensures { Gives (λ c. c) result (Ok self.now) }
+    {
+        match self {
+            Command::True => Ok(Command::True),
+            Command::False => Ok(Command::False),
+            Command::Mkdir { parents, path } => {
+                let (parents, path) = (*parents, path.copy()?);
+                Ok(Command::Mkdir { parents, path })
+            }
+            Command::Rm { path } => Ok(Command::Rm { path: path.copy()? }),
+            Command::Write { path, word } => {
+                let (path, word) = both(path, word)?;
+                Ok(Command::Write { path, word })
+            }
+            Command::Append { path, word } => {
+                let (path, word) = both(path, word)?;
+                Ok(Command::Append { path, word })
+            }
+            Command::Cp { from, to } => {
+                let (from, to) = both(from, to)?;
+                Ok(Command::Cp { from, to })
+            }
+            Command::Concat { out, parts } => {
+                let out = out.copy()?;
+                let parts = Many::new(copies(alloc, parts.as_slice())?);
+                Ok(Command::Concat { out, parts })
+            }
+            Command::Chmod { mode, path } => {
+                let (mode, path) = (*mode, path.copy()?);
+                Ok(Command::Chmod { mode, path })
+            }
+            Command::Test { kind, path } => {
+                let (kind, path) = (*kind, path.copy()?);
+                Ok(Command::Test { kind, path })
+            }
+            Command::Listing { path, out } => {
+                let (path, out) = both(path, out)?;
+                Ok(Command::Listing { path, out })
+            }
+            Command::Envfile { out } => Ok(Command::Envfile { out: out.copy()? }),
+            Command::Sha256 { path, out } => {
+                let (path, out) = both(path, out)?;
+                Ok(Command::Sha256 { path, out })
+            }
+        }
+    }
 }
 
 /// The kind that an option of `test` asks for.

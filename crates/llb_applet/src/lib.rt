@@ -15,6 +15,7 @@ mod run;
 mod script;
 mod setting;
 mod spot;
+mod texts;
 mod words;
 
 pub use command::{Command, Kind};

@@ -1,7 +1,7 @@
 //! Scripts. A text is looked through without memory first, so that a refusal is told from the want of memory, and then its
 //! calls are made into commands.
 
-ghost use Rattle.std.specs.Prelude.{◌≡◌, ◌+◌, ◌≤◌, ◌<◌, ◌^◌, ◌++◌, ◌∷◌, [], List, ℕ, length, OnOk, IsTrue, slice_index_or};
+ghost use Rattle.std.specs.Prelude.{◌≡◌, ◌+◌, ◌≤◌, ◌<◌, ◌^◌, ◌++◌, ◌∷◌, [], List, ℕ, length, OnOk, IsTrue, slice_index_or, Ok};
 ghost use Rattle.llb_applet.specs.Faults.{Gives, MemoryLast};
 ghost use Rattle.llb_applet.specs.Scripts.{is_shell, script_of, commands_in, commands_of};
 ghost use Rattle.llb_applet.specs.Words.{calls_of};
@@ -10,6 +10,7 @@ use crate::applet::is_word;
 use crate::call::{Begun, judge_text};
 use crate::command::{Command, command_of};
 use crate::fault::ScriptFault;
+use crate::texts::copies;
 use crate::words::{bad_place, is_and};
 use llb_wire::Text;
 use std::alloc::Global;
@@ -37,6 +38,18 @@ impl Script {
         ensures { result.now ≡ self.now }
     {
         self.commands.as_slice()
+    }
+
+    /// An equal second owner; 74 `Memory`.
+    pub fn copy(&self) -> Result<Script, ScriptFault>
+        ensures { Gives (λ s. s) result (Ok self.now) }
+    {
+        let alloc = *self.commands.allocator();
+        let mut commands = Vec::new(alloc);
+        for command in &self.commands {
+            commands.push(command.copy(alloc)?)?;
+        }
+        Ok(Script { commands })
     }
 }
 
@@ -143,17 +156,6 @@ fn second(args: &[Text]) -> &str
         return "";
     }
     args[1].as_str()
-}
-
-// Copies of texts.
-fn copies(alloc: Global, args: &[Text]) -> Result<Vec<Text>, ScriptFault>
-    ensures { Gives (λ v. v.items) result (Ok args.now) }
-{
-    let mut words = Vec::new(alloc);
-    for arg in args {
-        words.push(arg.copy()?)?;
-    }
-    Ok(words)
 }
 
 /// The script that arguments are: `/bin/sh`, `-c` and one text, or else one call, an applet's name and its words. In a text

@@ -1,11 +1,30 @@
 //! What a script's commands share.
 
+ghost use Rattle.std.specs.Prelude.{◌≡◌, IfOk};
+
+use crate::fault::Memory;
+use crate::texts::copies;
 use llb_tree::Path;
 use llb_wire::{Many, Text};
+use std::alloc::Global;
 
 /// Where commands run: paths are read from `cwd`, and `env` is what `envfile` writes.
 #[derive(Drop)]
 pub struct Setting {
     pub cwd: Path,
     pub env: Many<Text>,
+}
+
+impl Setting {
+    /// An equal second owner; 75 `Memory`.
+    pub fn copy(&self, alloc: Global) -> Result<Setting, Memory>
+        ensures { IfOk result (λ s. s ≡ self.now) }
+    {
+        let cwd = self.cwd.copy()?;
+        let env = copies(alloc, self.env.as_slice())?;
+        Ok(Setting {
+            cwd,
+            env: Many::new(env),
+        })
+    }
 }

@@ -366,6 +366,7 @@ fn run(
     Ok(text)
 }
 
+// A story: a copy of the script is run in a copy of the setting.
 fn told(alloc: Global, mounts: &[Mount<'_>], cwd: &str, script: &str) -> Result<String, Stuck> {
     let args = texts(alloc, &["/bin/sh", "-c", script])?;
     if args.is_empty() {
@@ -376,6 +377,7 @@ fn told(alloc: Global, mounts: &[Mount<'_>], cwd: &str, script: &str) -> Result<
     let Some(mut view) = view_of(alloc, mounts)? else {
         return Ok(String::from_str(alloc, "no view")?);
     };
+    let (script, setting) = (script.copy()?, setting.copy(alloc)?);
     let mut text = run(alloc, script.commands(), &setting, &mut view)?;
     for shown in view.mounts() {
         push_tree(alloc, &mut text, &shown.tree)?;

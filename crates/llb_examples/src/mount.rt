@@ -175,7 +175,7 @@ fn take_step(alloc: Global, text: &mut String, view: &mut View, step: Step) -> R
     }
 }
 
-// The story of the steps, and then a copy that was made before them.
+// The story of the steps, and then a view of the mounts that a copy gives back, which was made before them.
 fn story(alloc: Global, steps: &[Step]) -> Result<String, Memory> {
     let mut text = String::new(alloc);
     if let Some(mut view) = view_of(alloc, &THREE)? {
@@ -185,7 +185,8 @@ fn story(alloc: Global, steps: &[Step]) -> Result<String, Memory> {
         }
         push_mounts(alloc, &mut text, &view)?;
         text.push_str("| ")?;
-        push_mounts(alloc, &mut text, &copy)?;
+        let again = View::make(copy.into_mounts())?;
+        push_mounts(alloc, &mut text, &again)?;
     }
     Ok(text)
 }

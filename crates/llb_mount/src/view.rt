@@ -171,6 +171,14 @@ impl View {
         mem::replace(&mut self.mounts[mount as usize].tree, tree)
     }
 
+    /// Gives the mounts back, in their order. Takes no memory.
+    pub fn into_mounts(self) -> Many<Shown>
+        ensures all { result ≡ self }
+        ensures view { IsView result }
+    {
+        Many::new(self.mounts)
+    }
+
     /// An equal second owner; 62 `Memory`.
     pub fn copy(&self) -> Result<View, Memory>
         ensures { IfOk result (λ v. v ≡ self.now) }

@@ -19,6 +19,7 @@ pub mod ExecTrips
 pub mod MergeTrips
 pub mod SourceTrips
 pub mod Trips
+pub mod Sizes
 pub mod Within
 pub mod Spelled
 pub mod DefinitionTrips

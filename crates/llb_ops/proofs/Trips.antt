@@ -276,24 +276,25 @@ kind_own (Build bytes) = refl
 kind_own (Merge m) = refl
 kind_own (Diff bytes) = refl
 
-abbrev pub KindRead : Kind → Type 0
-KindRead (Exec m) = IsRead exec_op_of m
-KindRead (Source m) = IsRead source_op_of m
-KindRead (File m) = IsRead file_op_of m
-KindRead (Build bytes) = Unit {0}
-KindRead (Merge m) = IsRead merge_op_of m
-KindRead (Diff bytes) = Unit {0}
+-- a member that is a message was read of those bytes
+abbrev pub KindRead : List ℕ → Kind → Type 0
+KindRead bytes (Exec m) = exec_op_of bytes ≡ Ok m
+KindRead bytes (Source m) = source_op_of bytes ≡ Ok m
+KindRead bytes (File m) = file_op_of bytes ≡ Ok m
+KindRead bytes (Build held) = Unit {0}
+KindRead bytes (Merge m) = merge_op_of bytes ≡ Ok m
+KindRead bytes (Diff held) = Unit {0}
 
 kind_cases : (b2 b3 b4 b5 b6 : Bool) (bytes : List ℕ) (a : Kind)
-    → cond {A = Result Kind OpFault} b2 (exec_op_of bytes >>= λ m. Ok (Exec m)) (cond b3 (source_op_of bytes >>= λ m. Ok (Source m)) (cond b4 (file_op_of bytes >>= λ m. Ok (File m)) (cond b5 (Ok (Build bytes)) (cond b6 (merge_op_of bytes >>= λ m. Ok (Merge m)) (Ok (Diff bytes)))))) ≡ Ok a → KindRead a
-kind_cases true b3 b4 b5 b6 bytes a e = of_message KindRead exec_op_of (λ m. Exec m) bytes a e (λ m h. (bytes, h))
-kind_cases false true b4 b5 b6 bytes a e = of_message KindRead source_op_of (λ m. Source m) bytes a e (λ m h. (bytes, h))
-kind_cases false false true b5 b6 bytes a e = of_message KindRead file_op_of (λ m. File m) bytes a e (λ m h. (bytes, h))
-kind_cases false false false true b6 bytes a e = subst KindRead (ok_is (Build bytes) a e) tt
-kind_cases false false false false true bytes a e = of_message KindRead merge_op_of (λ m. Merge m) bytes a e (λ m h. (bytes, h))
-kind_cases false false false false false bytes a e = subst KindRead (ok_is (Diff bytes) a e) tt
+    → cond {A = Result Kind OpFault} b2 (exec_op_of bytes >>= λ m. Ok (Exec m)) (cond b3 (source_op_of bytes >>= λ m. Ok (Source m)) (cond b4 (file_op_of bytes >>= λ m. Ok (File m)) (cond b5 (Ok (Build bytes)) (cond b6 (merge_op_of bytes >>= λ m. Ok (Merge m)) (Ok (Diff bytes)))))) ≡ Ok a → KindRead bytes a
+kind_cases true b3 b4 b5 b6 bytes a e = of_message (KindRead bytes) exec_op_of (λ m. Exec m) bytes a e (λ m h. h)
+kind_cases false true b4 b5 b6 bytes a e = of_message (KindRead bytes) source_op_of (λ m. Source m) bytes a e (λ m h. h)
+kind_cases false false true b5 b6 bytes a e = of_message (KindRead bytes) file_op_of (λ m. File m) bytes a e (λ m h. h)
+kind_cases false false false true b6 bytes a e = subst (KindRead bytes) (ok_is (Build bytes) a e) tt
+kind_cases false false false false true bytes a e = of_message (KindRead bytes) merge_op_of (λ m. Merge m) bytes a e (λ m h. h)
+kind_cases false false false false false bytes a e = subst (KindRead bytes) (ok_is (Diff bytes) a e) tt
 
-pub kind_from : (n : ℕ) (xs : List Record) (a : Kind) → kind_of n xs ≡ Ok a → KindRead a
+pub kind_from : (n : ℕ) (xs : List Record) (a : Kind) → kind_of n xs ≡ Ok a → KindRead (joined xs) a
 unfolding kind_of
 kind_from n xs a e = kind_cases (n == 2) (n == 3) (n == 4) (n == 5) (n == 6) (joined xs) a e
 
@@ -305,21 +306,21 @@ kind_written (Build bytes) = bytes_written op_shape 5 bytes refl refl refl
 kind_written (Merge m) = bytes_written op_shape 6 (merge_op_bytes m) refl refl refl
 kind_written (Diff bytes) = bytes_written op_shape 7 bytes refl refl refl
 
-kind_again : (a : Kind) → KindRead a → IsShort (kind_record a) → one_of kinds kind_of (kind_record a ∷ []) ≡ Ok (Some a)
+kind_again : (bytes : List ℕ) (a : Kind) → KindRead bytes a → IsShort (kind_record a) → one_of kinds kind_of (kind_record a ∷ []) ≡ Ok (Some a)
 unfolding kind_of
-kind_again (Exec m) h short = rw (append-nil (exec_op_bytes m), message_short exec_op_of exec_op_bytes 2 m h exec_op_returns short) refl
-kind_again (Source m) h short = rw (append-nil (source_op_bytes m), message_short source_op_of source_op_bytes 3 m h source_op_returns short) refl
-kind_again (File m) h short = rw (append-nil (file_op_bytes m), message_short file_op_of file_op_bytes 4 m h file_op_returns short) refl
-kind_again (Build bytes) h short = ap (λ b. Ok (Some (Build b))) (append-nil bytes)
-kind_again (Merge m) h short = rw (append-nil (merge_op_bytes m), message_short merge_op_of merge_op_bytes 6 m h merge_op_returns short) refl
-kind_again (Diff bytes) h short = ap (λ b. Ok (Some (Diff b))) (append-nil bytes)
+kind_again bytes (Exec m) h short = rw (append-nil (exec_op_bytes m), message_short exec_op_of exec_op_bytes 2 m (bytes, h) exec_op_returns short) refl
+kind_again bytes (Source m) h short = rw (append-nil (source_op_bytes m), message_short source_op_of source_op_bytes 3 m (bytes, h) source_op_returns short) refl
+kind_again bytes (File m) h short = rw (append-nil (file_op_bytes m), message_short file_op_of file_op_bytes 4 m (bytes, h) file_op_returns short) refl
+kind_again bytes (Build held) h short = ap (λ b. Ok (Some (Build b))) (append-nil held)
+kind_again bytes (Merge m) h short = rw (append-nil (merge_op_bytes m), message_short merge_op_of merge_op_bytes 6 m (bytes, h) merge_op_returns short) refl
+kind_again bytes (Diff held) h short = ap (λ b. Ok (Some (Diff b))) (append-nil held)
 
 abbrev op_fields : FieldOf op_shape Op (List Input × (Option Kind × Unit {0}))
 op_fields =
     both (messages 1 input_of input_bytes input_returns refl refl)
     (both (choice kinds kind_of kind_record kind_bytes kind_text kind_own
     (λ n xs a good e. kind_written a)
-    (λ n xs a good e short. kind_again a (kind_from n xs a e) short)) end refl) refl
+    (λ n xs a good e short. kind_again (joined xs) a (kind_from n xs a e) short)) end refl) refl
 
 abbrev op_made : List Input × (Option Kind × Unit {0}) → List ℕ → Op
 op_made a extra = record { inputs = a.0; kind = a.1.0; extra = extra }

@@ -35,10 +35,15 @@ use Rattle.llb_ops.proofs.Settled.{settled_length}
 use Rattle.llb_ops.proofs.Sorts.{IsRead, each_length, each_read}
 use Rattle.llb_ops.proofs.Trips.{ActionRead, action_from, KindRead, kind_from}
 use Rattle.llb_ops.proofs.Admission.{still_fit}
+use Rattle.llb_ops.proofs.Sizes.{parts_size, all_size, member_size, each_size}
+
+-- the records that a message was read of, whose payloads are together no longer than its bytes
+sized_read_of : {M : Type 0} (shape : Shape) (read : List Record → Result M OpFault) (bytes : List ℕ) (m : M) → message_of shape read bytes ≡ Ok m → (rs : List Record) × (read rs ≡ Ok m) × (length (joined rs) ≤ length bytes)
+unfolding message_of
+sized_read_of shape read bytes m e = let r = bind_ok (parts shape bytes) read m e in (r.0, r.2, parts_size shape bytes r.0 r.1)
 
 read_of : {M : Type 0} (shape : Shape) (read : List Record → Result M OpFault) (bytes : List ℕ) (m : M) → message_of shape read bytes ≡ Ok m → (rs : List Record) × (read rs ≡ Ok m)
-unfolding message_of
-read_of shape read bytes m e = let r = bind_ok (parts shape bytes) read m e in (r.0, r.2)
+read_of shape read bytes m e = let r = sized_read_of shape read bytes m e in (r.0, r.1)
 
 -- the records of the first field, and the limit on the others
 first_few : (n : ℕ) (ns : List ℕ) (rs : List Record) → within_limits (n ∷ ns) rs ≡ true → (length (all n rs) ≤ field_limit) × (within_limits ns rs ≡ true)
@@ -101,30 +106,35 @@ file_within bytes m e =
 
 -- ---- executions
 
-meta_within : (bytes : List ℕ) (m : Meta) → meta_of bytes ≡ Ok m → IsMetaWithin m
+meta_within : (bytes : List ℕ) (m : Meta) → length bytes ≤ entry_limit → meta_of bytes ≡ Ok m → IsMetaWithin m
 unfolding meta_in
-meta_within bytes m e =
-    let r = read_of meta_shape meta_in bytes m e in
+meta_within bytes m size e =
+    let r = sized_read_of meta_shape meta_in bytes m e in
     let rs = r.0 in
     let w = guard_ended (within_limits (1 ∷ 2 ∷ []) rs) OverLimit _ m r.1 in
+    let texts = each_size entry_limit (all 1 rs) (omega (arith, size, r.2, all_size 1 rs)) in
     let args = first_few 1 (2 ∷ []) rs w.0 in
     let env = first_few 2 [] rs args.1 in
-    subst (λ (x : Meta). IsMetaWithin x) w.1 (record { args = few_payloads (all 1 rs) args.0; env = few_payloads (all 2 rs) env.0 })
+    subst (λ (x : Meta). IsMetaWithin x) w.1 (record {
+      args = few_payloads (all 1 rs) args.0;
+      env = few_payloads (all 2 rs) env.0;
+      short = All-from_recursion (λ (a : List ℕ). length a ≤ entry_limit) (payloads (all 1 rs)) texts;
+    })
 
-meta_opt_within : (xs : List Record) (b : Bool) (o : Option Meta) → cond {A = Result (Option Meta) OpFault} b (Ok None) (meta_of (joined xs) >>= λ m. Ok (Some m)) ≡ Ok o → IsMetaOptWithin o
-meta_opt_within xs true o e = subst (λ (x : Option Meta). IsMetaOptWithin x) (ok_is None o e) tt
-meta_opt_within xs false o e =
+meta_opt_within : (xs : List Record) (b : Bool) (o : Option Meta) → length (joined xs) ≤ entry_limit → cond {A = Result (Option Meta) OpFault} b (Ok None) (meta_of (joined xs) >>= λ m. Ok (Some m)) ≡ Ok o → IsMetaOptWithin o
+meta_opt_within xs true o size e = subst (λ (x : Option Meta). IsMetaOptWithin x) (ok_is None o e) tt
+meta_opt_within xs false o size e =
     let m = bind_ok (meta_of (joined xs)) (λ m. Ok (Some m)) o e in
-    subst (λ (x : Option Meta). IsMetaOptWithin x) (ok_is (Some m.0) o m.2) (meta_within (joined xs) m.0 m.1)
+    subst (λ (x : Option Meta). IsMetaOptWithin x) (ok_is (Some m.0) o m.2) (meta_within (joined xs) m.0 size m.1)
 
-one_meta : (xs : List Record) (o : Option Meta) → one meta_of xs ≡ Ok o → IsMetaOptWithin o
+one_meta : (xs : List Record) (o : Option Meta) → length (joined xs) ≤ entry_limit → one meta_of xs ≡ Ok o → IsMetaOptWithin o
 unfolding one
-one_meta xs o e = meta_opt_within xs _ o e
+one_meta xs o size e = meta_opt_within xs _ o size e
 
-exec_within : (bytes : List ℕ) (m : ExecOp) → exec_op_of bytes ≡ Ok m → IsExecWithin m
+exec_within : (bytes : List ℕ) (m : ExecOp) → length bytes ≤ entry_limit → exec_op_of bytes ≡ Ok m → IsExecWithin m
 unfolding exec_op_in
-exec_within bytes m e =
-    let r = read_of exec_op_shape exec_op_in bytes m e in
+exec_within bytes m size e =
+    let r = sized_read_of exec_op_shape exec_op_in bytes m e in
     let rs = r.0 in
     let n = bind_ok (one meta_of (all 1 rs)) _ m r.1 in
     let a = bind_ok (each mount_of (all 2 rs)) _ m n.2 in
@@ -132,7 +142,7 @@ exec_within bytes m e =
     let mounts = first_few 2 (5 ∷ []) rs w.0 in
     let secretenv = first_few 5 [] rs mounts.1 in
     subst (λ (x : ExecOp). IsExecWithin x) w.1 (record {
-      meta = one_meta (all 1 rs) n.0 n.1;
+      meta = one_meta (all 1 rs) n.0 (omega (arith, size, r.2, all_size 1 rs)) n.1;
       mounts = few_messages mount_of (all 2 rs) a.0 a.1 mounts.0;
       secretenv = few_payloads (all 5 rs) secretenv.0;
     })
@@ -161,39 +171,39 @@ source_within bytes m e =
 
 -- ---- ops
 
-kind_within : (k : Kind) → KindRead k → IsKindWithin (Some k)
-kind_within (Exec m) h = exec_within h.0 m h.1
-kind_within (Source m) h = source_within h.0 m h.1
-kind_within (File m) h = file_within h.0 m h.1
-kind_within (Build bytes) h = tt
-kind_within (Merge m) h = merge_within h.0 m h.1
-kind_within (Diff bytes) h = tt
+kind_within : (bytes : List ℕ) (k : Kind) → length bytes ≤ entry_limit → KindRead bytes k → IsKindWithin (Some k)
+kind_within bytes (Exec m) size h = exec_within bytes m size h
+kind_within bytes (Source m) size h = source_within bytes m h
+kind_within bytes (File m) size h = file_within bytes m h
+kind_within bytes (Build held) size h = tt
+kind_within bytes (Merge m) size h = merge_within bytes m h
+kind_within bytes (Diff held) size h = tt
 
 abbrev some_kind : Option Kind → Result (Option Kind) OpFault
 some_kind o = Ok o
 
-kind_member : (c : Option ℕ) (rs : List Record) (o : Option Kind) → member_of kinds kind_of c rs ≡ Ok o → IsKindWithin o
-kind_member None rs o e = subst (λ (x : Option Kind). IsKindWithin x) (ok_is None o e) tt
-kind_member (Some n) rs o e =
+kind_member : (c : Option ℕ) (rs : List Record) (o : Option Kind) → length (joined rs) ≤ entry_limit → member_of kinds kind_of c rs ≡ Ok o → IsKindWithin o
+kind_member None rs o size e = subst (λ (x : Option Kind). IsKindWithin x) (ok_is None o e) tt
+kind_member (Some n) rs o size e =
     let a = bind_ok (kind_of n (member kinds n rs)) (λ a. some_kind (Some a)) o e in
-    subst (λ (x : Option Kind). IsKindWithin x) (ok_is (Some a.0) o a.2) (kind_within a.0 (kind_from n (member kinds n rs) a.0 a.1))
+    subst (λ (x : Option Kind). IsKindWithin x) (ok_is (Some a.0) o a.2) (kind_within (joined (member kinds n rs)) a.0 (omega (arith, size, member_size kinds n rs)) (kind_from n (member kinds n rs) a.0 a.1))
 
-message_within : (bytes : List ℕ) (op : Op) → op_message_of bytes ≡ Ok op → IsWithinLimits op
+message_within : (bytes : List ℕ) (op : Op) → length bytes ≤ entry_limit → op_message_of bytes ≡ Ok op → IsWithinLimits op
 unfolding op_in
-message_within bytes op e =
-    let r = read_of op_shape op_in bytes op e in
+message_within bytes op size e =
+    let r = sized_read_of op_shape op_in bytes op e in
     let rs = r.0 in
     let i = bind_ok (each input_of (all 1 rs)) _ op r.1 in
     let k = bind_ok (one_of kinds kind_of rs) _ op i.2 in
     let w = guard_ended (within_limits (1 ∷ []) rs) OverLimit _ op k.2 in
     subst (λ (x : Op). IsWithinLimits x) w.1 (record {
       inputs = few_messages input_of (all 1 rs) i.0 i.1 (first_few 1 [] rs w.0).0;
-      kind = kind_member (chosen kinds rs) rs k.0 k.1;
+      kind = kind_member (chosen kinds rs) rs k.0 (omega (arith, size, r.2)) k.1;
     })
 
-pub op_read_within : (bytes : List ℕ) (r : Result Op OpFault) → Gives {X = Op} {Y = Op} (λ op. op) r (op_message_of bytes) → IfOk r IsWithinLimits
-op_read_within bytes (Ok op) h = message_within bytes op h
-op_read_within bytes (Err e) h = tt
+pub op_read_within : (bytes : List ℕ) (r : Result Op OpFault) → length bytes ≤ entry_limit → Gives {X = Op} {Y = Op} (λ op. op) r (op_message_of bytes) → IfOk r IsWithinLimits
+op_read_within bytes (Ok op) size h = message_within bytes op size h
+op_read_within bytes (Err e) size h = tt
 
 -- ---- definitions
 

@@ -16,9 +16,11 @@ use Rattle.llb_ops.specs.Limits.{field_limit, entries_limit, entry_limit}
 abbrev pub IsFew : {A : Type 0} → List A → Type 0
 IsFew xs = length xs ≤ field_limit
 
+-- the arguments and the environment of a run; an argument is a part of the entry's bytes
 pub record IsMetaWithin (m : Meta) : Type 0 where
   pub args : IsFew m.args
   pub env : IsFew m.env
+  pub short : All (λ a. length a ≤ entry_limit) m.args
 
 abbrev pub IsMetaOptWithin : Option Meta → Type 0
 IsMetaOptWithin None = Unit {0}
