@@ -11,7 +11,7 @@ use Rattle.llb_loader.specs.Building.{IsBuilt, AreBuilt, vertex_at}
 use Rattle.llb_loader.proofs.Firsts.{below_step}
 
 no_vertex : Vertex
-no_vertex = record { digest = []; op = record { inputs = []; kind = None; extra = [] }; inputs = []; steps = 0; outputs = 0 }
+no_vertex = record { digest = []; op = record { inputs = []; kind = None; extra = [] }; script = None; inputs = []; steps = 0; outputs = 0 }
 
 pub built_push : (rows : List Row) (ops : List Op) (links : List (List ℕ)) (ranks order : List ℕ) (vs : List Vertex) (v : Vertex) (n : ℕ) → length vs ≡ n
     → AreBuilt rows ops links ranks order vs n

@@ -16,3 +16,5 @@ pub mod Builds
 pub mod Trees
 pub mod Whole
 pub mod Single
+pub mod Lengths
+pub mod Executions

@@ -18,7 +18,7 @@ use Rattle.llb_loader.specs.declared.fault.Rule.{Rule}
 use Rattle.llb_loader.specs.Numbering.{HasCycle, rank_in}
 use Rattle.llb_loader.specs.Naming.{row_at, AllSame, Collides, Least}
 use Rattle.llb_loader.specs.Features.{feature_of}
-use Rattle.llb_loader.specs.Rules.{MeetsAll, Breaks, BreaksFirst, rules}
+use Rattle.llb_loader.specs.Rules.{MeetsAll, Breaks, BreaksFirst, rules_on}
 use Rattle.llb_loader.specs.Graph.{Numbered}
 use Rattle.llb_loader.specs.Linking.{Plan, plan_of, op_at, links_in, input_row, Foremost, IsApart, HasResult, IsStarted, IsNamed, IsOrdered, IsTaken, IsValid, IsWhole, IsUnknown, IsBadIndex, IsUnsupported, IsInvalid, Refuses, Refused, GraphOf, numbered_of}
 use Rattle.llb_loader.specs.Reading.{AreOps, IsUnread, RefusesRow}
@@ -118,7 +118,7 @@ module _ (p : Plan) where
   stopped_fails (suc (suc (suc (suc (suc (suc zero)))))) e s a =
       let x : ◌≡◌ {A = Option Feature} None (Some s.2) = sym (a.1.featureless s.1 s.5.reached) ∙ s.5.feature in cc
   stopped_fails (suc (suc (suc (suc (suc (suc (suc zero))))))) e s a =
-      not_both (op_at p.ops s.1).inputs (op_at p.ops s.1).kind rules s.2 s.5.broken (a.1.valid s.1 s.5.reached)
+      not_both (op_at p.ops s.1).inputs (op_at p.ops s.1).kind (rules_on (op_at p.ops s.1).kind) s.2 s.5.broken (a.1.valid s.1 s.5.reached)
   stopped_fails (suc (suc (suc (suc (suc (suc (suc (suc zero)))))))) e s a = a.1.indexes s.1 s.2 s.5.holds
   stopped_fails (suc (suc (suc (suc (suc (suc (suc (suc (suc n))))))))) e s a = s
 
@@ -147,11 +147,11 @@ module _ (p : Plan) where
       let at : s.1 ≡ t.1 = elim (cases_order s.1 t.1) [
         | inl x ↦ x
         | inr o ↦ elim o [
-          | inl l ↦ absurd (not_both (op_at p.ops s.1).inputs (op_at p.ops s.1).kind rules s.2 s.5.broken (t.5.least s.1 l s.5.reached))
-          | inr l ↦ absurd (not_both (op_at p.ops t.1).inputs (op_at p.ops t.1).kind rules t.2 t.5.broken (s.5.least t.1 l t.5.reached))
+          | inl l ↦ absurd (not_both (op_at p.ops s.1).inputs (op_at p.ops s.1).kind (rules_on (op_at p.ops s.1).kind) s.2 s.5.broken (t.5.least s.1 l s.5.reached))
+          | inr l ↦ absurd (not_both (op_at p.ops t.1).inputs (op_at p.ops t.1).kind (rules_on (op_at p.ops t.1).kind) t.2 t.5.broken (s.5.least t.1 l t.5.reached))
         ]
       ] in
-      let rule = broken_one (op_at p.ops s.1).inputs (op_at p.ops s.1).kind rules s.2 t.2 s.5.broken (subst (λ (k : ℕ). BreaksFirst (op_at p.ops k) rules t.2) (sym at) t.5.broken) in
+      let rule = broken_one (op_at p.ops s.1).inputs (op_at p.ops s.1).kind (rules_on (op_at p.ops s.1).kind) s.2 t.2 s.5.broken (subst (λ (k : ℕ). BreaksFirst (op_at p.ops k) t.2) (sym at) t.5.broken) in
       s.3 ∙ ap (λ (k : ℕ). Invalid k s.2) at ∙ ap (λ (x : Rule). Invalid t.1 x) rule ∙ sym t.3
   stopped_one (suc (suc (suc (suc (suc (suc (suc (suc zero)))))))) e f s t =
       let at = foremost_one (IsBadIndex p) s.1 s.2 t.1 t.2 s.5 t.5 in

@@ -1,5 +1,5 @@
 -- The vertices that are built of a whole plan are a graph, and the one that the plan says.
-use Rattle.std.proofs.Common.{◌≡◌, ◌≢◌, ℕ, zero, suc, ◌<◌, ◌≤◌, Bool, true, false, cond, not, ◌||◌, nat_eq, List, [], ◌∷◌, ◌++◌, ◌⊎◌, inl, inr, Option, Some, None, IsSome, length, get_or, drop, map, codes, refl, sym, ◌∙◌, ap, subst, arith, pos}
+use Rattle.std.proofs.Common.{◌≡◌, ◌≢◌, ℕ, zero, suc, ◌<◌, ◌≤◌, ◌^◌, Bool, true, false, cond, not, ◌||◌, nat_eq, List, [], ◌∷◌, ◌++◌, ◌⊎◌, inl, inr, Option, Some, None, IsSome, length, get_or, drop, map, codes, refl, sym, ◌∙◌, ap, subst, arith, pos}
 use Rattle.std.proofs.lemmas.Bool.{cases_lt}
 use Rattle.std.proofs.lemmas.Bool.Decides.{Decides-eqb}
 use Rattle.std.proofs.lemmas.Slice.Eq.{starts_is}
@@ -22,13 +22,18 @@ use Rattle.llb_loader.specs.Numbering.{rank_in}
 use Rattle.llb_loader.specs.Rows.{inputs, HasEdge, Walk}
 use Rattle.llb_loader.specs.Naming.{row_at, row_named}
 use Rattle.llb_loader.specs.Features.{is_nameless, has, features, feature_of}
+use Rattle.llb_applet.specs.declared.command.Command.{Command}
 use Rattle.llb_loader.specs.Locals.{behind}
-use Rattle.llb_loader.specs.Rules.{kind_steps, kind_outputs, is_output, owner_of, owner_by_name, outputs_of, mount_outputs, step_count, output_count, IsBelow, MeetsAll, MeetsEach, rules}
+use Rattle.llb_loader.specs.Mounts.{secret, ssh, cache, has_type}
+use Rattle.llb_loader.specs.Scripts.{kind_script, script_in}
+use Rattle.llb_loader.specs.Rules.{kind_steps, kind_outputs, is_output, owner_of, owner_by_name, outputs_of, mount_outputs, step_count, output_count, IsBelow, MeetsAll, MeetsRules, rules_on}
 use Rattle.llb_loader.specs.Graph.{links, LeadsBelow, StandsFor, HasInputs, IsVertex, IsVertexOf, IsGraph}
 use Rattle.llb_loader.specs.Linking.{Plan, op_at, input_at, links_in, input_row, ReachedRow, HasInput, outputs_there, IsNamed, IsWhole, edge_of, vertex_of}
 use Rattle.llb_loader.specs.Building.{IsBuildable, AreBuilt, edge_at, vertex_at, edge_to}
 use Rattle.llb_loader.proofs.Searching.{reached_step}
 use Rattle.llb_loader.proofs.Unique.{rank_at}
+use Rattle.llb_loader.proofs.Lengths.{commands_short}
+use Rattle.llb_loader.proofs.Executions.{exec_vertex}
 use Rattle.llb_loader.proofs.Plans.{graph_at, NamedAt, named_at, below_cases, below_wider, below_abs, below_pos, value_there, IsFirstRow, named_first, same_first, reached_first, named_digest}
 use Rattle.llb_loader.proofs.Refusals.{reached_in, input_named}
 
@@ -93,19 +98,19 @@ kind_count_within (Some (Build x)) w = omega arith
 kind_count_within (Some (Diff x)) w = omega arith
 kind_count_within None w = omega arith
 
-kind_steps_within : (kind : Option Kind) → IsKindWithin kind → kind_steps kind ≤ 1_024
-kind_steps_within (Some (File f)) w = w.actions
-kind_steps_within (Some (Merge x)) w = w
+kind_steps_within : (kind : Option Kind) → IsKindWithin kind → kind_steps kind < 2 ^ 25
+kind_steps_within (Some (File f)) w = let a = w.actions in omega (arith, a)
+kind_steps_within (Some (Merge x)) w = omega (arith, w)
 kind_steps_within (Some (Source x)) w = omega arith
-kind_steps_within (Some (Exec x)) w = omega arith
+kind_steps_within (Some (Exec x)) w = commands_short x.meta w.meta
 kind_steps_within (Some (Build x)) w = omega arith
 kind_steps_within (Some (Diff x)) w = omega arith
 kind_steps_within None w = omega arith
 
 -- a vertex of an op without features that meets the rules, by its kind
-kind_vertex : (v : Vertex) (kind : Option Kind) → find (has kind) features ≡ None → MeetsAll v.op.inputs kind rules → IsKindWithin kind
-    → length v.inputs ≡ length v.op.inputs → v.steps ≡ kind_steps kind → v.outputs ≡ kind_outputs kind → IsVertexOf v kind
-kind_vertex v (Some (Source s)) free met within inputs steps outputs =
+kind_vertex : (v : Vertex) (kind : Option Kind) → find (has kind) features ≡ None → MeetsAll v.op.inputs kind (rules_on kind) → IsKindWithin kind
+    → length v.inputs ≡ length v.op.inputs → v.script ≡ kind_script kind → v.steps ≡ kind_steps kind → v.outputs ≡ kind_outputs kind → IsVertexOf v kind
+kind_vertex v (Some (Source s)) free met within inputs script steps outputs =
     let r = none_found (has (Some (Source s))) features free in
     let local : starts_with nat_eq s.identifier (codes "local://") ≡ true = not_false (starts_with nat_eq s.identifier (codes "local://")) r.1.1.1.0 in
     let b = behind_front (codes "local://") s.identifier local met.1.0 in
@@ -114,7 +119,7 @@ kind_vertex v (Some (Source s)) free met within inputs steps outputs =
     not_false : (b : Bool) → not b ≡ false → b ≡ true
     not_false true e = refl
     not_false false e = absurd (let x : true ≡ false = e in cc)
-kind_vertex v (Some (File f)) free met within inputs steps outputs =
+kind_vertex v (Some (File f)) free met within inputs script steps outputs =
     let r = none_found (has (Some (File f))) features free in
     let named = all_false (λ (a : Action). is_nameless a.kind) f.actions r.1.1.1.1.1.1.1.0 in
     record {
@@ -129,17 +134,19 @@ kind_vertex v (Some (File f)) free met within inputs steps outputs =
       steps = steps;
       outputs = outputs;
     }
-kind_vertex v (Some (Merge m)) free met within inputs steps outputs = record {
+kind_vertex v (Some (Merge m)) free met within inputs script steps outputs = record {
   few = within;
-  merge_inputs = met.1.1.1.1.1.1.1.1.1.1.1.1.1.1.1.1.1.0;
+  merge_inputs = met.1.1.1.1.1.1.1.1.1.1.1.1.1.1.1.1.1.1.0;
   inputs = inputs;
   steps = steps;
   outputs = outputs;
 }
-kind_vertex v (Some (Exec x)) free met within inputs steps outputs = absurd (let r = (none_found (has (Some (Exec x))) features free).0 in let y : true ≡ false = r in cc)
-kind_vertex v (Some (Diff x)) free met within inputs steps outputs = absurd (let r = (none_found (has (Some (Diff x))) features free).1.0 in let y : true ≡ false = r in cc)
-kind_vertex v (Some (Build x)) free met within inputs steps outputs = absurd (let r = (none_found (has (Some (Build x))) features free).1.1.0 in let y : true ≡ false = r in cc)
-kind_vertex v None free met within inputs steps outputs = absurd (let y : false ≡ true = met.0 in cc)
+kind_vertex v (Some (Exec x)) free met within inputs script steps outputs =
+    let r = none_found (has (Some (Exec x))) features free in
+    exec_vertex v x (all_false (has_type cache) x.mounts r.0) (all_false (has_type secret) x.mounts r.1.1.1.1.0) (all_false (has_type ssh) x.mounts r.1.1.1.1.1.0) met within inputs script steps outputs
+kind_vertex v (Some (Diff x)) free met within inputs script steps outputs = absurd (let r = (none_found (has (Some (Diff x))) features free).1.0 in let y : true ≡ false = r in cc)
+kind_vertex v (Some (Build x)) free met within inputs script steps outputs = absurd (let r = (none_found (has (Some (Build x))) features free).1.1.0 in let y : true ≡ false = r in cc)
+kind_vertex v None free met within inputs script steps outputs = absurd (let y : false ≡ true = met.0 in cc)
 
 cons_le : (o : Option ℕ) (ys : List ℕ) (n : ℕ) → length ys ≤ n → length (cons_option o ys) ≤ suc n
 cons_le None ys n l = omega (arith, l)
@@ -149,13 +156,14 @@ filter_map_le : {X : Type 0} (h : X → Option ℕ) (xs : List X) → length (fi
 filter_map_le h [] = omega arith
 filter_map_le h (x ∷ xs) = cons_le (h x) (filter_map h xs) (length xs) (filter_map_le h xs)
 
-same_vertex : (v w : Vertex) → v.digest ≡ w.digest → v.op ≡ w.op → v.inputs ≡ w.inputs → v.steps ≡ w.steps → v.outputs ≡ w.outputs → v ≡ w
-same_vertex v w a b c d e =
-    ap (λ (x : List ℕ). let r : Vertex = record { digest = x; op = v.op; inputs = v.inputs; steps = v.steps; outputs = v.outputs } in r) a
-    ∙ ap (λ (x : Op). let r : Vertex = record { digest = w.digest; op = x; inputs = v.inputs; steps = v.steps; outputs = v.outputs } in r) b
-    ∙ ap (λ (x : List Edge). let r : Vertex = record { digest = w.digest; op = w.op; inputs = x; steps = v.steps; outputs = v.outputs } in r) c
-    ∙ ap (λ (x : ℕ). let r : Vertex = record { digest = w.digest; op = w.op; inputs = w.inputs; steps = x; outputs = v.outputs } in r) d
-    ∙ ap (λ (x : ℕ). let r : Vertex = record { digest = w.digest; op = w.op; inputs = w.inputs; steps = w.steps; outputs = x } in r) e
+same_vertex : (v w : Vertex) → v.digest ≡ w.digest → v.op ≡ w.op → v.script ≡ w.script → v.inputs ≡ w.inputs → v.steps ≡ w.steps → v.outputs ≡ w.outputs → v ≡ w
+same_vertex v w a b s c d e =
+    ap (λ (x : List ℕ). let r : Vertex = record { digest = x; op = v.op; script = v.script; inputs = v.inputs; steps = v.steps; outputs = v.outputs } in r) a
+    ∙ ap (λ (x : Op). let r : Vertex = record { digest = w.digest; op = x; script = v.script; inputs = v.inputs; steps = v.steps; outputs = v.outputs } in r) b
+    ∙ ap (λ (x : Option (List Command)). let r : Vertex = record { digest = w.digest; op = w.op; script = x; inputs = v.inputs; steps = v.steps; outputs = v.outputs } in r) s
+    ∙ ap (λ (x : List Edge). let r : Vertex = record { digest = w.digest; op = w.op; script = w.script; inputs = x; steps = v.steps; outputs = v.outputs } in r) c
+    ∙ ap (λ (x : ℕ). let r : Vertex = record { digest = w.digest; op = w.op; script = w.script; inputs = w.inputs; steps = x; outputs = v.outputs } in r) d
+    ∙ ap (λ (x : ℕ). let r : Vertex = record { digest = w.digest; op = w.op; script = w.script; inputs = w.inputs; steps = w.steps; outputs = x } in r) e
 
 -- ---- a plan in which nothing is refused
 
@@ -311,7 +319,8 @@ module _ (p : Plan) (order : List ℕ) (whole : IsWhole p order) (len : length p
           record {
             within = subst (λ (o : Op). IsWithinLimits o) (sym b.op) (within_at (get_or order k 0) r);
             featureless = ap feature_of b.op ∙ whole.valid.taken.featureless (get_or order k 0) r;
-            valid = subst (λ (o : Op). MeetsEach o rules) (sym b.op) (whole.valid.valid (get_or order k 0) r);
+            valid = subst (λ (o : Op). MeetsRules o) (sym b.op) (whole.valid.valid (get_or order k 0) r);
+            script = b.script ∙ sym (ap script_in b.op);
             steps = b.steps ∙ sym (ap step_count b.op);
             outputs = b.outputs ∙ sym (ap output_count b.op);
             few_steps = (let w = kind_steps_within (op_at p.ops (get_or order k 0)).kind (within_at (get_or order k 0) r).kind in let e = b.steps in omega (arith, w, e));
@@ -321,7 +330,7 @@ module _ (p : Plan) (order : List ℕ) (whole : IsWhole p order) (len : length p
       of_kind : (k : ℕ) → k < length order → IsVertexOf (vertex_at vs k) (vertex_at vs k).op.kind
       of_kind k h =
           let v = is_vertex k h in
-          kind_vertex (vertex_at vs k) (vertex_at vs k).op.kind v.featureless v.valid v.within.kind ((built k h).len ∙ sym (ap (λ (o : Op). length o.inputs) (built k h).op)) v.steps v.outputs
+          kind_vertex (vertex_at vs k) (vertex_at vs k).op.kind v.featureless v.valid v.within.kind ((built k h).len ∙ sym (ap (λ (o : Op). length o.inputs) (built k h).op)) v.script v.steps v.outputs
 
       stands_for : (k i : ℕ) → k < length order → i < length (op_at p.ops (get_or order k 0)).inputs → StandsFor vs (input_at (op_at p.ops (get_or order k 0)) i) (edge_at (vertex_at vs k).inputs i)
       stands_for k i h l =
@@ -404,7 +413,7 @@ module _ (p : Plan) (order : List ℕ) (whole : IsWhole p order) (len : length p
       vertices_same = same_lists vs (map (vertex_of p order) order) (built_len ∙ sym (length-map order (vertex_of p order))) (λ k d h.
           let l : k < length order = (let b = built_len in omega (arith, h, b)) in
           vertex_is k d l
-          ∙ same_vertex (vertex_at vs k) (vertex_of p order (get_or order k 0)) (built k l).digest (built k l).op (inputs_same k l) (built k l).steps (built k l).outputs
+          ∙ same_vertex (vertex_at vs k) (vertex_of p order (get_or order k 0)) (built k l).digest (built k l).op (built k l).script (inputs_same k l) (built k l).steps (built k l).outputs
           ∙ sym (get_or-map (vertex_of p order) order k 0 d l))
 
       pub result_same : (x : Edge) → x ≡ edge_to (get_or ranks p.start 0) (input_at (op_at p.ops p.terminal) 0) → x ≡ edge_of p order (input_at (op_at p.ops p.terminal) 0)

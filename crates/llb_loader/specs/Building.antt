@@ -1,5 +1,5 @@
 -- Vertices as they are built: from a row's digest and op, the rows that its inputs name, and the numbers of rows.
-use Rattle.std.specs.Prelude.{◌≡◌, ℕ, ◌<◌, ◌≤◌, nat_abs, List, [], length, slice_index, slice_index_or, None}
+use Rattle.std.specs.Prelude.{◌≡◌, ℕ, ◌<◌, ◌≤◌, ◌^◌, nat_abs, List, [], length, slice_index, slice_index_or, None}
 use Rattle.llb_ops.specs.declared.op.Op.{Op}
 use Rattle.llb_ops.specs.declared.op.Input.{Input}
 use Rattle.llb_loader.specs.declared.row.Row.{Row}
@@ -7,6 +7,7 @@ use Rattle.llb_loader.specs.declared.graph.Edge.{Edge}
 use Rattle.llb_loader.specs.declared.graph.Vertex.{Vertex}
 use Rattle.llb_loader.specs.Rows.{inputs}
 use Rattle.llb_loader.specs.Rules.{IsBelow, step_count, output_count}
+use Rattle.llb_loader.specs.Scripts.{script_in}
 use Rattle.llb_loader.specs.Naming.{row_at}
 use Rattle.llb_loader.specs.Linking.{op_at, input_at}
 
@@ -15,7 +16,7 @@ abbrev pub edge_at : List Edge → ℕ → Edge
 edge_at edges i = slice_index_or edges i (record { vertex = 0; index = 0 })
 
 abbrev pub vertex_at : List Vertex → ℕ → Vertex
-vertex_at vertices n = slice_index_or vertices n (record { digest = []; op = record { inputs = []; kind = None; extra = [] }; inputs = []; steps = 0; outputs = 0 })
+vertex_at vertices n = slice_index_or vertices n (record { digest = []; op = record { inputs = []; kind = None; extra = [] }; script = None; inputs = []; steps = 0; outputs = 0 })
 
 -- the edge to a vertex that an input stands for
 abbrev pub edge_to : ℕ → Input → Edge
@@ -23,7 +24,7 @@ edge_to vertex input = record { vertex = vertex; index = nat_abs input.index }
 
 -- an op with few steps and outputs, whose inputs name these rows and have small indexes
 pub record IsBuildable (op : Op) (named : List ℕ) : Type 0 where
-  pub steps : step_count op ≤ 1_024
+  pub steps : step_count op < 2 ^ 25
   pub outputs : output_count op ≤ 1_024
   pub len : length named ≡ length op.inputs
   pub indexes : (i : ℕ) → i < length op.inputs → IsBelow 1_025 (input_at op i).index
@@ -31,6 +32,7 @@ pub record IsBuildable (op : Op) (named : List ℕ) : Type 0 where
 pub record IsBuilt (text : List ℕ) (from : Op) (named ranks : List ℕ) (v : Vertex) : Type 0 where
   pub digest : v.digest ≡ text
   pub op : v.op ≡ from
+  pub script : v.script ≡ script_in from
   pub len : length v.inputs ≡ length from.inputs
   pub edges : (i : ℕ) → i < length from.inputs → edge_at v.inputs i ≡ edge_to (slice_index ranks (slice_index named i)) (input_at from i)
   pub steps : v.steps ≡ step_count from

@@ -2,8 +2,10 @@
 use Rattle.std.specs.Prelude.{List, [], ◌∷◌, ◌++◌, Option, MatchOption}
 use Rattle.llb_ops.specs.declared.op.Input.{Input}
 use Rattle.llb_ops.specs.declared.op.Kind.{Kind}
+use Rattle.llb_ops.specs.declared.exec.Meta.{Meta}
 use Rattle.llb_loader.specs.declared.fault.Rule.{Rule}
 use Rattle.llb_loader.specs.declared.fault.Rule.TheVariants as rule
+use Rattle.llb_loader.specs.Scripts.{script_fault}
 use Rattle.llb_loader.specs.Rules.{MeetsAll, Breaks}
 
 -- the first of some rules that is broken, or none is
@@ -31,8 +33,12 @@ mount_rules = rule.MountKind ∷ rule.MountInput ∷ rule.MountOutput ∷ []
 abbrev pub cache_rules : List Rule
 cache_rules = rule.NoCacheOpt ∷ rule.Sharing ∷ rule.CacheTwice ∷ []
 
-abbrev pub exec_rules : List Rule
-exec_rules = word_rules ++ (path_rules ++ (mount_rules ++ cache_rules))
+-- the script that the words are
+abbrev pub script_rules : Option Meta → List Rule
+script_rules meta = rule.Script (script_fault meta) ∷ []
+
+abbrev pub exec_rules : Option Meta → List Rule
+exec_rules meta = word_rules ++ (path_rules ++ (mount_rules ++ (cache_rules ++ script_rules meta)))
 
 abbrev pub merge_rules : List Rule
 merge_rules = rule.MergeInput ∷ []

@@ -10,7 +10,7 @@ use Rattle.llb_loader.specs.Rows.{inputs}
 use Rattle.llb_loader.specs.Naming.{row_named}
 use Rattle.llb_loader.specs.Linking.{op_at, input_at}
 use Rattle.llb_loader.specs.Features.{feature_of}
-use Rattle.llb_loader.specs.Rules.{rules, MeetsEach, BreaksFirst, IsBelow}
+use Rattle.llb_loader.specs.Rules.{MeetsRules, BreaksFirst, IsBelow}
 
 abbrev pub NamesAll : List Row → ℕ → Op → ℕ → Type 0
 NamesAll rows t op n = (i : ℕ) → i < n → row_named rows t (input_at op i).digest ≢ None
@@ -30,8 +30,8 @@ RefusesFeature ops Marked e = (k : ℕ) × (f : Feature) × (e ≡ Unsupported k
     × ((j : ℕ) → j < k → Marked j → feature_of (op_at ops j) ≡ None)
 
 abbrev pub RefusesRule : List Op → (ℕ → Type 0) → LoadFault → Type 0
-RefusesRule ops Marked e = (k : ℕ) × (r : Rule) × (e ≡ Invalid k r) × Marked k × BreaksFirst (op_at ops k) rules r
-    × ((j : ℕ) → j < k → Marked j → MeetsEach (op_at ops j) rules)
+RefusesRule ops Marked e = (k : ℕ) × (r : Rule) × (e ≡ Invalid k r) × Marked k × BreaksFirst (op_at ops k) r
+    × ((j : ℕ) → j < k → Marked j → MeetsRules (op_at ops j))
 
 -- the number of outputs that input i of an op may name, by the rows that its inputs name
 abbrev pub count_there : List ℕ → List ℕ → ℕ → ℕ

@@ -9,13 +9,12 @@ use Rattle.llb_ops.specs.declared.file.ActionKind.TheVariants.{Copy}
 use Rattle.llb_ops.specs.declared.file.CopyFile.{CopyFile}
 use Rattle.llb_loader.specs.declared.fault.Feature.{Feature}
 use Rattle.llb_loader.specs.declared.fault.Feature.TheVariants as feature
-use Rattle.llb_loader.specs.Mounts.{secret, ssh, has_type}
+use Rattle.llb_loader.specs.Mounts.{secret, ssh, cache, has_type}
 use Rattle.llb_loader.specs.Rules.{kind_actions, kind_mounts, owner_of, owner_by_name}
 
--- a kind that is not taken yet: an exec
+-- an exec that is not taken yet: one with a cache mount
 abbrev pub is_not_yet : Option Kind → Bool
-is_not_yet (Some (Exec x)) = true
-is_not_yet _ = false
+is_not_yet kind = list_any (has_type cache) (kind_mounts kind)
 
 abbrev pub is_diff : Option Kind → Bool
 is_diff (Some (Diff b)) = true

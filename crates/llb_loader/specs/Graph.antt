@@ -1,18 +1,24 @@
 -- A numbered graph, as contracts see it, and what is true of each one.
-use Rattle.std.specs.Prelude.{◌≡◌, ℕ, ◌<◌, ◌≤◌, pos, false, List, ◌++◌, length, map, slice_index_or, Option, Some, None, IsSome, codes}
+use Rattle.std.specs.Prelude.{◌≡◌, ◌⊎◌, ℕ, ◌<◌, ◌≤◌, ◌^◌, pos, false, List, [], ◌++◌, length, map, slice_index_or, Option, Some, None, IsSome, Ok, Contains, codes}
 use Rattle.std.specs.List.{All, HoldsAt}
 use Rattle.llb_ops.specs.declared.op.Input.{Input}
 use Rattle.llb_ops.specs.declared.op.Kind.{Kind}
-use Rattle.llb_ops.specs.declared.op.Kind.TheVariants.{Source, File, Merge}
+use Rattle.llb_ops.specs.declared.op.Kind.TheVariants.{Source, File, Merge, Exec}
 use Rattle.llb_ops.specs.declared.file.FileOp.{FileOp}
 use Rattle.llb_ops.specs.declared.merge.MergeOp.{MergeOp}
+use Rattle.llb_ops.specs.declared.exec.ExecOp.{ExecOp}
+use Rattle.llb_ops.specs.declared.exec.Meta.{Meta}
 use Rattle.llb_ops.specs.declared.source.SourceOp.{SourceOp}
 use Rattle.llb_ops.specs.Within.{IsWithinLimits}
 use Rattle.llb_loader.specs.declared.graph.Edge.{Edge}
 use Rattle.llb_loader.specs.declared.graph.Vertex.{Vertex}
 use Rattle.llb_loader.specs.Rows.{Reached}
 use Rattle.llb_loader.specs.Features.{feature_of}
-use Rattle.llb_loader.specs.Rules.{owner_of, owner_by_name, IsInput, ActionInputs, SecondInputs, outputs_of, count_outputs, AreOutputs, step_count, output_count, MeetsEach, rules}
+use Rattle.llb_loader.specs.Rules.{owner_of, owner_by_name, IsInput, ActionInputs, SecondInputs, outputs_of, count_outputs, AreOutputs, step_count, output_count, MeetsRules, mount_outputs, ShowsInput, AreMountOutputs}
+use Rattle.llb_applet.specs.declared.command.Command.{Command}
+use Rattle.llb_applet.specs.Scripts.{script_of}
+use Rattle.llb_loader.specs.Mounts.{bind, tmpfs, read_as, dests_of, AreApart}
+use Rattle.llb_loader.specs.Scripts.{script_in}
 use Rattle.llb_loader.specs.Locals.{source_name}
 
 pub record Numbered : Type 0 where
@@ -42,10 +48,11 @@ pub record HasInputs (vertices : List Vertex) (v : Vertex) : Type 0 where
 pub record IsVertex (v : Vertex) : Type 0 where
   pub within : IsWithinLimits v.op
   pub featureless : feature_of v.op ≡ None
-  pub valid : MeetsEach v.op rules
+  pub valid : MeetsRules v.op
+  pub script : v.script ≡ script_in v.op
   pub steps : v.steps ≡ step_count v.op
   pub outputs : v.outputs ≡ output_count v.op
-  pub few_steps : v.steps ≤ 1_024
+  pub few_steps : v.steps < 2 ^ 25
   pub few_outputs : v.outputs ≤ 1_024
 
 -- ---- a vertex by its kind
@@ -80,11 +87,39 @@ pub record IsMergeVertex (v : Vertex) (m : MergeOp) : Type 0 where
   pub steps : v.steps ≡ length m.inputs
   pub outputs : v.outputs ≡ 1
 
--- a vertex of a kind that is taken: a source, a file op or a merge
+-- an exec has words that are a script, a cwd that is a path, and mounts at different paths, of which one is the root; each shows an
+-- input that is there, or nothing, or is a tmpfs; outputs are those of bind mounts. There are fewer than 2^25 commands, since
+-- each takes more than half a byte of the entry.
+pub record IsExecVertex (v : Vertex) (x : ExecOp) : Type 0 where
+  pub meta : Meta
+  pub commands : List Command
+  pub there : x.meta ≡ Some meta
+  pub words : 0 < length meta.args
+  pub few_words : length meta.args ≤ 1_024
+  pub few_env : length meta.env ≤ 1_024
+  pub reads : script_of meta.args ≡ Ok commands
+  pub script : v.script ≡ Some commands
+  pub few_commands : length commands < 2 ^ 25
+  pub cwd : IsSome (read_as meta.cwd)
+  pub some : 0 < length x.mounts
+  pub few : length x.mounts ≤ 1_024
+  pub root : Contains (dests_of x.mounts) (Some [])
+  pub dests : All IsSome (dests_of x.mounts)
+  pub selectors : All (λ m. IsSome (read_as m.selector)) x.mounts
+  pub apart : AreApart (dests_of x.mounts)
+  pub kinds : All (λ m. (m.mount_type ≡ bind) ⊎ (m.mount_type ≡ tmpfs)) x.mounts
+  pub shown : All (ShowsInput (length v.op.inputs)) x.mounts
+  pub given : AreMountOutputs x.mounts
+  pub inputs : length v.inputs ≡ length v.op.inputs
+  pub steps : v.steps ≡ length commands
+  pub outputs : v.outputs ≡ count_outputs (mount_outputs x.mounts)
+
+-- a vertex of a kind that is taken
 abbrev pub IsVertexOf : Vertex → Option Kind → Type 0
 IsVertexOf v (Some (Source s)) = IsSourceVertex v s
 IsVertexOf v (Some (File f)) = IsFileVertex v f
 IsVertexOf v (Some (Merge m)) = IsMergeVertex v m
+IsVertexOf v (Some (Exec x)) = IsExecVertex v x
 IsVertexOf v _ = ⊥
 
 pub record IsGraph (g : Numbered) : Type 0 where

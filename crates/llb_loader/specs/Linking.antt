@@ -14,7 +14,8 @@ use Rattle.llb_loader.specs.Rows.{Reached}
 use Rattle.llb_loader.specs.Numbering.{IsNumbering, HasCycle, rank_in}
 use Rattle.llb_loader.specs.Naming.{row_at, AllSame, Collides, Least, IsTerminal, terminal_in, row_named, graph_of}
 use Rattle.llb_loader.specs.Features.{feature_of}
-use Rattle.llb_loader.specs.Rules.{step_count, output_count, IsBelow, rules, MeetsEach, BreaksFirst}
+use Rattle.llb_loader.specs.Scripts.{script_in}
+use Rattle.llb_loader.specs.Rules.{step_count, output_count, IsBelow, MeetsRules, BreaksFirst}
 use Rattle.llb_loader.specs.Graph.{Numbered}
 
 -- op k, an empty one past the end
@@ -111,7 +112,7 @@ pub record IsTaken (p : Plan) (order : List ℕ) : Type 0 where
 
 pub record IsValid (p : Plan) (order : List ℕ) : Type 0 where
   pub taken : IsTaken p order
-  pub valid : (k : ℕ) → ReachedRow p k → MeetsEach (op_at p.ops k) rules
+  pub valid : (k : ℕ) → ReachedRow p k → MeetsRules (op_at p.ops k)
 
 pub record IsWhole (p : Plan) (order : List ℕ) : Type 0 where
   pub valid : IsValid p order
@@ -126,8 +127,8 @@ pub record IsUnsupported (p : Plan) (k : ℕ) (f : Feature) : Type 0 where
 
 pub record IsInvalid (p : Plan) (k : ℕ) (r : Rule) : Type 0 where
   pub reached : ReachedRow p k
-  pub broken : BreaksFirst (op_at p.ops k) rules r
-  pub least : (j : ℕ) → j < k → ReachedRow p j → MeetsEach (op_at p.ops j) rules
+  pub broken : BreaksFirst (op_at p.ops k) r
+  pub least : (j : ℕ) → j < k → ReachedRow p j → MeetsRules (op_at p.ops j)
 
 -- the terminal's first input names no row
 pub record HasNoStart (p : Plan) (k i : ℕ) : Type 0 where
@@ -163,6 +164,7 @@ abbrev pub vertex_of : Plan → List ℕ → ℕ → Vertex
 vertex_of p order k = record {
   digest = (row_at p.rows k).digest;
   op = op_at p.ops k;
+  script = script_in (op_at p.ops k);
   inputs = map (edge_of p order) (op_at p.ops k).inputs;
   steps = step_count (op_at p.ops k);
   outputs = output_count (op_at p.ops k);

@@ -1,5 +1,5 @@
 -- What an op must be, so that it can be a vertex: the rules in their order, and the counts of its steps and outputs.
-use Rattle.std.specs.Prelude.{◌≡◌, ◌≢◌, ℕ, zero, ◌+◌, ℤ, pos, negsuc, ◌≤ℤ◌, ◌<ℤ◌, Bool, true, false, ◌||◌, ◌⊎◌, List, [], ◌∷◌, length, IsSome, ⊤, ◌<◌, map, count_by, Option, Some, None, slice_index_or, codes}
+use Rattle.std.specs.Prelude.{◌≡◌, ◌≢◌, ℕ, zero, ◌+◌, ℤ, pos, negsuc, ◌≤ℤ◌, ◌<ℤ◌, Bool, true, false, ◌||◌, ◌⊎◌, List, [], ◌∷◌, length, IsSome, ⊤, ◌<◌, map, count_by, Option, Some, None, slice_index_or, unwrap_or, codes}
 use Rattle.std.specs.List.{All, Contains}
 use Rattle.llb_loader.specs.declared.fault.Rule.{Rule}
 use Rattle.llb_loader.specs.declared.fault.Rule.TheVariants as rule
@@ -21,6 +21,8 @@ use Rattle.llb_ops.specs.declared.file.User.{User}
 use Rattle.llb_ops.specs.declared.file.User.TheVariants.{ByName}
 use Rattle.llb_ops.specs.declared.merge.MergeOp.{MergeOp}
 use Rattle.llb_ops.specs.declared.source.SourceOp.{SourceOp}
+use Rattle.llb_applet.specs.declared.fault.ScriptFault.{ScriptFault}
+use Rattle.llb_loader.specs.Scripts.{commands_in, script_fault}
 use Rattle.llb_loader.specs.Mounts.{bind, cache, tmpfs, dests_of, keys_of, AreApart, ReadsPaths}
 
 -- the number that stands for no input and no output
@@ -145,9 +147,10 @@ HasWord None = ⊤
 
 -- ---- counts
 
--- the number of micro-steps; that of an exec's commands is not counted yet
+-- the number of micro-steps
 abbrev pub kind_steps : Option Kind → ℕ
 kind_steps (Some (Source s)) = 1
+kind_steps (Some (Exec x)) = length (unwrap_or (commands_in x.meta) [])
 kind_steps (Some (File f)) = length f.actions
 kind_steps (Some (Merge m)) = length m.inputs
 kind_steps _ = 0
@@ -205,6 +208,7 @@ Meets inputs kind rule.MountOutput = OfExec (λ x. AreMountOutputs x.mounts) kin
 Meets inputs kind rule.NoCacheOpt = OfExec (λ x. All HasOptions x.mounts) kind
 Meets inputs kind rule.Sharing = OfExec (λ x. All IsShared x.mounts) kind
 Meets inputs kind rule.CacheTwice = OfExec (λ x. AreApart (keys_of inputs x.mounts)) kind
+Meets inputs kind (rule.Script f) = OfExec (λ x. IsSome (commands_in x.meta)) kind
 Meets inputs kind rule.MergeInput = OfMerge (λ m. All (λ i. IsInput (length inputs) i.input) m.inputs) kind
 
 abbrev pub MeetsAll : List Input → Option Kind → List Rule → Type 0
@@ -216,17 +220,23 @@ abbrev pub Breaks : List Input → Option Kind → List Rule → Rule → Type 0
 Breaks inputs kind [] broken = ⊥
 Breaks inputs kind (r ∷ rs) broken = ((broken ≡ r) × (¬ Meets inputs kind r)) ⊎ (Meets inputs kind r × Breaks inputs kind rs broken)
 
--- the rules in the order in which they are checked
-abbrev pub rules : List Rule
-rules =
+-- the fault that an exec's script has, where it has one
+abbrev pub kind_fault : Option Kind → ScriptFault
+kind_fault (Some (Exec x)) = script_fault x.meta
+kind_fault _ = script_fault None
+
+-- the rules in the order in which they are checked; that of scripts has the fault of the script
+abbrev pub rules_on : Option Kind → List Rule
+rules_on kind =
     rule.NoKind ∷ rule.LocalName ∷ rule.NoActions ∷ rule.ActionInput ∷ rule.ActionOutput
     ∷ rule.NoMeta ∷ rule.NoArgs ∷ rule.NoMounts ∷ rule.NoRoot ∷ rule.BadPath ∷ rule.SameDest
     ∷ rule.MountKind ∷ rule.MountInput ∷ rule.MountOutput
-    ∷ rule.NoCacheOpt ∷ rule.Sharing ∷ rule.CacheTwice ∷ rule.MergeInput ∷ []
+    ∷ rule.NoCacheOpt ∷ rule.Sharing ∷ rule.CacheTwice ∷ rule.Script (kind_fault kind) ∷ rule.MergeInput ∷ []
 
-abbrev pub MeetsEach : Op → List Rule → Type 0
-MeetsEach op rs = MeetsAll op.inputs op.kind rs
+-- an op meets every rule
+abbrev pub MeetsRules : Op → Type 0
+MeetsRules op = MeetsAll op.inputs op.kind (rules_on op.kind)
 
--- the first of some rules that an op breaks
-abbrev pub BreaksFirst : Op → List Rule → Rule → Type 0
-BreaksFirst op rs broken = Breaks op.inputs op.kind rs broken
+-- the first rule that an op breaks
+abbrev pub BreaksFirst : Op → Rule → Type 0
+BreaksFirst op broken = Breaks op.inputs op.kind (rules_on op.kind) broken

@@ -4,13 +4,15 @@ ghost use Rattle.std.specs.Prelude.{◌≡◌, ◌≢◌, ◌<◌, ℕ, length, 
 ghost use Rattle.std.specs.List.{All};
 ghost use Rattle.llb_loader.specs.Rows.{lists, inputs, InRange};
 ghost use Rattle.llb_loader.specs.Rules.{IsBelow};
+ghost use Rattle.llb_loader.specs.Scripts.{script_in, commands_in};
 ghost use Rattle.llb_loader.specs.Linking.{op_at, input_at};
 ghost use Rattle.llb_loader.specs.Building.{IsBuildable, IsBuilt, AreBuilt, edge_at, edge_to};
 
 use crate::counts::{count_of, steps_of};
 use crate::graph::{Edge, Vertex};
 use crate::row::Row;
-use llb_ops::{Input, Op};
+use llb_applet::{Script, ScriptFault, read_script};
+use llb_ops::{Input, Kind, Meta, Op};
 use llb_wire::{Bytes, Many, Memory, Text};
 use std::alloc::{AllocError, Global};
 use std::mem;
@@ -64,16 +66,44 @@ fn vertex_of(
     ensures { IfOk result (λ v. IsBuilt digest.now op named.now ranks.now v) }
 {
     let inputs = edges_of(alloc, &op, named, ranks)?;
-    let steps = steps_of(&op) as u32;
+    let script = script_in(alloc, &op)?;
+    let steps = steps_of(&op, &script) as u32;
     let outputs = count_of(&op) as u32;
     let digest = digest.copy()?;
     Ok(Vertex {
         digest,
         op,
+        script,
         inputs: Many::new(inputs),
         steps,
         outputs,
     })
+}
+
+// The script of an exec.
+fn script_in(alloc: Global, op: &Op) -> Result<Option<Script>, Memory>
+    ensures { IfOk result (λ script. script ≡ script_in op.now) }
+{
+    match &op.kind {
+        Some(Kind::Exec(exec)) => commands_in(alloc, &exec.meta),
+        _ => Ok(None),
+    }
+}
+
+fn commands_in(alloc: Global, meta: &Option<Meta>) -> Result<Option<Script>, Memory>
+    ensures { IfOk result (λ script. script ≡ commands_in meta.now) }
+{
+    let Some(meta) = meta else {
+        return Ok(None);
+    };
+    if meta.args.is_empty() {
+        return Ok(None);
+    }
+    match read_script(alloc, meta.args.as_slice()) {
+        Ok(script) => Ok(Some(script)),
+        Err(ScriptFault::Memory) => Err(Memory),
+        Err(_) => Ok(None),
+    }
 }
 
 fn edges_of(

@@ -9,7 +9,7 @@ ghost use Rattle.llb_loader.specs.Naming.{IsIndex};
 ghost use Rattle.llb_loader.specs.Rows.{lists, InRange, inputs};
 ghost use Rattle.llb_loader.specs.Linking.{op_at};
 ghost use Rattle.llb_loader.specs.Features.{feature_of};
-ghost use Rattle.llb_loader.specs.Rules.{IsBelow, MeetsEach, rules, output_count};
+ghost use Rattle.llb_loader.specs.Rules.{IsBelow, MeetsRules, output_count};
 ghost use Rattle.llb_loader.specs.Checks.{NamesAll, FirstUnknown, FitsAll, FirstBad, asked_of, RefusesIndex, RefusesUnknown, RefusesFeature, RefusesRule};
 
 use crate::counts::count_of;
@@ -88,7 +88,7 @@ pub(crate) fn check_features(ops: &[Op], seen: &[bool]) -> Result<(), LoadFault>
 pub(crate) fn check_rules(alloc: Global, ops: &[Op], seen: &[bool]) -> Result<(), LoadFault>
     requires len { length seen.now ≡ length ops.now }
     requires few { length ops.now ≤ 65_536 }
-    ensures met { OnOk result ((k : ℕ) → IsMarked seen.now k → MeetsEach (op_at ops.now k) rules) }
+    ensures met { OnOk result ((k : ℕ) → IsMarked seen.now k → MeetsRules (op_at ops.now k)) }
     ensures refused { IfErr result (λ e. is_memory e ≡ false → RefusesRule ops.now (IsMarked seen.now) e) }
 {
     for k in 0..ops.len() {

@@ -1,21 +1,33 @@
 //! How many micro-steps and outputs an op has.
 
-ghost use Rattle.std.specs.Prelude.{◌≡◌};
+ghost use Rattle.std.specs.Prelude.{◌≡◌, length, unwrap_or, []};
+ghost use Rattle.llb_loader.specs.Scripts.{script_in};
 ghost use Rattle.llb_loader.specs.Rules.{is_output, count_outputs, outputs_of, mount_outputs, step_count, output_count};
 
+use llb_applet::Script;
 use llb_ops::{Action, Kind, Mount, Op};
 
-/// The number of the op's micro-steps; that of an exec's commands is not counted yet.
-pub(crate) fn steps_of(op: &Op) -> usize
+/// The number of the micro-steps of the op that has this script.
+pub(crate) fn steps_of(op: &Op, script: &Option<Script>) -> usize
+    requires { script.now ≡ script_in op.now }
     ensures { result ≡ step_count op.now }
 {
     match &op.kind {
         Some(Kind::Source(_)) => 1,
         Some(Kind::File(file)) => file.actions.len(),
         Some(Kind::Merge(merge)) => merge.inputs.len(),
-        Some(Kind::Exec(_)) => 0,
+        Some(Kind::Exec(_)) => commands_among(script),
         Some(Kind::Build(_)) => 0,
         Some(Kind::Diff(_)) => 0,
+        None => 0,
+    }
+}
+
+fn commands_among(script: &Option<Script>) -> usize
+    ensures { result ≡ length (unwrap_or script.now []) }
+{
+    match script {
+        Some(script) => script.commands().len(),
         None => 0,
     }
 }

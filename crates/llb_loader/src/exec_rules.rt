@@ -1,17 +1,18 @@
-//! The rules on execs, in four groups: what is run, where the mounts are, what they show and give, and their caches.
+//! The rules on execs, in five groups: what is run, where the mounts are, what they show and give, their caches, and the script.
 
-ghost use Rattle.std.specs.Prelude.{◌≡◌, ◌↔◌, Some, IfOk, IsTrue, List};
+ghost use Rattle.std.specs.Prelude.{◌≡◌, ◌↔◌, Some, IsSome, IfOk, IsTrue, List};
 ghost use Rattle.std.specs.List.{All};
 ghost use Rattle.llb_ops.specs.declared.op.Input.{Input};
 ghost use Rattle.llb_ops.specs.declared.op.Kind.TheVariants as kind;
-ghost use Rattle.llb_loader.specs.Rules.{IsBelow, ShowsInput, HasOptions, IsShared, IsKnownSharing, AreMountOutputs, mount_outputs, none};
-ghost use Rattle.llb_loader.specs.Checking.{IsFirstBroken, exec_rules, word_rules, path_rules, mount_rules, cache_rules};
+ghost use Rattle.llb_loader.specs.Rules.{IsBelow, ShowsInput, HasOptions, IsShared, IsKnownSharing, HasWord, AreMountOutputs, mount_outputs, none};
+ghost use Rattle.llb_loader.specs.Checking.{IsFirstBroken, exec_rules, word_rules, path_rules, mount_rules, cache_rules, script_rules};
 
 use crate::caches::caches_apart;
 use crate::fault::Rule;
 use crate::mount_type::{BIND, CACHE, TMPFS};
 use crate::numbers::{are_outputs, is_input};
 use crate::paths::{all_there, cwd_reads, dests_apart, dests_of, has_root, selectors_read};
+use llb_applet::{ScriptFault, read_script};
 use llb_ops::{CacheOpt, ExecOp, Input, Mount};
 use llb_wire::Memory;
 use std::alloc::{AllocError, Global};
@@ -22,7 +23,7 @@ pub(crate) fn broken_in_exec(
     inputs: &[Input],
     exec: &ExecOp,
 ) -> Result<Option<Rule>, Memory>
-    ensures { IfOk result (IsFirstBroken inputs.now (Some (kind.Exec exec.now)) exec_rules) }
+    ensures { IfOk result (IsFirstBroken inputs.now (Some (kind.Exec exec.now)) (exec_rules exec.now.meta)) }
 {
     if let Some(rule) = broken_word(exec) {
         return Ok(Some(rule));
@@ -33,7 +34,10 @@ pub(crate) fn broken_in_exec(
     if let Some(rule) = broken_mount(alloc, inputs, exec)? {
         return Ok(Some(rule));
     }
-    Ok(broken_cache(inputs, exec))
+    if let Some(rule) = broken_cache(inputs, exec) {
+        return Ok(Some(rule));
+    }
+    broken_script(alloc, exec)
 }
 
 fn broken_word(exec: &ExecOp) -> Option<Rule>
@@ -215,5 +219,21 @@ fn is_known(options: &Option<CacheOpt>) -> bool
     match options {
         Some(options) => is_below(3, options.sharing),
         None => true,
+    }
+}
+
+// The words are read where there are some.
+fn broken_script(alloc: Global, exec: &ExecOp) -> Result<Option<Rule>, Memory>
+    requires there { IsSome exec.now.meta }
+    requires words { HasWord exec.now.meta }
+    ensures { IfOk result (λ broken. (inputs : List Input) → IsFirstBroken inputs (Some (kind.Exec exec.now)) (script_rules exec.now.meta) broken) }
+{
+    let Some(meta) = &exec.meta else {
+        return Ok(None);
+    };
+    match read_script(alloc, meta.args.as_slice()) {
+        Ok(_) => Ok(None),
+        Err(ScriptFault::Memory) => Err(Memory),
+        Err(fault) => Ok(Some(Rule::Script(fault))),
     }
 }

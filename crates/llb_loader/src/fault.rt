@@ -1,12 +1,14 @@
 //! Why rows are no graph. A fault prints what stands behind the word `fault` in a refusal: its number and
 //! its arguments, features and rules by their names. Refusals of memory of any kind become `Memory` by `?`.
 
+use llb_applet::ScriptFault;
 use llb_ops::OpFault;
 use std::alloc::{AllocError, AllocFailed};
+use std::fmt;
 use thiserror::Error;
 
 /// Why rows are no graph: the first fault in this order, the least row, then the least input.
-#[derive(Clone, Copy, Debug, PartialEq, Eq, Error)]
+#[derive(Debug, Drop, Error)]
 pub enum LoadFault {
     /// 81: the definition is not readable.
     #[error("81 {0}")]
@@ -33,7 +35,7 @@ pub enum LoadFault {
     #[error("88 {0} {1:?}")]
     Unsupported(u32, Feature),
     /// 89: the op of row k breaks a rule.
-    #[error("89 {0} {1:?}")]
+    #[error("89 {0} {1}")]
     Invalid(u32, Rule),
     /// 90: that input of row k has the index of no output.
     #[error("90 {0} {1}")]
@@ -46,7 +48,7 @@ pub enum LoadFault {
 /// What an op can have that is not taken; of several the first.
 #[derive(Clone, Copy, Debug, PartialEq, Eq)]
 pub enum Feature {
-    /// An op that is not taken yet.
+    /// An exec with a cache mount, which is not taken yet.
     NotYet,
     /// A diff op.
     DiffOp,
@@ -72,9 +74,8 @@ pub enum Feature {
     CopyField,
 }
 
-/// The rules that ops meet, in the order in which they are checked. That of scripts, which carries the script's
-/// own fault, will stand behind `CacheTwice`.
-#[derive(Clone, Copy, Debug, PartialEq, Eq)]
+/// The rules that ops meet, in the order in which they are checked.
+#[derive(Debug, Drop)]
 pub enum Rule {
     /// The op is of some kind.
     NoKind,
@@ -110,8 +111,20 @@ pub enum Rule {
     Sharing,
     /// No two cache mounts of an exec have one key.
     CacheTwice,
+    /// The words of an exec are a script; the script's own fault, 71 to 73.
+    Script(ScriptFault),
     /// A merge takes inputs or nothing.
     MergeInput,
+}
+
+/// A rule prints its name, and that of scripts the script's fault behind it.
+impl fmt::Display for Rule {
+    fn fmt<W: fmt::Write>(&self, f: &mut fmt::Formatter<W>) -> fmt::Result {
+        match self {
+            Rule::Script(fault) => write!(f, "Script {fault}"),
+            rule => write!(f, "{rule:?}"),
+        }
+    }
 }
 
 /// 92: memory was refused for the trees of local sources.

@@ -8,7 +8,7 @@ ghost use Rattle.llb_loader.specs.Rules.{owner_of, owner_by_name, user_by_name};
 ghost use Rattle.llb_loader.specs.Features.{is_not_yet, is_nameless, copies_with, has_pattern, has_field, unpacks, has, refused_features, feature_of};
 
 use crate::fault::Feature;
-use crate::mount_type::{SECRET, SSH};
+use crate::mount_type::{CACHE, SECRET, SSH};
 use llb_ops::{
     Action, ActionKind, ChownOpt, CopyFile, ExecOp, FileOp, Kind, Mount, Op, SourceOp, User,
     UserOpt,
@@ -35,7 +35,10 @@ pub(crate) fn first_feature(op: &Op) -> Option<Feature>
 fn is_not_yet(kind: &Option<Kind>) -> bool
     ensures { result ≡ is_not_yet kind.now }
 {
-    matches!(kind, Some(Kind::Exec(_)))
+    match kind {
+        Some(Kind::Exec(exec)) => any_of_type(exec.mounts.as_slice(), CACHE),
+        _ => false,
+    }
 }
 
 fn source_feature(source: &SourceOp) -> Option<Feature>

@@ -4,6 +4,7 @@ ghost use Rattle.std.specs.Prelude.{◌≡◌, option_map};
 ghost use Rattle.llb_loader.specs.Graph.{IsGraph};
 ghost use Rattle.llb_loader.specs.Locals.{local_name};
 
+use llb_applet::Script;
 use llb_ops::{Kind, Op};
 use llb_wire::{Many, Text};
 use std::marker::Model;
@@ -21,6 +22,8 @@ pub struct Vertex {
     /// `sha256:` and 64 hexadecimal digits, where the row came with the entry's own digest.
     pub digest: Text,
     pub op: Op,
+    /// The commands of an exec; nothing else has a script.
+    pub script: Option<Script>,
     /// The edges of the op's inputs, in their order.
     pub inputs: Many<Edge>,
     /// The number of micro-steps.

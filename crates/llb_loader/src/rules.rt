@@ -1,10 +1,10 @@
-//! The first rule that an op breaks. Each kind has its own rules; their order is that of `rules`.
+//! The first rule that an op breaks. Each kind has its own rules; their order is that of `rules_on`.
 
 ghost use Rattle.std.specs.Prelude.{◌↔◌, Some, IfOk, MatchOption, IsTrue, List};
 ghost use Rattle.llb_ops.specs.declared.op.Input.{Input};
 ghost use Rattle.std.specs.List.{All};
 ghost use Rattle.llb_ops.specs.declared.op.Kind.TheVariants as kind;
-ghost use Rattle.llb_loader.specs.Rules.{IsInput, MeetsEach, BreaksFirst, rules};
+ghost use Rattle.llb_loader.specs.Rules.{IsInput, MeetsRules, BreaksFirst, rules_on};
 ghost use Rattle.llb_loader.specs.Checking.{IsFirstBroken, merge_rules, source_rules};
 
 use crate::exec_rules::broken_in_exec;
@@ -17,7 +17,7 @@ use std::alloc::Global;
 
 /// The first rule that the op breaks.
 pub(crate) fn broken_rule(alloc: Global, op: &Op) -> Result<Option<Rule>, Memory>
-    ensures { IfOk result (λ broken. MatchOption broken (MeetsEach op.now rules) (BreaksFirst op.now rules)) }
+    ensures { IfOk result (λ broken. MatchOption broken (MeetsRules op.now) (BreaksFirst op.now)) }
 {
     let Some(kind) = &op.kind else {
         return Ok(Some(Rule::NoKind));
@@ -26,7 +26,7 @@ pub(crate) fn broken_rule(alloc: Global, op: &Op) -> Result<Option<Rule>, Memory
 }
 
 fn broken_in(alloc: Global, inputs: &[Input], kind: &Kind) -> Result<Option<Rule>, Memory>
-    ensures { IfOk result (IsFirstBroken inputs.now (Some kind.now) rules) }
+    ensures { IfOk result (IsFirstBroken inputs.now (Some kind.now) (rules_on (Some kind.now))) }
 {
     match kind {
         Kind::Source(source) => Ok(broken_in_source(source)),

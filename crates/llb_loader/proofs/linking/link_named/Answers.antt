@@ -10,7 +10,7 @@ use Rattle.llb_loader.specs.Placing.{IsMarked}
 use Rattle.llb_loader.specs.Numbering.{IsNumbering, HasCycle}
 use Rattle.llb_loader.specs.Naming.{rows_named}
 use Rattle.llb_loader.specs.Features.{feature_of}
-use Rattle.llb_loader.specs.Rules.{output_count, MeetsEach, rules}
+use Rattle.llb_loader.specs.Rules.{output_count, MeetsRules}
 use Rattle.llb_loader.specs.Linking.{Plan, plan, op_at, links_in, ReachedRow, IsOrdered, IsTaken, IsValid, IsWhole}
 use Rattle.llb_loader.specs.Checks.{RefusesFeature, RefusesRule, RefusesIndex, FitsAll, asked_of}
 use Rattle.llb_loader.proofs.Plans.{in_range}
@@ -39,10 +39,10 @@ taken_is p order seen ops ordered exact same free = record {
 }
 
 valid_is : (p : Plan) (order : List ℕ) (seen : List Bool) (ops : List Op) → IsTaken p order → ((k : ℕ) → IsMarked seen k ↔ ReachedRow p k) → ops ≡ p.ops
-    → ((k : ℕ) → IsMarked seen k → MeetsEach (op_at ops k) rules) → IsValid p order
+    → ((k : ℕ) → IsMarked seen k → MeetsRules (op_at ops k)) → IsValid p order
 valid_is p order seen ops taken exact same met = record {
   taken = taken;
-  valid = λ k r. subst (λ (xs : List Op). MeetsEach (op_at xs k) rules) same (met k ((exact k).1 r));
+  valid = λ k r. subst (λ (xs : List Op). MeetsRules (op_at xs k)) same (met k ((exact k).1 r));
 }
 
 pub number-requires-clause-rows : goal.number-requires-clause-rows

@@ -1,0 +1,35 @@
+-- The script of an exec: the commands that its words are.
+use Rattle.std.specs.Prelude.{List, Option, Some, None, Ok, Err, Result}
+use Rattle.std.specs.Result.{result_ok}
+use Rattle.llb_ops.specs.declared.op.Op.{Op}
+use Rattle.llb_ops.specs.declared.op.Kind.{Kind}
+use Rattle.llb_ops.specs.declared.op.Kind.TheVariants.{Exec}
+use Rattle.llb_ops.specs.declared.exec.Meta.{Meta}
+use Rattle.llb_applet.specs.declared.command.Command.{Command}
+use Rattle.llb_applet.specs.declared.fault.ScriptFault.{ScriptFault}
+use Rattle.llb_applet.specs.declared.fault.ScriptFault.TheVariants.{ShellSyntax}
+use Rattle.llb_applet.specs.Scripts.{script_of}
+
+-- the commands that a meta's words are, if they are some
+abbrev pub commands_in : Option Meta → Option (List Command)
+commands_in (Some m) = result_ok (script_of m.args)
+commands_in None = None
+
+-- the fault in a result, and a stand-in where there is none
+abbrev pub fault_or_none : Result (List Command) ScriptFault → ScriptFault
+fault_or_none (Err f) = f
+fault_or_none (Ok cs) = ShellSyntax 0
+
+-- the fault of a meta's words, if they have one
+abbrev pub script_fault : Option Meta → ScriptFault
+script_fault (Some m) = fault_or_none (script_of m.args)
+script_fault None = ShellSyntax 0
+
+-- the commands of a kind: those of an exec
+abbrev pub kind_script : Option Kind → Option (List Command)
+kind_script (Some (Exec x)) = commands_in x.meta
+kind_script _ = None
+
+-- the script of an op: there for an exec alone
+abbrev pub script_in : Op → Option (List Command)
+script_in op = kind_script op.kind
