@@ -179,7 +179,7 @@ module _ (b : Build) (graph : IsGraph b.graph) where
 
 outputs_count : (p : Program) (view : View) → length (outputs_of p view) ≡ p.outputs
 unfolding outputs_of
-outputs_count p view = length-map-range_with_len (output_from p.steps view) 0 p.outputs
+outputs_count p view = length-map-range_with_len (output_from p view) 0 p.outputs
 
 pub ended_count : (p : Program) (view : View) (fault : Option VertexFault) (trees : List TreeMap) → ended p view fault ≡ Done trees → length trees ≡ p.outputs
 ended_count p view None trees e = let same : outputs_of p view ≡ trees = cc in ap length (sym same) ∙ outputs_count p view

@@ -3,7 +3,7 @@ use Rattle.std.proofs.Common.{◌≡◌, ℕ, zero, suc, ◌+◌, ◌-◌, ◌<�
 use Rattle.std.specs.Prelude.{slice_get, nat_le, Result, Ok, Err}
 use Rattle.std.proofs.lemmas.Bool.{leb-true, leb-false, le-leb, cases_lt}
 use Rattle.llb_model.specs.declared.fault.VertexFault.{VertexFault}
-use Rattle.llb_model.specs.Program.{MicroStep, ReadLocal, Act, LayInput, View, Work, Left, micro_step, with_own, tried, act_on, step_on, unless_faulted, go_on, part, whole}
+use Rattle.llb_model.specs.Program.{MicroStep, ReadLocal, Act, LayInput, Run, View, Work, Left, micro_step, with_own, tried, act_on, run_on, step_on, unless_faulted, go_on, part, whole}
 use Rattle.llb_model.specs.State.{Execution, is_finished, next_step}
 use Rattle.llb_model.proofs.Lists.{some_of, get_past, get_within}
 
@@ -102,3 +102,4 @@ step_keeps k None work = refl
 step_keeps k (Some ReadLocal) work = refl
 step_keeps k (Some (Act action)) work = own_keeps work (act_on k action work.own)
 step_keeps k (Some (LayInput i)) work = refl
+step_keeps k (Some (Run setting command)) work = own_keeps work (run_on k setting command work.own)

@@ -5,6 +5,15 @@ use Rattle.llb_ops.specs.declared.file.Action.{Action}
 use Rattle.llb_ops.specs.declared.op.Kind.{Kind}
 use Rattle.llb_ops.specs.declared.op.Kind.TheVariants as kind
 use Rattle.llb_ops.specs.declared.merge.MergeInput.{MergeInput}
+use Rattle.llb_ops.specs.declared.exec.ExecOp.{ExecOp}
+use Rattle.llb_ops.specs.declared.exec.Meta.{Meta}
+use Rattle.llb_ops.specs.declared.exec.Mount.{Mount}
+use Rattle.llb_loader.specs.Mounts.{bind, tmpfs, has_type, read_as}
+use Rattle.llb_loader.specs.Rules.{kind_mounts, mount_outputs}
+use Rattle.llb_mount.specs.declared.shown.Shown.{Shown}
+use Rattle.llb_applet.specs.declared.setting.Setting.{Setting}
+use Rattle.llb_applet.specs.declared.command.Command.{Command}
+use Rattle.llb_applet.specs.Commands.{run, status_of}
 use Rattle.llb_loader.specs.Graph.{Numbered}
 use Rattle.llb_loader.specs.Locals.{Local, local_name, tree_of_local}
 use Rattle.llb_loader.specs.declared.graph.Vertex.{Vertex}
@@ -23,23 +32,27 @@ pub record Build : Type 0 where
   pub graph : Numbered
   pub locals : List Local
 
--- one micro-step: the read of a source, an action of a file op, the laying of a merge's input over those before it
+-- one micro-step: the read of a source, an action of a file op, the laying of a merge's input over those before it, a command of
+-- an exec in its cwd and env
 pub data MicroStep : Type 0 where
   ReadLocal : MicroStep
   Act : Action → MicroStep
   LayInput : ℤ → MicroStep
+  Run : Setting → Command → MicroStep
 
--- the micro-steps of a vertex, and how many outputs it has
+-- the micro-steps of a vertex, how many outputs it has, and of an exec the number of the output that each mount gives
 pub record Program : Type 0 where
   pub steps : List MicroStep
   pub outputs : ℕ
+  pub given : List ℤ
 
 -- what a program has for itself: of a source its local tree, of a file op the trees of its inputs and the results so far, of
--- a merge the trees of its inputs and what is laid so far
+-- a merge the trees of its inputs and what is laid so far, of an exec its mounts
 pub data View : Type 0 where
   LocalTree : TreeMap → View
   Files : List TreeMap → List TreeMap → View
   Layers : List TreeMap → TreeMap → View
+  Mounted : List Shown → View
 
 -- what micro-steps work on: a view of its own, and the trees of the cache instances that it holds, of which there are none yet
 pub record Work : Type 0 where
@@ -59,33 +72,59 @@ pub record Start : Type 0 where
 abbrev pub start_with : Vertex → List TreeMap → Start
 start_with v trees = record { vertex = v; inputs = trees }
 
-abbrev pub steps_of : Option Kind → List MicroStep
-steps_of (Some (kind.Source s)) = ReadLocal ∷ []
-steps_of (Some (kind.File f)) = map Act f.actions
-steps_of (Some (kind.Merge m)) = map (λ (i : MergeInput). LayInput i.input) m.inputs
-steps_of (Some (kind.Exec x)) = []
-steps_of (Some (kind.Build b)) = []
-steps_of (Some (kind.Diff d)) = []
-steps_of None = []
+-- the path that a text reads as; the texts of a vertex that are to be paths all read
+abbrev pub path_in : List ℕ → List (List ℕ)
+path_in text = unwrap_or (read_as text) []
+
+-- where an exec's commands run; an exec has its meta
+abbrev pub setting_of : Option Meta → Setting
+setting_of (Some m) = record { cwd = path_in m.cwd; env = m.env }
+setting_of None = record { cwd = []; env = [] }
+
+-- the micro-steps of a kind; of an exec the commands of its script
+abbrev pub steps_of : Option Kind → Option (List Command) → List MicroStep
+steps_of (Some (kind.Source s)) script = ReadLocal ∷ []
+steps_of (Some (kind.File f)) script = map Act f.actions
+steps_of (Some (kind.Merge m)) script = map (λ (i : MergeInput). LayInput i.input) m.inputs
+steps_of (Some (kind.Exec x)) script = map (Run (setting_of x.meta)) (unwrap_or script [])
+steps_of (Some (kind.Build b)) script = []
+steps_of (Some (kind.Diff d)) script = []
+steps_of None script = []
 
 abbrev pub program_of : Vertex → Program
-program_of v = record { steps = steps_of v.op.kind; outputs = v.outputs }
+program_of v = record { steps = steps_of v.op.kind v.script; outputs = v.outputs; given = mount_outputs (kind_mounts v.op.kind) }
 
 -- of a number that no vertex has: nothing to do
 abbrev pub program_at : Option Vertex → Program
 program_at (Some v) = program_of v
-program_at None = record { steps = []; outputs = 0 }
+program_at None = record { steps = []; outputs = 0; given = [] }
 
 -- the local tree of a source; a run begins only where it is there
 abbrev pub local_tree : List Local → Vertex → TreeMap
 local_tree locals v = unwrap_or (tree_of_local locals (unwrap_or (local_name v.op) [])) empty_tree
+
+-- a tree by its number among those of an op's inputs and the results of earlier actions; -1 is the empty tree
+abbrev pub base_in : ℤ → List TreeMap → TreeMap
+base_in (pos n) trees = unwrap_or (slice_get trees n) empty_tree
+base_in (negsuc n) trees = empty_tree
+
+-- the tree that a mount shows at first: a bind mount its input's, another one the empty tree
+abbrev pub tree_shown : List TreeMap → Mount → TreeMap
+tree_shown inputs m = if has_type bind m then base_in m.input inputs else empty_tree
+
+-- the path in that tree which the mount's dest shows; a tmpfs shows its root
+abbrev pub selector_of : Mount → List (List ℕ)
+selector_of m = if has_type tmpfs m then [] else path_in m.selector
+
+abbrev pub shown_of : List TreeMap → Mount → Shown
+shown_of inputs m = record { dest = path_in m.dest; selector = selector_of m; readonly = m.readonly; tree = tree_shown inputs m }
 
 -- a view before the first micro-step
 abbrev pub view_on : List Local → Vertex → Option Kind → List TreeMap → View
 view_on locals v (Some (kind.Source s)) inputs = LocalTree (local_tree locals v)
 view_on locals v (Some (kind.File f)) inputs = Files inputs []
 view_on locals v (Some (kind.Merge m)) inputs = Layers inputs empty_tree
-view_on locals v (Some (kind.Exec x)) inputs = Files inputs []
+view_on locals v (Some (kind.Exec x)) inputs = Mounted (map (shown_of inputs) x.mounts)
 view_on locals v (Some (kind.Build b)) inputs = Files inputs []
 view_on locals v (Some (kind.Diff d)) inputs = Files inputs []
 view_on locals v None inputs = Files inputs []
@@ -93,11 +132,6 @@ view_on locals v None inputs = Files inputs []
 -- a work before the first micro-step, with these trees of instances
 abbrev pub begin : Build → Start → List TreeMap → Work
 begin b start trees = record { own = view_on b.locals start.vertex start.vertex.op.kind start.inputs; trees = trees }
-
--- a tree by its number among those of an op's inputs and the results of earlier actions; -1 is the empty tree
-abbrev pub base_in : ℤ → List TreeMap → TreeMap
-base_in (pos n) trees = unwrap_or (slice_get trees n) empty_tree
-base_in (negsuc n) trees = empty_tree
 
 abbrev pub tree_fault_number : TreeFault → ℕ
 tree_fault_number NotFound = 21
@@ -119,12 +153,14 @@ abbrev pub trees_in : View → List TreeMap
 trees_in (Files inputs results) = inputs ++ results
 trees_in (LocalTree t) = []
 trees_in (Layers inputs t) = inputs
+trees_in (Mounted mounts) = []
 
 -- one result more of a file op
 abbrev pub with_tree : View → TreeMap → View
 with_tree (Files inputs results) t = Files inputs (results ++ t ∷ [])
 with_tree (LocalTree own) t = LocalTree own
 with_tree (Layers inputs laid) t = Layers inputs laid
+with_tree (Mounted mounts) t = Mounted mounts
 
 abbrev pub with_result : ℕ → View → Result TreeMap ActFault → Result View VertexFault
 with_result a view (Ok t) = Ok (with_tree view t)
@@ -143,6 +179,19 @@ abbrev pub lay_on : ℤ → View → View
 lay_on i (Layers inputs t) = Layers inputs (lay t (base_in i inputs))
 lay_on i (LocalTree t) = LocalTree t
 lay_on i (Files inputs results) = Files inputs results
+lay_on i (Mounted mounts) = Mounted mounts
+
+-- what command c leaves of the mounts, or its status where that is not 0
+abbrev pub ran : ℕ → Option (List Shown) → Result View VertexFault
+ran c (Some mounts) = Ok (Mounted mounts)
+ran c None = Err (fault.Exit c (status_of None))
+
+-- the view after command c
+abbrev pub run_on : ℕ → Setting → Command → View → Result View VertexFault
+run_on c setting command (Mounted mounts) = ran c (run setting mounts command)
+run_on c setting command (LocalTree t) = Ok (LocalTree t)
+run_on c setting command (Files inputs results) = Ok (Files inputs results)
+run_on c setting command (Layers inputs t) = Ok (Layers inputs t)
 
 -- another view of its own
 abbrev pub with_own : Work → Result View VertexFault → Result Work VertexFault
@@ -154,6 +203,7 @@ unfoldable pub micro_step : ℕ → MicroStep → Work → Result Work VertexFau
 micro_step k ReadLocal work = Ok work
 micro_step k (Act action) work = with_own work (act_on k action work.own)
 micro_step k (LayInput i) work = with_own work (Ok (lay_on i work.own))
+micro_step k (Run setting command) work = with_own work (run_on k setting command work.own)
 
 -- a micro-step that faults changes nothing
 abbrev pub tried : Work → Result Work VertexFault → Left
@@ -193,15 +243,24 @@ result_for i (m ∷ steps) [] = empty_tree
 result_for i (Act a ∷ steps) (t ∷ results) = if is_output i a.output then t else result_for i steps results
 result_for i (ReadLocal ∷ steps) (t ∷ results) = result_for i steps results
 result_for i (LayInput n ∷ steps) (t ∷ results) = result_for i steps results
+result_for i (Run setting command ∷ steps) (t ∷ results) = result_for i steps results
 
--- output i of a view: of a file op the result of an action; of a source what is read, of a merge what is laid, their one output
-abbrev pub output_from : List MicroStep → View → ℕ → TreeMap
-output_from steps (Files inputs results) i = result_for i steps results
-output_from steps (LocalTree t) zero = t
-output_from steps (LocalTree t) (suc i) = empty_tree
-output_from steps (Layers inputs t) zero = t
-output_from steps (Layers inputs t) (suc i) = empty_tree
+-- the whole tree of the mount that gives the output of number i
+abbrev pub tree_for : ℕ → List ℤ → List Shown → TreeMap
+tree_for i [] mounts = empty_tree
+tree_for i (n ∷ given) [] = empty_tree
+tree_for i (n ∷ given) (m ∷ mounts) = if is_output i n then m.tree else tree_for i given mounts
+
+-- output i of a view: of a file op the result of an action; of a source what is read, of a merge what is laid, their one output; of
+-- an exec the tree of a mount
+abbrev pub output_from : Program → View → ℕ → TreeMap
+output_from p (Files inputs results) i = result_for i p.steps results
+output_from p (LocalTree t) zero = t
+output_from p (LocalTree t) (suc i) = empty_tree
+output_from p (Layers inputs t) zero = t
+output_from p (Layers inputs t) (suc i) = empty_tree
+output_from p (Mounted mounts) i = tree_for i p.given mounts
 
 -- the outputs that are taken from what all micro-steps leave
 unfoldable pub outputs_of : Program → View → List TreeMap
-outputs_of p view = map (output_from p.steps view) (range_with_len 0 p.outputs)
+outputs_of p view = map (output_from p view) (range_with_len 0 p.outputs)

@@ -3,7 +3,8 @@ use Rattle.std.specs.Prelude.{ℕ, ◌+◌, List, [], Option, Some, None, slice_
 use Rattle.std.specs.Result.{result_ok}
 use Rattle.llb_loader.specs.declared.graph.Vertex.{Vertex}
 use Rattle.llb_model.specs.declared.fault.VertexFault.{VertexFault}
-use Rattle.llb_model.specs.Program.{Build, MicroStep, ReadLocal, Act, LayInput, Program, Work, Left, Start, program_of, begin, step_on}
+use Rattle.llb_model.specs.declared.fault.VertexFault.TheVariants as fault
+use Rattle.llb_model.specs.Program.{Build, MicroStep, ReadLocal, Act, LayInput, Run, Program, Work, Left, Start, program_of, begin, step_on}
 use Rattle.llb_model.specs.Outcome.{Ending, Done, Failed}
 use Rattle.llb_model.specs.State.{Status, Running, Settled, Execution, At, Idle, Runs, State, start_from, program_in, work_of, is_finished, next_step, ending_from}
 use Rattle.llb_model.specs.ClaimCause as claim
@@ -34,6 +35,7 @@ pub data Reply : Type 0 where
   HasRead : Reply
   Acted : ℕ → Reply
   HasMerged : ℕ → Reply
+  HasRun : ℕ → ℕ → Reply
   Faulted : VertexFault → Reply
   SettledDone : ℕ → Reply
   SettledFailed : ℕ → Reply
@@ -77,12 +79,21 @@ claim_grant b s w v = claimed b s w v (claim_start s.statuses v (slice_get s.wor
 abbrev pub with_step : Execution → Left → Execution
 with_step x left = record x { done = x.done + 1; fault = left.fault; own = left.work.own }
 
--- by the micro-step that was done
+-- the status with which a command ended
+abbrev pub exit_status : Option VertexFault → ℕ
+exit_status None = 0
+exit_status (Some (fault.Exit c s)) = s
+exit_status (Some (fault.Action a n)) = 0
+
+-- by the micro-step that was done; a command's reply tells its status, whatever it is
 abbrev pub step_reply : ℕ → MicroStep → Option VertexFault → Reply
-step_reply k m (Some f) = Faulted f
+step_reply k (Run setting command) fault = HasRun k (exit_status fault)
 step_reply k ReadLocal None = HasRead
+step_reply k ReadLocal (Some f) = Faulted f
 step_reply k (Act action) None = Acted k
+step_reply k (Act action) (Some f) = Faulted f
 step_reply k (LayInput i) None = HasMerged k
+step_reply k (LayInput i) (Some f) = Faulted f
 
 abbrev pub after_step : State → ℕ → Execution → Left → State
 after_step s w x left = record s { workers = slice_set s.workers w (Runs (with_step x left)) }
