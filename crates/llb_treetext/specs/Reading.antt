@@ -69,6 +69,11 @@ abbrev pub Answers : List ℕ → Result TreeMap TextFault → Type 0
 Answers bytes (Ok t) = IsText bytes t
 Answers bytes (Err e) = is_memory e ≡ false → Stops bytes e
 
+-- and want of memory comes last: it is answered only of a text that is a tree's
+abbrev pub MemoryIsLast : List ℕ → Result TreeMap TextFault → Type 0
+MemoryIsLast bytes (Ok t) = Unit {0}
+MemoryIsLast bytes (Err e) = is_memory e ≡ true → (t : TreeMap) × IsText bytes t
+
 -- a text has one tree at most, or one first fault, and never both
 pub record HasOneAnswer (bytes : List ℕ) : Type 0 where
   pub trees : (t u : TreeMap) → IsText bytes t → IsText bytes u → t ≡ u
