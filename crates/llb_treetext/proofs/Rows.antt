@@ -22,9 +22,6 @@ dir_is_row p m path meta = record { stands = record { path = path; meta = meta }
 pub file_is_row : (p : List (List ℕ)) (m : MetaValue) (content : List ℕ) → IsPath p → IsMeta m → IsBytes content → p ≢ [] → IsRow (p, File m content)
 file_is_row p m content path meta bytes named = record { stands = record { path = path; meta = meta }; bytes = bytes; root = λ at. absurd (named at) }
 
-pub file_not_root : (p : List (List ℕ)) (m : MetaValue) (content : List ℕ) → IsRow (p, File m content) → p ≢ []
-file_not_root p m content is at = let one = (is.root at).1 in absurd cc
-
 -- ---- the first line
 
 -- a line and what is behind it

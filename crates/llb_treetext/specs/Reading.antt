@@ -64,7 +64,7 @@ pub record Stops (bytes : List ℕ) (e : TextFault) : Type 0 where
   pub more : rest ≡ [] → rows ≡ []
   pub fault : IsFault rows rest e
 
--- what a text is: the text of a tree, or one with a first faulty line; want of memory is the one open answer
+-- what a text is: the text of a tree, or one with a first faulty line; of want of memory it says nothing
 abbrev pub Answers : List ℕ → Result TreeMap TextFault → Type 0
 Answers bytes (Ok t) = IsText bytes t
 Answers bytes (Err e) = is_memory e ≡ false → Stops bytes e

@@ -5,7 +5,8 @@ ghost use Rattle.std.specs.Prelude.{◌≡◌, ◌↔◌, nat_eq, IsTrue, positi
 ghost use Rattle.std.specs.Fmt.{decimal};
 ghost use Rattle.std.specs.List.{list_all};
 ghost use Rattle.std.specs.Option.{option_map};
-ghost use Rattle.llb_treetext.specs.Fields.{cut_at, octal_digit, is_octal, is_lower, mode_in, number_from, decimal_in, meta_in, is_content, are_names, is_path, parts_seen, dir_parts, file_parts, parts_in, trail};
+ghost use Rattle.llb_treetext.specs.Fields.{cut_at, octal_digit, is_octal, is_lower, mode_in, number_from, decimal_in, meta_in, is_content, are_names, is_path};
+ghost use Rattle.llb_treetext.specs.Fields.{parts_seen, dir_parts, file_parts, parts_in, trail};
 ghost use Rattle.llb_treetext.specs.Lines.{Spells, BeginsWith};
 
 use llb_tree::{Meta, Name};
