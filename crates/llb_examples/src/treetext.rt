@@ -43,6 +43,7 @@ fn a_text_is_read_as_the_tree_whose_text_it_is(rt: HostRuntime) {
         "d 0755 0 0 /\n",
         "d 0755 0 0 /\nf 0600 1 1 - /old\n",
         "d 0755 0 0 /\nf 0644 0 0 6869 /f\n",
+        "d 0755 0 0 /\nd 0755 0 0 /a\nf 0644 0 0 - /a/b\nf 0644 0 0 - /a b\nf 0644 0 0 - /a!\n",
         "d 7777 4294967295 10 /\nd 0000 0 0 /a b\nf 4755 1 2 00ff0a /a b/ c\nd 0755 0 0 /a b-\n",
     ];
     for text in texts {
@@ -68,10 +69,68 @@ fn the_first_faulty_line_has_its_first_fault(rt: HostRuntime) {
         ("d 0755 0 0 /\nd 0755 0 0 /b\nd 0755 0 0 /a/c", "31 3"),
         ("d 0755 0 0 /\nd 0755 0 0 /b\nd 0755 0 0 /a/c\n", "32 3"),
         ("d 0755 0 0 /\nd 0755 0 0 /a\nd 0755 0 0 /b", "31 3"),
+        (
+            "d 0755 0 0 /\nd 0755 0 0 /a\nf 0644 0 0 - /a b\nf 0644 0 0 - /a/b\n",
+            "32 4",
+        ),
+        (
+            "d 0755 0 0 /\nd 0755 0 0 /a\nf 0644 0 0 - /a/b\nf 0644 0 0 - /ab/c\n",
+            "33 4",
+        ),
     ];
     for (text, wanted) in rows {
         assert!(rt; answers(rt.alloc(), text, wanted), "{text:?}");
     }
+}
+
+// A fault, and that of a text.
+fn same_fault(alloc: Global, text: &str, wanted: TextFault) -> bool {
+    match read_tree(alloc, text.as_bytes()) {
+        Err(fault) => fault == wanted,
+        Ok(_) => false,
+    }
+}
+
+// No allocation is made here: the answers stay the same where each one fails.
+#[test]
+fn a_late_fault_is_told_without_memory(rt: HostRuntime) {
+    let rows = [
+        (
+            "d 0755 0 0 /\nd 0755 0 0 /a\nd 0755 0 0 /a/b\nf 0644 0 0 - /a/b/c\nf 0644 0 0 00f /d\n",
+            TextFault::BadLine(5),
+        ),
+        (
+            "d 0755 0 0 /\nd 0755 0 0 /a\nf 0644 0 0 00ff /a/b\nd 0755 0 0 /c\nd 0755 0 0 /a/d\n",
+            TextFault::Order(5),
+        ),
+        (
+            "d 0755 0 0 /\nd 0755 0 0 /a\nd 0755 0 0 /a/b\nd 0755 0 0 /c\nf 0644 0 0 - /d/e\n",
+            TextFault::NoParent(5),
+        ),
+    ];
+    for (text, wanted) in rows {
+        assert!(rt; same_fault(rt.alloc(), text, wanted), "{text:?}");
+    }
+}
+
+// A root, so many files, and then a path below the last of them.
+fn long_text(alloc: Global, files: usize) -> Result<String, AllocError> {
+    let mut text = String::from_str(alloc, "d 0755 0 0 /\n")?;
+    for at in 0..files {
+        let line = format!(in alloc; "f 0644 0 0 {at:04} /{at:04}\n")?;
+        text.push_str(line.as_str())?;
+    }
+    text.push_str("f 0644 0 0 - /0999/f\n")?;
+    Ok(text)
+}
+
+#[test]
+fn the_last_line_of_many_is_faulty(rt: HostRuntime) {
+    let told = match long_text(rt.alloc(), 1000) {
+        Ok(text) => answers(rt.alloc(), text.as_str(), "33 1002"),
+        Err(_) => false,
+    };
+    assert!(rt; told);
 }
 
 // The text of a good root, and then of one line.

@@ -4,5 +4,8 @@ pub mod Names
 pub mod Paths
 pub mod Written
 pub mod Rows
+pub mod Apart
+pub mod Trails
+pub mod Places
 pub mod Placing
 pub mod Unique

@@ -1,10 +1,11 @@
 -- Decimal digits behind a number, one at a time; and the digits that are written for a number give it back.
-use Rattle.std.proofs.Common.{◌≡◌, ℕ, zero, suc, ◌+◌, ◌-◌, ◌*◌, ◌/◌, ◌%◌, ◌^◌, ◌<◌, ◌≤◌, nat_lt, Bool, true, false, cond, List, [], ◌∷◌, ◌++◌, length, get_or, drop, Some, None, refl, sym, ap, ◌∙◌, arith, add-one}
+use Rattle.std.proofs.Common.{◌≡◌, ℕ, zero, suc, ◌+◌, ◌-◌, ◌*◌, ◌/◌, ◌%◌, ◌^◌, ◌<◌, ◌≤◌, nat_lt, nat_eq, Bool, true, false, cond, List, [], ◌∷◌, ◌++◌, length, get_or, drop, Some, None, refl, sym, ap, ◌∙◌, arith, add-one, ◌==◌, inl, inr, length-append}
 use Rattle.std.proofs.Math.Seq.{drop-cons}
-use Rattle.std.proofs.lemmas.Bool.{lt-ltb, le-ltb}
-use Rattle.std.proofs.lemmas.Fmt.{decimal_by_steps}
+use Rattle.std.proofs.lemmas.Bool.{cases_lt, eqb-true, lt-ltb, le-ltb}
+use Rattle.std.proofs.lemmas.Fmt.{decimal_by_steps, decimal_digit, decimal_step, decimal_nonempty}
 use Rattle.std.specs.Fmt.{decimal}
-use Rattle.llb_treetext.specs.Fields.{number_from}
+use Rattle.std.specs.Cmp.Lexicographic.{pointwise, bytes_decides}
+use Rattle.llb_treetext.specs.Fields.{on, number_from, decimal_in}
 
 -- one more digit, where the number stays small
 pub number_more : (n b : ℕ) (text : List ℕ) → n * 10 + (b - 48) < 2 ^ 32 → number_from n (b ∷ text) ≡ number_from (n * 10 + (b - 48)) text
@@ -67,3 +68,57 @@ number_written n small = decimal_by_steps (λ n ds. n < 2 ^ 32 → number_from 0
     more n ds le rest small =
         let value : n / 10 * 10 + (48 + n % 10 - 48) ≡ n = omega arith in
         number_behind 0 (n / 10) ds (48 + n % 10) (omega (arith, value)) (rest (omega arith)) ∙ ap (λ v. Some v) value
+
+pub decimal_written : (n : ℕ) → n < 2 ^ 32 → decimal_in (decimal n) ≡ Some n
+decimal_written n small = ap (λ o. on o (λ k. cond (pointwise nat_eq (decimal n) (decimal k)) (Some k) None)) (number_written n small) ∙ ap (λ t. cond t (Some n) None) ((bytes_decides (decimal n) (decimal n)).1 refl)
+
+-- what two lists end in
+
+pub last_same : (xs ys : List ℕ) (x y : ℕ) → xs ++ x ∷ [] ≡ ys ++ y ∷ [] → x ≡ y
+last_same [] [] x y same = cc
+last_same [] (z ∷ ys) x y same = absurd (omega (arith, ap length same, length-append ys (y ∷ [])))
+last_same (z ∷ xs) [] x y same = absurd (omega (arith, ap length same, length-append xs (x ∷ [])))
+last_same (z ∷ xs) (w ∷ ys) x y same = last_same xs ys x y cc
+
+pub front_same : (xs ys : List ℕ) (x y : ℕ) → xs ++ x ∷ [] ≡ ys ++ y ∷ [] → xs ≡ ys
+front_same [] [] x y same = refl
+front_same [] (z ∷ ys) x y same = absurd (omega (arith, ap length same, length-append ys (y ∷ [])))
+front_same (z ∷ xs) [] x y same = absurd (omega (arith, ap length same, length-append xs (x ∷ [])))
+front_same (z ∷ xs) (w ∷ ys) x y same = let one : z ≡ w = cc in let rest = front_same xs ys x y cc in λ i. one i ∷ rest i
+
+-- ---- a text is a number's, told from its last byte
+
+module _ (text front : List ℕ) (last n : ℕ) (is : text ≡ front ++ last ∷ []) (small : n < 2 ^ 32) where
+  -- a number of one digit
+  module _ (one : n < 10) where
+    pub last_alone : (b : Bool) → last ≡ 48 + n % 10 → b ≡ (length front == 0) → (b ≡ true → text ≡ decimal n) × (text ≡ decimal n → b ≡ true)
+    last_alone b same none = (there front b none is, λ own. none ∙ ap (λ k. k == 0) (short (ap length (sym is ∙ own ∙ decimal_digit n one))))
+      where
+        there : (front : List ℕ) (b : Bool) → b ≡ (length front == 0) → text ≡ front ++ last ∷ [] → b ≡ true → text ≡ decimal n
+        there [] b none is h = is ∙ ap (λ c. c ∷ []) (omega (arith, same)) ∙ sym (decimal_digit n one)
+        there (c ∷ front) b none is h = absurd (omega (arith, eqb-true (length (c ∷ front)) 0 (sym none ∙ h)))
+
+        short : length (front ++ last ∷ []) ≡ 1 → length front ≡ 0
+        short e = omega (arith, e, length-append front (last ∷ []))
+
+    one_other : (last ≡ 48 + n % 10 → ⊥) → text ≡ decimal n → ⊥
+    one_other other own = other (last_same front [] last (48 + n) (sym is ∙ own ∙ decimal_digit n one) ∙ omega arith)
+
+  module _ (more : 10 ≤ n) where
+    step : decimal n ≡ decimal (n / 10) ++ (48 + n % 10) ∷ []
+    step = decimal_step n more (omega arith)
+
+    pub last_of_more : (b : Bool) → last ≡ 48 + n % 10 → (b ≡ true → front ≡ decimal (n / 10)) × (front ≡ decimal (n / 10) → b ≡ true) → (b ≡ true → text ≡ decimal n) × (text ≡ decimal n → b ≡ true)
+    last_of_more b same rest = (
+      λ h. is ∙ (λ i. rest.0 h i ++ same i ∷ []) ∙ sym step,
+      λ own. rest.1 (front_same front (decimal (n / 10)) last (48 + n % 10) (sym is ∙ own ∙ step)),
+    )
+
+    more_other : (last ≡ 48 + n % 10 → ⊥) → text ≡ decimal n → ⊥
+    more_other other own = other (last_same front (decimal (n / 10)) last (48 + n % 10) (sym is ∙ own ∙ step))
+
+  pub other_last : (last ≡ 48 + n % 10 → ⊥) → text ≡ decimal n → ⊥
+  other_last other own = elim (cases_lt n 10) [ inl one ↦ one_other one other own | inr more ↦ more_other more other own ]
+
+pub no_text : (text : List ℕ) (n : ℕ) → length text ≡ 0 → n < 2 ^ 32 → text ≡ decimal n → ⊥
+no_text text n none small own = omega (arith, none, ap length own, decimal_nonempty n (omega arith))

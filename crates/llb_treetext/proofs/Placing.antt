@@ -2,6 +2,7 @@
 use Rattle.std.proofs.Common.{◌≡◌, ◌≢◌, ℕ, zero, suc, ◌+◌, ◌-◌, ◌<◌, ◌≤◌, ◌==◌, Bool, true, false, cond, ◌&&◌, List, [], ◌∷◌, ◌++◌, length, map, Option, Some, None, IsSome, Result, Ok, Err, T, refl, sym, ap, subst, ◌∙◌, true≢false, arith, append_assoc, length-append, IsTrue, ◌↔◌, inr}
 use Rattle.std.specs.Prelude.{slice_get}
 use Rattle.std.specs.Result.{IsErrAnd}
+use Rattle.std.proofs.lemmas.Bool.{eqb-true}
 use Rattle.std.proofs.lemmas.Grind.{flat_map-append}
 use Rattle.std.proofs.lemmas.List.{append-nil}
 use Rattle.std.specs.declared.cmp.Ordering.{Ordering}
@@ -18,7 +19,7 @@ use Rattle.llb_tree.specs.declared.fault.TreeFault.{TreeFault}
 use Rattle.llb_wire.specs.Answer.{◌>>=◌}
 use Rattle.llb_treetext.specs.TreeText.{row_text, line_of, lines_of, tree_text}
 use Rattle.llb_treetext.specs.Faults.{is_memory}
-use Rattle.llb_treetext.specs.Reading.{HasBytes, HaveBytes, IsRow, IsFault, Answers, comes_next}
+use Rattle.llb_treetext.specs.Reading.{HasBytes, HaveBytes, IsRow, IsText, IsFault, Stops, Answers, comes_next}
 use Rattle.llb_treetext.specs.Placing.{put_row, refused, GoesOn, IsFront}
 use Rattle.llb_treetext.specs.Fields.{entry_of}
 use Rattle.llb_treetext.specs.declared.fault.TextFault.{TextFault}
@@ -57,7 +58,7 @@ is_less Less h = refl
 is_less Equal h = absurd h
 is_less Greater h = absurd h
 
-less_true : (o : Ordering) → is_lt o ≡ true → o ≡ Less
+pub less_true : (o : Ordering) → is_lt o ≡ true → o ≡ Less
 less_true Less is = refl
 less_true Equal is = absurd (true≢false (sym is))
 less_true Greater is = absurd (true≢false (sym is))
@@ -77,7 +78,7 @@ first_less : (r : Pair) (rows : List Pair) (p : List (List ℕ)) → T (finite.i
 first_less r [] p h next = less_true _ next
 first_less r (s ∷ rows) p h next = path_cmp-IsTotalOrder.trans r.0 s.0 p (is_less _ (and_first _ _ (and_first _ _ h))) (first_less s rows p (and_second _ _ h) next)
 
-find_behind : (r : Pair) (rows : List Pair) (p : List (List ℕ)) → T (finite.is_sorted path_cmp (r ∷ rows)) → comes_next (r ∷ rows) p ≡ true → finite.find path_cmp p (r ∷ rows) ≡ None
+pub find_behind : (r : Pair) (rows : List Pair) (p : List (List ℕ)) → T (finite.is_sorted path_cmp (r ∷ rows)) → comes_next (r ∷ rows) p ≡ true → finite.find path_cmp p (r ∷ rows) ≡ None
 find_behind r [] p h next = ap (λ o. cond (is_eq o) (Some r.1) None) (turned r.0 p (first_less r [] p h next))
 find_behind r (s ∷ rows) p h next = ap (λ o. cond (is_eq o) (Some r.1) (finite.find path_cmp p (s ∷ rows))) (turned r.0 p (first_less r (s ∷ rows) p h next)) ∙ find_behind s rows p (and_second _ _ h) next
 
@@ -94,7 +95,7 @@ tied Less t = absurd (true≢false (sym t))
 tied Equal t = refl
 tied Greater t = absurd (true≢false (sym t))
 
-get-insert_cases : (P : Option Entry → Type 0) (t : TreeMap) (p : List (List ℕ)) (e : Entry) (q : List (List ℕ)) → (q ≡ p → P (Some e)) → P (finite.get t q) → P (finite.get (finite.insert t p e) q)
+pub get-insert_cases : (P : Option Entry → Type 0) (t : TreeMap) (p : List (List ℕ)) (e : Entry) (q : List (List ℕ)) → (q ≡ p → P (Some e)) → P (finite.get t q) → P (finite.get (finite.insert t p e) q)
 get-insert_cases P t p e q here there = subst P (sym (finite.get-insert path_cmp-IsTotalOrder t p e q)) (by_test (eq_by_cmp path_cmp q p) refl)
   where
     by_test : (b : Bool) → eq_by_cmp path_cmp q p ≡ b → P (cond b (Some e) (finite.get t q))
@@ -135,13 +136,13 @@ module _ (t : TreeMap) (tree : IsTree t) (contents : HaveBytes t) (row : Pair) (
   behind : comes_next (some_rows.0 ∷ some_rows.1.0) row.0 ≡ true
   behind = ap (λ es. comes_next es row.0) (sym some_rows.1.1) ∙ next
 
-  not_there : finite.get t row.0 ≡ None
+  pub not_there : finite.get t row.0 ≡ None
   not_there = finite.get-entries t row.0 ∙ ap (finite.find path_cmp row.0) some_rows.1.1 ∙ find_behind some_rows.0 some_rows.1.0 row.0 sorted behind
 
-  not_root : row.0 ≢ []
+  pub not_root : row.0 ≢ []
   not_root at = let e : ◌≡◌ {A = Option Entry} None (Some (Dir tree.root.0)) = sym not_there ∙ ap (finite.get t) at ∙ tree.root.1 in absurd cc
 
-  entries_put : finite.entries (finite.insert t row.0 row.1) ≡ finite.entries t ++ row ∷ []
+  pub entries_put : finite.entries (finite.insert t row.0 row.1) ≡ finite.entries t ++ row ∷ []
   entries_put =
       finite.entries-insert path_cmp-IsTotalOrder t row.0 row.1 ∙ ap (finite.put path_cmp row.0 row.1) some_rows.1.1
       ∙ put_behind some_rows.0 some_rows.1.0 row.0 row.1 sorted behind ∙ ap (λ es. es ++ row ∷ []) (sym some_rows.1.1)
@@ -164,7 +165,7 @@ module _ (t : TreeMap) (tree : IsTree t) (contents : HaveBytes t) (row : Pair) (
       more q dir = get-insert_cases (λ o. (m : MetaValue) × (o ≡ Some (Dir m))) t row.0 row.1 q
           (λ same. let e : ◌≡◌ {A = Option Entry} None (Some (Dir dir.0)) = sym not_there ∙ ap (finite.get t) (sym same) ∙ dir.1 in absurd cc) dir
 
-  put_ok : (p : List (List ℕ)) (e : Entry) → p ≢ [] → finite.get t p ≡ None → walk (finite.get t) p ≡ Ok tt → put_row t (p, e) ≡ Ok (finite.insert t p e)
+  pub put_ok : (p : List (List ℕ)) (e : Entry) → p ≢ [] → finite.get t p ≡ None → walk (finite.get t) p ≡ Ok tt → put_row t (p, e) ≡ Ok (finite.insert t p e)
   put_ok p (Dir m) named none walks = ap (λ r. r >>= λ _. dir_fits (finite.get t p) >>= λ _. Ok (finite.insert t p (Dir m))) walks ∙ ap (λ o. dir_fits o >>= λ _. Ok (finite.insert t p (Dir m))) none
   put_ok [] (File m c) named none walks = absurd (named refl)
   put_ok (n ∷ p) (File m c) named none walks = ap (λ r. r >>= λ _. file_fits (finite.get t (n ∷ p)) >>= λ _. Ok (finite.insert t (n ∷ p) (File m c))) walks ∙ ap (λ o. file_fits o >>= λ _. Ok (finite.insert t (n ∷ p) (File m c))) none
@@ -206,7 +207,7 @@ module _ (t : TreeMap) (tree : IsTree t) (contents : HaveBytes t) (row : Pair) (
 pub same_tree : (x y : TreeMap) → ◌≡◌ {A = Result TreeMap TreeFault} (Ok x) (Ok y) → x ≡ y
 same_tree x y is = cc
 
-root_entry : (m : MetaValue) (o : Option (List ℕ)) → ((k : MetaValue) × (entry_of m o ≡ Dir k)) → entry_of m o ≡ Dir m
+pub root_entry : (m : MetaValue) (o : Option (List ℕ)) → ((k : MetaValue) × (entry_of m o ≡ Dir k)) → entry_of m o ≡ Dir m
 root_entry m None is = refl
 root_entry m (Some content) is = let e = is.1 in absurd cc
 
@@ -218,7 +219,7 @@ none_empty = no_length (finite.entries (finite.empty {X = Entry} {R = path_cmp})
     no_length (e ∷ es) is = absurd (omega arith)
 
 module _ (m : MetaValue) where
-  root_entries : finite.entries (finite.insert empty_tree [] (Dir m)) ≡ ([], Dir m) ∷ []
+  pub root_entries : finite.entries (finite.insert empty_tree [] (Dir m)) ≡ ([], Dir m) ∷ []
   root_entries =
       finite.entries-insert path_cmp-IsTotalOrder empty_tree [] (Dir m)
       ∙ ap (finite.put path_cmp [] (Dir m)) (finite.entries-insert path_cmp-IsTotalOrder finite.empty [] (Dir root_meta) ∙ ap (finite.put path_cmp [] (Dir root_meta)) none_empty)
@@ -253,13 +254,26 @@ module _ (bytes : List ℕ) (t : TreeMap) (rest : List ℕ) (front : IsFront byt
   pub few_lines : 0 < length rest → finite.len t < length bytes
   few_lines some = omega (arith, few_rows (finite.entries t), finite.len-entries t, ap length front.text, length-append (tree_text t) rest, some)
 
-  pub stops_later : (r : Result TreeMap TextFault) (e : TextFault) → IsErrAnd r (λ x. x ≡ e) → 0 < length rest → (is_memory e ≡ false → IsFault (finite.entries t) rest e) → Answers bytes r
-  stops_later (Ok u) e is some fault = absurd is
-  stops_later (Err d) e is some fault = λ no_memory. record {
+  pub stops : (e : TextFault) → 0 < length rest → IsFault (finite.entries t) rest e → Stops bytes e
+  stops e some fault = record {
     rows = finite.entries t;
     rest = rest;
     before = inr (t, front.tree, front.contents, refl);
     split = front.text;
     more = λ none. absurd (omega (arith, ap length none, some));
-    fault = subst (IsFault (finite.entries t) rest) (sym is) (fault (ap is_memory (sym is) ∙ no_memory));
+    fault = fault;
   }
+
+  pub stops_later : (r : Result TreeMap TextFault) (e : TextFault) → IsErrAnd r (λ x. x ≡ e) → 0 < length rest → (is_memory e ≡ false → IsFault (finite.entries t) rest e) → Answers bytes r
+  stops_later (Ok u) e is some fault = absurd is
+  stops_later (Err d) e is some fault = λ no_memory. stops d some (subst (IsFault (finite.entries t) rest) (sym is) (fault (ap is_memory (sym is) ∙ no_memory)))
+
+  pub front_more : (new : TreeMap) (later : List ℕ) → GoesOn t new rest later → IsFront bytes new later
+  front_more new later goes = record { tree = goes.tree; contents = goes.contents; text = front.text ∙ goes.text }
+
+  pub whole_text : (length rest == 0) ≡ true → IsText bytes t
+  whole_text none = record { tree = front.tree; contents = front.contents; text = front.text ∙ ap (λ r. tree_text t ++ r) (no_length rest (eqb-true (length rest) 0 none)) ∙ append-nil (tree_text t) }
+    where
+      no_length : (xs : List ℕ) → length xs ≡ 0 → xs ≡ []
+      no_length [] is = refl
+      no_length (x ∷ xs) is = absurd (omega (arith, is))

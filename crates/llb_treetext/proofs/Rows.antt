@@ -1,5 +1,5 @@
 -- Which rows have lines, and where the line of a row ends.
-use Rattle.std.proofs.Common.{◌≡◌, ◌≢◌, ℕ, ◌+◌, ◌<◌, nat_lt, nat_eq, Bool, true, false, not, cond, List, [], ◌∷◌, ◌++◌, length, take, drop, Option, Some, None, refl, sym, ap, subst, ◌∙◌, true≢false, append_assoc, IsTrue, ◌↔◌}
+use Rattle.std.proofs.Common.{◌≡◌, ◌≢◌, ℕ, ◌+◌, ◌<◌, nat_lt, nat_eq, Bool, true, false, cond, List, [], ◌∷◌, ◌++◌, length, take, drop, Option, Some, None, refl, sym, ap, ◌∙◌, append_assoc}
 use Rattle.std.specs.List.{position, position_or_len, before_first, after_first}
 use Rattle.std.proofs.lemmas.List.{drop-drop}
 use Rattle.std.proofs.lemmas.List.Sums.{split_at_first, passes_at_first}
@@ -10,7 +10,7 @@ use Rattle.llb_tree.specs.Meta.{MetaValue, IsMeta}
 use Rattle.llb_tree.specs.Tree.{Entry, Dir, File}
 use Rattle.llb_treetext.specs.TreeText.{row_text, line_of}
 use Rattle.llb_treetext.specs.Reading.{IsRow}
-use Rattle.llb_treetext.specs.Fields.{cut_at, row_in, entry_of}
+use Rattle.llb_treetext.specs.Fields.{cut_at, row_in}
 use Rattle.llb_treetext.proofs.Written.{cut_is, row_is, row_plain, no_end}
 
 abbrev pub Pair : Type 0
@@ -21,9 +21,6 @@ dir_is_row p m path meta = record { stands = record { path = path; meta = meta }
 
 pub file_is_row : (p : List (List ℕ)) (m : MetaValue) (content : List ℕ) → IsPath p → IsMeta m → IsBytes content → p ≢ [] → IsRow (p, File m content)
 file_is_row p m content path meta bytes named = record { stands = record { path = path; meta = meta }; bytes = bytes; root = λ at. absurd (named at) }
-
-pub file_not_root : (p : List (List ℕ)) (m : MetaValue) (content : List ℕ) → IsRow (p, File m content) → p ≢ []
-file_not_root p m content is at = let one = (is.root at).1 in absurd cc
 
 -- ---- the first line
 
@@ -41,33 +38,6 @@ one_line row other later rest is are same =
     let pairs : ◌≡◌ {A = List ℕ × List ℕ} (row_text row, later) (row_text other, rest) = cc in
     let rows : ◌≡◌ {A = Option Pair} (Some row) (Some other) = sym (row_is row is) ∙ ap (λ x. row_in x.0) pairs ∙ row_is other are in
     (cc, ap (λ x. x.1) pairs)
-
--- what the code finds out about the parts
-pub is_dir_row : (p : List (List ℕ)) (m : MetaValue) (o : Option (List ℕ)) → IsPath p → IsMeta m → o ≡ None → (IsTrue true → IsRow (p, entry_of m o)) × (IsRow (p, entry_of m o) → IsTrue true)
-is_dir_row p m o path meta is = (λ t. subst (λ x. IsRow (p, entry_of m x)) (sym is) (dir_is_row p m path meta), λ row. refl)
-
-pub is_file_row : (p : List (List ℕ)) (m : MetaValue) (o : Option (List ℕ)) (content : List ℕ) (b : Bool) → IsPath p → IsMeta m → IsBytes content → o ≡ Some content → (IsTrue b ↔ (p ≡ [])) → (IsTrue (not b) → IsRow (p, entry_of m o)) × (IsRow (p, entry_of m o) → IsTrue (not b))
-is_file_row p m o content b path meta bytes is root = (λ t. subst (λ x. IsRow (p, entry_of m x)) (sym is) (file_is_row p m content path meta bytes (λ at. true≢false (sym (root.1 at) ∙ none b t))), λ row. go b (root.0) (subst (λ x. IsRow (p, entry_of m x)) is row))
-  where
-    none : (b : Bool) → not b ≡ true → b ≡ false
-    none true t = sym t
-    none false t = refl
-
-    go : (b : Bool) → (b ≡ true → p ≡ []) → IsRow (p, File m content) → not b ≡ true
-    go true at row = absurd (file_not_root p m content row (at refl))
-    go false at row = refl
-
--- ---- a line is read as the entry whose line it is, or it is no entry's
-
-pub no_row : (o : Option Pair) (text line : List ℕ) → o ≡ row_in text → o ≡ None → text ≡ line → (row : Pair) → IsRow row → line ≢ row_text row
-no_row o text line gives none is row stands same =
-    let one : ◌≡◌ {A = Option Pair} None (Some row) = sym none ∙ gives ∙ ap row_in (is ∙ same) ∙ row_is row stands in absurd cc
-
-pub other_row : (o : Option Pair) (read : Pair) (text line : List ℕ) (b : Bool) → o ≡ row_in text → o ≡ Some read → text ≡ line → (IsTrue b ↔ (IsRow read × (line ≡ row_text read))) → b ≡ false → (row : Pair) → IsRow row → line ≢ row_text row
-other_row o read text line b gives some is test fails row stands same =
-    let one : ◌≡◌ {A = Option Pair} (Some row) (Some read) = sym (row_is row stands) ∙ ap row_in (sym (is ∙ same)) ∙ sym gives ∙ some in
-    let own : row ≡ read = cc in
-    true≢false (sym (test.1 (subst IsRow own stands, same ∙ ap row_text own)) ∙ fails)
 
 -- ---- where the first line ends
 

@@ -56,10 +56,10 @@ find_here (e ∷ es) (suc i) x h is =
     ∙ find_here es i x (and_second _ _ h) is
 
 module _ (t : TreeMap) (tree : IsTree t) where
-  there : (k : ℕ) (x : Pair) → slice_get (finite.entries t) k ≡ Some x → finite.get t x.0 ≡ Some x.1
+  pub there : (k : ℕ) (x : Pair) → slice_get (finite.entries t) k ≡ Some x → finite.get t x.0 ≡ Some x.1
   there k x is = finite.get-entries t x.0 ∙ find_here (finite.entries t) k x (finite.entries_sorted t) is
 
-  entry_is_row : HaveBytes t → (k : ℕ) (x : Pair) → slice_get (finite.entries t) k ≡ Some x → IsRow x
+  pub entry_is_row : HaveBytes t → (k : ℕ) (x : Pair) → slice_get (finite.entries t) k ≡ Some x → IsRow x
   entry_is_row contents k x is = record {
     stands = tree.stands x.0 x.1 (there k x is);
     bytes = contents x.0 x.1 (there k x is);
@@ -124,7 +124,7 @@ last_before : (r : Pair) (rows : List Pair) (row : Pair) (more : List Pair) → 
 last_before r [] row more h = ap is_lt (is_less _ (and_first _ _ (and_first _ _ h)))
 last_before r (s ∷ rows) row more h = last_before s rows row more (and_second _ _ h)
 
-at_end : (rows : List Pair) (row : Pair) (more : List Pair) → slice_get (rows ++ row ∷ more) (length rows) ≡ Some row
+pub at_end : (rows : List Pair) (row : Pair) (more : List Pair) → slice_get (rows ++ row ∷ more) (length rows) ≡ Some row
 at_end [] row more = refl
 at_end (r ∷ rows) row more = at_end rows row more
 

@@ -1,30 +1,30 @@
 -- The line of an entry is read as the entry, and it is a text with no line end in it.
-use Rattle.std.proofs.Common.{◌≡◌, ℕ, suc, ◌+◌, ◌-◌, ◌*◌, ◌/◌, ◌%◌, ◌^◌, ◌<◌, ◌≤◌, nat_lt, nat_eq, nat_le, Bool, true, false, not, cond, ◌&&◌, List, [], ◌∷◌, ◌++◌, length, get_or, take, drop, Option, Some, None, refl, sym, ap, subst, ◌∙◌, arith, append_assoc, length-append}
+use Rattle.std.proofs.Common.{◌≡◌, ◌≢◌, ℕ, zero, suc, ◌+◌, ◌-◌, ◌*◌, ◌/◌, ◌%◌, ◌^◌, ◌<◌, ◌≤◌, nat_lt, nat_eq, nat_le, ◌==◌, Bool, true, false, not, cond, ◌&&◌, ◌||◌, true≢false, inl, inr, List, [], ◌∷◌, ◌++◌, length, get_or, take, drop, Option, Some, None, refl, sym, ap, subst, ◌∙◌, arith, append_assoc, length-append}
 use Rattle.std.specs.Prelude.{codes}
-use Rattle.std.proofs.lemmas.Bool.{lt-ltb, le-ltb, lt-leb, ltb-true, ltb-false, eq-eqb, ne_eqb}
+use Rattle.std.proofs.lemmas.Bool.{cases_lt, and_parts, lt-ltb, le-ltb, lt-leb, le-leb, ltb-true, ltb-false, eq-eqb, ne_eqb}
 use Rattle.std.proofs.lemmas.List.{take_at, append-nil, get_or_past}
 use Rattle.std.proofs.lemmas.List.Elements.{All-nil, All-cons, All-head, All-tail, All-append, All-weaker}
-use Rattle.std.proofs.lemmas.List.Sums.{AllPass-from_list_all}
+use Rattle.std.proofs.lemmas.List.Sums.{AllPass-from_list_all, list_all-from_AllPass}
 use Rattle.std.proofs.lemmas.Fmt.{decimal_digit, decimal_by_steps, IsAscii-decimal}
 use Rattle.std.proofs.lemmas.Str.{IsUtf8-append, IsUtf8-nil, IsUtf8-from_ascii}
 use Rattle.std.proofs.lemmas.Str.Ascii.{IsAscii-nil, IsAscii-cons}
-use Rattle.std.specs.List.{All, position_or_len, before_first, after_first}
+use Rattle.std.specs.List.{All, list_all, position_or_len, before_first, after_first}
 use Rattle.std.specs.Str.{IsUtf8}
 use Rattle.std.specs.Fmt.{decimal}
 use Rattle.std.specs.Result.{result_ok}
 use Rattle.std.specs.Cmp.Lexicographic.{pointwise}
 use Rattle.hex.specs.Hex.{encode_with, encode_lower, lower_digits, hex_digit_value, decode_of, IsBytes}
-use Rattle.hex.proofs.HexLemmas.{decode_of-encode_lower, IsAscii-encode_with, IsDigits-lower_digits}
+use Rattle.hex.proofs.HexLemmas.{length-encode_with, decode_of-encode_lower, IsAscii-encode_with, IsDigits-lower_digits}
 use Rattle.llb_tree.specs.Path.{is_name, is_name_byte, IsPath, joined, path_of}
 use Rattle.llb_tree.specs.Meta.{MetaValue, IsMeta, meta_of}
 use Rattle.llb_tree.specs.Tree.{Entry, Dir, File}
 use Rattle.llb_treetext.specs.TreeText.{octal, meta_text, content_text, names_text, path_text, row_text}
 use Rattle.llb_treetext.specs.Reading.{IsRow}
 use Rattle.llb_treetext.specs.Fields as fields
-use Rattle.llb_treetext.specs.Fields.{on, cut_at, octal_digit, mode_in, number_from, content_in, dir_in, file_in, row_in}
+use Rattle.llb_treetext.specs.Fields.{Fields, on, cut_at, octal_digit, is_octal, is_lower, four_digits, mode_in, decimal_in, is_content, are_names, is_path, dir_parts, file_parts, parts_in, parts_from, content_in, dir_in, file_in, row_from, row_in}
 use Rattle.llb_treetext.proofs.Names.{name-IsUtf8, passes_tests, from_space}
-use Rattle.llb_treetext.proofs.Numbers.{number_written}
-use Rattle.llb_treetext.proofs.Paths.{reads_back}
+use Rattle.llb_treetext.proofs.Numbers.{decimal_written}
+use Rattle.llb_treetext.proofs.Paths.{reads_back, parts_joined}
 
 -- ---- a text is cut at the first byte of a kind
 
@@ -86,8 +86,14 @@ module _ (m : ℕ) (small : m ≤ 4095) where
   octal_value : octal_digit (48 + m / 512) * 512 + octal_digit (48 + m / 64 % 8) * 64 + octal_digit (48 + m / 8 % 8) * 8 + octal_digit (48 + m % 8) ≡ m
   octal_value = omega arith
 
+  octal_byte : (k : ℕ) → k < 8 → is_octal (48 + k) ≡ true
+  octal_byte k lt = λ i. le-leb 48 (48 + k) (omega arith) i && le-leb (48 + k) 55 (omega arith) i
+
+  all_octal : list_all is_octal ((48 + m / 512) ∷ (48 + m / 64 % 8) ∷ (48 + m / 8 % 8) ∷ (48 + m % 8) ∷ []) ≡ true
+  all_octal = λ i. octal_byte (m / 512) (omega arith) i && (octal_byte (m / 64 % 8) (omega arith) i && (octal_byte (m / 8 % 8) (omega arith) i && (octal_byte (m % 8) (omega arith) i && true)))
+
   mode_is : mode_in (octal m) ≡ Some m
-  mode_is = ap mode_in octal_is ∙ ap (λ v. Some v) octal_value
+  mode_is = ap mode_in octal_is ∙ ap (λ t. cond t (four_digits ((48 + m / 512) ∷ (48 + m / 64 % 8) ∷ (48 + m / 8 % 8) ∷ (48 + m % 8) ∷ [])) None) all_octal ∙ ap (λ v. Some v) octal_value
 
   octal_solid : Solid (octal m)
   octal_solid =
@@ -104,7 +110,7 @@ module _ (m : MetaValue) (is : IsMeta m) where
       le_not : (a b : ℕ) → b ≤ a → nat_lt a b ≡ false
       le_not a b le = le-ltb a b le
 
-  grouped : (rest : List ℕ) → meta_text m ++ rest ≡ octal m.mode ++ 32 ∷ (decimal m.uid ++ 32 ∷ (decimal m.gid ++ 32 ∷ rest))
+  pub grouped : (rest : List ℕ) → meta_text m ++ rest ≡ octal m.mode ++ 32 ∷ (decimal m.uid ++ 32 ∷ (decimal m.gid ++ 32 ∷ rest))
   grouped rest =
       append_assoc (octal m.mode) (32 ∷ (decimal m.uid ++ (32 ∷ (decimal m.gid ++ 32 ∷ [])))) rest
       ∙ ap (λ x. octal m.mode ++ 32 ∷ x) (append_assoc (decimal m.uid) (32 ∷ (decimal m.gid ++ 32 ∷ [])) rest)
@@ -115,15 +121,15 @@ module _ (m : MetaValue) (is : IsMeta m) where
       let uid = decimal_solid m.uid (omega (arith, is.uid)) in
       let gid = decimal_solid m.gid (omega (arith, is.gid)) in
       ap fields.meta_in (grouped rest)
-      ∙ ap (λ o. on o (λ a. on (cut_at 32 a.1) (λ u. on (cut_at 32 u.1) (λ g. on (mode_in a.0) (λ mode. on (number_from 0 u.0) (λ uid. on (number_from 0 g.0) (λ gid. on (meta_of mode uid gid) (λ meta. Some (meta, g.1)))))))))
+      ∙ ap (λ o. on o (λ a. on (cut_at 32 a.1) (λ u. on (cut_at 32 u.1) (λ g. on (mode_in a.0) (λ mode. on (decimal_in u.0) (λ uid. on (decimal_in g.0) (λ gid. on (meta_of mode uid gid) (λ meta. Some (meta, g.1)))))))))
       (word (octal m.mode) (decimal m.uid ++ 32 ∷ (decimal m.gid ++ 32 ∷ rest)) (octal_solid m.mode is.mode))
-      ∙ ap (λ o. on o (λ u. on (cut_at 32 u.1) (λ g. on (mode_in (octal m.mode)) (λ mode. on (number_from 0 u.0) (λ uid. on (number_from 0 g.0) (λ gid. on (meta_of mode uid gid) (λ meta. Some (meta, g.1))))))))
+      ∙ ap (λ o. on o (λ u. on (cut_at 32 u.1) (λ g. on (mode_in (octal m.mode)) (λ mode. on (decimal_in u.0) (λ uid. on (decimal_in g.0) (λ gid. on (meta_of mode uid gid) (λ meta. Some (meta, g.1))))))))
       (word (decimal m.uid) (decimal m.gid ++ 32 ∷ rest) uid)
-      ∙ ap (λ o. on o (λ g. on (mode_in (octal m.mode)) (λ mode. on (number_from 0 (decimal m.uid)) (λ uid. on (number_from 0 g.0) (λ gid. on (meta_of mode uid gid) (λ meta. Some (meta, g.1)))))))
+      ∙ ap (λ o. on o (λ g. on (mode_in (octal m.mode)) (λ mode. on (decimal_in (decimal m.uid)) (λ uid. on (decimal_in g.0) (λ gid. on (meta_of mode uid gid) (λ meta. Some (meta, g.1)))))))
       (word (decimal m.gid) rest gid)
-      ∙ ap (λ o. on o (λ mode. on (number_from 0 (decimal m.uid)) (λ uid. on (number_from 0 (decimal m.gid)) (λ gid. on (meta_of mode uid gid) (λ meta. Some (meta, rest)))))) (mode_is m.mode is.mode)
-      ∙ ap (λ o. on o (λ uid. on (number_from 0 (decimal m.gid)) (λ gid. on (meta_of m.mode uid gid) (λ meta. Some (meta, rest))))) (number_written m.uid is.uid)
-      ∙ ap (λ o. on o (λ gid. on (meta_of m.mode m.uid gid) (λ meta. Some (meta, rest)))) (number_written m.gid is.gid)
+      ∙ ap (λ o. on o (λ mode. on (decimal_in (decimal m.uid)) (λ uid. on (decimal_in (decimal m.gid)) (λ gid. on (meta_of mode uid gid) (λ meta. Some (meta, rest)))))) (mode_is m.mode is.mode)
+      ∙ ap (λ o. on o (λ uid. on (decimal_in (decimal m.gid)) (λ gid. on (meta_of m.mode uid gid) (λ meta. Some (meta, rest))))) (decimal_written m.uid is.uid)
+      ∙ ap (λ o. on o (λ gid. on (meta_of m.mode m.uid gid) (λ meta. Some (meta, rest)))) (decimal_written m.gid is.gid)
       ∙ ap (λ o. on o (λ meta. Some (meta, rest))) new_meta
 
 -- ---- the content
@@ -168,7 +174,7 @@ content_is (b ∷ content) bytes = ap (λ t. cond t (Some []) (result_ok (decode
 
 -- ---- the path
 
-path_joined : (p : List (List ℕ)) → path_text p ≡ 47 ∷ joined p
+pub path_joined : (p : List (List ℕ)) → path_text p ≡ 47 ∷ joined p
 path_joined [] = refl
 path_joined (n ∷ p) = go n p
   where
@@ -178,6 +184,61 @@ path_joined (n ∷ p) = go n p
 
 path_is : (p : List (List ℕ)) → IsPath p → result_ok (path_of (path_text p)) ≡ Some p
 path_is p path = ap (λ t. result_ok (path_of t)) (path_joined p) ∙ ap result_ok (reads_back p path).absolute
+
+-- what a line is by its kind
+abbrev pub by_kind : List ℕ × List ℕ → Option Fields
+by_kind k = on (fields.meta_in k.1) (λ m.
+    cond (pointwise nat_eq k.0 (codes "d")) (dir_parts m.0 m.1)
+    (cond (pointwise nat_eq k.0 (codes "f")) (on (cut_at 32 m.1) (λ c. file_parts m.0 c.0 c.1)) None))
+
+abbrev all_lower : ℕ → Bool
+all_lower zero = true
+all_lower (suc n) = is_lower (get_or lower_digits n 0) && all_lower n
+
+-- ---- the tests of the content and of the path
+
+digit_lower : (n k : ℕ) → all_lower n ≡ true → k < n → is_lower (get_or lower_digits k 0) ≡ true
+digit_lower zero k all lt = absurd (omega arith)
+digit_lower (suc n) k all lt =
+    let both = and_parts (is_lower (get_or lower_digits n 0)) (all_lower n) all in
+    elim (cases_lt k n) [
+      | inl below ↦ digit_lower n k both.1 below
+      | inr top ↦ let e : k ≡ n = omega arith in ap (λ j. is_lower (get_or lower_digits j 0)) e ∙ both.0
+    ]
+
+encode_lower_all : (content : List ℕ) → IsBytes content → list_all is_lower (encode_with lower_digits content) ≡ true
+unfolding encode_with
+encode_lower_all [] bytes = refl
+encode_lower_all (b ∷ content) bytes =
+    let small : b < 256 = bytes 0 in
+    λ i. digit_lower 16 (b / 16) refl (omega arith) i && (digit_lower 16 (b % 16) refl (omega arith) i && encode_lower_all content (λ k. bytes (suc k)) i)
+
+is_content_text : (content : List ℕ) → IsBytes content → is_content (content_text content) ≡ true
+is_content_text [] bytes = refl
+is_content_text (b ∷ content) bytes =
+    let long = length-encode_with lower_digits (b ∷ content) in
+    (λ i. no_dash b content i || (not (ne_eqb (length (encode_lower (b ∷ content))) 0 (λ e. omega (arith, e, long)) i) && eq-eqb (length (encode_lower (b ∷ content)) % 2) 0 (omega (arith, long)) i && encode_lower_all (b ∷ content) bytes i))
+
+are_names_joined : (name : List ℕ) (names : List (List ℕ)) → IsPath (name ∷ names) → are_names (joined (name ∷ names)) ≡ true
+are_names_joined name names path =
+    ap (λ ps. list_all is_name ps && nat_le (length ps) 128) (parts_joined name names path.named)
+    ∙ (λ i. list_all-from_AllPass is_name (name ∷ names) path.named i && le-leb (length (name ∷ names)) 128 path.short i)
+
+is_path_text : (p : List (List ℕ)) → IsPath p → is_path (path_text p) ≡ true
+is_path_text [] path = refl
+is_path_text (n ∷ p) path = ap is_path (path_joined (n ∷ p)) ∙ ap (λ t. (length (joined (n ∷ p)) == 0) || t) (are_names_joined n p path) ∙ or_true (length (joined (n ∷ p)) == 0)
+  where
+    or_true : (b : Bool) → (b || true) ≡ true
+    or_true true = refl
+    or_true false = refl
+
+some_name : (name : List ℕ) → is_name name ≡ true → 0 < length name
+some_name [] is = absurd (true≢false (sym (eq-eqb (length {A = ℕ} []) 0 refl) ∙ (passes_tests [] is).some))
+some_name (b ∷ name) is = omega arith
+
+pub long_path : (p : List (List ℕ)) → IsPath p → p ≢ [] → 2 ≤ length (path_text p)
+long_path [] path named = absurd (named refl)
+long_path (n ∷ p) path named = omega (arith, some_name n (All-head (λ name. is_name name ≡ true) n p path.named), length-append n (names_text p))
 
 -- ---- the line
 
@@ -189,22 +250,36 @@ file_is m content p bytes path =
     ap (λ o. on o (λ c. on (result_ok (path_of (path_text p))) (λ q. Some (q, File m c)))) (content_is content bytes)
     ∙ ap (λ o. on o (λ q. Some (q, File m content))) (path_is p path)
 
+-- the entry of the parts of an entry
+pub row_from_is : (row : List (List ℕ) × Entry) → IsRow row → row_from (parts_from row) ≡ Some row
+row_from_is (p, Dir m) is = dir_is m p is.stands.path
+row_from_is (p, File m content) is = file_is m content p is.bytes is.stands.path
+
 one_solid : (c : ℕ) → 33 ≤ c → Solid (c ∷ [])
 one_solid c le = All-cons (λ b. 33 ≤ b) c [] le (All-nil (λ b. 33 ≤ b))
 
--- the entry that the line of an entry is read as
+dir_parts_are : (m : MetaValue) (p : List (List ℕ)) → IsPath p → dir_parts m (path_text p) ≡ Some (m, None, path_text p)
+dir_parts_are m p path = ap (λ t. cond {A = Option Fields} t (Some (m, None, path_text p)) None) (is_path_text p path)
+
+file_parts_are : (m : MetaValue) (content : List ℕ) (p : List (List ℕ)) → IsBytes content → IsPath p → p ≢ [] → file_parts m (content_text content) (path_text p) ≡ Some (m, Some (content_text content), path_text p)
+file_parts_are m content p bytes path named =
+    (λ i. cond {A = Option Fields} (is_content_text content bytes i && is_path_text p path i && not (le-ltb (length (path_text p)) 2 (long_path p path named) i)) (Some (m, Some (content_text content), path_text p)) None)
+
+-- the parts of the line of an entry
+pub parts_are : (row : List (List ℕ) × Entry) → IsRow row → parts_in (row_text row) ≡ Some (parts_from row)
+parts_are (p, Dir m) is =
+    ap (λ o. on o by_kind) (word (100 ∷ []) (meta_text m ++ path_text p) (one_solid 100 (omega arith)))
+    ∙ ap (λ o. on o (λ (m : MetaValue × List ℕ). dir_parts m.0 m.1)) (meta_is m is.stands.meta (path_text p))
+    ∙ dir_parts_are m p is.stands.path
+parts_are (p, File m content) is =
+    ap (λ o. on o by_kind) (word (102 ∷ []) (meta_text m ++ (content_text content ++ 32 ∷ path_text p)) (one_solid 102 (omega arith)))
+    ∙ ap (λ o. on o (λ (m : MetaValue × List ℕ). on (cut_at 32 m.1) (λ c. file_parts m.0 c.0 c.1))) (meta_is m is.stands.meta (content_text content ++ 32 ∷ path_text p))
+    ∙ ap (λ o. on o (λ (c : List ℕ × List ℕ). file_parts m c.0 c.1)) (word (content_text content) (path_text p) (content_solid content is.bytes))
+    ∙ file_parts_are m content p is.bytes is.stands.path (λ at. let one = (is.root at).1 in absurd cc)
+
+-- the entry of the line of an entry
 pub row_is : (row : List (List ℕ) × Entry) → IsRow row → row_in (row_text row) ≡ Some row
-row_is (p, Dir m) is =
-    ap (λ o. on o (λ k. on (fields.meta_in k.1) (λ m. cond (pointwise nat_eq k.0 (codes "d")) (dir_in m.0 m.1) (on (cut_at 32 m.1) (λ c. file_in m.0 c.0 c.1)))))
-    (word (100 ∷ []) (meta_text m ++ path_text p) (one_solid 100 (omega arith)))
-    ∙ ap (λ o. on o (λ (m : MetaValue × List ℕ). dir_in m.0 m.1)) (meta_is m is.stands.meta (path_text p))
-    ∙ dir_is m p is.stands.path
-row_is (p, File m content) is =
-    ap (λ o. on o (λ k. on (fields.meta_in k.1) (λ m. cond (pointwise nat_eq k.0 (codes "d")) (dir_in m.0 m.1) (on (cut_at 32 m.1) (λ c. file_in m.0 c.0 c.1)))))
-    (word (102 ∷ []) (meta_text m ++ (content_text content ++ 32 ∷ path_text p)) (one_solid 102 (omega arith)))
-    ∙ ap (λ o. on o (λ (m : MetaValue × List ℕ). on (cut_at 32 m.1) (λ c. file_in m.0 c.0 c.1))) (meta_is m is.stands.meta (content_text content ++ 32 ∷ path_text p))
-    ∙ ap (λ o. on o (λ (c : List ℕ × List ℕ). file_in m c.0 c.1)) (word (content_text content) (path_text p) (content_solid content is.bytes))
-    ∙ file_is m content p is.bytes is.stands.path
+row_is row is = ap (λ o. on o row_from) (parts_are row is) ∙ row_from_is row is
 
 -- ---- no line end, and UTF-8
 

@@ -1,12 +1,16 @@
--- What a line is read as, right or not: its fields as they come. Only this file and the proofs know how a line is taken apart.
-use Rattle.std.specs.Prelude.{ℕ, ◌+◌, ◌-◌, ◌*◌, ◌%◌, ◌^◌, nat_lt, nat_eq, if◌then◌else◌, List, [], ◌∷◌, length, codes, Option, Some, None}
-use Rattle.std.specs.List.{position_or_len, before_first, after_first}
+-- What a line is taken apart into: its fields, each as it is written. Only this file and the proofs know how.
+use Rattle.std.specs.Prelude.{ℕ, ◌+◌, ◌-◌, ◌*◌, ◌%◌, ◌^◌, ◌==◌, ◌&&◌, ◌||◌, not, nat_lt, nat_le, nat_eq, Bool, false, if◌then◌else◌, List, [], ◌∷◌, length, codes, Option, Some, None}
+use Rattle.std.specs.List.{list_all, position_or_len, before_first, after_first}
+use Rattle.std.specs.Option.{option_map}
+use Rattle.std.specs.Fmt.{decimal}
 use Rattle.std.specs.Cmp.Lexicographic.{pointwise}
 use Rattle.std.specs.Result.{result_ok}
 use Rattle.hex.specs.Hex.{decode_of}
-use Rattle.llb_tree.specs.Path.{path_of}
+use Rattle.llb_tree.specs.Path.{is_name, parts_of, path_of}
 use Rattle.llb_tree.specs.Meta.{MetaValue, meta_of}
 use Rattle.llb_tree.specs.Tree.{Entry, Dir, File}
+use Rattle.llb_treetext.specs.TreeText.{content_text, path_text}
+use Rattle.llb_treetext.specs.declared.parts.Parts.{Parts}
 use Rattle.llb_treetext.specs.declared.row.Row.{Row}
 
 -- a reading goes on with what another gave
@@ -18,23 +22,80 @@ on (Some x) f = f x
 abbrev pub cut_at : ℕ → List ℕ → Option (List ℕ × List ℕ)
 cut_at c text = if nat_lt (position_or_len (λ b. nat_eq b c) text) (length text) then Some (before_first (λ b. nat_eq b c) text, after_first (λ b. nat_eq b c) text) else None
 
+abbrev pub is_octal : ℕ → Bool
+is_octal b = nat_le 48 b && nat_le b 55
+
 abbrev pub octal_digit : ℕ → ℕ
 octal_digit b = (b - 48) % 8
 
+abbrev pub four_digits : List ℕ → Option ℕ
+four_digits (a ∷ b ∷ c ∷ d ∷ []) = Some (octal_digit a * 512 + octal_digit b * 64 + octal_digit c * 8 + octal_digit d)
+four_digits text = None
+
 -- four octal digits
 abbrev pub mode_in : List ℕ → Option ℕ
-mode_in (a ∷ b ∷ c ∷ d ∷ []) = Some (octal_digit a * 512 + octal_digit b * 64 + octal_digit c * 8 + octal_digit d)
-mode_in text = None
+mode_in text = if list_all is_octal text then four_digits text else None
 
 -- decimal digits behind a number
 unfoldable pub number_from : ℕ → List ℕ → Option ℕ
 number_from n [] = Some n
 number_from n (b ∷ text) = if nat_lt (n * 10 + (b - 48)) (2 ^ 32) then number_from (n * 10 + (b - 48)) text else None
 
+-- a number as it is written
+abbrev pub decimal_in : List ℕ → Option ℕ
+decimal_in text = on (number_from 0 text) (λ n. if pointwise nat_eq text (decimal n) then Some n else None)
+
 -- the mode and the owners at the front of a text, and what is behind them
 abbrev pub meta_in : List ℕ → Option (MetaValue × List ℕ)
 meta_in text = on (cut_at 32 text) (λ m. on (cut_at 32 m.1) (λ u. on (cut_at 32 u.1) (λ g.
-    on (mode_in m.0) (λ mode. on (number_from 0 u.0) (λ uid. on (number_from 0 g.0) (λ gid. on (meta_of mode uid gid) (λ meta. Some (meta, g.1))))))))
+    on (mode_in m.0) (λ mode. on (decimal_in u.0) (λ uid. on (decimal_in g.0) (λ gid. on (meta_of mode uid gid) (λ meta. Some (meta, g.1))))))))
+
+-- a hexadecimal digit that is not upper-case
+abbrev pub is_lower : ℕ → Bool
+is_lower b = (nat_le 48 b && nat_le b 57) || (nat_le 97 b && nat_le b 102)
+
+-- a dash, or pairs of such digits
+abbrev pub is_content : List ℕ → Bool
+is_content digits = pointwise nat_eq digits (codes "-") || (not (length digits == 0) && (length digits % 2 == 0) && list_all is_lower digits)
+
+-- at most 128 names between slashes
+abbrev pub are_names : List ℕ → Bool
+are_names text = list_all is_name (parts_of text) && nat_le (length (parts_of text)) 128
+
+-- a slash, and names behind it or nothing
+abbrev pub is_path : List ℕ → Bool
+is_path [] = false
+is_path (b ∷ names) = (b == 47) && ((length names == 0) || are_names names)
+
+-- the mode and the owners, the digits of a file's content, and the text of the path
+abbrev pub Fields : Type 0
+Fields = MetaValue × Option (List ℕ) × List ℕ
+
+abbrev pub parts_seen : Parts → Fields
+parts_seen x = (x.meta, option_map (λ digits. digits.now) x.digits, x.path.now)
+
+abbrev pub dir_parts : MetaValue → List ℕ → Option Fields
+dir_parts m path = if is_path path then Some (m, None, path) else None
+
+-- the root is no file
+abbrev pub file_parts : MetaValue → List ℕ → List ℕ → Option Fields
+file_parts m digits path = if is_content digits && is_path path && not (nat_lt (length path) 2) then Some (m, Some digits, path) else None
+
+-- the parts of a line
+abbrev pub parts_in : List ℕ → Option Fields
+parts_in line = on (cut_at 32 line) (λ k. on (meta_in k.1) (λ m.
+    if pointwise nat_eq k.0 (codes "d") then dir_parts m.0 m.1
+    else if pointwise nat_eq k.0 (codes "f") then on (cut_at 32 m.1) (λ c. file_parts m.0 c.0 c.1)
+    else None))
+
+-- the parts of an entry's line
+abbrev pub parts_from : List (List ℕ) × Entry → Fields
+parts_from (p, Dir m) = (m, None, path_text p)
+parts_from (p, File m content) = (m, Some (content_text content), path_text p)
+
+-- the names of a path's text, a slash before each
+abbrev pub trail : List ℕ → List ℕ
+trail path = if length path == 1 then [] else path
 
 -- a directory where there is no content
 abbrev pub entry_of : MetaValue → Option (List ℕ) → Entry
@@ -54,8 +115,11 @@ dir_in m path = on (result_ok (path_of path)) (λ p. Some (p, Dir m))
 abbrev pub file_in : MetaValue → List ℕ → List ℕ → Option (List (List ℕ) × Entry)
 file_in m digits path = on (content_in digits) (λ content. on (result_ok (path_of path)) (λ p. Some (p, File m content)))
 
--- the entry that a line is read as, right or not
+-- the entry of parts
+abbrev pub row_from : Fields → Option (List (List ℕ) × Entry)
+row_from (m, None, path) = dir_in m path
+row_from (m, Some digits, path) = file_in m digits path
+
+-- the entry of a line
 abbrev pub row_in : List ℕ → Option (List (List ℕ) × Entry)
-row_in line = on (cut_at 32 line) (λ k. on (meta_in k.1) (λ m.
-    if pointwise nat_eq k.0 (codes "d") then dir_in m.0 m.1
-    else on (cut_at 32 m.1) (λ c. file_in m.0 c.0 c.1)))
+row_in line = on (parts_in line) row_from

@@ -4,3 +4,4 @@ pub mod Output
 pub mod Reading
 pub mod Fields
 pub mod Placing
+pub mod Lines

@@ -1,12 +1,19 @@
 -- What putting the next row in a tree gives. Only this file and the proofs know that a text is read row by row.
-use Rattle.std.specs.Prelude.{◌≡◌, ℕ, ◌<◌, List, ◌++◌, length, Result, if◌then◌else◌}
+use denote.Ref.{Bor}
+use Rattle.std.specs.Prelude.{◌≡◌, ℕ, ◌+◌, ◌<◌, ◌==◌, Bool, true, false, List, [], ◌∷◌, ◌++◌, length, map, Result, Ok, Err, if◌then◌else◌}
+use Rattle.std.specs.FinMap as finite
+use Rattle.std.specs.declared.cmp.Ordering.{Ordering}
+use Rattle.std.specs.Ordering.{nat_cmp}
+use Rattle.std.specs.Cmp.Lexicographic.{slice_cmp}
 use Rattle.llb_tree.specs.Tree.{Entry, Dir, File, TreeMap, IsTree, put_dir, put_file}
 use Rattle.llb_tree.specs.declared.fault.TreeFault.{TreeFault}
 use Rattle.llb_tree.specs.Faults as base
 use Rattle.llb_treetext.specs.declared.fault.TextFault.{TextFault}
 use Rattle.llb_treetext.specs.declared.fault.TextFault.TheVariants.{NoParent, Memory}
-use Rattle.llb_treetext.specs.TreeText.{tree_text}
-use Rattle.llb_treetext.specs.Reading.{HaveBytes}
+use Rattle.llb_treetext.specs.TreeText.{names_text, tree_text}
+use Rattle.llb_treetext.specs.Reading.{HaveBytes, IsText, IsFault, Stops}
+use Rattle.llb_treetext.specs.Faults.{is_memory}
+use Rattle.llb_treetext.specs.declared.judge.Place.{Place}
 
 -- the tree after a row is put, or why it is not
 abbrev pub put_row : TreeMap → List (List ℕ) × Entry → Result TreeMap TreeFault
@@ -29,3 +36,45 @@ pub record IsFront (bytes : List ℕ) (t : TreeMap) (rest : List ℕ) : Type 0 w
   pub tree : IsTree t
   pub contents : HaveBytes t
   pub text : bytes ≡ tree_text t ++ rest
+
+-- ---- without memory: of the tree so far the last line's path and kind are enough
+
+abbrev pub is_dir : Entry → Bool
+is_dir (Dir m) = true
+is_dir (File m content) = false
+
+-- a slash comes before all bytes of names
+abbrev pub rank : ℕ → ℕ
+rank b = if b == 47 then 0 else b
+
+-- names with a slash before each, in path order
+abbrev pub trail_cmp : List ℕ → List ℕ → Ordering
+trail_cmp p q = slice_cmp nat_cmp (map rank p) (map rank q)
+
+-- what is behind the names of a directory, where that is the last path or above it
+abbrev pub opens : List ℕ → Bool → Bool
+opens [] dir = dir
+opens (b ∷ later) dir = b == 47
+
+-- the last path of a tree, and whether a directory is there
+pub record IsLast (t : TreeMap) (place : Place) : Type 0 where
+  pub front : List (List (List ℕ) × Entry)
+  pub row : List (List ℕ) × Entry
+  pub entries : finite.entries t ≡ front ++ row ∷ []
+  pub names : place.names.now ≡ names_text row.0
+  pub kind : place.is_dir ≡ is_dir row.1
+
+-- a tree of the first line, or what is wrong with it
+abbrev pub Starts : List ℕ → Result (Place × Bor (List ℕ)) TextFault → Type 0
+Starts bytes (Ok x) = (t : TreeMap) × IsFront bytes t x.1.now × IsLast t x.0 × (finite.len t ≡ 1)
+Starts bytes (Err e) = (is_memory e ≡ false) × IsFault [] bytes e
+
+-- a tree with one line more, or what is wrong with the line
+abbrev pub GoesTo : TreeMap → List ℕ → Result (Place × Bor (List ℕ)) TextFault → Type 0
+GoesTo t rest (Ok x) = (new : TreeMap) × GoesOn t new rest x.1.now × IsLast new x.0 × (finite.len new ≡ finite.len t + 1)
+GoesTo t rest (Err e) = (is_memory e ≡ false) × IsFault (finite.entries t) rest e
+
+-- the text is a tree's, or it has a first faulty line
+abbrev pub Judges : List ℕ → Result (Unit {0}) TextFault → Type 0
+Judges bytes (Ok u) = (t : TreeMap) × IsText bytes t
+Judges bytes (Err e) = (is_memory e ≡ false) × Stops bytes e

@@ -64,10 +64,15 @@ pub record Stops (bytes : List ℕ) (e : TextFault) : Type 0 where
   pub more : rest ≡ [] → rows ≡ []
   pub fault : IsFault rows rest e
 
--- what a text is: the text of a tree, or one with a first faulty line; want of memory is the one open answer
+-- what a text is: the text of a tree, or one with a first faulty line; of want of memory it says nothing
 abbrev pub Answers : List ℕ → Result TreeMap TextFault → Type 0
 Answers bytes (Ok t) = IsText bytes t
 Answers bytes (Err e) = is_memory e ≡ false → Stops bytes e
+
+-- and want of memory comes last: it is answered only of a text that is a tree's
+abbrev pub MemoryIsLast : List ℕ → Result TreeMap TextFault → Type 0
+MemoryIsLast bytes (Ok t) = Unit {0}
+MemoryIsLast bytes (Err e) = is_memory e ≡ true → (t : TreeMap) × IsText bytes t
 
 -- a text has one tree at most, or one first fault, and never both
 pub record HasOneAnswer (bytes : List ℕ) : Type 0 where

@@ -4,8 +4,10 @@
 
 mod digest;
 mod fault;
+mod judge;
 mod laws;
 mod line;
+mod parts;
 mod print;
 mod read;
 mod row;

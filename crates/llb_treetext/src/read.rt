@@ -5,11 +5,12 @@ ghost use Rattle.std.specs.FinMap as finite;
 ghost use Rattle.llb_tree.specs.Tree as base;
 ghost use Rattle.llb_tree.specs.Tree.{Dir, IsTree, empty_tree};
 ghost use Rattle.llb_treetext.specs.Faults.{is_memory};
-ghost use Rattle.llb_treetext.specs.Reading.{Answers, HaveBytes, IsFault, comes_next};
+ghost use Rattle.llb_treetext.specs.Reading.{Answers, MemoryIsLast, HaveBytes, IsFault, comes_next};
 ghost use Rattle.llb_treetext.specs.Fields.{pair_of};
 ghost use Rattle.llb_treetext.specs.Placing.{put_row, refused, GoesOn, IsFront};
 
 use crate::fault::TextFault;
+use crate::judge::judge;
 use crate::row::{Row, next_row};
 use llb_tree::{Meta, Path, Tree, TreeFault};
 use std::alloc::Global;
@@ -110,9 +111,8 @@ fn read_root(alloc: Global, bytes: &[u8]) -> Result<(Tree, &[u8]), TextFault>
     }
 }
 
-/// The tree of a text, as `print_tree` writes it; else the first fault of the first line that has one: 31 `BadLine`, 32
-/// `Order`, 33 `NoParent`. A text of no bytes and a last line with no end are 31. 34 `Memory`.
-pub fn read_tree(alloc: Global, bytes: &[u8]) -> Result<Tree, TextFault>
+// The tree of a text, or a fault.
+fn read(alloc: Global, bytes: &[u8]) -> Result<Tree, TextFault>
     ensures { Answers bytes.now result }
 {
     let (mut tree, mut rest) = read_root(alloc, bytes)?;
@@ -121,4 +121,15 @@ pub fn read_tree(alloc: Global, bytes: &[u8]) -> Result<Tree, TextFault>
         rest = read_next(alloc, &mut tree, rest, number)?;
     }
     Ok(tree)
+}
+
+/// The tree of a text, as `print_tree` writes it; else the first fault of the first line that has one: 31 `BadLine`, 32
+/// `Order`, 33 `NoParent`. A text of no bytes and a last line with no end are 31. 34 `Memory` only where the text is a
+/// tree's: a text is looked through without memory before it is read.
+pub fn read_tree(alloc: Global, bytes: &[u8]) -> Result<Tree, TextFault>
+    ensures answers { Answers bytes.now result }
+    ensures last { MemoryIsLast bytes.now result }
+{
+    judge(bytes)?;
+    read(alloc, bytes)
 }

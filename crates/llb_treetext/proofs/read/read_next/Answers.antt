@@ -8,7 +8,7 @@ use Rattle.llb_treetext.proofs.read.read_next.Goals as goal
 pub returns-in_default-clause-fault : goal.returns-in_default-clause-fault
 returns-in_default-clause-fault c = λ _.
     let none = rw c.in_default.is at c.in_ok-row.ensures in
-    (c.requires.number ∙ ap (λ n. n + 1) (finite.len-entries c.args.tree.now), λ row begins. none row begins.1.0 begins.0 begins.1.1)
+    (c.requires.number ∙ ap (λ n. n + 1) (finite.len-entries c.args.tree.now), none)
 
 pub returns-then-not-is_behind-clause-fault : goal.returns-then-not-is_behind-clause-fault
 returns-then-not-is_behind-clause-fault c = λ _.

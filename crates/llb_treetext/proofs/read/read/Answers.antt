@@ -1,7 +1,7 @@
 -- Each row has a line, so there are fewer rows than bytes; and a faulty line stands behind a tree's.
 use Rattle.std.proofs.Common.{arith}
 use Rattle.llb_treetext.proofs.Placing.{few_lines, some_left, stops_later}
-use Rattle.llb_treetext.proofs.read.read_tree.Goals as goal
+use Rattle.llb_treetext.proofs.read.read.Goals as goal
 
 pub overflow_add-number : goal.overflow_add-number
 overflow_add-number c =

@@ -2,7 +2,7 @@
 use Rattle.std.proofs.Common.{sym, ap, ◌∙◌, arith}
 use Rattle.llb_treetext.specs.Fields.{number_from}
 use Rattle.llb_treetext.proofs.Numbers.{number_next, number_stops, number_end}
-use Rattle.llb_treetext.proofs.row.number.Goals as goal
+use Rattle.llb_treetext.proofs.parts.number.Goals as goal
 
 pub returns-then-value : goal.returns-then-value
 returns-then-value c =

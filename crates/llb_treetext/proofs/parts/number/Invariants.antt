@@ -1,7 +1,7 @@
 -- The digits that are left give, behind the number so far, what all give.
 use Rattle.std.proofs.Common.{◌≡◌, drop}
 use Rattle.llb_treetext.specs.Fields.{number_from}
-use Rattle.llb_treetext.proofs.row.number.Given as goal
+use Rattle.llb_treetext.proofs.parts.number.Given as goal
 
 abbrev pub invariant-loop-byte : goal.invariant-loop-byte
 invariant-loop-byte l = number_from l.number (drop l.byte-index l.byte-items) ≡ number_from 0 l.byte-items

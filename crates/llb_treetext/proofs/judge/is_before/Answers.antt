@@ -1,0 +1,10 @@
+-- What ends first comes first.
+use Rattle.std.proofs.Common.{refl, arith}
+use Rattle.llb_treetext.proofs.Trails.{longer, ended}
+use Rattle.llb_treetext.proofs.judge.is_before.Goals as goal
+
+pub returns-then-at-second : goal.returns-then-at-second
+returns-then-at-second c = longer c.args.first.now c.args.second.now c.loop-at.at c.loop-at.invariant.1 (omega arith) (omega arith)
+
+pub returns : goal.returns
+returns c = ended c.args.first.now c.args.second.now c.loop-at.at c.loop-at.invariant.1 (omega arith) _ refl

@@ -1,0 +1,141 @@
+//! A text is looked through without memory. The lines before a line are those of a tree, so the last of them tells whether
+//! the next one lies behind them, and whether its directory is there.
+
+ghost use Rattle.std.specs.Prelude.{◌≡◌, ◌≢◌, ◌+◌, ◌++◌, ◌∷◌, ℕ, List, IsTrue, true};
+ghost use Rattle.std.specs.FinMap as finite;
+ghost use Rattle.std.specs.List.{All};
+ghost use Rattle.std.specs.Ordering.{is_lt};
+ghost use Rattle.std.specs.Option.{is_none};
+ghost use Rattle.llb_tree.specs.Tree.{TreeMap, IsTree};
+ghost use Rattle.llb_treetext.specs.Fields.{trail};
+ghost use Rattle.llb_treetext.specs.Reading.{HaveBytes};
+ghost use Rattle.llb_treetext.specs.Placing.{rank, trail_cmp, opens, IsLast, Starts, GoesTo, Judges};
+
+use crate::fault::TextFault;
+use crate::parts::{Parts, next_parts};
+
+// The names of a path, a slash before each, and whether a directory is there.
+#[derive(Clone, Copy)]
+pub(crate) struct Place<'a> {
+    pub names: &'a [u8],
+    pub is_dir: bool,
+}
+
+// The place of a line.
+fn place_of<'a>(parts: &Parts<'a>) -> Place<'a>
+    ensures names { result.names.now ≡ trail parts.now.path.now }
+    ensures kind { result.is_dir ≡ is_none parts.now.digits }
+{
+    Place {
+        names: parts.trail(),
+        is_dir: parts.digits.is_none(),
+    }
+}
+
+// A byte in path order: a slash comes before all bytes of names.
+fn rank(byte: u8) -> u8
+    ensures { result ≡ rank byte }
+{
+    if byte == b'/' { 0 } else { byte }
+}
+
+// Whether a path comes before another.
+fn is_before(first: &[u8], second: &[u8]) -> bool
+    ensures { result ≡ is_lt (trail_cmp first.now second.now) }
+{
+    for at in 0..first.len() {
+        if at >= second.len() {
+            return false;
+        }
+        let order = rank(first[at]).cmp(&rank(second[at]));
+        if order.is_ne() {
+            return order.is_lt();
+        }
+    }
+    first.len() < second.len()
+}
+
+// What is before the last slash.
+fn parent(names: &[u8]) -> &[u8]
+    ensures { (front last : List ℕ) → All (λ b. b ≢ 47) last → names.now ≡ front ++ 47 ∷ last → result.now ≡ front }
+{
+    let mut rest = names;
+    while let Some((byte, before)) = rest.split_last() {
+        rest = before;
+        if *byte == b'/' {
+            return rest;
+        }
+    }
+    rest
+}
+
+// Whether a directory is there or above.
+fn holds(place: &Place<'_>, dir: &[u8]) -> bool
+    ensures found { IsTrue result → (later : List ℕ) × (place.now.names.now ≡ dir.now ++ later) × (opens later place.now.is_dir ≡ true) }
+    ensures each { (later : List ℕ) → place.now.names.now ≡ dir.now ++ later → result ≡ opens later place.now.is_dir }
+{
+    match place.names.strip_prefix(dir) {
+        None => false,
+        Some(later) => match later.first() {
+            None => place.is_dir,
+            Some(byte) => *byte == b'/',
+        },
+    }
+}
+
+// The place of the first line, which is the root's, and what is behind the line.
+fn first_place(bytes: &[u8]) -> Result<(Place<'_>, &[u8]), TextFault>
+    ensures { Starts bytes.now result }
+{
+    let Some((parts, later)) = next_parts(bytes) else {
+        return Err(TextFault::BadLine(1));
+    };
+    let place = place_of(&parts);
+    if !place.names.is_empty() {
+        return Err(TextFault::Order(1));
+    }
+    Ok((place, later))
+}
+
+// The place of the next line, and what is behind the line.
+fn next_place<'a>(
+    last: &Place<'_>,
+    rest: &'a [u8],
+    number: u64,
+) -> Result<(Place<'a>, &'a [u8]), TextFault>
+    ensures { (t : TreeMap) → IsTree t → HaveBytes t → IsLast t last.now → number ≡ finite.len t + 1 → GoesTo t rest.now result }
+{
+    let Some((parts, later)) = next_parts(rest) else {
+        return Err(TextFault::BadLine(number));
+    };
+    let place = place_of(&parts);
+    if !is_before(last.names, place.names) {
+        return Err(TextFault::Order(number));
+    }
+    if !holds(last, parent(place.names)) {
+        return Err(TextFault::NoParent(number));
+    }
+    Ok((place, later))
+}
+
+// The first fault of the first line that has one. Takes no memory.
+pub(crate) fn judge(bytes: &[u8]) -> Result<(), TextFault>
+    ensures { Judges bytes.now result }
+{
+    let (mut last, mut rest) = match first_place(bytes) {
+        Err(fault) => return Err(fault),
+        Ok((place, later)) => (place, later),
+    };
+    let mut number: u64 = 1;
+    while !rest.is_empty() {
+        number += 1;
+        match next_place(&last, rest, number) {
+            Err(fault) => return Err(fault),
+            Ok((place, later)) => {
+                last = place;
+                rest = later;
+            }
+        }
+    }
+    Ok(())
+}

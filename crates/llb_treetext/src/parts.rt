@@ -1,0 +1,254 @@
+//! A line is taken apart without memory. Each field is accepted only as it is written, so a line that has all its parts is
+//! an entry's.
+
+ghost use Rattle.std.specs.Prelude.{◌≡◌, ◌↔◌, nat_eq, IsTrue, position};
+ghost use Rattle.std.specs.Fmt.{decimal};
+ghost use Rattle.std.specs.List.{list_all};
+ghost use Rattle.std.specs.Option.{option_map};
+ghost use Rattle.llb_treetext.specs.Fields.{cut_at, octal_digit, is_octal, is_lower, mode_in, number_from, decimal_in, meta_in, is_content, are_names, is_path};
+ghost use Rattle.llb_treetext.specs.Fields.{parts_seen, dir_parts, file_parts, parts_in, trail};
+ghost use Rattle.llb_treetext.specs.Lines.{Spells, BeginsWith};
+
+use llb_tree::{Meta, Name};
+
+// A line's mode and owners, the digits of a file's content, and the text of the path.
+#[derive(Clone, Copy)]
+pub(crate) struct Parts<'a> {
+    pub meta: Meta,
+    pub digits: Option<&'a str>,
+    pub path: &'a str,
+}
+
+impl<'a> Parts<'a> {
+    // The names of the path, a slash before each.
+    pub(crate) fn trail(&self) -> &'a [u8]
+        ensures { result.now ≡ trail self.now.path.now }
+    {
+        let path = self.path.as_bytes();
+        if path.len() == 1 {
+            return b"".as_slice();
+        }
+        path
+    }
+}
+
+// The text up to the first space, and the text behind it.
+fn cut(text: &str) -> Option<(&str, &str)>
+    ensures { option_map (λ x. (x.0.now, x.1.now)) result ≡ cut_at 32 text.now }
+{
+    text.split_once(' ')
+}
+
+// Whether all are octal digits.
+fn are_octal(text: &[u8]) -> bool
+    ensures { result ≡ list_all is_octal text.now }
+{
+    text.iter().all(|b| *b >= b'0' && *b <= b'7')
+}
+
+// The number that four octal digits are.
+fn mode_of(text: &str) -> Option<u16>
+    ensures { result ≡ mode_in text.now }
+{
+    if !are_octal(text.as_bytes()) {
+        return None;
+    }
+    match text.as_bytes() {
+        [a, b, c, d] => Some(digit(*a) * 512 + digit(*b) * 64 + digit(*c) * 8 + digit(*d)),
+        _ => None,
+    }
+}
+
+// The value of an octal digit; that of any other byte is of no account.
+fn digit(byte: u8) -> u16
+    ensures { result ≡ octal_digit byte }
+{
+    (byte.saturating_sub(b'0') % 8) as u16
+}
+
+// The number that decimal digits are; what other bytes are is of no account.
+fn number(text: &str) -> Option<u32>
+    ensures { result ≡ number_from 0 text.now }
+{
+    let mut number: u32 = 0;
+    for byte in text.as_bytes() {
+        let value = number as u64 * 10 + byte.saturating_sub(b'0') as u64;
+        if value > u32::MAX as u64 {
+            return None;
+        }
+        number = value as u32;
+    }
+    Some(number)
+}
+
+// Whether a text is a number as it is written.
+fn is_decimal(text: &[u8], number: u32) -> bool
+    ensures { IsTrue result ↔ (text.now ≡ decimal number) }
+{
+    match text.split_last() {
+        None => false,
+        Some((last, front)) => {
+            if *last as u32 != b'0' as u32 + number % 10 {
+                return false;
+            }
+            if number < 10 {
+                return front.is_empty();
+            }
+            is_decimal(front, number / 10)
+        }
+    }
+}
+
+// The number that a text is, as it is written.
+fn decimal_of(text: &str) -> Option<u32>
+    ensures { result ≡ decimal_in text.now }
+{
+    let number = number(text)?;
+    if is_decimal(text.as_bytes(), number) {
+        Some(number)
+    } else {
+        None
+    }
+}
+
+// The mode and the owners at the front of a text, and what is behind them.
+fn front(text: &str) -> Option<(Meta, &str)>
+    ensures { option_map (λ x. (x.0, x.1.now)) result ≡ meta_in text.now }
+{
+    let (mode, rest) = cut(text)?;
+    let (uid, rest) = cut(rest)?;
+    let (gid, rest) = cut(rest)?;
+    let meta = Meta::new(mode_of(mode)?, decimal_of(uid)?, decimal_of(gid)?)?;
+    Some((meta, rest))
+}
+
+// Whether all are hexadecimal digits, none upper-case.
+fn are_lower(digits: &[u8]) -> bool
+    ensures { result ≡ list_all is_lower digits.now }
+{
+    digits
+        .iter()
+        .all(|b| *b >= b'0' && *b <= b'9' || *b >= b'a' && *b <= b'f')
+}
+
+// Whether digits are content as it is written.
+fn is_content(digits: &str) -> bool
+    ensures { result ≡ is_content digits.now }
+{
+    let bytes = digits.as_bytes();
+    if bytes == b"-".as_slice() {
+        return true;
+    }
+    !bytes.is_empty() && bytes.len() % 2 == 0 && are_lower(bytes)
+}
+
+// Whether there are names between slashes, at most 128.
+fn are_names(text: &str) -> bool
+    ensures { result ≡ are_names text.now }
+{
+    let mut count: usize = 0;
+    for part in text.split('/') {
+        if count >= 128 {
+            return false;
+        }
+        if !Name::is_name(part) {
+            return false;
+        }
+        count += 1;
+    }
+    true
+}
+
+// Whether a text is a path as it is written.
+fn is_path(text: &str) -> bool
+    ensures { result ≡ is_path text.now }
+{
+    match text.strip_prefix('/') {
+        None => false,
+        Some(names) => names.is_empty() || are_names(names),
+    }
+}
+
+// The parts of a text, where it is a line.
+fn parts_in(text: &str) -> Option<Parts<'_>>
+    ensures { option_map parts_seen result ≡ parts_in text.now }
+{
+    let (kind, rest) = cut(text)?;
+    let Some((meta, rest)) = front(rest) else {
+        return None;
+    };
+    if kind == "d" {
+        return dir_parts(meta, rest);
+    }
+    if kind != "f" {
+        return None;
+    }
+    let (digits, path) = cut(rest)?;
+    file_parts(meta, digits, path)
+}
+
+// A directory's parts.
+fn dir_parts(meta: Meta, path: &str) -> Option<Parts<'_>>
+    ensures { option_map parts_seen result ≡ dir_parts meta path.now }
+{
+    if !is_path(path) {
+        return None;
+    }
+    Some(Parts {
+        meta,
+        digits: None,
+        path,
+    })
+}
+
+// A file's parts; the root is none.
+fn file_parts<'a>(meta: Meta, digits: &'a str, path: &'a str) -> Option<Parts<'a>>
+    ensures { option_map parts_seen result ≡ file_parts meta digits.now path.now }
+{
+    if !is_content(digits) {
+        return None;
+    }
+    if !is_path(path) {
+        return None;
+    }
+    if path.len() < 2 {
+        return None;
+    }
+    Some(Parts {
+        meta,
+        digits: Some(digits),
+        path,
+    })
+}
+
+// The parts of the entry whose line this is, without its end.
+fn parts_of(line: &[u8]) -> Option<Parts<'_>>
+    ensures { Spells line.now result }
+{
+    match str::from_utf8(line) {
+        Err(_) => None,
+        Ok(text) => parts_in(text),
+    }
+}
+
+// Where the first line end is.
+fn line_end(bytes: &[u8]) -> Option<usize>
+    ensures { result ≡ position (λ b. nat_eq b 10) bytes.now }
+{
+    bytes.iter().position(|b| *b == b'\n')
+}
+
+// The parts of the line that the bytes begin with, and the bytes behind it.
+pub(crate) fn next_parts(bytes: &[u8]) -> Option<(Parts<'_>, &[u8])>
+    ensures { BeginsWith bytes.now result }
+{
+    let Some(end) = line_end(bytes) else {
+        return None;
+    };
+    let (line, rest) = bytes.split_at(end);
+    let (_, later) = rest.split_at(1);
+    match parts_of(line) {
+        None => None,
+        Some(parts) => Some((parts, later)),
+    }
+}
