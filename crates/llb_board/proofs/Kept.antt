@@ -1,10 +1,10 @@
 -- What the board's type keeps, as an event is done.
 use Rattle.std.proofs.Common.{◌≡◌, ℕ, ◌<◌, List, [], ◌∷◌, ◌++◌, map, length, refl, sym, ap, subst, ◌∙◌, arith, take, drop}
-use Rattle.std.specs.Prelude.{Bool, true, false, Some, Result, Ok, slice_get, slice_set, replicate}
+use Rattle.std.specs.Prelude.{Bool, true, false, Option, Some, None, Result, Ok, slice_get, slice_set, replicate}
 use Rattle.std.proofs.lemmas.List.{length_push, length-replicate, drop_all, take_all, append-nil}
 use Rattle.llb_tree.specs.Tree.{empty_tree}
 use Rattle.llb_loader.specs.declared.graph.Vertex.{Vertex}
-use Rattle.llb_model.specs.Program.{Build, MicroStep, program_at, step_on}
+use Rattle.llb_model.specs.Program.{Build, program_at, step_on}
 use Rattle.llb_model.specs.State.{Status, Running, Settled, Idle, Runs, State, opening, ending_at, program_in, work_of, is_finished, stopped}
 use Rattle.llb_model.specs.State.{is_failed, ending_of}
 use Rattle.llb_model.specs.Table.{Event, Step, Reply, SettledDone, SettledFailed, settle_reply, with_step, claim_grant, step_grant, settle_grant, table}
@@ -17,7 +17,7 @@ use Rattle.llb_model.proofs.Rooms.{event_room}
 use Rattle.llb_board.specs.Views.{status_of, at_of, execution_of, state_of}
 use Rattle.llb_board.specs.Board.{Seen, Replays, recorded}
 use Rattle.llb_board.specs.Rules.{faulted, step_fault, begun, left_at}
-use Rattle.llb_board.specs.Room.{IsKept, seen, ready_made, needed}
+use Rattle.llb_board.specs.Room.{IsKept, Supplies, supplies_of, supplies_for, seen, ready_made, needed}
 use Rattle.llb_board.specs.declared.stand.Stand.{Stand}
 use Rattle.llb_board.specs.declared.stand.Stand.TheVariants as stand
 use Rattle.llb_board.specs.declared.stand.Desk.{Desk}
@@ -38,7 +38,7 @@ pub kept_after : (b : Build) (ss ss' : List Stand) (ds ds' : List Desk) (es : Li
     → table b (state_of ss ds) e ≡ Some (state_of ss' ds', r) → length ds' ≡ length ds
     → map ready_made ds' ≡ map (needed b) (map at_of ds')
     → halted' ≡ stopped b (map status_of ss') → IsKept (seen b ss' ds' (es ++ e ∷ [])) ds' halted' capacity
-kept_after b ss ss' ds ds' es halted halted' capacity e r kept granted same outputs marks =
+kept_after b ss ss' ds ds' es halted halted' capacity e r kept granted same supplies marks =
     let leads : run b (opening b (record { workers = length ds })) (es ++ e ∷ []) ≡ Some (state_of ss' ds', kept.replays.replies ++ r ∷ [])
     = run_more b (opening b (record { workers = length ds })) (state_of ss ds) (state_of ss' ds') es kept.replays.replies e r kept.replays.leads granted in
     let less = event_room b (state_of ss ds) e (state_of ss' ds', r) granted in
@@ -48,7 +48,7 @@ kept_after b ss ss' ds ds' es halted halted' capacity e r kept granted same outp
     record {
       replays = record { replies = kept.replays.replies ++ r ∷ []; leads = ap (λ n. run b (opening b (record { workers = n })) (es ++ e ∷ [])) same ∙ leads };
       room = omega (arith, less, room, length_push es e);
-      outputs = outputs;
+      supplies = supplies;
       some = omega (arith, length_map at_of ds', length_map at_of ds, same, some);
       few = omega (arith, length_map at_of ds', length_map at_of ds, same, few);
       halted_are = marks;
@@ -90,13 +90,13 @@ pub claim_does : (b : Build) (ss : List Stand) (ds : List Desk) (w v : ℕ) (x :
 claim_does b ss ds w v x own r can is =
     begins b (state_of ss ds) w v x (execution_of own, r) can is ∙ (λ i. Ok (sym (state_claimed ss ds w v own) i, r))
 
-pub made_for : (b : Build) (x : Vertex) (v n : ℕ) → slice_get b.graph.vertices v ≡ Some x → n ≡ v → x.outputs ≡ (program_at (slice_get b.graph.vertices n)).outputs
-made_for b x v n there same = sym (ap (λ k. (program_at (slice_get b.graph.vertices k)).outputs) same ∙ ap (λ o. (program_at o).outputs) there)
+pub made_for : (b : Build) (x : Vertex) (v n : ℕ) → slice_get b.graph.vertices v ≡ Some x → n ≡ v → supplies_for (Some x) ≡ supplies_for (slice_get b.graph.vertices n)
+made_for b x v n there same = sym (ap (λ k. supplies_for (slice_get b.graph.vertices k)) same ∙ ap supplies_for there)
 
-pub outputs_claimed : (b : Build) (ds : List Desk) (w : ℕ) (x : own.Execution) → map ready_made ds ≡ map (needed b) (map at_of ds)
-    → x.outputs.items ≡ replicate (program_at (slice_get b.graph.vertices x.vertex)).outputs empty_tree
+pub supplies_claimed : (b : Build) (ds : List Desk) (w : ℕ) (x : own.Execution) → map ready_made ds ≡ map (needed b) (map at_of ds)
+    → supplies_of x ≡ supplies_for (slice_get b.graph.vertices x.vertex)
     → map ready_made (slice_set ds w (desk.Runs x)) ≡ map (needed b) (map at_of (slice_set ds w (desk.Runs x)))
-outputs_claimed b ds w x kept made =
+supplies_claimed b ds w x kept made =
     map_set ready_made ds w (desk.Runs x) ∙ (λ i. slice_set (kept i) w (made i))
     ∙ sym (map_set (needed b) (map at_of ds) w (Runs (execution_of x))) ∙ ap (map (needed b)) (sym (map_set at_of ds w (desk.Runs x)))
 
@@ -116,11 +116,11 @@ needs_stay b s w a step =
     ∙ map_set (needed b) s.workers w (Runs (with_step step.x left))
     ∙ set_same (map (needed b) s.workers) w (needed b (Runs step.x)) (get_map (needed b) s.workers w (Runs step.x) step.there)
 
-pub outputs_stepped : (b : Build) (ss : List Stand) (ds ds' : List Desk) (w : ℕ) (r : Reply)
+pub supplies_stepped : (b : Build) (ss : List Stand) (ds ds' : List Desk) (w : ℕ) (r : Reply)
     → map ready_made ds ≡ map (needed b) (map at_of ds)
     → table b (state_of ss ds) (Step w) ≡ Some (state_of ss ds', r) → map ready_made ds' ≡ map ready_made ds
     → map ready_made ds' ≡ map (needed b) (map at_of ds')
-outputs_stepped b ss ds ds' w r kept granted same =
+supplies_stepped b ss ds ds' w r kept granted same =
     same ∙ kept
     ∙ sym (needs_stay b (state_of ss ds) w (state_of ss ds', r)
     (step_is b (state_of ss ds) w (state_of ss ds', r) granted))
@@ -130,10 +130,10 @@ same_length ds ds' same = sym (length_map ready_made ds') ∙ ap length same ∙
 
 -- ---- a settle
 
--- the trees that a worker has ready are those that its vertex needs
+-- what a worker has ready is what its vertex needs
 pub made_enough : (b : Build) (ds : List Desk) (w : ℕ) (x : own.Execution) → map ready_made ds ≡ map (needed b) (map at_of ds)
     → slice_get ds w ≡ Some (desk.Runs x)
-    → x.outputs.items ≡ replicate (program_in b (execution_of x)).outputs empty_tree
+    → supplies_of x ≡ supplies_for (slice_get b.graph.vertices x.vertex)
 made_enough b ds w x kept at =
     inside (sym (get_map ready_made ds w (desk.Runs x) at) ∙ ap (λ l. slice_get l w) kept
     ∙ get_map (needed b) (map at_of ds) w (Runs (execution_of x)) (get_map at_of ds w (desk.Runs x) at))
@@ -141,7 +141,7 @@ made_enough b ds w x kept at =
 pub all_empty : (b : Build) (ds : List Desk) (w : ℕ) (x : own.Execution) → map ready_made ds ≡ map (needed b) (map at_of ds)
     → slice_get ds w ≡ Some (desk.Runs x) → x.outputs.items ≡ replicate (length x.outputs.items) empty_tree
 all_empty b ds w x kept at =
-    let made = made_enough b ds w x kept at in
+    let made = ap (λ (s : Supplies). s.outputs) (made_enough b ds w x kept at) in
     made ∙ ap (λ n. replicate n empty_tree) (sym (ap length made ∙ length-replicate (program_in b (execution_of x)).outputs empty_tree))
 
 finished_at : Build → Desk → Bool
@@ -149,20 +149,20 @@ finished_at b desk.Idle = false
 finished_at b (desk.Runs x) = is_finished (program_in b (execution_of x)).steps (execution_of x)
 
 -- how the worker's execution ends: x is what was looked at, and y what was taken
-pub leaves : (b : Build) (ds : List Desk) (w : ℕ) (x y : own.Execution) (steps : List MicroStep) (stands : Status)
+pub leaves : (b : Build) (ds : List Desk) (w : ℕ) (x y : own.Execution) (o : Option Vertex) (stands : Status)
     → map ready_made ds ≡ map (needed b) (map at_of ds)
     → slice_get ds w ≡ Some (desk.Runs x) → slice_get ds w ≡ Some (desk.Runs y)
-    → is_finished (program_in b (execution_of x)).steps (execution_of x) ≡ true → steps ≡ (program_in b (execution_of y)).steps
-    → stands ≡ Settled (ended (record { steps = steps; outputs = length y.outputs.items }) y.view y.fault)
+    → is_finished (program_in b (execution_of x)).steps (execution_of x) ≡ true → o ≡ slice_get b.graph.vertices y.vertex
+    → stands ≡ Settled (ended (record (program_at o) { outputs = length y.outputs.items }) y.view y.fault)
     → left_at b (slice_get (map at_of ds) w) ≡ Ok (y.vertex, stands)
 unfolding finished_at
-leaves b ds w x y steps stands kept looked taken finished same ends =
+leaves b ds w x y o stands kept looked taken finished same ends =
     let count : length y.outputs.items ≡ (program_in b (execution_of y)).outputs
-    = ap length (made_enough b ds w y kept taken) ∙ length-replicate (program_in b (execution_of y)).outputs empty_tree in
+    = ap (λ (s : Supplies). length s.outputs) (made_enough b ds w y kept taken) ∙ length-replicate (program_in b (execution_of y)).outputs empty_tree in
     let is : finished_at b (desk.Runs y) ≡ true = ap (finished_at b) (inside (sym taken ∙ looked)) ∙ finished in
     ap (left_at b) (get_map at_of ds w (desk.Runs y) taken)
     ∙ ap (left_if b (execution_of y)) is
-    ∙ (λ i. Ok (y.vertex, Settled (ended (record { steps = sym same i; outputs = sym count i }) y.view y.fault)))
+    ∙ (λ i. Ok (y.vertex, Settled (ended (record (program_at (sym same i)) { outputs = sym count i }) y.view y.fault)))
     ∙ ap (λ s. Ok (y.vertex, s)) (sym ends)
 
 pub state_settled : (ss : List Stand) (ds : List Desk) (w v : ℕ) (s : Stand) (e : Ending) → status_of s ≡ Settled e
@@ -181,10 +181,10 @@ settle_does b ss ds w v s can = can.grants ∙ (λ i. Ok (sym (state_settled ss 
 pub leaves_running : (b : Seen) (w v : ℕ) (stands : Status) → Replays b → CanSettle b.build b.state w v stands → slice_get b.state.statuses v ≡ Some (Running w)
 leaves_running b w v stands here can = ap (slice_get b.state.statuses) (sym can.vertex) ∙ (consistent b here).working w can.x can.there
 
-pub outputs_settled : (b : Build) (ds : List Desk) (w : ℕ) → map ready_made ds ≡ map (needed b) (map at_of ds)
+pub supplies_settled : (b : Build) (ds : List Desk) (w : ℕ) → map ready_made ds ≡ map (needed b) (map at_of ds)
     → map ready_made (slice_set ds w desk.Idle) ≡ map (needed b) (map at_of (slice_set ds w desk.Idle))
-outputs_settled b ds w kept =
-    map_set ready_made ds w desk.Idle ∙ ap (λ l. slice_set l w []) kept ∙ sym (map_set (needed b) (map at_of ds) w Idle)
+supplies_settled b ds w kept =
+    map_set ready_made ds w desk.Idle ∙ ap (λ l. slice_set l w (supplies_for None)) kept ∙ sym (map_set (needed b) (map at_of ds) w Idle)
     ∙ ap (map (needed b)) (sym (map_set at_of ds w desk.Idle))
 
 pub reply_failed : (v : ℕ) (e : Ending) → is_failed (Some e) ≡ true → settle_reply v e ≡ SettledFailed v

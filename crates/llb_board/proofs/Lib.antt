@@ -5,8 +5,10 @@ pub mod Stopped
 pub mod Counted
 pub mod Steps
 pub mod Outputs
+pub mod Shown
 pub mod Choices
 pub mod Calls
 pub mod Sound
+pub mod Others
 pub mod Kept
 pub mod Opened

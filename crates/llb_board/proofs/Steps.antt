@@ -1,17 +1,18 @@
 -- A micro-step of an execution, as it is done.
-use Rattle.std.proofs.Common.{◌≡◌, ℕ, ℤ, zero, suc, inl, inr, ◌+◌, ◌<◌, ◌≤◌, List, [], ◌∷◌, length, refl, ap, sym, ◌∙◌, arith}
+use Rattle.std.proofs.Common.{◌≡◌, ◌≢◌, ℕ, ℤ, zero, suc, inl, inr, ◌+◌, ◌<◌, ◌≤◌, List, [], ◌∷◌, length, refl, ap, sym, ◌∙◌, arith}
 use Rattle.std.specs.Prelude.{Bool, true, false, Option, Some, None, Ok, Err, slice_get, nat_le, if◌then◌else◌}
 use Rattle.std.proofs.lemmas.Bool.{le-leb, leb-true, cases_lt}
 use Rattle.llb_fileop.specs.declared.fault.ActFault.{ActFault}
 use Rattle.llb_ops.specs.declared.file.Action.{Action}
 use Rattle.llb_tree.specs.Tree.{TreeMap}
-use Rattle.llb_loader.specs.declared.graph.Vertex.{Vertex}
+use Rattle.llb_applet.specs.declared.setting.Setting.{Setting}
+use Rattle.llb_applet.specs.declared.command.Command.{Command}
 use Rattle.llb_model.specs.declared.fault.VertexFault.{VertexFault}
 use Rattle.llb_model.specs.declared.fault.VertexFault.TheVariants as fault
-use Rattle.llb_model.specs.Program.{MicroStep, ReadLocal, Act, LayInput, View, Work, trees_in, with_tree, act_among, lay_on, micro_step, with_own, with_result, tried, fault_number, steps_of, program_at}
+use Rattle.llb_model.specs.Program.{MicroStep, ReadLocal, Act, LayInput, Run, View, Work, trees_in, with_tree, act_among, lay_on, run_on, micro_step, with_own, with_result, tried, fault_number}
 use Rattle.llb_model.specs.State.{Execution, next_step}
-use Rattle.llb_model.specs.Table.{HasRead, Acted, HasMerged, Faulted}
-use Rattle.llb_board.specs.Jobs.{kind_of}
+use Rattle.llb_model.specs.Table.{HasRead, Acted, HasMerged, HasRun, Faulted}
+use Rattle.llb_board.specs.Jobs.{exit_of, ends_as}
 use Rattle.llb_board.specs.Rules.{worked, worked_by, stepped_to}
 
 -- an execution that has not faulted
@@ -21,11 +22,6 @@ clean v k view = record { vertex = v; done = k; fault = None; own = view }
 pub as_clean : (steps : List MicroStep) (v k : ℕ) (f : Option VertexFault) (view : View) → f ≡ None
     → worked steps (record { vertex = v; done = k; fault = f; own = view }) ≡ worked steps (clean v k view)
 as_clean steps v k f view is = ap (λ o. worked steps (record { vertex = v; done = k; fault = o; own = view })) is
-
--- the micro-steps of what is done at a vertex are its program's
-pub steps_by_kind : (o : Option Vertex) → steps_of (kind_of o) ≡ (program_at o).steps
-steps_by_kind None = refl
-steps_by_kind (Some v) = refl
 
 past_none : {A : Type 0} (xs : List A) (k : ℕ) → length xs ≤ k → slice_get xs k ≡ None
 past_none [] k past = refl
@@ -75,3 +71,12 @@ merged v k view i = refl
 pub read : (v k : ℕ) (view : View) → worked_by (clean v k view) (Some ReadLocal) ≡ Ok (clean v (k + 1) view, HasRead)
 unfolding micro_step
 read v k view = refl
+
+-- a command leaves the view that it has made, or ends with a fault and leaves the view as it was
+pub ran : (v k : ℕ) (view after : View) (s : Setting) (m : Command) (status : ℕ) → ends_as k status after ≡ run_on k s m view → (status ≢ 0 → after ≡ view)
+    → worked_by (clean v k view) (Some (Run s m)) ≡ Ok (record { vertex = v; done = k + 1; fault = exit_of k status; own = after }, HasRun k status)
+unfolding micro_step
+ran v k view after s m zero is kept = ap (λ r. Ok (stepped_to (clean v k view) (Run s m) (tried (work view) (with_own (work view) r)))) (sym is)
+ran v k view after s m (suc n) is kept =
+    ap (λ r. Ok (stepped_to (clean v k view) (Run s m) (tried (work view) (with_own (work view) r)))) (sym is)
+    ∙ (λ i. Ok (record { vertex = v; done = k + 1; fault = exit_of k (suc n); own = sym (kept (λ e. absurd (omega (arith, e)))) i }, HasRun k (suc n)))

@@ -1,12 +1,12 @@
 -- A board as contracts see it: what it was opened with, the machine's state, and the record of events; and what a call did.
-use Rattle.std.specs.Prelude.{◌≡◌, ℕ, List, [], ◌∷◌, ◌++◌, slice_get, Some, Result, Ok, Err, Bool, true, is_some, ◌||◌, ◌&&◌}
+use Rattle.std.specs.Prelude.{◌≡◌, ◌≢◌, ℕ, List, [], ◌∷◌, ◌++◌, slice_get, Some, Result, Ok, Err, Bool, true, is_some, ◌||◌, ◌&&◌}
 use Rattle.std.specs.List.{list_any, list_all}
 use Rattle.llb_loader.specs.declared.graph.Edge.{Edge}
 use Rattle.llb_loader.specs.declared.graph.Vertex.{Vertex}
 use Rattle.llb_model.specs.Program.{Build}
 use Rattle.llb_model.specs.Outcome.{Ending, Ended, outcome, outcome_on, ending_in, inputs_from}
-use Rattle.llb_model.specs.State.{State, Opening, Settled, opening, ending_at, is_done, is_failed, is_waiting, is_ready, is_blocked}
-use Rattle.llb_model.specs.Table.{Event, Reply, table}
+use Rattle.llb_model.specs.State.{State, Execution, Runs, Opening, Settled, opening, ending_at, is_done, is_failed, is_waiting, is_ready, is_blocked}
+use Rattle.llb_model.specs.Table.{Event, Reply, worker_of, table}
 use Rattle.llb_model.specs.Run.{run, chosen}
 
 pub record Seen : Type 0 where
@@ -39,6 +39,15 @@ SettledArePlain b = (v : ℕ) (e : Ending) → slice_get b.state.statuses v ≡ 
 -- the event that a driver chooses is granted
 abbrev pub ChosenIsGranted : Seen → Type 0
 ChosenIsGranted b = (e : Event) → chosen b.build b.state ≡ Some e → is_some (table b.build b.state e) ≡ true
+
+-- an event that is granted leaves what the workers other than its own do as it is
+abbrev pub OthersKeep : Seen → Type 0
+OthersKeep b = (e : Event) (a : State × Reply) → table b.build b.state e ≡ Some a → (u : ℕ) → u ≢ worker_of e → slice_get a.0.workers u ≡ slice_get b.state.workers u
+
+-- no two workers run one vertex
+abbrev pub OneWorkerEach : Seen → Type 0
+OneWorkerEach b = (u w : ℕ) (x y : Execution) → slice_get b.state.workers u ≡ Some (Runs x) → slice_get b.state.workers w ≡ Some (Runs y)
+    → x.vertex ≡ y.vertex → u ≡ w
 
 -- a vertex is Ready exactly where it waits, and all its inputs are done
 abbrev pub ReadyBehindDone : Seen → Type 0

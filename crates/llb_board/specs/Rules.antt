@@ -1,5 +1,5 @@
 -- What each call answers: what the table gives, or the first cause of its refusal as a fault.
-use Rattle.std.specs.Prelude.{ℕ, ◌==◌, Bool, true, false, List, [], Option, Some, None, Result, Ok, Err, if◌then◌else◌}
+use Rattle.std.specs.Prelude.{ℕ, nat_le, Bool, true, false, ◌&&◌, List, [], Option, Some, None, Result, Ok, Err, if◌then◌else◌}
 use Rattle.llb_wire.specs.Answer as answer
 use Rattle.llb_loader.specs.declared.graph.Vertex.{Vertex}
 use Rattle.llb_tree.specs.Tree.{TreeMap}
@@ -24,9 +24,12 @@ use Rattle.llb_board.specs.declared.fault.SettleFault.TheVariants as settle
 
 -- ---- what opening answers
 
--- one worker, until more may be asked for
+-- there may be 1 to 64 workers
+abbrev pub may_work : ℕ → Bool
+may_work workers = nat_le 1 workers && nat_le workers 64
+
 abbrev pub open_with : Build → ℕ → Result Seen OpenFault
-open_with b workers = if workers == 1 then Ok (opened b (record { workers = workers })) else Err (opening.Workers b.graph b.locals)
+open_with b workers = if may_work workers then Ok (opened b (record { workers = workers })) else Err (opening.Workers b.graph b.locals)
 
 -- first of all a local tree that is missing
 abbrev pub open_unless : Option (List ℕ) → Build → ℕ → Result Seen OpenFault

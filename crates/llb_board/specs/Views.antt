@@ -7,7 +7,7 @@ use Rattle.llb_model.specs.Table as table
 use Rattle.llb_board.specs.declared.event.Event.{Event}
 use Rattle.llb_board.specs.declared.event.Event.TheVariants as event
 use Rattle.llb_board.specs.declared.event.Stepped.{Stepped}
-use Rattle.llb_board.specs.declared.event.Stepped.TheVariants.{Read, Acted, Merged, Fault}
+use Rattle.llb_board.specs.declared.event.Stepped.TheVariants.{Read, Acted, Merged, Ran, Fault}
 use Rattle.llb_board.specs.declared.event.Settled.{Settled}
 use Rattle.llb_board.specs.declared.event.Settled.TheVariants as settled
 use Rattle.llb_board.specs.declared.event.Status.{Status}
@@ -52,6 +52,7 @@ abbrev pub step_reply : Stepped → table.Reply
 step_reply Read = table.HasRead
 step_reply (Acted a) = table.Acted a
 step_reply (Merged i) = table.HasMerged i
+step_reply (Ran c status) = table.HasRun c status
 step_reply (Fault f) = table.Faulted f
 
 abbrev pub settle_reply : Settled → table.Reply

@@ -9,7 +9,7 @@ ghost use Rattle.llb_model.specs.Run.{chosen, is_complete};
 ghost use Rattle.llb_loader.specs.Graph.{IsGraph};
 ghost use Rattle.llb_board.specs.Board.{Seen, Replays};
 ghost use Rattle.llb_wire.specs.Answer.{MemoryLast};
-ghost use Rattle.llb_board.specs.Rules.{open_memory, claim_memory, step_memory, GivesOpen, open_of, open_with, build_in, may_want_memory};
+ghost use Rattle.llb_board.specs.Rules.{may_work, open_memory, claim_memory, step_memory, GivesOpen, open_of, open_with, build_in, may_want_memory};
 ghost use Rattle.llb_board.specs.Rules.{GivesClaim, claim_of, GivesStep, step_of, GivesSettle, settle_of};
 ghost use Rattle.llb_board.specs.Views.{event_of, claim_reply, step_reply, settle_reply, status_of, look, look_at, worker_look};
 
@@ -57,7 +57,7 @@ impl Model for Board {
 
 impl Board {
     /// A board on which nothing has happened. In this order: 121 with the name of the least vertex's local source that
-    /// no tree is given for, 122 where the number of workers is not 1; 123 is want of memory. The graph and the local trees
+    /// no tree is given for, 122 where the number of workers is 0 or more than 64; 123 is want of memory. The graph and the local trees
     /// come back in the fault.
     pub fn open(
         alloc: Global,
@@ -89,7 +89,7 @@ impl Board {
         ensures last { MemoryLast open_memory result (open_with build workers) }
         ensures back { IfErr result (λ e. build_in e ≡ build) }
     {
-        if workers != 1 {
+        if !may_work(workers) {
             let (graph, locals) = build.into_parts();
             return Err(OpenFault::Workers(graph, locals));
         }
@@ -236,6 +236,13 @@ impl Board {
     {
         let _ = &self.events;
     }
+}
+
+// Whether there may be so many workers.
+fn may_work(workers: u32) -> bool
+    ensures { result ≡ may_work workers }
+{
+    1 <= workers && workers <= 64
 }
 
 // A copy of the first name that no local tree is given for.

@@ -1,15 +1,13 @@
 //! What a board is over: the graph, and the trees of local sources by name.
 
-ghost use Rattle.std.specs.Prelude.{◌≡◌, ◌≤◌, length, option_map, slice_get, OnOk, IfOk, Some, None};
+ghost use Rattle.std.specs.Prelude.{◌≡◌, ◌<◌, ◌^◌, length, option_map, slice_get, OnOk, IfOk, Some, None};
 ghost use Rattle.llb_loader.specs.Graph.{IsGraph};
-ghost use Rattle.llb_model.specs.Program.{program_at, steps_of, local_tree};
+ghost use Rattle.llb_model.specs.Program.{program_at, local_tree};
 ghost use Rattle.llb_model.specs.State.{missing_local};
-ghost use Rattle.llb_board.specs.Jobs.{kind_of};
 ghost use Rattle.llb_board.specs.Rules.{GivesClaim};
 
 use crate::fault::ClaimFault;
 use llb_loader::{Graph, Locals, Vertex};
-use llb_ops::Kind;
 use llb_tree::Tree;
 use std::alloc::Global;
 use std::marker::Model;
@@ -51,26 +49,16 @@ impl Build {
     /// The vertex of a number.
     pub(crate) fn vertex(&self, v: u32) -> Option<&Vertex>
         ensures there { option_map (λ x. x.now) result ≡ slice_get self.now.graph.vertices v }
+        ensures few { length (program_at (slice_get self.now.graph.vertices v)).steps < 2 ^ 25 }
         ensures graph { IsGraph self.now.graph }
     {
         self.vertices().get(v as usize)
     }
 
-    /// What is done at a vertex.
-    pub(crate) fn kind(&self, v: u32) -> Option<&Kind>
-        ensures there { option_map (λ k. k.now) result ≡ kind_of (slice_get self.now.graph.vertices v) }
-        ensures few { length (steps_of (option_map (λ k. k.now) result)) ≤ 1_024 }
-    {
-        match self.vertex(v) {
-            Some(vertex) => vertex.op.kind.as_ref(),
-            None => None,
-        }
-    }
-
     /// How many micro-steps a vertex has.
     pub(crate) fn steps(&self, v: u32) -> u32
         ensures all { result ≡ length (program_at (slice_get self.now.graph.vertices v)).steps }
-        ensures few { result ≤ 1_024 }
+        ensures few { result < 2 ^ 25 }
     {
         match self.vertex(v) {
             Some(vertex) => vertex.steps,

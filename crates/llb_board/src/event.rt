@@ -22,6 +22,8 @@ pub enum Stepped {
     Acted(u32),
     /// The input of that number among the merge's is laid over those before it.
     Merged(u32),
+    /// The command of that number has ended with that status.
+    Ran(u32, u32),
     /// The micro-step faulted.
     Fault(VertexFault),
 }

@@ -19,7 +19,7 @@ pub enum OpenFault {
     /// 121: no tree is given for a local source, the least vertex's of those; its name.
     #[error("121 {0}")]
     MissingLocal(Text, Graph, Locals),
-    /// 122: the number of workers is not 1.
+    /// 122: the number of workers is 0 or more than 64.
     #[error("122")]
     Workers(Graph, Locals),
     /// 123: memory was refused.
@@ -142,6 +142,42 @@ impl From<OpFault> for ClaimFault {
     }
 }
 
+/// Of a copy of a text.
+impl From<llb_wire::Memory> for ClaimFault {
+    ghost use Rattle.std.specs.Prelude.{◌≡◌};
+    ghost use Rattle.llb_board.specs.declared.fault.ClaimFault.TheVariants.{Memory};
+
+    ghost from_gives = { λ _ e. e ≡ Memory };
+
+    fn from(_: llb_wire::Memory) -> ClaimFault {
+        ClaimFault::Memory
+    }
+}
+
+/// Of a view of mounts.
+impl From<llb_mount::Memory> for ClaimFault {
+    ghost use Rattle.std.specs.Prelude.{◌≡◌};
+    ghost use Rattle.llb_board.specs.declared.fault.ClaimFault.TheVariants.{Memory};
+
+    ghost from_gives = { λ _ e. e ≡ Memory };
+
+    fn from(_: llb_mount::Memory) -> ClaimFault {
+        ClaimFault::Memory
+    }
+}
+
+/// Of a copy of a script, which can only lack memory.
+impl From<llb_applet::ScriptFault> for ClaimFault {
+    ghost use Rattle.std.specs.Prelude.{◌≡◌};
+    ghost use Rattle.llb_board.specs.declared.fault.ClaimFault.TheVariants.{Memory};
+
+    ghost from_gives = { λ _ e. e ≡ Memory };
+
+    fn from(_: llb_applet::ScriptFault) -> ClaimFault {
+        ClaimFault::Memory
+    }
+}
+
 impl<T: Drop> From<AllocFailed<T>> for StepFault {
     ghost use Rattle.std.specs.Prelude.{◌≡◌};
     ghost use Rattle.llb_board.specs.declared.fault.StepFault.TheVariants.{Memory};
@@ -184,6 +220,18 @@ impl From<AllocError> for StepFault {
     ghost from_gives = { λ _ e. e ≡ Memory };
 
     fn from(_: AllocError) -> StepFault {
+        StepFault::Memory
+    }
+}
+
+/// Of a command.
+impl From<llb_applet::Memory> for StepFault {
+    ghost use Rattle.std.specs.Prelude.{◌≡◌};
+    ghost use Rattle.llb_board.specs.declared.fault.StepFault.TheVariants.{Memory};
+
+    ghost from_gives = { λ _ e. e ≡ Memory };
+
+    fn from(_: llb_applet::Memory) -> StepFault {
         StepFault::Memory
     }
 }

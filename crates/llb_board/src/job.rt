@@ -1,27 +1,28 @@
 //! What a worker is to do: a vertex's program, and the view that it works on. Both own their data.
 
-ghost use Rattle.std.specs.Prelude.{◌≡◌, Ok, map, option_map, unwrap_or, true, IfOk, IfErr, OnOk, OnErr};
-ghost use Rattle.llb_tree.specs.Tree.{empty_tree};
-ghost use Rattle.llb_merge.specs.Laying.{lay};
-ghost use Rattle.llb_model.specs.Program.{program_of, steps_of, view_on, trees_in, base_in, with_tree, lay_on};
-ghost use Rattle.llb_board.specs.Rules.{GivesClaim, step_memory};
-ghost use Rattle.llb_board.specs.Jobs.{own_of, steps_in};
+ghost use Rattle.std.specs.Prelude.{◌≡◌, [], Ok, map, unwrap_or, IfOk};
+ghost use Rattle.llb_model.specs.Program.{Run, program_of, steps_of};
+ghost use Rattle.llb_loader.specs.Rules.{mount_outputs};
+ghost use Rattle.llb_board.specs.Rules.{GivesClaim};
+ghost use Rattle.llb_board.specs.Jobs.{steps_in};
 ghost use Rattle.llb_ops.specs.declared.merge.MergeInput as merge_input;
 
-use crate::build::Build;
-use crate::fault::{ClaimFault, StepFault};
+use crate::exec::{copied, mounts_of, setting_of};
+use crate::fault::ClaimFault;
+use crate::view::View;
+use llb_applet::{Script, Setting};
 use llb_loader::Vertex;
-use llb_merge::lay;
-use llb_ops::{FileOp, Kind, MergeInput};
-use llb_tree::Tree;
+use llb_ops::{FileOp, Kind, MergeInput, Mount};
 use std::alloc::{AllocError, Global};
 use std::marker::Model;
 
-/// The micro-steps of a vertex: one read of a source, the actions of a file op, or the inputs of a merge.
+/// The micro-steps of a vertex: one read of a source, the actions of a file op, the inputs of a merge, or the commands of an
+/// exec; and the outputs that they give.
 #[derive(Drop)]
 pub struct Program {
     steps: Steps,
     outputs: u32,
+    given: Vec<i64>,
 }
 
 #[derive(Drop)]
@@ -30,6 +31,7 @@ enum Steps {
     Read,
     Actions(FileOp),
     Inputs(Vec<i64>),
+    Commands(Setting, Script),
 }
 
 impl Model for Program {
@@ -38,7 +40,7 @@ impl Model for Program {
 
     ghost Value = { model.Program };
 
-    ghost view = { λ p. record { steps = steps_in p.steps; outputs = p.outputs } };
+    ghost view = { λ p. record { steps = steps_in p.steps; outputs = p.outputs; given = p.given.items } };
 }
 
 impl Program {
@@ -46,17 +48,23 @@ impl Program {
     pub(crate) fn of(alloc: Global, vertex: &Vertex) -> Result<Program, ClaimFault>
         ensures { GivesClaim (λ p. p) result (Ok (program_of vertex.now)) }
     {
-        let steps = steps_of(alloc, &vertex.op.kind)?;
+        let steps = steps_of(alloc, &vertex.op.kind, &vertex.script)?;
+        let given = given_by(alloc, mounts_of(&vertex.op.kind))?;
         Ok(Program {
             steps,
             outputs: vertex.outputs,
+            given,
         })
     }
 }
 
-// The micro-steps of an op's kind.
-fn steps_of(alloc: Global, kind: &Option<Kind>) -> Result<Steps, ClaimFault>
-    ensures { GivesClaim steps_in result (Ok (steps_of kind.now)) }
+// The micro-steps of an op's kind; of an exec the commands of its script.
+fn steps_of(
+    alloc: Global,
+    kind: &Option<Kind>,
+    script: &Option<Script>,
+) -> Result<Steps, ClaimFault>
+    ensures { GivesClaim steps_in result (Ok (steps_of kind.now script.now)) }
 {
     match kind {
         Some(Kind::Source(_)) => Ok(Steps::Read),
@@ -65,7 +73,21 @@ fn steps_of(alloc: Global, kind: &Option<Kind>) -> Result<Steps, ClaimFault>
             let numbers = numbers_of(alloc, merge.inputs.as_slice())?;
             Ok(Steps::Inputs(numbers))
         }
+        Some(Kind::Exec(exec)) => {
+            let setting = setting_of(alloc, &exec.meta)?;
+            commands(setting, script)
+        }
         _ => Ok(Steps::Nothing),
+    }
+}
+
+// The commands of a script that run so.
+fn commands(setting: Setting, script: &Option<Script>) -> Result<Steps, ClaimFault>
+    ensures { GivesClaim steps_in result (Ok (map (Run setting) (unwrap_or script.now []))) }
+{
+    match script {
+        Some(script) => Ok(Steps::Commands(setting, copied(script)?)),
+        None => Ok(Steps::Nothing),
     }
 }
 
@@ -80,133 +102,15 @@ fn numbers_of(alloc: Global, inputs: &[MergeInput]) -> Result<Vec<i64>, AllocErr
     Ok(numbers)
 }
 
-/// What a program works on: of a source its local tree, of a file op the trees of its inputs and the results so far, of a
-/// merge the trees of its inputs and what is laid so far.
-#[derive(Drop)]
-pub struct View {
-    own: Own,
-}
-
-#[derive(Drop)]
-pub(crate) enum Own {
-    Local(Tree),
-    Files(Vec<Tree>, Vec<Tree>),
-    Layers(Vec<Tree>, Tree),
-}
-
-impl Model for View {
-    ghost use Rattle.std.specs.Coded.{codes};
-    ghost use Rattle.llb_tree.specs.Tree.{coded_tree};
-    ghost use Rattle.llb_model.specs.Program as model;
-    ghost use Rattle.llb_board.specs.Jobs.{own_of, steps_in};
-
-    ghost Value = { model.View };
-
-    ghost coded = { Prim.hlevel (codes, coded_tree) };
-
-    ghost view = { λ v. own_of v.own };
-}
-
-impl View {
-    /// Before the first micro-step.
-    pub(crate) fn on(
-        alloc: Global,
-        build: &Build,
-        vertex: &Vertex,
-        inputs: Vec<Tree>,
-    ) -> Result<View, ClaimFault>
-        ensures { GivesClaim (λ v. v) result (Ok (view_on build.now.locals vertex.now vertex.now.op.kind inputs.items)) }
-    {
-        let own = match &vertex.op.kind {
-            Some(Kind::Source(_)) => Own::Local(build.local_tree(alloc, vertex)?),
-            Some(Kind::Merge(_)) => Own::Layers(inputs, Tree::empty(alloc)?),
-            _ => Own::Files(inputs, Vec::new(alloc)),
-        };
-        Ok(View { own })
-    }
-
-    /// The tree of that number that an action can begin with; `None` stands for the empty tree.
-    pub(crate) fn tree(&self, number: i64) -> Option<&Tree>
-        ensures { unwrap_or (option_map (λ t. t.now) result) empty_tree ≡ base_in number (trees_in self.now) }
-    {
-        if number < 0 {
-            return None;
-        }
-        let at = number as usize;
-        match &self.own {
-            Own::Local(_) => None,
-            Own::Layers(inputs, _) => inputs.get(at),
-            Own::Files(inputs, results) => {
-                if at < inputs.len() {
-                    return inputs.get(at);
-                }
-                results.get(at - inputs.len())
-            }
-        }
-    }
-
-    /// One result more of a file op.
-    pub(crate) fn push(&mut self, tree: Tree) -> Result<(), StepFault>
-        ensures ok { OnOk result (self.new ≡ with_tree self.old tree) }
-        ensures err { OnErr result (self.new ≡ self.old) }
-        ensures memory { IfErr result (λ e. step_memory e ≡ true) }
-    {
-        match &mut self.own {
-            Own::Files(_, results) => {
-                results.push(tree)?;
-                Ok(())
-            }
-            _ => Ok(()),
-        }
-    }
-
-    /// A merge's input is laid over those before it.
-    pub(crate) fn lay(&mut self, alloc: Global, input: &MergeInput) -> Result<(), StepFault>
-        ensures ok { OnOk result (self.new ≡ lay_on input.now.input self.old) }
-        ensures err { OnErr result (self.new ≡ self.old) }
-        ensures memory { IfErr result (λ e. step_memory e ≡ true) }
-    {
-        match &mut self.own {
-            Own::Layers(inputs, laid) => {
-                *laid = laid_over(alloc, laid, inputs, input)?;
-                Ok(())
-            }
-            _ => Ok(()),
-        }
-    }
-
-    /// What it holds.
-    pub(crate) fn into_own(self) -> Own
-        ensures { own_of result ≡ self }
-    {
-        self.own
-    }
-}
-
-// One of the inputs laid over a tree; -1 is the empty tree.
-fn laid_over(
-    alloc: Global,
-    lower: &Tree,
-    inputs: &[Tree],
-    input: &MergeInput,
-) -> Result<Tree, StepFault>
-    ensures ok { IfOk result (λ t. t ≡ lay lower.now (base_in input.now.input inputs.now)) }
-    ensures memory { IfErr result (λ e. step_memory e ≡ true) }
+// The numbers of the outputs that mounts give.
+fn given_by(alloc: Global, mounts: &[Mount]) -> Result<Vec<i64>, AllocError>
+    ensures { IfOk result (λ v. v.items ≡ mount_outputs mounts.now) }
 {
-    match input_tree(inputs, input.input) {
-        Some(upper) => Ok(lay(alloc, lower, upper)?),
-        None => Ok(lay(alloc, lower, &Tree::empty(alloc)?)?),
+    let mut numbers = Vec::with_capacity(alloc, mounts.len())?;
+    for mount in mounts {
+        numbers.push_reserved(mount.output);
     }
-}
-
-// The tree of an input; `None` stands for the empty tree.
-fn input_tree(inputs: &[Tree], input: i64) -> Option<&Tree>
-    ensures { unwrap_or (option_map (λ t. t.now) result) empty_tree ≡ base_in input inputs.now }
-{
-    if input < 0 {
-        return None;
-    }
-    inputs.get(input as usize)
+    Ok(numbers)
 }
 
 /// A job: everything that is needed for it, and by whom.

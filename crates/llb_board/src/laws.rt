@@ -4,7 +4,7 @@ ghost use Rattle.std.specs.Prelude.{◌≡◌, ◌↔◌, ◌<◌, ℕ, None, tr
 ghost use Rattle.llb_model.specs.Outcome.{outcome};
 ghost use Rattle.llb_model.specs.Run.{chosen, is_complete, StandsPlainly};
 ghost use Rattle.llb_model.specs.Consistent.{IsConsistent};
-ghost use Rattle.llb_board.specs.Board.{SettledArePlain, ChosenIsGranted, ReadyBehindDone, BlockedBehindAFailure, OutcomeByInputs};
+ghost use Rattle.llb_board.specs.Board.{SettledArePlain, ChosenIsGranted, OthersKeep, OneWorkerEach, ReadyBehindDone, BlockedBehindAFailure, OutcomeByInputs};
 
 use crate::board::Board;
 
@@ -45,6 +45,20 @@ pub fn chosen_is_granted(board: &Board)
     ensures { ChosenIsGranted board.now }
 {
     board.has_workers();
+}
+
+/// An event that is granted leaves what the workers other than its own do as it is.
+pub fn others_keep(board: &Board)
+    ensures { OthersKeep board.now }
+{
+    let _ = board;
+}
+
+/// No two workers run one vertex.
+pub fn one_worker_each(board: &Board)
+    ensures { OneWorkerEach board.now }
+{
+    board.replays();
 }
 
 /// A vertex is Ready exactly where it waits, and all its inputs are done.

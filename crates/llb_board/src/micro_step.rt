@@ -1,18 +1,22 @@
-//! One micro-step of an execution, on its own view: the read of a local tree, an action, or the laying of an input.
+//! One micro-step of an execution, on its own view: the read of a local tree, an action, the laying of an input, or a command.
 
-ghost use Rattle.std.specs.Prelude.{◌≡◌, ◌<◌, ◌^◌, ◌∷◌, [], map, option_map, length, None, OnErr};
+ghost use Rattle.std.specs.Prelude.{◌≡◌, ◌<◌, ◌^◌, ◌∷◌, [], map, option_map, unwrap_or, length, None, OnErr};
 ghost use Rattle.llb_fileop.specs.Faults.{Gives};
-ghost use Rattle.llb_model.specs.Program.{ReadLocal, Act, LayInput, steps_of, trees_in, act_among, tree_fault_number, fault_number};
+ghost use Rattle.llb_model.specs.Program.{ReadLocal, Act, LayInput, Run, program_at, program_of, trees_in, act_among, tree_fault_number, fault_number};
 ghost use Rattle.llb_wire.specs.Answer.{MemoryLast};
 ghost use Rattle.llb_board.specs.Views.{execution_of, step_reply};
+ghost use Rattle.llb_board.specs.Jobs.{kind_setting, setting_at, exit_of};
+ghost use Rattle.llb_board.specs.Room.{supplies_of};
 ghost use Rattle.llb_board.specs.Rules.{step_memory, GivesStep, worked};
 ghost use Rattle.llb_ops.specs.declared.merge.MergeInput as merge_input;
 
 use crate::event::Stepped;
 use crate::fault::StepFault;
-use crate::job::View;
 use crate::stand::Execution;
+use crate::view::View;
+use llb_applet::{Command, Script};
 use llb_fileop::{ActFault, act};
+use llb_loader::Vertex;
 use llb_model::VertexFault;
 use llb_ops::{Action, Kind, MergeInput};
 use llb_tree::{Tree, TreeFault};
@@ -22,22 +26,40 @@ use std::alloc::Global;
 pub(crate) fn step(
     alloc: Global,
     execution: &mut Execution,
-    kind: Option<&Kind>,
+    vertex: Option<&Vertex>,
 ) -> Result<Stepped, StepFault>
-    requires { length (steps_of (option_map (λ k. k.now) kind)) < 2 ^ 32 }
+    requires few { length (program_at (option_map (λ v. v.now) vertex)).steps < 2 ^ 32 }
+    requires setting { execution.old.setting ≡ setting_at (option_map (λ v. v.now) vertex) }
     ensures gives { GivesStep (λ r. (execution_of execution.new, step_reply r)) result
-        (worked (steps_of (option_map (λ k. k.now) kind.entry)) (execution_of execution.old)) }
-    ensures last { MemoryLast step_memory result (worked (steps_of (option_map (λ k. k.now) kind.entry)) (execution_of execution.old)) }
-    ensures outputs { execution.new.outputs ≡ execution.old.outputs }
+        (worked (program_at (option_map (λ v. v.now) vertex.entry)).steps (execution_of execution.old)) }
+    ensures last { MemoryLast step_memory result (worked (program_at (option_map (λ v. v.now) vertex.entry)).steps (execution_of execution.old)) }
+    ensures supplies { supplies_of execution.new ≡ supplies_of execution.old }
     ensures err { OnErr result (execution.new ≡ execution.old) }
 {
     if execution.fault.is_some() {
         return Err(StepFault::NothingLeft);
     }
-    match kind {
+    match vertex {
+        Some(vertex) => step_of(alloc, execution, vertex),
+        None => Err(StepFault::NothingLeft),
+    }
+}
+
+// The next micro-step of an execution that has not faulted.
+fn step_of(alloc: Global, execution: &mut Execution, vertex: &Vertex) -> Result<Stepped, StepFault>
+    requires clean { execution.old.fault ≡ None }
+    requires few { length (program_of vertex.now).steps < 2 ^ 32 }
+    requires setting { execution.old.setting ≡ kind_setting vertex.now.op.kind }
+    ensures gives { GivesStep (λ r. (execution_of execution.new, step_reply r)) result (worked (program_of vertex.now).steps (execution_of execution.old)) }
+    ensures last { MemoryLast step_memory result (worked (program_of vertex.now).steps (execution_of execution.old)) }
+    ensures supplies { supplies_of execution.new ≡ supplies_of execution.old }
+    ensures err { OnErr result (execution.new ≡ execution.old) }
+{
+    match &vertex.op.kind {
         Some(Kind::Source(_)) => read_step(execution),
         Some(Kind::File(file)) => act_step(alloc, execution, file.actions.as_slice()),
         Some(Kind::Merge(merge)) => lay_step(alloc, execution, merge.inputs.as_slice()),
+        Some(Kind::Exec(_)) => run_step(alloc, execution, commands_of(&vertex.script)),
         _ => Err(StepFault::NothingLeft),
     }
 }
@@ -47,7 +69,7 @@ fn read_step(execution: &mut Execution) -> Result<Stepped, StepFault>
     requires { execution.old.fault ≡ None }
     ensures gives { GivesStep (λ r. (execution_of execution.new, step_reply r)) result (worked (ReadLocal ∷ []) (execution_of execution.old)) }
     ensures last { MemoryLast step_memory result (worked (ReadLocal ∷ []) (execution_of execution.old)) }
-    ensures outputs { execution.new.outputs ≡ execution.old.outputs }
+    ensures supplies { supplies_of execution.new ≡ supplies_of execution.old }
     ensures err { OnErr result (execution.new ≡ execution.old) }
 {
     if execution.done > 0 {
@@ -67,7 +89,7 @@ fn act_step(
     requires few { length actions.now < 2 ^ 32 }
     ensures gives { GivesStep (λ r. (execution_of execution.new, step_reply r)) result (worked (map Act actions.now) (execution_of execution.old)) }
     ensures last { MemoryLast step_memory result (worked (map Act actions.now) (execution_of execution.old)) }
-    ensures outputs { execution.new.outputs ≡ execution.old.outputs }
+    ensures supplies { supplies_of execution.new ≡ supplies_of execution.old }
     ensures err { OnErr result (execution.new ≡ execution.old) }
 {
     let done = execution.done;
@@ -138,7 +160,7 @@ fn lay_step(
     ensures gives { GivesStep (λ r. (execution_of execution.new, step_reply r)) result
         (worked (map (λ (i : merge_input.MergeInput). LayInput i.input) inputs.now) (execution_of execution.old)) }
     ensures last { MemoryLast step_memory result (worked (map (λ (i : merge_input.MergeInput). LayInput i.input) inputs.now) (execution_of execution.old)) }
-    ensures outputs { execution.new.outputs ≡ execution.old.outputs }
+    ensures supplies { supplies_of execution.new ≡ supplies_of execution.old }
     ensures err { OnErr result (execution.new ≡ execution.old) }
 {
     let done = execution.done;
@@ -148,4 +170,48 @@ fn lay_step(
     execution.view.lay(alloc, input)?;
     execution.done = done + 1;
     Ok(Stepped::Merged(done))
+}
+
+// The commands of a script, where there is one.
+fn commands_of(script: &Option<Script>) -> &[Command]
+    ensures { result.now ≡ unwrap_or script.now [] }
+{
+    match script {
+        Some(script) => script.commands(),
+        None => &[],
+    }
+}
+
+// The next of an exec's commands. One that ends with another status than 0 is a fault.
+fn run_step(
+    alloc: Global,
+    execution: &mut Execution,
+    commands: &[Command],
+) -> Result<Stepped, StepFault>
+    requires clean { execution.old.fault ≡ None }
+    requires few { length commands.now < 2 ^ 32 }
+    ensures gives { GivesStep (λ r. (execution_of execution.new, step_reply r)) result
+        (worked (map (Run execution.old.setting) commands.now) (execution_of execution.old)) }
+    ensures last { MemoryLast step_memory result (worked (map (Run execution.old.setting) commands.now) (execution_of execution.old)) }
+    ensures supplies { supplies_of execution.new ≡ supplies_of execution.old }
+    ensures err { OnErr result (execution.new ≡ execution.old) }
+{
+    let done = execution.done;
+    let Some(command) = commands.get(done as usize) else {
+        return Err(StepFault::NothingLeft);
+    };
+    let status = execution.view.run(alloc, command, &execution.setting)?;
+    execution.done = done + 1;
+    execution.fault = exit_of(done, status);
+    Ok(Stepped::Ran(done, status))
+}
+
+// The fault of a command that ended with a status, where that is not 0.
+fn exit_of(command: u32, status: u32) -> Option<VertexFault>
+    ensures { result ≡ exit_of command status }
+{
+    if status == 0 {
+        return None;
+    }
+    Some(VertexFault::Exit(command, status))
 }

@@ -1,11 +1,12 @@
-//! What the board keeps: of each vertex what stands there, of each worker what it runs, with the trees that it needs at
-//! its end. Nothing here is seen from outside.
+//! What the board keeps: of each vertex what stands there, of each worker what it runs, with what it needs
+//! until its end. Nothing here is seen from outside.
 
 ghost use Rattle.std.specs.Prelude.{◌≡◌, Some};
 ghost use Rattle.llb_model.specs.State.{ending_of, is_failed};
 ghost use Rattle.llb_board.specs.Views.{status_of};
 
-use crate::job::View;
+use crate::view::View;
+use llb_applet::Setting;
 use llb_model::VertexFault;
 use llb_tree::Tree;
 use llb_wire::Many;
@@ -37,7 +38,8 @@ pub(crate) enum Desk {
     Runs(Execution),
 }
 
-/// What a running worker has. In `outputs` there is an empty tree for each output of its vertex.
+/// What a running worker has. In `outputs` there is an empty tree for each output of its vertex, and `setting` is where its
+/// commands run.
 #[derive(Drop)]
 pub(crate) struct Execution {
     pub vertex: u32,
@@ -46,4 +48,5 @@ pub(crate) struct Execution {
     pub fault: Option<VertexFault>,
     pub view: View,
     pub outputs: Vec<Tree>,
+    pub setting: Setting,
 }

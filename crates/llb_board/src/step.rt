@@ -7,7 +7,8 @@ ghost use Rattle.llb_model.specs.Outcome.{inputs_from};
 ghost use Rattle.llb_model.specs.State.{ending_at};
 ghost use Rattle.llb_model.specs.Table.{claim_start, step_grant};
 ghost use Rattle.llb_board.specs.Views.{execution_of, at_of, status_of, state_of, claim_reply, step_reply};
-ghost use Rattle.llb_board.specs.Room.{ready_made, needed};
+ghost use Rattle.llb_loader.specs.Graph.{IsVertexOf};
+ghost use Rattle.llb_board.specs.Room.{ready_made, needed, supplies_of, supplies_for};
 ghost use Rattle.llb_board.specs.declared.stand.Desk.TheVariants as desk;
 ghost use Rattle.llb_wire.specs.Answer.{MemoryLast};
 ghost use Rattle.llb_board.specs.Rules.{faulted, claim_fault, step_fault, step_memory, GivesClaim, begun, GivesStep, GivesSettle, left_at};
@@ -15,11 +16,13 @@ ghost use Rattle.llb_board.specs.Rules.{faulted, claim_fault, step_fault, step_m
 use crate::build::Build;
 use crate::ending::end;
 use crate::event::Stepped;
+use crate::exec::setting_for;
 use crate::fault::{ClaimFault, SettleFault, StepFault};
-use crate::job::{Job, Program, View};
+use crate::job::{Job, Program};
 use crate::micro_step::step;
 use crate::ready::{gathered, is_ready};
 use crate::stand::{Desk, Execution, Stand};
+use crate::view::View;
 use llb_loader::Vertex;
 use llb_tree::Tree;
 use std::alloc::Global;
@@ -41,6 +44,7 @@ pub(crate) fn claimable<'a>(
     v: u32,
 ) -> Result<&'a Vertex, ClaimFault>
     ensures there { IfOk result (λ x. slice_get build.now.graph.vertices v ≡ Some x.now) }
+    ensures kind { IfOk result (λ x. IsVertexOf x.now x.now.op.kind) }
     ensures first { MatchResult result
         (λ _. is_ok (claim_start (map status_of stands.now) v (slice_get (map at_of desks.now) w) (slice_get build.now.graph.vertices v)) ≡ true)
         (λ e. faulted claim_fault (claim_start (map status_of stands.now) v (slice_get (map at_of desks.now) w) (slice_get build.now.graph.vertices v)) ≡ Err e) }
@@ -78,7 +82,7 @@ pub(crate) struct Begun {
 }
 
 /// The job and the execution of a vertex before its first micro-step: each has the trees of the inputs, and the
-/// execution an empty tree for each output.
+/// execution an empty tree for each output and where its commands run.
 pub(crate) fn begin(
     alloc: Global,
     build: &Build,
@@ -87,14 +91,16 @@ pub(crate) fn begin(
     v: u32,
     vertex: &Vertex,
 ) -> Result<Begun, ClaimFault>
+    requires { IsVertexOf vertex.now vertex.now.op.kind }
     ensures gives { GivesClaim (λ b. (execution_of b.execution, claim_reply b.job)) result
         (begun build.now w v vertex.now (inputs_from (ending_at (map status_of stands.now)) vertex.now.inputs)) }
-    ensures outputs { IfOk result (λ b. b.execution.outputs.items ≡ replicate vertex.now.outputs empty_tree) }
+    ensures supplies { IfOk result (λ b. supplies_of b.execution ≡ supplies_for (Some vertex.now)) }
 {
     let shown = gathered(alloc, stands, vertex.inputs.as_slice())?;
     let kept = gathered(alloc, stands, vertex.inputs.as_slice())?;
     let program = Program::of(alloc, vertex)?;
     let outputs = empty_trees(alloc, vertex.outputs)?;
+    let setting = setting_for(alloc, &vertex.op.kind)?;
     let view = View::on(alloc, build, vertex, shown)?;
     let own = View::on(alloc, build, vertex, kept)?;
     let job = Job {
@@ -110,6 +116,7 @@ pub(crate) fn begin(
         fault: None,
         view: own,
         outputs,
+        setting,
     };
     Ok(Begun { job, execution })
 }
@@ -128,10 +135,11 @@ pub(crate) fn step_at(
     desks: &mut [Desk],
     w: u32,
 ) -> Result<Stepped, StepFault>
+    requires { map ready_made desks.old ≡ map (needed build.now) (map at_of desks.old) }
     ensures gives { GivesStep (λ r. (state_of [] desks.new, step_reply r)) result
         (faulted step_fault (step_grant build.now (state_of [] desks.old) w)) }
     ensures last { MemoryLast step_memory result (faulted step_fault (step_grant build.now (state_of [] desks.old) w)) }
-    ensures outputs { map ready_made desks.new ≡ map ready_made desks.old }
+    ensures supplies { map ready_made desks.new ≡ map ready_made desks.old }
     ensures err { OnErr result (desks.new ≡ desks.old) }
 {
     if w as usize >= desks.len() {
@@ -140,7 +148,7 @@ pub(crate) fn step_at(
     match &mut desks[w as usize] {
         Desk::Idle => Err(StepFault::NotRunning),
         Desk::Runs(execution) => {
-            let stepped = step(alloc, execution, build.kind(execution.vertex))?;
+            let stepped = step(alloc, execution, build.vertex(execution.vertex))?;
             Ok(stepped)
         }
     }
@@ -168,7 +176,7 @@ pub(crate) fn leave(build: &Build, desks: &mut [Desk], w: u32) -> Result<(u32, S
         Desk::Idle => Err(SettleFault::NotRunning),
         Desk::Runs(execution) => {
             let v = execution.vertex;
-            Ok((v, end(execution, build.kind(v))))
+            Ok((v, end(execution, build.vertex(v))))
         }
     }
 }

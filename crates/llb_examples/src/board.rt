@@ -1,13 +1,15 @@
-//! The board of one worker. A story is a list of calls with their answers, printed: a fault by its number.
+//! The board. A story is a list of calls with their answers, printed: a fault by its number.
 
 use llb_board::{At, Board, Event, OpenFault, Settled, Status, Stepped};
 use llb_loader::{Graph, Locals, Row, link};
 use llb_tree::{Meta, Path, Tree};
-use llb_wire::{Bytes, Memory, Text};
+use llb_treetext::print_tree;
+use llb_wire::{Bytes, Memory, Over, Text};
 use std::alloc::{AllocError, Global};
+use std::test::Fail;
 
 // A file `/a` with the content `hi` on nothing.
-const MAKES_A: &[u8] =
+pub const MAKES_A: &[u8] =
     b"\x22\x1A\x12\x18\x08\xFF\xFF\xFF\xFF\xFF\xFF\xFF\xFF\xFF\x01\x2A\x0B\x0A\x02/a\x10\xA4\x03\x1A\x02hi";
 
 // The same below a directory that is missing.
@@ -15,7 +17,7 @@ const MAKES_XA: &[u8] =
     b"\x22\x1C\x12\x1A\x08\xFF\xFF\xFF\xFF\xFF\xFF\xFF\xFF\xFF\x01\x2A\x0D\x0A\x04/x/a\x10\xA4\x03\x1A\x02hi";
 
 // A file `/b` on nothing.
-const MAKES_B: &[u8] =
+pub const MAKES_B: &[u8] =
     b"\x22\x1A\x12\x18\x08\xFF\xFF\xFF\xFF\xFF\xFF\xFF\xFF\xFF\x01\x2A\x0B\x0A\x02/b\x10\xA4\x03\x1A\x02ho";
 
 // A directory `/d` on what A is.
@@ -38,8 +40,20 @@ const P_THEN_Q: &[u8] =
 const CHANGES: &[u8] =
     b"\x0A\x03\x0A\x01P\x0A\x03\x0A\x01Q\x22_\x12\x1F\x10\xFF\xFF\xFF\xFF\xFF\xFF\xFF\xFF\xFF\x01\x18\xFF\xFF\xFF\xFF\xFF\xFF\xFF\xFF\xFF\x012\x07\x0A\x02/d\x10\xED\x03\x12%\x08\x02\x10\x01\x18\xFF\xFF\xFF\xFF\xFF\xFF\xFF\xFF\xFF\x01\x22\x14\x0A\x02/f\x12\x03/d/ \xFF\xFF\xFF\xFF\xFF\xFF\xFF\xFF\xFF\x01\x12\x15\x08\x03\x10\xFF\xFF\xFF\xFF\xFF\xFF\xFF\xFF\xFF\x01:\x06\x0A\x04/old";
 
+// Three commands on P at `/`, a tmpfs at `/t`, and what is at `/sub` of Q at `/t/in`: outputs are the first and the last.
+const COPIES: &[u8] =
+    b"\x0A\x03\x0A\x01P\x0A\x03\x0A\x01Q\x12o\x0AB\x0A\x07/bin/sh\x0A\x02-c\x0A0cp /t/in/f /t/x && cp /t/x /y && write /t/in/g k\x1A\x01/\x12\x03\x1A\x01/\x12\x11\x1A\x02/t \xFF\xFF\xFF\xFF\xFF\xFF\xFF\xFF\xFF\x010\x04\x12\x11\x08\x01\x12\x04/sub\x1A\x05/t/in \x01";
+
+// A command on the empty tree at `/`, which is output 0, and on Q at `/in`, which is output 1 and is read only.
+const IN_ORDER_OF_NUMBERS: &[u8] =
+    b"\x0A\x03\x0A\x01P\x0A\x03\x0A\x01Q\x12;\x0A\x1C\x0A\x07/bin/sh\x0A\x02-c\x0A\x0Awrite /x k\x1A\x01/\x12\x0B\x08\x01\x1A\x03/in \x01(\x01\x12\x0E\x08\xFF\xFF\xFF\xFF\xFF\xFF\xFF\xFF\xFF\x01\x1A\x01/";
+
+// A command on P that is done, one that ends with status 1, and one behind it.
+const FAILS_AT_1: &[u8] =
+    b"\x0A\x03\x0A\x01P\x0A\x03\x0A\x01Q\x12:\x0A3\x0A\x07/bin/sh\x0A\x02-c\x0A!write /x k && false && write /y k\x1A\x01/\x12\x03\x1A\x01/";
+
 // The result is what D is.
-const NAMES_D: &[u8] = b"\x0A\x03\x0A\x01D";
+pub const NAMES_D: &[u8] = b"\x0A\x03\x0A\x01D";
 
 fn push_row(rows: &mut Vec<Row>, digest: &str, entry: &[u8]) -> Result<(), Memory> {
     let alloc = *rows.allocator();
@@ -67,7 +81,7 @@ fn linked(alloc: Global, rows: &[Row]) -> Option<Graph> {
     }
 }
 
-fn graph_of(alloc: Global, given: &[(&str, &[u8])]) -> Option<Graph> {
+pub fn graph_of(alloc: Global, given: &[(&str, &[u8])]) -> Option<Graph> {
     match rows_of(alloc, given) {
         Ok(rows) => linked(alloc, &rows),
         Err(_) => None,
@@ -93,13 +107,14 @@ fn failed_input(alloc: Global) -> Option<Graph> {
 }
 
 #[derive(Clone, Copy)]
-enum Call {
+pub enum Call {
     Claim(u32, u32),
     Step(u32),
     Settle(u32),
     Vertex(u32),
     Worker(u32),
     Output(u32, u32),
+    Tree(u32, u32),
     Chosen,
     Complete,
     Events,
@@ -149,6 +164,7 @@ fn step(alloc: Global, board: &mut Board, w: u32) -> Result<String, AllocError> 
         Ok(Stepped::Read) => String::from_str(alloc, "read"),
         Ok(Stepped::Acted(a)) => format!(in alloc; "acted {a}"),
         Ok(Stepped::Merged(i)) => format!(in alloc; "merged {i}"),
+        Ok(Stepped::Ran(c, status)) => format!(in alloc; "ran {c} {status}"),
         Ok(Stepped::Fault(fault)) => format!(in alloc; "fault: {fault}"),
         Err(fault) => fault.to_string(alloc),
     }
@@ -176,6 +192,22 @@ fn output(alloc: Global, board: &Board, v: u32, i: u32) -> Result<String, AllocE
     }
 }
 
+// The text of an output's tree.
+fn tree(alloc: Global, board: &Board, v: u32, i: u32) -> Result<String, AllocError> {
+    let Some(tree) = board.output(v, i) else {
+        return String::from_str(alloc, "none");
+    };
+    let mut text: Vec<u8> = Vec::new(alloc);
+    let mut out = Over::new(&mut text);
+    if print_tree(alloc, tree, &mut out).is_err() {
+        return Err(AllocError);
+    }
+    match String::from_utf8(text) {
+        Ok(text) => Ok(text),
+        Err(_) => String::from_str(alloc, "no text"),
+    }
+}
+
 fn push_event(alloc: Global, text: &mut String, event: Event) -> Result<(), AllocError> {
     let told = event_text(alloc, event)?;
     text.push_str(told.as_str())?;
@@ -198,6 +230,7 @@ fn answer(alloc: Global, board: &mut Board, call: Call) -> Result<String, AllocE
         Call::Vertex(v) => status_text(alloc, board.status(v)),
         Call::Worker(w) => worker_text(alloc, board.worker(w)),
         Call::Output(v, i) => output(alloc, board, v, i),
+        Call::Tree(v, i) => tree(alloc, board, v, i),
         Call::Chosen => chosen(alloc, board),
         Call::Complete => board.is_complete().to_string(alloc),
         Call::Events => events(alloc, board),
@@ -244,7 +277,7 @@ fn answered(alloc: Global, board: &mut Board, story: &[(Call, &str)]) -> usize {
     story.len()
 }
 
-fn are_all_answered(alloc: Global, board: Board, story: &[(Call, &str)]) -> bool {
+pub fn are_all_answered(alloc: Global, board: Board, story: &[(Call, &str)]) -> bool {
     let mut board = board;
     answered(alloc, &mut board, story) == story.len()
 }
@@ -357,6 +390,96 @@ fn a_failed_vertex_blocks_what_stands_on_it(rt: HostRuntime) {
     assert!(rt; is_told(rt.alloc(), failed_input(rt.alloc()), &story));
 }
 
+// ---- executions
+
+// The local trees: `p` is empty, and `q` has a directory `/sub` with a file `/sub/f`.
+fn with_sub(alloc: Global) -> Option<Locals> {
+    let mut locals = Locals::new(alloc);
+    locals
+        .add(Text::from_str(alloc, "p").ok()?, Tree::empty(alloc).ok()?)
+        .ok()?;
+    let mut tree = Tree::empty(alloc).ok()?;
+    let sub = Path::read(alloc, "/sub").ok()?;
+    tree.put_dir(&sub, Meta::new(0o755, 0, 0)?).ok()?;
+    let path = Path::read(alloc, "/sub/f").ok()?;
+    let content = Bytes::from_slice(alloc, b"hi").ok()?;
+    tree.put_file(&path, Meta::new(0o644, 0, 0)?, content).ok()?;
+    locals.add(Text::from_str(alloc, "q").ok()?, tree).ok()?;
+    Some(locals)
+}
+
+// A board on which both sources are done, and D is an exec.
+fn with_sources_done(alloc: Global, exec: &[u8]) -> Option<Board> {
+    let graph = sources_and(alloc, exec)?;
+    let mut board = Board::open(alloc, graph, with_sub(alloc)?, 1).ok()?;
+    for v in 0..2 {
+        let _ = board.claim(0, v).ok()?;
+        let _ = board.step(0).ok()?;
+        let _ = board.settle(0).ok()?;
+    }
+    Some(board)
+}
+
+fn is_run(alloc: Global, exec: &[u8], story: &[(Call, &str)]) -> bool {
+    match with_sources_done(alloc, exec) {
+        Some(board) => are_all_answered(alloc, board, story),
+        None => false,
+    }
+}
+
+#[test]
+fn an_execution_runs_a_command_a_step_on_its_mounts(rt: HostRuntime) {
+    let story = [
+        (Call::Claim(0, 2), "worker 0, vertex 2, 0 done"),
+        (Call::Settle(0), "138"),
+        (Call::Step(0), "ran 0 0"),
+        (Call::Step(0), "ran 1 0"),
+        (Call::Worker(0), "runs 2, 2 done, false"),
+        (Call::Step(0), "ran 2 0"),
+        (Call::Step(0), "137"),
+        (Call::Settle(0), "2 done"),
+        (Call::Tree(2, 0), "d 0755 0 0 /\nf 0644 0 0 6869 /y\n"),
+        (
+            Call::Tree(2, 1),
+            "d 0755 0 0 /\nd 0755 0 0 /sub\nf 0644 0 0 6869 /sub/f\nf 0644 0 0 6b0a /sub/g\n",
+        ),
+        (Call::Tree(2, 2), "none"),
+        (
+            Call::Tree(1, 0),
+            "d 0755 0 0 /\nd 0755 0 0 /sub\nf 0644 0 0 6869 /sub/f\n",
+        ),
+    ];
+    assert!(rt; is_run(rt.alloc(), COPIES, &story));
+}
+
+#[test]
+fn outputs_stand_in_the_order_of_their_numbers(rt: HostRuntime) {
+    let story = [
+        (Call::Claim(0, 2), "worker 0, vertex 2, 0 done"),
+        (Call::Step(0), "ran 0 0"),
+        (Call::Settle(0), "2 done"),
+        (Call::Tree(2, 0), "d 0755 0 0 /\nf 0644 0 0 6b0a /x\n"),
+        (Call::Output(2, 1), "3"),
+    ];
+    assert!(rt; is_run(rt.alloc(), IN_ORDER_OF_NUMBERS, &story));
+}
+
+#[test]
+fn a_command_that_ends_with_another_status_is_the_last(rt: HostRuntime) {
+    let story = [
+        (Call::Claim(0, 2), "worker 0, vertex 2, 0 done"),
+        (Call::Step(0), "ran 0 0"),
+        (Call::Step(0), "ran 1 1"),
+        (Call::Worker(0), "runs 2, 2 done, true"),
+        (Call::Step(0), "137"),
+        (Call::Settle(0), "2 failed"),
+        (Call::Vertex(2), "failed command 1 status 1"),
+        (Call::Output(2, 0), "none"),
+        (Call::Complete, "true"),
+    ];
+    assert!(rt; is_run(rt.alloc(), FAILS_AT_1, &story));
+}
+
 // How many vertices the graph has that comes back where the number of workers is refused.
 fn given_back(alloc: Global, workers: u32) -> Option<usize> {
     match Board::open(alloc, three_vertices(alloc)?, Locals::new(alloc), workers) {
@@ -366,14 +489,19 @@ fn given_back(alloc: Global, workers: u32) -> Option<usize> {
 }
 
 #[test]
-fn a_number_of_workers_other_than_one_gives_the_graph_back(rt: HostRuntime) {
-    for workers in [0, 2, 65] {
+fn a_number_of_workers_other_than_1_to_64_gives_the_graph_back(rt: HostRuntime) {
+    for workers in [0, 65, u32::MAX] {
         assert!(rt;
             given_back(rt.alloc(), workers) == Some(3),
             "{workers} workers"
         );
     }
-    assert!(rt; given_back(rt.alloc(), 1).is_none());
+    for workers in [1, 2, 64] {
+        assert!(rt;
+            given_back(rt.alloc(), workers).is_none(),
+            "{workers} workers"
+        );
+    }
 }
 
 fn parts(board: Board) -> (usize, bool) {

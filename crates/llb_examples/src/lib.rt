@@ -23,6 +23,8 @@ mod mount;
 #[cfg(test)]
 mod ops;
 #[cfg(test)]
+mod plain;
+#[cfg(test)]
 mod subtrees;
 #[cfg(test)]
 mod tree;
@@ -30,3 +32,5 @@ mod tree;
 mod treetext;
 #[cfg(test)]
 mod wire;
+#[cfg(test)]
+mod workers;

@@ -2,6 +2,7 @@
 
 mod definitions;
 mod devices;
+mod executions;
 mod reading;
 mod run;
 mod show;

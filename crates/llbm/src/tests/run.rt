@@ -106,8 +106,8 @@ fn locals_of(alloc: Global, texts: &[(&str, &str)]) -> Result<Locals, Fail> {
     Ok(locals)
 }
 
-// Whether a definition has this answer on local trees.
-fn answers_on(
+/// Whether a definition has this answer on local trees.
+pub fn answers_on(
     alloc: Global,
     texts: &[(&str, &str)],
     definition: &str,

@@ -45,6 +45,14 @@ fn inputs_are_shown_in_the_order_of_the_op(rt: HostRuntime) -> Result<(), Fail> 
 }
 
 #[test]
+fn an_execution_is_shown_with_its_commands_and_outputs(rt: HostRuntime) -> Result<(), Fail> {
+    let three =
+        "0 source steps 1 outputs 1 inputs -\n1 source steps 1 outputs 1 inputs -\n2 exec steps 3 outputs 2 inputs 0.0 1.0\nresult 2.0\n";
+    assert!(rt; answers(rt.alloc(), FIRST_OUTPUT, 0, three, "")?);
+    Ok(())
+}
+
+#[test]
 fn a_graph_whose_run_fails_is_shown(rt: HostRuntime) -> Result<(), Fail> {
     assert!(rt; answers(rt.alloc(), FAILED_INPUT, 0, TWO_IN_A_ROW, "")?);
     Ok(())

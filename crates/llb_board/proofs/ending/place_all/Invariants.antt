@@ -1,5 +1,5 @@
-use Rattle.std.proofs.Common.{vec_len, length, map}
-use Rattle.llb_model.specs.Program.{Act}
+use Rattle.std.proofs.Common.{vec_len, length}
+use Rattle.llb_board.specs.Jobs.{numbers_of}
 use Rattle.llb_board.proofs.Outputs.{PlacedSoFar}
 use Rattle.llb_board.proofs.ending.place_all.Given as goal
 
@@ -7,4 +7,4 @@ abbrev pub decreases-loop-tree : goal.decreases-loop-tree
 decreases-loop-tree l = vec_len l.results
 
 abbrev pub invariant-loop-tree : goal.invariant-loop-tree
-invariant-loop-tree l = PlacedSoFar (map Act l.actions) l.initial.results.items (length l.initial.outputs.items) l.results.items l.outputs.items
+invariant-loop-tree l = PlacedSoFar (numbers_of l.actions) l.initial.results.items (length l.initial.outputs.items) l.results.items l.outputs.items

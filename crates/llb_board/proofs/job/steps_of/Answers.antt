@@ -14,4 +14,4 @@ returns-in_ok-numbers-in-Some-Merge c =
     let inputs = c.in-Some-Merge.merge.inputs in
     let is : c.args.kind.now ≡ Some (kind.Merge c.in-Some-Merge.merge) = search rules in
     let numbers : c.in_ok-numbers-in-Some-Merge.numbers.items ≡ map (λ (i : MergeInput). i.input) inputs = search rules in
-    ap (λ k. Ok (steps_of k)) is ∙ ap (λ steps. Ok steps) (laid_by inputs ∙ ap (map LayInput) (sym numbers))
+    ap (λ k. Ok (steps_of k c.args.script.now)) is ∙ ap (λ steps. Ok steps) (laid_by inputs ∙ ap (map LayInput) (sym numbers))

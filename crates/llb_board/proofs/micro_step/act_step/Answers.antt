@@ -41,6 +41,6 @@ returns-in-Err c =
           ∙ act_failed x.vertex x.done x.view c.in-Some.action.now c.in-Err.fault fails
           ∙ (λ i. Ok (record { vertex = x.vertex; done = x.done + 1; fault = Some (fault.Action x.done (sym c.number.ensures i)); own = x.view }, Faulted (fault.Action x.done (sym c.number.ensures i))));
       last = tt;
-      outputs = refl;
+      supplies = refl;
       err = tt;
     }

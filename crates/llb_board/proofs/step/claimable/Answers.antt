@@ -7,6 +7,7 @@ use Rattle.llb_model.specs.Table as table
 use Rattle.llb_board.specs.Views.{status_of, at_of}
 use Rattle.llb_board.specs.Rules.{faulted, claim_fault}
 use Rattle.llb_board.specs.declared.fault.ClaimFault.TheVariants.{NotReady}
+use Rattle.llb_board.proofs.Vertices.{kind_at}
 use Rattle.llb_board.proofs.step.claimable.Goals as goal
 
 not_ready : (o : Option Start) → is_some o ≡ false → faulted claim_fault (table.or_not_ready o) ≡ Err NotReady
@@ -55,3 +56,6 @@ returns-clause-first c =
     = sym c.in-Some.ensures.there in
     (λ i. is_ok (claim_start (map status_of c.args.stands.now) c.args.v (idle i) (there i)))
     ∙ is_there _ (sym c.is_ready.ensures ∙ c.if-not-is_ready.false)
+
+pub returns-clause-kind : goal.returns-clause-kind
+returns-clause-kind c = kind_at c.args.build.now.graph c.args.v c.in-Some.vertex.now c.in-Some.ensures.graph (sym c.in-Some.ensures.there)

@@ -1,12 +1,10 @@
 use Rattle.std.proofs.Common.{◌≡◌, ◌∙◌, ap, sym}
 use Rattle.std.specs.Prelude.{Some, true, is_some, nat_le, ◌||◌, option_map, slice_get}
 use Rattle.std.proofs.lemmas.Option.{slice_get-get_or}
-use Rattle.llb_model.specs.Program.{steps_of}
 use Rattle.llb_model.specs.State.{program_in, is_finished}
 use Rattle.llb_board.specs.Views.{execution_of, status_of}
 use Rattle.llb_board.specs.declared.stand.Desk.TheVariants as desk
 use Rattle.llb_board.proofs.Kept.{all_empty, leaves}
-use Rattle.llb_board.proofs.Steps.{steps_by_kind}
 use Rattle.llb_board.proofs.step.leave.Goals as goal
 
 pub end-requires : goal.end-requires
@@ -27,5 +25,5 @@ returns-in-Runs-replace-clause-gives c =
     = slice_get-get_or ds c.args.w c.index-desks-w-2.result c.if-w-desks.false ∙ ap (λ d. Some d) (sym c.replace.ensures.value ∙ c.in-Runs-replace.is) in
     let finished : is_finished (program_in b (execution_of x)).steps (execution_of x) ≡ true
     = ap (λ n. is_some x.fault || nat_le n x.done) (sym c.steps.ensures.all) ∙ sym c.is_finished.ensures ∙ c.if-not-is_finished.false in
-    leaves b ds c.args.w x c.in-Runs-replace.execution (steps_of (option_map (λ k. k.now) c.kind.result)) (status_of c.end.result) c.requires looked
-    taken finished (ap steps_of c.kind.ensures.there ∙ steps_by_kind (slice_get b.graph.vertices c.in-Runs-replace.execution.vertex)) c.end.ensures
+    leaves b ds c.args.w x c.in-Runs-replace.execution (option_map (λ v. v.now) c.vertex.result) (status_of c.end.result) c.requires looked
+    taken finished c.vertex.ensures.there c.end.ensures

@@ -1,7 +1,6 @@
 use Rattle.std.proofs.Common.{◌≡◌, ◌∙◌, map, length, refl, sym, ap, arith, rules, vec_len}
-use Rattle.std.specs.Prelude.{Ok, slice_set, replicate}
+use Rattle.std.specs.Prelude.{Ok, slice_set}
 use Rattle.std.proofs.lemmas.Option.{slice_get_within}
-use Rattle.llb_tree.specs.Tree.{empty_tree}
 use Rattle.llb_model.specs.State.{Waiting, Idle}
 use Rattle.llb_model.specs.Table.{Claim}
 use Rattle.llb_model.proofs.Lists.{length_set}
@@ -13,7 +12,7 @@ use Rattle.llb_board.specs.declared.stand.Stand.TheVariants as stand
 use Rattle.llb_board.specs.declared.stand.Desk.TheVariants as desk
 use Rattle.llb_board.proofs.Lists.{length_map}
 use Rattle.llb_board.proofs.Calls.{can_claim, begins_at, claim_done}
-use Rattle.llb_board.proofs.Kept.{has_room, kept_after, recorded_as, claim_does, made_for, outputs_claimed, marks_kept}
+use Rattle.llb_board.proofs.Kept.{has_room, kept_after, recorded_as, claim_does, made_for, supplies_claimed, marks_kept}
 use Rattle.llb_board.proofs.board.Board.claim.Goals as goal
 
 pub push_reserved-requires : goal.push_reserved-requires
@@ -64,7 +63,7 @@ invariant_of-self c =
     (kept_after b.build ss (slice_set ss c.args.v (stand.Running c.args.w)) ds (slice_set ds c.args.w (desk.Runs own)) b.events.list b.halted.items
     b.halted.items b.events.room (Claim c.args.w c.args.v) r c.self.invariant granted
     (length_set ds c.args.w (desk.Runs own))
-    (outputs_claimed build ds c.args.w own c.self.invariant.outputs (c.in_ok-job.ensures.outputs ∙ ap (λ n. replicate n empty_tree) made))
+    (supplies_claimed build ds c.args.w own c.self.invariant.supplies (c.in_ok-job.ensures.supplies ∙ made))
     (c.self.invariant.halted_are ∙ sym stays))
 
 pub returns-clause-gives : goal.returns-clause-gives

@@ -13,7 +13,7 @@ use Rattle.llb_board.specs.Room.{seen}
 use Rattle.llb_board.specs.declared.stand.Desk.TheVariants as desk
 use Rattle.llb_board.proofs.Lists.{length_map}
 use Rattle.llb_board.proofs.Calls.{can_settle, settle_done}
-use Rattle.llb_board.proofs.Kept.{has_room, kept_after, kept_written, recorded_as, whole_written, settle_does, leaves_running, outputs_settled}
+use Rattle.llb_board.proofs.Kept.{has_room, kept_after, kept_written, recorded_as, whole_written, settle_does, leaves_running, supplies_settled}
 use Rattle.llb_board.proofs.Kept.{reply_failed, reply_done, marks_kept}
 use Rattle.llb_board.proofs.board.Board.settle.Goals as goal
 
@@ -72,7 +72,7 @@ invariant_of-self-then-failed c =
     (kept_written b.build (slice_set ss v stand) (slice_set ds c.args.w desk.Idle) _ _ c.mark_stopped.new.halted _ b.events.room written marked
     (kept_after b.build ss (slice_set ss v stand) ds (slice_set ds c.args.w desk.Idle) b.events.list b.halted.items c.mark_stopped.new.halted
     b.events.room (Settle c.args.w) (settle_reply v can.ending) c.self.invariant granted
-    (length_set ds c.args.w desk.Idle) (outputs_settled build ds c.args.w c.self.invariant.outputs) marks))
+    (length_set ds c.args.w desk.Idle) (supplies_settled build ds c.args.w c.self.invariant.supplies) marks))
 
 pub returns-then-failed-clause-gives : goal.returns-then-failed-clause-gives
 returns-then-failed-clause-gives c =
@@ -111,7 +111,7 @@ invariant_of-self-else-failed c =
     (kept_written b.build (slice_set ss v stand) (slice_set ds c.args.w desk.Idle) _ _ b.halted.items _ b.events.room written refl
     (kept_after b.build ss (slice_set ss v stand) ds (slice_set ds c.args.w desk.Idle) b.events.list b.halted.items b.halted.items b.events.room
     (Settle c.args.w) (settle_reply v can.ending) c.self.invariant granted
-    (length_set ds c.args.w desk.Idle) (outputs_settled build ds c.args.w c.self.invariant.outputs) (c.self.invariant.halted_are ∙ sym stays)))
+    (length_set ds c.args.w desk.Idle) (supplies_settled build ds c.args.w c.self.invariant.supplies) (c.self.invariant.halted_are ∙ sym stays)))
 
 pub returns-clause-gives : goal.returns-clause-gives
 returns-clause-gives c =

@@ -1,0 +1,177 @@
+//! What a worker works on: the view of a vertex's program, which owns its data.
+
+ghost use Rattle.std.specs.Prelude.{◌≡◌, ◌≢◌, Ok, ℕ, map, option_map, unwrap_or, true, IfOk, IfErr, OnOk, OnErr};
+ghost use Rattle.llb_tree.specs.Tree.{empty_tree};
+ghost use Rattle.llb_merge.specs.Laying.{lay};
+ghost use Rattle.llb_model.specs.Program.{view_on, trees_in, base_in, with_tree, lay_on, run_on};
+ghost use Rattle.llb_board.specs.Rules.{GivesClaim, step_memory};
+ghost use Rattle.llb_board.specs.Jobs.{own_of, ends_as};
+ghost use Rattle.llb_loader.specs.Graph.{IsVertexOf};
+
+use crate::build::Build;
+use crate::exec::view_of;
+use crate::fault::{ClaimFault, StepFault};
+use llb_applet::{Command, Setting, run_command};
+use llb_loader::Vertex;
+use llb_merge::lay;
+use llb_mount::View as Mounts;
+use llb_ops::{Kind, MergeInput};
+use llb_tree::Tree;
+use std::alloc::Global;
+use std::marker::Model;
+
+/// What a program works on: of a source its local tree, of a file op the trees of its inputs and the results so far, of a
+/// merge the trees of its inputs and what is laid so far, of an exec its mounts.
+#[derive(Drop)]
+pub struct View {
+    own: Own,
+}
+
+#[derive(Drop)]
+pub(crate) enum Own {
+    Local(Tree),
+    Files(Vec<Tree>, Vec<Tree>),
+    Layers(Vec<Tree>, Tree),
+    Mounted(Mounts),
+}
+
+impl Model for View {
+    ghost use Rattle.std.specs.Coded.{codes};
+    ghost use Rattle.llb_tree.specs.Tree.{coded_tree};
+    ghost use Rattle.llb_model.specs.Program as model;
+    ghost use Rattle.llb_board.specs.Jobs.{own_of};
+
+    ghost Value = { model.View };
+
+    ghost coded = { Prim.hlevel (codes, coded_tree) };
+
+    ghost view = { λ v. own_of v.own };
+}
+
+impl View {
+    /// Before the first micro-step.
+    pub(crate) fn on(
+        alloc: Global,
+        build: &Build,
+        vertex: &Vertex,
+        inputs: Vec<Tree>,
+    ) -> Result<View, ClaimFault>
+        requires { IsVertexOf vertex.now vertex.now.op.kind }
+        ensures { GivesClaim (λ v. v) result (Ok (view_on build.now.locals vertex.now vertex.now.op.kind inputs.items)) }
+    {
+        let own = match &vertex.op.kind {
+            Some(Kind::Source(_)) => Own::Local(build.local_tree(alloc, vertex)?),
+            Some(Kind::Merge(_)) => Own::Layers(inputs, Tree::empty(alloc)?),
+            Some(Kind::Exec(exec)) => {
+                Own::Mounted(view_of(alloc, inputs.as_slice(), exec.mounts.as_slice())?)
+            }
+            _ => Own::Files(inputs, Vec::new(alloc)),
+        };
+        Ok(View { own })
+    }
+
+    /// The tree of that number that an action can begin with; `None` stands for the empty tree.
+    pub(crate) fn tree(&self, number: i64) -> Option<&Tree>
+        ensures { unwrap_or (option_map (λ t. t.now) result) empty_tree ≡ base_in number (trees_in self.now) }
+    {
+        if number < 0 {
+            return None;
+        }
+        let at = number as usize;
+        match &self.own {
+            Own::Local(_) => None,
+            Own::Mounted(_) => None,
+            Own::Layers(inputs, _) => inputs.get(at),
+            Own::Files(inputs, results) => {
+                if at < inputs.len() {
+                    return inputs.get(at);
+                }
+                results.get(at - inputs.len())
+            }
+        }
+    }
+
+    /// One result more of a file op.
+    pub(crate) fn push(&mut self, tree: Tree) -> Result<(), StepFault>
+        ensures ok { OnOk result (self.new ≡ with_tree self.old tree) }
+        ensures err { OnErr result (self.new ≡ self.old) }
+        ensures memory { IfErr result (λ e. step_memory e ≡ true) }
+    {
+        match &mut self.own {
+            Own::Files(_, results) => {
+                results.push(tree)?;
+                Ok(())
+            }
+            _ => Ok(()),
+        }
+    }
+
+    /// A merge's input is laid over those before it.
+    pub(crate) fn lay(&mut self, alloc: Global, input: &MergeInput) -> Result<(), StepFault>
+        ensures ok { OnOk result (self.new ≡ lay_on input.now.input self.old) }
+        ensures err { OnErr result (self.new ≡ self.old) }
+        ensures memory { IfErr result (λ e. step_memory e ≡ true) }
+    {
+        match &mut self.own {
+            Own::Layers(inputs, laid) => {
+                *laid = laid_over(alloc, laid, inputs, input)?;
+                Ok(())
+            }
+            _ => Ok(()),
+        }
+    }
+
+    /// A command runs on an exec's mounts: its status, and where that is not 0 the view is as it was.
+    pub(crate) fn run(
+        &mut self,
+        alloc: Global,
+        command: &Command,
+        setting: &Setting,
+    ) -> Result<u32, StepFault>
+        ensures ran { IfOk result (λ status. (c : ℕ) → ends_as c status self.new ≡ run_on c setting.now command.now self.old) }
+        ensures kept { IfOk result (λ status. status ≢ 0 → self.new ≡ self.old) }
+        ensures err { OnErr result (self.new ≡ self.old) }
+        ensures memory { IfErr result (λ e. step_memory e ≡ true) }
+    {
+        match &mut self.own {
+            Own::Mounted(mounts) => {
+                let status = run_command(alloc, command, setting, mounts)?;
+                Ok(u32::from(status))
+            }
+            _ => Ok(0),
+        }
+    }
+
+    /// What it holds.
+    pub(crate) fn into_own(self) -> Own
+        ensures { own_of result ≡ self }
+    {
+        self.own
+    }
+}
+
+// One of the inputs laid over a tree; -1 is the empty tree.
+fn laid_over(
+    alloc: Global,
+    lower: &Tree,
+    inputs: &[Tree],
+    input: &MergeInput,
+) -> Result<Tree, StepFault>
+    ensures ok { IfOk result (λ t. t ≡ lay lower.now (base_in input.now.input inputs.now)) }
+    ensures memory { IfErr result (λ e. step_memory e ≡ true) }
+{
+    match input_tree(inputs, input.input) {
+        Some(upper) => Ok(lay(alloc, lower, upper)?),
+        None => Ok(lay(alloc, lower, &Tree::empty(alloc)?)?),
+    }
+}
+
+/// The tree of an input; `None` stands for the empty tree.
+pub(crate) fn input_tree(inputs: &[Tree], input: i64) -> Option<&Tree>
+    ensures { unwrap_or (option_map (λ t. t.now) result) empty_tree ≡ base_in input inputs.now }
+{
+    if input < 0 {
+        return None;
+    }
+    inputs.get(input as usize)
+}

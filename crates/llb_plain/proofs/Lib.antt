@@ -1,0 +1,6 @@
+pub mod Lists
+pub mod Steps
+pub mod Gathered
+pub mod Taken
+pub mod Shown
+pub mod Vertices

@@ -1,0 +1,14 @@
+-- What the crate's outcomes stand for, in the words of the machine's definitions.
+use Rattle.std.specs.Prelude.{ℕ, List, slice_get, Option}
+use Rattle.llb_model.specs.Outcome as model
+use Rattle.llb_plain.specs.declared.outcome.Outcome.{Outcome}
+use Rattle.llb_plain.specs.declared.outcome.Outcome.TheVariants.{Done, Failed, Blocked}
+
+abbrev pub outcome_of : Outcome → model.Outcome
+outcome_of (Done trees) = model.Ended (model.Done trees)
+outcome_of (Failed f) = model.Ended (model.Failed f)
+outcome_of Blocked = model.Blocked
+
+-- how the vertices of some outcomes end, by number
+abbrev pub ending_among : List model.Outcome → ℕ → Option model.Ending
+ending_among outcomes k = model.ending_in (slice_get outcomes k)

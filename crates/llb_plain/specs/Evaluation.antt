@@ -1,0 +1,22 @@
+-- What an evaluation answers: first of all a local tree that is missing, then a cache, else the plain outcome of each vertex.
+use Rattle.std.specs.Prelude.{ℕ, ◌+◌, List, [], ◌∷◌, Option, Some, None, Result, Ok, Err, if◌then◌else◌}
+use Rattle.llb_loader.specs.declared.graph.Vertex.{Vertex}
+use Rattle.llb_model.specs.Program.{Build}
+use Rattle.llb_model.specs.Outcome.{Outcome, outcomes, has_cache}
+use Rattle.llb_model.specs.State.{missing_local}
+use Rattle.llb_plain.specs.declared.fault.PlainFault.{PlainFault}
+use Rattle.llb_plain.specs.declared.fault.PlainFault.TheVariants.{MissingLocal, HasCache}
+
+-- the least vertex that mounts a cache, of vertices that are numbered from k on
+abbrev pub cache_from : ℕ → List Vertex → Option ℕ
+cache_from k [] = None
+cache_from k (v ∷ vs) = if has_cache v then Some k else cache_from (k + 1) vs
+
+-- what stands in the way of an evaluation, or what it gives
+abbrev pub unless_refused : Option (List ℕ) → Option ℕ → List Outcome → Result (List Outcome) PlainFault
+unless_refused (Some name) cache all = Err (MissingLocal name)
+unless_refused None (Some v) all = Err (HasCache v)
+unless_refused None None all = Ok all
+
+abbrev pub evaluate_of : Build → Result (List Outcome) PlainFault
+evaluate_of b = unless_refused (missing_local b.locals b.graph.vertices) (cache_from 0 b.graph.vertices) (outcomes b)

@@ -1,0 +1,4 @@
+pub mod Faults
+pub mod Endings
+pub mod Programs
+pub mod Evaluation

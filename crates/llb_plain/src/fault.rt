@@ -1,0 +1,102 @@
+//! Why a graph is not evaluated. A fault prints its number, and its argument. Refusals of memory of any kind become `Memory`
+//! by `?`.
+
+use llb_tree::TreeFault;
+use llb_wire::Text;
+use std::alloc::{AllocError, AllocFailed};
+use thiserror::Error;
+
+/// Why a graph is not evaluated: the first cause that stands.
+#[derive(Debug, Drop, Error)]
+pub enum PlainFault {
+    /// 101: no tree is given for a local source, the least vertex's of those; its name.
+    #[error("101 {0}")]
+    MissingLocal(Text),
+    /// 102: a vertex mounts a cache; the least of those.
+    #[error("102 {0}")]
+    HasCache(u32),
+    /// 103: memory was refused.
+    #[error("103")]
+    Memory,
+}
+
+impl From<AllocError> for PlainFault {
+    ghost use Rattle.std.specs.Prelude.{◌≡◌};
+    ghost use Rattle.llb_plain.specs.declared.fault.PlainFault.TheVariants as plain;
+
+    ghost from_gives = { λ _ e. e ≡ plain.Memory };
+
+    fn from(_: AllocError) -> PlainFault {
+        PlainFault::Memory
+    }
+}
+
+impl<T: Drop> From<AllocFailed<T>> for PlainFault {
+    ghost use Rattle.std.specs.Prelude.{◌≡◌};
+    ghost use Rattle.llb_plain.specs.declared.fault.PlainFault.TheVariants as plain;
+
+    ghost from_gives = { λ _ e. e ≡ plain.Memory };
+
+    fn from(_: AllocFailed<T>) -> PlainFault {
+        PlainFault::Memory
+    }
+}
+
+impl From<llb_wire::Memory> for PlainFault {
+    ghost use Rattle.std.specs.Prelude.{◌≡◌};
+    ghost use Rattle.llb_plain.specs.declared.fault.PlainFault.TheVariants as plain;
+
+    ghost from_gives = { λ _ e. e ≡ plain.Memory };
+
+    fn from(_: llb_wire::Memory) -> PlainFault {
+        PlainFault::Memory
+    }
+}
+
+/// Of a call on a tree that can only lack memory, or of the read of a text that is a path.
+impl From<TreeFault> for PlainFault {
+    ghost use Rattle.std.specs.Prelude.{◌≡◌};
+    ghost use Rattle.llb_plain.specs.declared.fault.PlainFault.TheVariants as plain;
+
+    ghost from_gives = { λ _ e. e ≡ plain.Memory };
+
+    fn from(_: TreeFault) -> PlainFault {
+        PlainFault::Memory
+    }
+}
+
+/// Of a laying, which can only lack memory.
+impl From<llb_merge::Memory> for PlainFault {
+    ghost use Rattle.std.specs.Prelude.{◌≡◌};
+    ghost use Rattle.llb_plain.specs.declared.fault.PlainFault.TheVariants as plain;
+
+    ghost from_gives = { λ _ e. e ≡ plain.Memory };
+
+    fn from(_: llb_merge::Memory) -> PlainFault {
+        PlainFault::Memory
+    }
+}
+
+/// Of a view, which can only lack memory.
+impl From<llb_mount::Memory> for PlainFault {
+    ghost use Rattle.std.specs.Prelude.{◌≡◌};
+    ghost use Rattle.llb_plain.specs.declared.fault.PlainFault.TheVariants as plain;
+
+    ghost from_gives = { λ _ e. e ≡ plain.Memory };
+
+    fn from(_: llb_mount::Memory) -> PlainFault {
+        PlainFault::Memory
+    }
+}
+
+/// Of a command, which can only lack memory.
+impl From<llb_applet::Memory> for PlainFault {
+    ghost use Rattle.std.specs.Prelude.{◌≡◌};
+    ghost use Rattle.llb_plain.specs.declared.fault.PlainFault.TheVariants as plain;
+
+    ghost from_gives = { λ _ e. e ≡ plain.Memory };
+
+    fn from(_: llb_applet::Memory) -> PlainFault {
+        PlainFault::Memory
+    }
+}

@@ -1,0 +1,114 @@
+//! How the vertices of a graph end: each with its outputs, with its first fault, or not at all.
+
+ghost use Rattle.std.specs.Prelude.{◌≡◌, ◌==◌, ◌++◌, ◌∷◌, [], Ok, Some, length, map, option_map, slice_get, true, IfErr, OnOk, OnErr};
+ghost use Rattle.llb_model.specs.Outcome.{Ended, Done, ending_in, output_in};
+ghost use Rattle.llb_plain.specs.Endings.{outcome_of};
+ghost use Rattle.llb_plain.specs.Faults.{Gives, is_memory};
+
+use crate::fault::PlainFault;
+use llb_model::VertexFault;
+use llb_tree::Tree;
+use llb_wire::Many;
+use std::alloc::Global;
+use std::marker::Model;
+
+/// How a vertex ends.
+#[derive(Drop)]
+pub enum Outcome {
+    /// Its outputs, in the order of their numbers.
+    Done(Many<Tree>),
+    /// Its first fault.
+    Failed(VertexFault),
+    /// An input of it is not done.
+    Blocked,
+}
+
+impl Outcome {
+    /// Done, with one output.
+    pub(crate) fn done_with(alloc: Global, tree: Tree) -> Result<Outcome, PlainFault>
+        ensures { Gives outcome_of result (Ok (Ended (Done (tree ∷ [])))) }
+    {
+        let mut outputs = Vec::new(alloc);
+        outputs.push(tree)?;
+        Ok(Outcome::Done(Many::new(outputs)))
+    }
+
+    /// The output of that number, where the vertex is done.
+    pub fn output(&self, index: u32) -> Option<&Tree>
+        ensures { option_map (λ t. t.now) result ≡ output_in (ending_in (Some (outcome_of self.now))) index }
+    {
+        match self {
+            Outcome::Done(outputs) => outputs.as_slice().get(index as usize),
+            _ => None,
+        }
+    }
+}
+
+/// The outcomes of vertices, by number. Contracts see the list of them, in the words of the machine's definitions.
+#[derive(Drop)]
+pub struct Outcomes {
+    items: Vec<Outcome>,
+}
+
+impl Model for Outcomes {
+    ghost use Rattle.std.specs.Coded.{codes};
+    ghost use Rattle.std.specs.Prelude.{List, map};
+    ghost use Rattle.llb_tree.specs.Tree.{coded_tree};
+    ghost use Rattle.llb_model.specs.Outcome as model;
+    ghost use Rattle.llb_plain.specs.Endings.{outcome_of};
+
+    ghost Value = { List model.Outcome };
+
+    ghost coded = { Prim.hlevel (codes, coded_tree) };
+
+    ghost view = { λ o. map outcome_of o.items.items };
+}
+
+impl Outcomes {
+    /// None yet.
+    pub(crate) fn new(alloc: Global) -> Outcomes
+        ensures { result ≡ [] }
+    {
+        Outcomes {
+            items: Vec::new(alloc),
+        }
+    }
+
+    /// One more, of the next vertex.
+    pub(crate) fn push(&mut self, outcome: Outcome) -> Result<(), PlainFault>
+        ensures ok { OnOk result (self.new ≡ self.old ++ outcome_of outcome ∷ []) }
+        ensures err { OnErr result (self.new ≡ self.old) }
+        ensures memory { IfErr result (λ e. is_memory e ≡ true) }
+    {
+        self.items.push(outcome)?;
+        Ok(())
+    }
+
+    /// The outcomes, by number.
+    pub fn as_slice(&self) -> &[Outcome]
+        ensures { map outcome_of result.now ≡ self.now }
+    {
+        self.items.as_slice()
+    }
+
+    /// The outcome of a vertex; `None` where no vertex has that number.
+    pub fn get(&self, vertex: u32) -> Option<&Outcome>
+        ensures { option_map (λ o. outcome_of o.now) result ≡ slice_get self.now vertex }
+    {
+        self.items.get(vertex as usize)
+    }
+
+    /// How many vertices there are.
+    pub fn len(&self) -> usize
+        ensures { result ≡ length self.now }
+    {
+        self.items.len()
+    }
+
+    /// Whether there are none.
+    pub fn is_empty(&self) -> bool
+        ensures { result ≡ (length self.now == 0) }
+    {
+        self.items.is_empty()
+    }
+}
