@@ -1,5 +1,6 @@
 //! What faults print: what stands behind the word `fault` in a refusal.
 
+use llb_applet::ScriptFault;
 use llb_board::{ClaimFault, SettleFault, StepFault};
 use llb_glob::PatternFault;
 use llb_loader::{Feature, LoadFault, Rule};
@@ -155,11 +156,14 @@ fn rules_by_their_names(rt: HostRuntime) {
         LoadFault::Invalid(14, Rule::NoCacheOpt),
         LoadFault::Invalid(15, Rule::Sharing),
         LoadFault::Invalid(16, Rule::CacheTwice),
-        LoadFault::Invalid(17, Rule::MergeInput),
+        LoadFault::Invalid(17, Rule::Script(ScriptFault::Usage(2))),
+        LoadFault::Invalid(18, Rule::Script(ScriptFault::ShellSyntax(5))),
+        LoadFault::Invalid(19, Rule::MergeInput),
     ];
     let wanted = "89 0 NoKind\n89 1 LocalName\n89 2 NoActions\n89 3 ActionInput\n\
         89 4 ActionOutput\n89 5 NoMeta\n89 6 NoArgs\n89 7 NoMounts\n89 8 NoRoot\n89 9 BadPath\n\
         89 10 SameDest\n89 11 MountKind\n89 12 MountInput\n89 13 MountOutput\n89 14 NoCacheOpt\n\
-        89 15 Sharing\n89 16 CacheTwice\n89 17 MergeInput\n";
+        89 15 Sharing\n89 16 CacheTwice\n89 17 Script 72 2\n\
+        89 18 Script 73 5\n89 19 MergeInput\n";
     assert!(rt; print(rt.alloc(), &rules, wanted));
 }

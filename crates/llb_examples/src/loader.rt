@@ -17,6 +17,18 @@ struct Given<'a> {
 // The digest text of an input, and what stands behind it: the index.
 type Input<'a> = (&'a str, &'a [u8]);
 
+// A mount: where it is, and its fields. It shows nothing and gives output 0 where they say nothing else.
+type Shown<'a> = (&'a str, &'a [u8]);
+
+// An execution: its words, the fields of its meta behind them, its mounts, and its fields behind those.
+#[derive(Clone, Copy)]
+struct Run<'a> {
+    words: &'a [&'a str],
+    meta: &'a [u8],
+    mounts: &'a [Shown<'a>],
+    rest: &'a [u8],
+}
+
 const INDEX_ONE: &[u8] = b"\x10\x01";
 
 const INDEX_BELOW: &[u8] = b"\x10\xFF\xFF\xFF\xFF\xFF\xFF\xFF\xFF\xFF\x01";
@@ -43,6 +55,27 @@ const COPIES_NOTHING: &[u8] = b"\x10\xFF\xFF\xFF\xFF\xFF\xFF\xFF\xFF\xFF\x01";
 const DIFF: &[u8] = b"\x3A\x00";
 
 const DIFF_DIGEST: &str = "sha256:7648eb81c4e9fef7b51879c6fcd6fb4b8863eea0cb2a978c508711dc52c80041";
+
+// What a mount shows or gives where it is said: input 0 or 5, output 1, 2 or -1.
+const SHOWS_ZERO: &[u8] = b"\x08\x00";
+
+const SHOWS_FIVE: &[u8] = b"\x08\x05";
+
+const GIVES_ONE: &[u8] = b"\x20\x01";
+
+const GIVES_TWO: &[u8] = b"\x20\x02";
+
+const GIVES_NOTHING: &[u8] = b"\x20\xFF\xFF\xFF\xFF\xFF\xFF\xFF\xFF\xFF\x01";
+
+// A tmpfs without an output, and one with output 0.
+const TMPFS: &[u8] = b"\x30\x04\x20\xFF\xFF\xFF\xFF\xFF\xFF\xFF\xFF\xFF\x01";
+
+const TMPFS_GIVES: &[u8] = b"\x30\x04";
+
+// A mount without a selector at the root; an exec that runs `true` on it gives its output 0.
+const ROOT: Shown<'_> = ("/", b"");
+
+const RUNS_TRUE: &str = "A runs 1 1 1, 0.0";
 
 // A merge of input 0.
 const MERGE: &[u8] = b"\x32\x02\x0A\x00";
@@ -86,6 +119,33 @@ fn copy_op(alloc: Global, copy: &[u8]) -> Result<Vec<u8>, Memory> {
     action.extend_from_slice(COPIES_NOTHING)?;
     put_under(&mut action, 0x22, copy)?;
     file_op(alloc, &action)
+}
+
+fn mount_of(alloc: Global, mount: &Shown<'_>) -> Result<Vec<u8>, Memory> {
+    let mut out = Vec::new(alloc);
+    out.extend_from_slice(READS_NOTHING)?;
+    put_under(&mut out, 0x1A, mount.0.as_bytes())?;
+    out.extend_from_slice(mount.1)?;
+    Ok(out)
+}
+
+fn meta_of(alloc: Global, run: &Run<'_>) -> Result<Vec<u8>, Memory> {
+    let mut meta = Vec::new(alloc);
+    for word in run.words {
+        put_message(&mut meta, word.as_bytes())?;
+    }
+    meta.extend_from_slice(run.meta)?;
+    Ok(meta)
+}
+
+fn exec_op(alloc: Global, run: &Run<'_>) -> Result<Vec<u8>, Memory> {
+    let mut exec = message(alloc, 0x0A, &meta_of(alloc, run)?)?;
+    for mount in run.mounts {
+        let mount = mount_of(alloc, mount)?;
+        put_under(&mut exec, 0x12, &mount)?;
+    }
+    exec.extend_from_slice(run.rest)?;
+    message(alloc, 0x12, &exec)
 }
 
 fn input_of(alloc: Global, digest: &str, index: &[u8]) -> Result<Vec<u8>, Memory> {
@@ -135,6 +195,10 @@ fn push_vertex(text: &mut String, vertex: &Vertex) -> Result<(), AllocError> {
     if let Some(name) = vertex.local_name() {
         write!(text, " local {name}")?;
     }
+    if let Some(script) = &vertex.script {
+        let commands = script.commands().len();
+        write!(text, " runs {commands}")?;
+    }
     let (steps, outputs) = (vertex.steps, vertex.outputs);
     write!(text, " {steps} {outputs}")?;
     for edge in vertex.inputs.as_slice() {
@@ -143,7 +207,7 @@ fn push_vertex(text: &mut String, vertex: &Vertex) -> Result<(), AllocError> {
     text.push_str(",")
 }
 
-// The vertices with the counts of their steps and outputs and their inputs, and the result.
+// The vertices with the counts of their commands, steps and outputs and their inputs, and the result.
 fn graph_text(alloc: Global, graph: &Graph) -> Result<String, AllocError> {
     let mut text = String::new(alloc);
     for vertex in graph.vertices() {
@@ -319,7 +383,7 @@ fn said_of(alloc: Global, op: &[u8]) -> Result<String, Memory> {
 #[test]
 fn an_op_is_refused_by_its_feature_or_its_rule(rt: HostRuntime) {
     let ops: [(&[u8], &str); 12] = [
-        (b"\x12\x00", "88 0 NotYet"),
+        (b"\x12\x00", "89 0 NoMeta"),
         (b"\x1A\x00", "88 0 Source"),
         (b"\x22\x04\x12\x02\x22\x00", "89 0 ActionInput"),
         // A removal behind an action without a member.
@@ -342,6 +406,222 @@ fn an_op_is_refused_by_its_feature_or_its_rule(rt: HostRuntime) {
     for (op, wanted) in ops {
         assert!(rt; is(said_of(rt.alloc(), op), wanted), "{wanted}: {op:?}");
     }
+}
+
+fn said_of_run(alloc: Global, run: &Run<'_>) -> Result<String, Memory> {
+    let op = exec_op(alloc, run)?;
+    said_of(alloc, &op)
+}
+
+// What is said of some words on some mounts.
+fn said_of_words(alloc: Global, words: &[&str], mounts: &[Shown<'_>]) -> Result<String, Memory> {
+    said_of_run(
+        alloc,
+        &Run {
+            words,
+            meta: b"",
+            mounts,
+            rest: b"",
+        },
+    )
+}
+
+#[test]
+fn an_exec_is_refused_by_its_feature(rt: HostRuntime) {
+    let cases: [(&[Shown<'_>], &[u8], &str); 6] = [
+        (&[ROOT, ("/s", b"\x30\x01")], b"", "88 0 SecretMount"),
+        (&[ROOT, ("/s", b"\x30\x02")], b"", "88 0 SshMount"),
+        (&[ROOT], b"\x2A\x00", "88 0 SecretEnv"),
+        (&[ROOT, ("/c", b"\x30\x03")], b"", "88 0 NotYet"),
+        (
+            &[("/c", b"\x30\x03"), ("/s", b"\x30\x01")],
+            b"\x2A\x00",
+            "88 0 NotYet",
+        ),
+        // A feature comes before a rule.
+        (&[("/s", b"\x30\x01")], b"", "88 0 SecretMount"),
+    ];
+    for (mounts, rest, wanted) in cases {
+        let run = Run {
+            words: &["true"],
+            meta: b"",
+            mounts,
+            rest,
+        };
+        assert!(rt; is(said_of_run(rt.alloc(), &run), wanted), "{wanted}");
+    }
+}
+
+#[test]
+fn the_mounts_of_an_exec_are_judged_in_order(rt: HostRuntime) {
+    let cases: [(&[Shown<'_>], &str); 21] = [
+        (&[ROOT], RUNS_TRUE),
+        (&[], "89 0 NoMounts"),
+        (&[("/a", b""), ("\u{1}", b"")], "89 0 NoRoot"),
+        // The root is known by its path.
+        (&[("//", b"")], RUNS_TRUE),
+        (&[("/.", b"")], RUNS_TRUE),
+        (&[("/a/..", b"")], RUNS_TRUE),
+        (&[("", b"")], RUNS_TRUE),
+        (&[ROOT, ("/\u{1}", b""), ("/", b"")], "89 0 BadPath"),
+        (&[("/", b"\x12\x01\x01")], "89 0 BadPath"),
+        (&[("/", b"\x12\x03a/b")], RUNS_TRUE),
+        (
+            &[ROOT, ("/a", GIVES_NOTHING), ("//a/.", b"\x30\x05")],
+            "89 0 SameDest",
+        ),
+        (&[("/", b"\x30\x05\x08\x00")], "89 0 MountKind"),
+        (
+            &[("/", b"\x30\xFF\xFF\xFF\xFF\xFF\xFF\xFF\xFF\xFF\x01")],
+            "89 0 MountKind",
+        ),
+        (&[("/", SHOWS_ZERO), ("/a", b"")], "89 0 MountInput"),
+        // What a tmpfs would show is not looked at; an output it has not.
+        (&[ROOT, ("/t", TMPFS)], RUNS_TRUE),
+        (
+            &[("/", GIVES_NOTHING), ("/t", TMPFS_GIVES)],
+            "89 0 MountOutput",
+        ),
+        // Outputs are numbered from 0, each once.
+        (&[ROOT, ("/a", GIVES_NOTHING)], RUNS_TRUE),
+        (&[("/", GIVES_ONE), ("/a", b"")], "A runs 1 1 2, 0.0"),
+        (&[ROOT, ("/a", b"")], "89 0 MountOutput"),
+        (&[ROOT, ("/a", GIVES_TWO)], "89 0 MountOutput"),
+        (
+            &[("/", b"\x20\xFE\xFF\xFF\xFF\xFF\xFF\xFF\xFF\xFF\x01")],
+            "89 0 MountOutput",
+        ),
+    ];
+    for (mounts, wanted) in cases {
+        assert!(rt;
+            is(said_of_words(rt.alloc(), &["true"], mounts), wanted),
+            "{wanted}: {mounts:?}"
+        );
+    }
+}
+
+#[test]
+fn the_words_of_an_exec_are_a_script(rt: HostRuntime) {
+    let cases: [(&[&str], &str); 9] = [
+        (&["true"], RUNS_TRUE),
+        (&["mkdir", "-p", "a"], RUNS_TRUE),
+        (
+            &["/bin/sh", "-c", "true && mkdir a && true"],
+            "A runs 3 3 1, 0.0",
+        ),
+        (
+            &["/bin/sh", "-c", "true && nosuch"],
+            "89 0 Script 71 nosuch",
+        ),
+        (
+            &["/bin/sh", "-c", "nosuch && mkdir"],
+            "89 0 Script 71 nosuch",
+        ),
+        (&["/bin/sh", "-c", "true && mkdir"], "89 0 Script 72 1"),
+        (&["mkdir"], "89 0 Script 72 0"),
+        (&["/bin/sh", "-c", ""], "89 0 Script 73 0"),
+        (&["/bin/sh", "-c", "true; true"], "89 0 Script 73 4"),
+    ];
+    for (words, wanted) in cases {
+        assert!(rt;
+            is(said_of_words(rt.alloc(), words, &[ROOT]), wanted),
+            "{wanted}: {words:?}"
+        );
+    }
+}
+
+// What is said of `true` at the root with these fields of its meta.
+fn said_of_meta(alloc: Global, meta: &[u8]) -> Result<String, Memory> {
+    said_of_run(
+        alloc,
+        &Run {
+            words: &["true"],
+            meta,
+            mounts: &[ROOT],
+            rest: b"",
+        },
+    )
+}
+
+#[test]
+fn the_cwd_of_an_exec_is_a_path(rt: HostRuntime) {
+    let cases: [(&[u8], &str); 4] = [
+        // An empty cwd is the root.
+        (b"", RUNS_TRUE),
+        (b"\x1A\x00", RUNS_TRUE),
+        (b"\x1A\x01a", RUNS_TRUE),
+        (b"\x1A\x01\x01", "89 0 BadPath"),
+    ];
+    for (meta, wanted) in cases {
+        assert!(rt;
+            is(said_of_meta(rt.alloc(), meta), wanted),
+            "{wanted}: {meta:?}"
+        );
+    }
+}
+
+// What is said of an exec of no words with a cwd that is no path, and with no mounts.
+fn said_of_nothing(alloc: Global) -> Result<String, Memory> {
+    said_of_run(
+        alloc,
+        &Run {
+            words: &[],
+            meta: b"\x1A\x01\x01",
+            mounts: &[],
+            rest: b"",
+        },
+    )
+}
+
+#[test]
+fn that_there_are_words_comes_first_and_that_they_are_a_script_last(rt: HostRuntime) {
+    let alloc = rt.alloc();
+    assert!(rt; is(said_of_nothing(alloc), "89 0 NoArgs"));
+    assert!(rt; is(said_of_words(alloc, &["nosuch"], &[]), "89 0 NoMounts"));
+    assert!(rt;
+        is(
+            said_of_words(alloc, &["nosuch"], &[ROOT, ("/a", b"")]),
+            "89 0 MountOutput"
+        )
+    );
+    assert!(rt;
+        is(
+            said_of_words(alloc, &["nosuch"], &[ROOT]),
+            "89 0 Script 71 nosuch"
+        )
+    );
+}
+
+// What is said of a script on a made tree that shows the root and an empty tree, and whose second output is the result.
+fn said_of_outputs(alloc: Global, root: &[u8]) -> Result<String, Memory> {
+    let op = exec_op(
+        alloc,
+        &Run {
+            words: &["/bin/sh", "-c", "true && mkdir /out/a"],
+            meta: b"",
+            mounts: &[("/", root), ("/out", GIVES_ONE), ("/tmp", TMPFS)],
+            rest: b"",
+        },
+    )?;
+    linked(
+        alloc,
+        &[
+            row("A", &[], MAKES_A),
+            row("B", &[("A", b"")], &op),
+            row("T", &[("B", INDEX_ONE)], b""),
+        ],
+    )
+}
+
+#[test]
+fn an_exec_gives_what_its_mounts_hold(rt: HostRuntime) {
+    assert!(rt;
+        is(
+            said_of_outputs(rt.alloc(), SHOWS_ZERO),
+            "A 1 1,B runs 2 2 2 0.0, 1.1"
+        )
+    );
+    assert!(rt; is(said_of_outputs(rt.alloc(), SHOWS_FIVE), "89 1 MountInput"));
 }
 
 // What is said of a source with that identifier.
