@@ -14,10 +14,10 @@ use Rattle.llb_loader.specs.declared.graph.Edge.{Edge}
 use Rattle.llb_loader.specs.declared.graph.Vertex.{Vertex}
 use Rattle.llb_loader.specs.Rows.{Reached}
 use Rattle.llb_loader.specs.Features.{feature_of}
-use Rattle.llb_loader.specs.Rules.{owner_of, owner_by_name, IsInput, ActionInputs, SecondInputs, outputs_of, count_outputs, AreOutputs, step_count, output_count, MeetsRules, mount_outputs, ShowsInput, AreMountOutputs}
+use Rattle.llb_loader.specs.Rules.{owner_of, owner_by_name, IsInput, ActionInputs, SecondInputs, outputs_of, count_outputs, AreOutputs, step_count, output_count, MeetsRules, mount_outputs, ShowsInput, AreMountOutputs, HasOptions, IsShared}
 use Rattle.llb_applet.specs.declared.command.Command.{Command}
 use Rattle.llb_applet.specs.Scripts.{script_of}
-use Rattle.llb_loader.specs.Mounts.{bind, tmpfs, read_as, dests_of, AreApart}
+use Rattle.llb_loader.specs.Mounts.{bind, tmpfs, read_as, dests_of, keys_of, AreApart}
 use Rattle.llb_loader.specs.Scripts.{script_in}
 use Rattle.llb_loader.specs.Locals.{source_name}
 
@@ -88,8 +88,8 @@ pub record IsMergeVertex (v : Vertex) (m : MergeOp) : Type 0 where
   pub outputs : v.outputs ≡ 1
 
 -- an exec has words that are a script, a cwd that is a path, and mounts at different paths, of which one is the root; each shows an
--- input that is there, or nothing, or is a tmpfs; outputs are those of bind mounts. There are fewer than 2^25 commands, since
--- each takes more than half a byte of the entry.
+-- input that is there, or nothing, or is a tmpfs; outputs are those of bind mounts; the caches that it shows have different keys.
+-- There are fewer than 2^25 commands, since each takes more than half a byte of the entry.
 pub record IsExecVertex (v : Vertex) (x : ExecOp) : Type 0 where
   pub meta : Meta
   pub commands : List Command
@@ -110,6 +110,9 @@ pub record IsExecVertex (v : Vertex) (x : ExecOp) : Type 0 where
   pub kinds : All (λ m. (m.mount_type ≡ bind) ⊎ (m.mount_type ≡ tmpfs)) x.mounts
   pub shown : All (ShowsInput (length v.op.inputs)) x.mounts
   pub given : AreMountOutputs x.mounts
+  pub options : All HasOptions x.mounts
+  pub sharing : All IsShared x.mounts
+  pub keys : AreApart (keys_of v.op.inputs x.mounts)
   pub inputs : length v.inputs ≡ length v.op.inputs
   pub steps : v.steps ≡ length commands
   pub outputs : v.outputs ≡ count_outputs (mount_outputs x.mounts)

@@ -1,5 +1,6 @@
 pub mod Rows
 pub mod Mounts
+pub mod KeyOrder
 pub mod Scripts
 pub mod Rules
 pub mod Checking

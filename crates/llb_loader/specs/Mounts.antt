@@ -37,12 +37,6 @@ value_at values a = slice_index_or values a None
 abbrev pub Share : {X : Type 0} → Option X → Option X → Type 0
 Share {X} a b = (x : X) × (a ≡ Some x) × (b ≡ Some x)
 
--- one of the first n places has the value
-pub record IsAmong {X : Type 0} (values : List (Option X)) (n : ℕ) (v : Option X) : Type 0 where
-  pub place : ℕ
-  pub below : place < n
-  pub shared : Share (value_at values place) v
-
 -- no two places have one value
 pub record AreApart {X : Type 0} (values : List (Option X)) : Type 0 where
   pub apart : (a b : ℕ) → a < b → ¬ Share (value_at values a) (value_at values b)

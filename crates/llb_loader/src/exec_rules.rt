@@ -34,7 +34,7 @@ pub(crate) fn broken_in_exec(
     if let Some(rule) = broken_mount(alloc, inputs, exec)? {
         return Ok(Some(rule));
     }
-    if let Some(rule) = broken_cache(inputs, exec) {
+    if let Some(rule) = broken_cache(alloc, inputs, exec)? {
         return Ok(Some(rule));
     }
     broken_script(alloc, exec)
@@ -171,20 +171,20 @@ fn outputs_of(alloc: Global, mounts: &[Mount]) -> Result<Vec<i64>, AllocError>
     Ok(outputs)
 }
 
-fn broken_cache(inputs: &[Input], exec: &ExecOp) -> Option<Rule>
-    ensures { IsFirstBroken inputs.now (Some (kind.Exec exec.now)) cache_rules result }
+fn broken_cache(alloc: Global, inputs: &[Input], exec: &ExecOp) -> Result<Option<Rule>, Memory>
+    ensures { IfOk result (IsFirstBroken inputs.now (Some (kind.Exec exec.now)) cache_rules) }
 {
     let mounts = exec.mounts.as_slice();
     if !all_have_options(mounts) {
-        return Some(Rule::NoCacheOpt);
+        return Ok(Some(Rule::NoCacheOpt));
     }
     if !all_shared(mounts) {
-        return Some(Rule::Sharing);
+        return Ok(Some(Rule::Sharing));
     }
-    if !caches_apart(inputs, mounts) {
-        return Some(Rule::CacheTwice);
+    if !caches_apart(alloc, inputs, mounts)? {
+        return Ok(Some(Rule::CacheTwice));
     }
-    None
+    Ok(None)
 }
 
 fn all_have_options(mounts: &[Mount]) -> bool

@@ -2,6 +2,7 @@
 #![tactic(auto)]
 
 mod build;
+mod cache_key;
 mod caches;
 mod checks;
 mod counts;

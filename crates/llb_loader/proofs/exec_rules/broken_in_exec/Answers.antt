@@ -23,14 +23,15 @@ returns-in-Some-3 c =
     (broken_behind c.args.inputs.now (Some (Exec c.args.exec.now)) path_rules (mount_rules ++ (cache_rules ++ script_rules c.args.exec.now.meta)) (Some c.in-Some-3.rule) paths
     (broken_before c.args.inputs.now (Some (Exec c.args.exec.now)) mount_rules (cache_rules ++ script_rules c.args.exec.now.meta) c.in-Some-3.rule found))
 
-pub returns-in-Some-broken_cache : goal.returns-in-Some-broken_cache
-returns-in-Some-broken_cache c =
+pub returns-in-Some-4 : goal.returns-in-Some-4
+returns-in-Some-4 c =
     let paths = subst (λ (o : Option Rule). IsFirstBroken c.args.inputs.now (Some (Exec c.args.exec.now)) path_rules o) c.in_default-2.is (c.in_ok-rule.ensures c.args.inputs.now) in
     let mounts = subst (λ (o : Option Rule). IsFirstBroken c.args.inputs.now (Some (Exec c.args.exec.now)) mount_rules o) c.in_default-3.is c.in_ok-rule-2.ensures in
-    broken_behind c.args.inputs.now (Some (Exec c.args.exec.now)) word_rules (path_rules ++ (mount_rules ++ (cache_rules ++ script_rules c.args.exec.now.meta))) (Some c.in-Some-broken_cache.rule) (c.in_default.ensures c.args.inputs.now)
-    (broken_behind c.args.inputs.now (Some (Exec c.args.exec.now)) path_rules (mount_rules ++ (cache_rules ++ script_rules c.args.exec.now.meta)) (Some c.in-Some-broken_cache.rule) paths
-    (broken_behind c.args.inputs.now (Some (Exec c.args.exec.now)) mount_rules (cache_rules ++ script_rules c.args.exec.now.meta) (Some c.in-Some-broken_cache.rule) mounts
-    (broken_before c.args.inputs.now (Some (Exec c.args.exec.now)) cache_rules (script_rules c.args.exec.now.meta) c.in-Some-broken_cache.rule c.in-Some-broken_cache.ensures)))
+    let found = subst (λ (o : Option Rule). IsFirstBroken c.args.inputs.now (Some (Exec c.args.exec.now)) cache_rules o) c.in-Some-4.is c.in_ok-rule-3.ensures in
+    broken_behind c.args.inputs.now (Some (Exec c.args.exec.now)) word_rules (path_rules ++ (mount_rules ++ (cache_rules ++ script_rules c.args.exec.now.meta))) (Some c.in-Some-4.rule) (c.in_default.ensures c.args.inputs.now)
+    (broken_behind c.args.inputs.now (Some (Exec c.args.exec.now)) path_rules (mount_rules ++ (cache_rules ++ script_rules c.args.exec.now.meta)) (Some c.in-Some-4.rule) paths
+    (broken_behind c.args.inputs.now (Some (Exec c.args.exec.now)) mount_rules (cache_rules ++ script_rules c.args.exec.now.meta) (Some c.in-Some-4.rule) mounts
+    (broken_before c.args.inputs.now (Some (Exec c.args.exec.now)) cache_rules (script_rules c.args.exec.now.meta) c.in-Some-4.rule found)))
 
 pub broken_script-requires-clause-there : goal.broken_script-requires-clause-there
 broken_script-requires-clause-there c = (c.in_default.ensures c.args.inputs.now).0
@@ -42,8 +43,9 @@ pub returns : goal.returns
 returns c =
     let paths = subst (λ (o : Option Rule). IsFirstBroken c.args.inputs.now (Some (Exec c.args.exec.now)) path_rules o) c.in_default-2.is (c.in_ok-rule.ensures c.args.inputs.now) in
     let mounts = subst (λ (o : Option Rule). IsFirstBroken c.args.inputs.now (Some (Exec c.args.exec.now)) mount_rules o) c.in_default-3.is c.in_ok-rule-2.ensures in
+    let caches = subst (λ (o : Option Rule). IsFirstBroken c.args.inputs.now (Some (Exec c.args.exec.now)) cache_rules o) c.in_default-4.is c.in_ok-rule-3.ensures in
     told_behind c.args.inputs.now (Some (Exec c.args.exec.now)) (word_rules ++ (path_rules ++ (mount_rules ++ cache_rules))) (script_rules c.args.exec.now.meta) c.broken_script.result
     (met_both c.args.inputs.now (Some (Exec c.args.exec.now)) word_rules (path_rules ++ (mount_rules ++ cache_rules)) (c.in_default.ensures c.args.inputs.now)
     (met_both c.args.inputs.now (Some (Exec c.args.exec.now)) path_rules (mount_rules ++ cache_rules) paths
-    (met_both c.args.inputs.now (Some (Exec c.args.exec.now)) mount_rules cache_rules mounts c.in_default-broken_cache.ensures)))
+    (met_both c.args.inputs.now (Some (Exec c.args.exec.now)) mount_rules cache_rules mounts caches)))
     (told_here c.args.inputs.now (Some (Exec c.args.exec.now)) (script_rules c.args.exec.now.meta) c.broken_script.result c.broken_script.ensures)

@@ -1,25 +1,18 @@
-use Rattle.std.proofs.Common.{◌≡◌, ℕ, Bool, true, false, not, List, Option, Some, None, Result, Ok, sym, ◌∙◌, ap, refl, arith}
+use Rattle.std.proofs.Common.{◌≡◌, ℕ, List, Option, Some, None, Result, Ok, sym, ◌∙◌, ap, arith}
 use Rattle.std.proofs.lemmas.List.{get_or_read}
 use Rattle.std.specs.BTreeSet.{contains}
 use Rattle.llb_tree.specs.declared.fault.TreeFault.{TreeFault}
 use Rattle.llb_tree.specs.Path.{path_cmp}
+use Rattle.llb_tree.specs.PathOrder.{path_cmp-IsTotalOrder, path_cmp-IsAntisymmetric}
 use Rattle.llb_loader.specs.Mounts.{value_at}
 use Rattle.llb_loader.proofs.Outputs.{true_when, false_when}
-use Rattle.llb_loader.proofs.Apart.{seen_skip, seen_more, not_seen, already_seen, apart_skip, apart_more, apart_end}
+use Rattle.llb_loader.proofs.Apart.{when_not_false, when_not_true, seen_skip, seen_more, not_seen, already_seen, apart_skip, apart_more, apart_end}
 use Rattle.llb_loader.proofs.paths.dests_apart.Goals as goal
 
 -- a path that is copied is at its place
 copied_at : (values : List (Option (List (List ℕ)))) (i : ℕ) (item : Option (List (List ℕ))) (path copy : List (List ℕ)) → item ≡ value_at values i → item ≡ Some path
     → ◌≡◌ {A = Result (List (List ℕ)) TreeFault} (Ok path) (Ok copy) → value_at values i ≡ Some copy
 copied_at values i item path copy read some same = let e : path ≡ copy = cc in sym read ∙ some ∙ ap (λ (p : List (List ℕ)). Some p) e
-
-when_not_false : (b : Bool) → not b ≡ false → b ≡ true
-when_not_false true e = refl
-when_not_false false e = absurd (let x : true ≡ false = e in cc)
-
-when_not_true : (b : Bool) → not b ≡ true → b ≡ false
-when_not_true true e = absurd (let x : false ≡ true = e in cc)
-when_not_true false e = refl
 
 pub loop-dest-preserved-in_default : goal.loop-dest-preserved-in_default
 loop-dest-preserved-in_default c =
@@ -42,7 +35,7 @@ loop-dest-preserved c =
     let here = copied_at c.args.dests.now c.loop-dest.dest-index c.dest-item.result c.in-Some.path c.in-Ok.copy read c.in-Some.is c.in-Ok.ensures in
     let fresh = when_not_true (contains path_cmp c.loop-dest.seen c.in-Ok.copy) (sym c.in_ok-insert.ensures.added ∙ c.if-not-branch.false) in
     record {
-      seen = seen_more c.args.dests.now c.loop-dest.dest-index c.in-Ok.copy (contains path_cmp c.loop-dest.seen) (contains path_cmp c.insert.new.self) here c.in_ok-insert.ensures.updates.0 c.loop-dest.invariant.seen;
+      seen = seen_more path_cmp path_cmp-IsTotalOrder path_cmp-IsAntisymmetric c.args.dests.now c.loop-dest.dest-index c.in-Ok.copy (contains path_cmp c.loop-dest.seen) (contains path_cmp c.insert.new.self) here c.in_ok-insert.ensures.updates.0 c.loop-dest.invariant.seen;
       apart = apart_more c.args.dests.now c.loop-dest.dest-index
           (not_seen c.args.dests.now c.loop-dest.dest-index c.in-Ok.copy (contains path_cmp c.loop-dest.seen) here fresh c.loop-dest.invariant.seen) c.loop-dest.invariant.apart;
     }
