@@ -4,6 +4,7 @@ use Rattle.std.specs.Prelude.{Bool, true, false, Option, Some, None, Result, Ok,
 use Rattle.std.proofs.lemmas.List.{length_push, length-replicate, drop_all, take_all, append-nil}
 use Rattle.llb_tree.specs.Tree.{empty_tree}
 use Rattle.llb_loader.specs.declared.graph.Vertex.{Vertex}
+use Rattle.llb_model.specs.Caches.{no_instances}
 use Rattle.llb_model.specs.Program.{Build, program_at, step_on}
 use Rattle.llb_model.specs.State.{Status, Running, Settled, Idle, Runs, State, opening, ending_at, program_in, work_of, is_finished, stopped}
 use Rattle.llb_model.specs.State.{is_failed, ending_of}
@@ -39,14 +40,14 @@ pub kept_after : (b : Build) (ss ss' : List Stand) (ds ds' : List Desk) (es : Li
     → map ready_made ds' ≡ map (needed b) (map at_of ds')
     → halted' ≡ stopped b (map status_of ss') → IsKept (seen b ss' ds' (es ++ e ∷ [])) ds' halted' capacity
 kept_after b ss ss' ds ds' es halted halted' capacity e r kept granted same supplies marks =
-    let leads : run b (opening b (record { workers = length ds })) (es ++ e ∷ []) ≡ Some (state_of ss' ds', kept.replays.replies ++ r ∷ [])
-    = run_more b (opening b (record { workers = length ds })) (state_of ss ds) (state_of ss' ds') es kept.replays.replies e r kept.replays.leads granted in
+    let leads : run b (opening b (record { workers = length ds; store = no_instances })) (es ++ e ∷ []) ≡ Some (state_of ss' ds', kept.replays.replies ++ r ∷ [])
+    = run_more b (opening b (record { workers = length ds; store = no_instances })) (state_of ss ds) (state_of ss' ds') es kept.replays.replies e r kept.replays.leads granted in
     let less = event_room b (state_of ss ds) e (state_of ss' ds', r) granted in
     let room = kept.room in
     let some = kept.some in
     let few = kept.few in
     record {
-      replays = record { replies = kept.replays.replies ++ r ∷ []; leads = ap (λ n. run b (opening b (record { workers = n })) (es ++ e ∷ [])) same ∙ leads };
+      replays = record { replies = kept.replays.replies ++ r ∷ []; leads = ap (λ n. run b (opening b (record { workers = n; store = no_instances })) (es ++ e ∷ [])) same ∙ leads };
       room = omega (arith, less, room, length_push es e);
       supplies = supplies;
       some = omega (arith, length_map at_of ds', length_map at_of ds, same, some);
@@ -60,7 +61,7 @@ pub recorded_as : {C F : Type 0} (b : Build) (ss ss' : List Stand) (ds ds' : Lis
     → answer ≡ Ok (state_of ss' ds', r) → length ds' ≡ length ds → recorded (seen b ss ds es) e fault answer ≡ Ok (seen b ss' ds' (es ++ e ∷ []), r)
 recorded_as b ss ss' ds ds' es e fault answer r is same =
     ap (recorded (seen b ss ds es) e fault) is
-    ∙ (λ i. Ok (record { build = b; opening = record { workers = sym same i }; state = state_of ss' ds'; events = es ++ e ∷ [] }, r))
+    ∙ (λ i. Ok (record { build = b; opening = record { workers = sym same i; store = no_instances }; state = state_of ss' ds'; events = es ++ e ∷ [] }, r))
 
 -- a list that is written whole
 pub whole_written : {A : Type 0} (n : ℕ) (new old : List A) → length new ≡ length old → n ≡ length old → take n (new ++ drop (length new) old) ≡ new
@@ -79,8 +80,8 @@ kept_written b ss ds ds' es halted halted' capacity d h kept =
 -- the board's data after a claim, as the machine's state
 pub state_claimed : (ss : List Stand) (ds : List Desk) (w v : ℕ) (x : own.Execution)
     → state_of (slice_set ss v (stand.Running w)) (slice_set ds w (desk.Runs x))
-    ≡ record { statuses = slice_set (map status_of ss) v (Running w); workers = slice_set (map at_of ds) w (Runs (execution_of x)) }
-state_claimed ss ds w v x = λ i. record { statuses = map_set status_of ss v (stand.Running w) i; workers = map_set at_of ds w (desk.Runs x) i }
+    ≡ record { statuses = slice_set (map status_of ss) v (Running w); workers = slice_set (map at_of ds) w (Runs (execution_of x)); store = no_instances }
+state_claimed ss ds w v x = λ i. record { statuses = map_set status_of ss v (stand.Running w) i; workers = map_set at_of ds w (desk.Runs x) i; store = no_instances }
 
 -- the machine's claim is what the board does
 pub claim_does : (b : Build) (ss : List Stand) (ds : List Desk) (w v : ℕ) (x : Vertex) (own : own.Execution) (r : Reply)
@@ -167,9 +168,9 @@ leaves b ds w x y o stands kept looked taken finished same ends =
 
 pub state_settled : (ss : List Stand) (ds : List Desk) (w v : ℕ) (s : Stand) (e : Ending) → status_of s ≡ Settled e
     → state_of (slice_set ss v s) (slice_set ds w desk.Idle)
-    ≡ record { statuses = slice_set (map status_of ss) v (Settled e); workers = slice_set (map at_of ds) w Idle }
+    ≡ record { statuses = slice_set (map status_of ss) v (Settled e); workers = slice_set (map at_of ds) w Idle; store = no_instances }
 state_settled ss ds w v s e is =
-    λ i. record { statuses = (map_set status_of ss v s ∙ ap (slice_set (map status_of ss) v) is) i; workers = map_set at_of ds w desk.Idle i }
+    λ i. record { statuses = (map_set status_of ss v s ∙ ap (slice_set (map status_of ss) v) is) i; workers = map_set at_of ds w desk.Idle i; store = no_instances }
 
 -- the machine's settle is what the board does
 pub settle_does : (b : Build) (ss : List Stand) (ds : List Desk) (w v : ℕ) (s : Stand)

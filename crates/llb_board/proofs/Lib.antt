@@ -1,5 +1,6 @@
 pub mod Lists
 pub mod Vertices
+pub mod Bare
 pub mod Inputs
 pub mod Stopped
 pub mod Counted

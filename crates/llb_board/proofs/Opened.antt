@@ -3,6 +3,7 @@ use Rattle.std.proofs.Common.{◌≡◌, ℕ, zero, suc, ◌<◌, ◌≤◌, Lis
 use Rattle.std.specs.Prelude.{Bool, true, false, ◌&&◌, nat_le, replicate}
 use Rattle.std.proofs.lemmas.Bool.{leb-true}
 use Rattle.std.proofs.lemmas.List.{length-replicate}
+use Rattle.llb_model.specs.Caches.{no_instances}
 use Rattle.llb_model.specs.Program.{Build}
 use Rattle.llb_model.specs.State as model
 use Rattle.llb_model.specs.State.{Opening}
@@ -26,13 +27,14 @@ map_replicate f (suc n) x = ap (λ l. f x ∷ l) (map_replicate f n x)
 
 pub seen_open : (b : Build) (workers : ℕ) (ss : List Stand) (ds : List Desk) (es : List Event) → ss ≡ replicate (length b.graph.vertices) Waiting
     → ds ≡ replicate workers Idle → es ≡ []
-    → seen b ss ds es ≡ opened b (record { workers = workers })
+    → seen b ss ds es ≡ opened b (record { workers = workers; store = no_instances })
 seen_open b workers ss ds es s d e = λ i. record {
   build = b;
-  opening = record { workers = (ap length d ∙ length-replicate workers Idle) i };
+  opening = record { workers = (ap length d ∙ length-replicate workers Idle) i; store = no_instances };
   state = record {
     statuses = (ap (map status_of) s ∙ map_replicate status_of (length b.graph.vertices) Waiting) i;
     workers = (ap (map at_of) d ∙ map_replicate at_of workers Idle) i;
+    store = no_instances;
   };
   events = e i;
 }
@@ -57,7 +59,7 @@ pub kept_open : (b : Build) (workers capacity : ℕ) (ss : List Stand) (ds : Lis
     → ss ≡ replicate (length b.graph.vertices) Waiting → ds ≡ replicate workers Idle → es ≡ []
     → halted ≡ replicate (length b.graph.vertices) false → most_events b ≤ capacity → 0 < workers → workers ≤ 64 → IsKept (seen b ss ds es) ds halted capacity
 kept_open b workers capacity ss ds es halted s d e h room one most =
-    let o : Opening = record { workers = workers } in
+    let o : Opening = record { workers = workers; store = no_instances } in
     let kept : IsKept (opened b o) ds halted capacity = record {
       replays = opened_replays b o;
       room = omega (arith, opening_room b o, room);

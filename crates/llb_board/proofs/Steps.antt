@@ -9,19 +9,19 @@ use Rattle.llb_applet.specs.declared.setting.Setting.{Setting}
 use Rattle.llb_applet.specs.declared.command.Command.{Command}
 use Rattle.llb_model.specs.declared.fault.VertexFault.{VertexFault}
 use Rattle.llb_model.specs.declared.fault.VertexFault.TheVariants as fault
-use Rattle.llb_model.specs.Program.{MicroStep, ReadLocal, Act, LayInput, Run, View, Work, trees_in, with_tree, act_among, lay_on, run_on, micro_step, with_own, with_result, tried, fault_number}
+use Rattle.llb_model.specs.Program.{MicroStep, ReadLocal, Act, LayInput, Run, View, trees_in, with_tree, act_among, lay_on, run_on, micro_step, with_own, with_result, tried, fault_number}
 use Rattle.llb_model.specs.State.{Execution, next_step}
 use Rattle.llb_model.specs.Table.{HasRead, Acted, HasMerged, HasRun, Faulted}
-use Rattle.llb_board.specs.Jobs.{exit_of, ends_as}
+use Rattle.llb_board.specs.Jobs.{exit_of, work_with, ends_as}
 use Rattle.llb_board.specs.Rules.{worked, worked_by, stepped_to}
 
 -- an execution that has not faulted
 abbrev pub clean : ℕ → ℕ → View → Execution
-clean v k view = record { vertex = v; done = k; fault = None; own = view }
+clean v k view = record { vertex = v; done = k; fault = None; own = view; places = [] }
 
 pub as_clean : (steps : List MicroStep) (v k : ℕ) (f : Option VertexFault) (view : View) → f ≡ None
-    → worked steps (record { vertex = v; done = k; fault = f; own = view }) ≡ worked steps (clean v k view)
-as_clean steps v k f view is = ap (λ o. worked steps (record { vertex = v; done = k; fault = o; own = view })) is
+    → worked steps (record { vertex = v; done = k; fault = f; own = view; places = [] }) ≡ worked steps (clean v k view)
+as_clean steps v k f view is = ap (λ o. worked steps (record { vertex = v; done = k; fault = o; own = view; places = [] })) is
 
 past_none : {A : Type 0} (xs : List A) (k : ℕ) → length xs ≤ k → slice_get xs k ≡ None
 past_none [] k past = refl
@@ -51,18 +51,15 @@ pub worked_none : (steps : List MicroStep) (v k : ℕ) (view : View) → slice_g
     → worked steps (clean v k view) ≡ worked_by (clean v k view) None
 worked_none steps v k view at = ap (worked_by (clean v k view)) (next_clean steps v k view ∙ at)
 
-abbrev work : View → Work
-work view = record { own = view; trees = [] }
-
 pub acted : (v k : ℕ) (view : View) (a : Action) (t : TreeMap) → act_among a (trees_in view) ≡ Ok t
     → worked_by (clean v k view) (Some (Act a)) ≡ Ok (clean v (k + 1) (with_tree view t), Acted k)
 unfolding micro_step
-acted v k view a t is = ap (λ r. Ok (stepped_to (clean v k view) (Act a) (tried (work view) (with_own (work view) (with_result k view r))))) is
+acted v k view a t is = ap (λ r. Ok (stepped_to (clean v k view) (Act a) (tried (work_with view) (with_own (work_with view) (with_result k view r))))) is
 
 pub act_failed : (v k : ℕ) (view : View) (a : Action) (e : ActFault) → act_among a (trees_in view) ≡ Err e
-    → worked_by (clean v k view) (Some (Act a)) ≡ Ok (record { vertex = v; done = k + 1; fault = Some (fault.Action k (fault_number e)); own = view }, Faulted (fault.Action k (fault_number e)))
+    → worked_by (clean v k view) (Some (Act a)) ≡ Ok (record { vertex = v; done = k + 1; fault = Some (fault.Action k (fault_number e)); own = view; places = [] }, Faulted (fault.Action k (fault_number e)))
 unfolding micro_step
-act_failed v k view a e is = ap (λ r. Ok (stepped_to (clean v k view) (Act a) (tried (work view) (with_own (work view) (with_result k view r))))) is
+act_failed v k view a e is = ap (λ r. Ok (stepped_to (clean v k view) (Act a) (tried (work_with view) (with_own (work_with view) (with_result k view r))))) is
 
 pub merged : (v k : ℕ) (view : View) (i : ℤ) → worked_by (clean v k view) (Some (LayInput i)) ≡ Ok (clean v (k + 1) (lay_on i view), HasMerged k)
 unfolding micro_step
@@ -73,10 +70,10 @@ unfolding micro_step
 read v k view = refl
 
 -- a command leaves the view that it has made, or ends with a fault and leaves the view as it was
-pub ran : (v k : ℕ) (view after : View) (s : Setting) (m : Command) (status : ℕ) → ends_as k status after ≡ run_on k s m view → (status ≢ 0 → after ≡ view)
-    → worked_by (clean v k view) (Some (Run s m)) ≡ Ok (record { vertex = v; done = k + 1; fault = exit_of k status; own = after }, HasRun k status)
+pub ran : (v k : ℕ) (view after : View) (s : Setting) (m : Command) (status : ℕ) → ends_as k status after ≡ run_on k s m view [] → (status ≢ 0 → after ≡ view)
+    → worked_by (clean v k view) (Some (Run s m)) ≡ Ok (record { vertex = v; done = k + 1; fault = exit_of k status; own = after; places = [] }, HasRun k status)
 unfolding micro_step
-ran v k view after s m zero is kept = ap (λ r. Ok (stepped_to (clean v k view) (Run s m) (tried (work view) (with_own (work view) r)))) (sym is)
+ran v k view after s m zero is kept = ap (λ r. Ok (stepped_to (clean v k view) (Run s m) (tried (work_with view) r))) (sym is)
 ran v k view after s m (suc n) is kept =
-    ap (λ r. Ok (stepped_to (clean v k view) (Run s m) (tried (work view) (with_own (work view) r)))) (sym is)
-    ∙ (λ i. Ok (record { vertex = v; done = k + 1; fault = exit_of k (suc n); own = sym (kept (λ e. absurd (omega (arith, e)))) i }, HasRun k (suc n)))
+    ap (λ r. Ok (stepped_to (clean v k view) (Run s m) (tried (work_with view) r))) (sym is)
+    ∙ (λ i. Ok (record { vertex = v; done = k + 1; fault = exit_of k (suc n); own = sym (kept (λ e. absurd (omega (arith, e)))) i; places = [] }, HasRun k (suc n)))

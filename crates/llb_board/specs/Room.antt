@@ -4,6 +4,7 @@ use Rattle.std.specs.Prelude.{◌≡◌, ℕ, ◌+◌, ◌<◌, ◌≤◌, Bool,
 use Rattle.llb_tree.specs.Tree.{TreeMap, empty_tree}
 use Rattle.llb_applet.specs.declared.setting.Setting.{Setting}
 use Rattle.llb_loader.specs.declared.graph.Vertex.{Vertex}
+use Rattle.llb_model.specs.Caches.{no_instances}
 use Rattle.llb_model.specs.Program.{Build, program_at}
 use Rattle.llb_model.specs.State.{At, Idle, Runs, stopped}
 use Rattle.llb_model.specs.Table.{Event}
@@ -38,7 +39,7 @@ needed b (Runs x) = supplies_for (slice_get b.graph.vertices x.vertex)
 
 abbrev pub seen : Build → List Stand → List Desk → List Event → Seen
 seen b stands desks events =
-    record { build = b; opening = record { workers = length desks }; state = state_of stands desks; events = events }
+    record { build = b; opening = record { workers = length desks; store = no_instances }; state = state_of stands desks; events = events }
 
 pub record IsKept (b : Seen) (desks : List Desk) (halted : List Bool) (capacity : ℕ) : Type 0 where
   pub replays : Replays b

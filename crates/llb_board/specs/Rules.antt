@@ -3,8 +3,9 @@ use Rattle.std.specs.Prelude.{ℕ, nat_le, Bool, true, false, ◌&&◌, List, []
 use Rattle.llb_wire.specs.Answer as answer
 use Rattle.llb_loader.specs.declared.graph.Vertex.{Vertex}
 use Rattle.llb_tree.specs.Tree.{TreeMap}
-use Rattle.llb_model.specs.Program.{Build, MicroStep, Work, Left, start_with, begin, step_on}
-use Rattle.llb_model.specs.State.{missing_local, Status, Settled, At, Idle, Runs, Execution, program_in, is_finished, next_step, ending_from}
+use Rattle.llb_model.specs.Caches.{no_instances, trees_at}
+use Rattle.llb_model.specs.Program.{Build, MicroStep, Work, Left, start_with, step_on}
+use Rattle.llb_model.specs.State.{missing_local, Status, Settled, At, Idle, Runs, Execution, program_in, is_finished, next_step, ending_from, begin_at}
 use Rattle.llb_model.specs.ClaimCause as no_claim
 use Rattle.llb_model.specs.ClaimCause.{ClaimCause}
 use Rattle.llb_model.specs.StepCause as no_step
@@ -29,7 +30,7 @@ abbrev pub may_work : ℕ → Bool
 may_work workers = nat_le 1 workers && nat_le workers 64
 
 abbrev pub open_with : Build → ℕ → Result Seen OpenFault
-open_with b workers = if may_work workers then Ok (opened b (record { workers = workers })) else Err (opening.Workers b.graph b.locals)
+open_with b workers = if may_work workers then Ok (opened b (record { workers = workers; store = no_instances })) else Err (opening.Workers b.graph b.locals)
 
 -- first of all a local tree that is missing
 abbrev pub open_unless : Option (List ℕ) → Build → ℕ → Result Seen OpenFault
@@ -64,6 +65,7 @@ claim_fault no_claim.NoWorker = claim.NoWorker
 claim_fault no_claim.Busy = claim.Busy
 claim_fault no_claim.NoVertex = claim.NoVertex
 claim_fault no_claim.NotReady = claim.NotReady
+claim_fault (no_claim.Held key) = claim.Held key
 
 abbrev pub step_fault : StepCause → StepFault
 step_fault no_step.NoWorker = step.NoWorker
@@ -97,6 +99,7 @@ claim_memory claim.NoWorker = false
 claim_memory claim.Busy = false
 claim_memory claim.NoVertex = false
 claim_memory claim.NotReady = false
+claim_memory (claim.Held key) = false
 
 abbrev pub step_memory : StepFault → Bool
 step_memory step.Memory = true
@@ -126,13 +129,13 @@ abbrev pub or_not_ready : {A : Type 0} → Option A → Result A ClaimFault
 or_not_ready (Some x) = Ok x
 or_not_ready None = Err claim.NotReady
 
--- a work that holds no trees of instances
+-- what a claim that takes no instances begins on the trees of the inputs
 abbrev pub work_on : Build → Vertex → List TreeMap → Work
-work_on b vertex trees = begin b (start_with vertex trees) []
+work_on b vertex trees = begin_at b no_instances (start_with vertex trees) []
 
--- what a claim begins on the trees of the inputs, and its reply
+-- the execution and the reply
 abbrev pub begun_on : Build → ℕ → ℕ → Vertex → List TreeMap → Execution × Reply
-begun_on b w v vertex trees = (execution_on v (work_on b vertex trees), Claimed (job_on w v vertex (work_on b vertex trees)))
+begun_on b w v vertex trees = (execution_on v (work_on b vertex trees) [], Claimed (job_on w v vertex (work_on b vertex trees) []))
 
 abbrev pub begun : Build → ℕ → ℕ → Vertex → Option (List TreeMap) → Result (Execution × Reply) ClaimFault
 begun b w v vertex (Some trees) = Ok (begun_on b w v vertex trees)
@@ -141,9 +144,13 @@ begun b w v vertex None = Err claim.NotReady
 abbrev pub stepped_to : Execution → MicroStep → Left → Execution × Reply
 stepped_to x m left = (with_step x left, step_reply x.done m left.fault)
 
+-- what an execution works on where no cache has an instance
+abbrev pub work_in : Execution → Work
+work_in x = record { own = x.own; trees = trees_at no_instances x.places }
+
 abbrev pub worked_by : Execution → Option MicroStep → Result (Execution × Reply) StepFault
 worked_by x None = Err step.NothingLeft
-worked_by x (Some m) = Ok (stepped_to x m (step_on x.done (Some m) (record { own = x.own; trees = [] })))
+worked_by x (Some m) = Ok (stepped_to x m (step_on x.done (Some m) (work_in x)))
 
 -- the next micro-step of an execution: the execution after it, and the reply
 abbrev pub worked : List MicroStep → Execution → Result (Execution × Reply) StepFault

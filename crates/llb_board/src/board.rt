@@ -43,12 +43,13 @@ pub struct Board {
 impl Model for Board {
     ghost use Rattle.std.specs.Coded.{codes};
     ghost use Rattle.llb_tree.specs.Tree.{coded_tree};
+    ghost use Rattle.llb_board.specs.Store.{coded_store};
     ghost use Rattle.llb_board.specs.Board.{Seen};
     ghost use Rattle.llb_board.specs.Room.{seen, IsKept};
 
     ghost Value = { Seen };
 
-    ghost coded = { Prim.hlevel (codes, coded_tree) };
+    ghost coded = { Prim.hlevel (codes, coded_tree, coded_store) };
 
     ghost view = { λ b. seen b.build b.stands.items b.desks.items b.events.list };
 
@@ -109,7 +110,7 @@ impl Board {
         }
     }
 
-    /// An idle worker takes a vertex that waits and has all its inputs. 131, 132, 133, 134, 141.
+    /// An idle worker takes a vertex that waits and has all its inputs. 131, 132, 133, 134, 135, 141.
     pub fn claim(&mut self, w: u32, v: u32) -> Result<Job, ClaimFault>
         ensures gives { GivesClaim (λ job. (self.new, claim_reply job)) result (claim_of self.old w v) }
         ensures last { MemoryLast claim_memory result (claim_of self.old w v) }
@@ -123,7 +124,7 @@ impl Board {
         Ok(job)
     }
 
-    /// The next micro-step of what a worker runs. 131, 136, 137, 141.
+    /// The next micro-step of what a worker runs. A command that ends with another status than 0 is the last. 131, 136, 137, 141.
     pub fn step(&mut self, w: u32) -> Result<Stepped, StepFault>
         ensures gives { GivesStep (λ r. (self.new, step_reply r)) result (step_of self.old w) }
         ensures last { MemoryLast step_memory result (step_of self.old w) }

@@ -1,5 +1,6 @@
 //! Why a call on a board is refused. A fault prints its number. What comes back from a refused call is in its fault.
 
+use llb_cache::Key;
 use llb_loader::{Graph, Locals};
 use llb_ops::OpFault;
 use llb_tree::TreeFault;
@@ -34,7 +35,7 @@ impl fmt::Debug for OpenFault {
 }
 
 /// Why a vertex is not claimed: the first cause that stands.
-#[derive(Clone, Copy, Debug, PartialEq, Eq, Error)]
+#[derive(Debug, Drop, Error)]
 pub enum ClaimFault {
     /// 131: there is no worker of that number.
     #[error("131")]
@@ -48,6 +49,9 @@ pub enum ClaimFault {
     /// 134: the vertex does not wait, or an input of it is not done.
     #[error("134")]
     NotReady,
+    /// 135: another worker has the locked cache of this key. No graph shows a cache, so that it is not answered.
+    #[error("135 {0}")]
+    Held(Key),
     /// 141: memory was refused.
     #[error("141")]
     Memory,

@@ -4,6 +4,7 @@ ghost use Rattle.std.specs.Prelude.{◌≡◌, ◌↔◌, ◌<◌, ℕ, None, tr
 ghost use Rattle.llb_model.specs.Outcome.{outcome};
 ghost use Rattle.llb_model.specs.Run.{chosen, is_complete, StandsPlainly};
 ghost use Rattle.llb_model.specs.Consistent.{IsConsistent};
+ghost use Rattle.llb_model.specs.Laws as machine;
 ghost use Rattle.llb_board.specs.Board.{SettledArePlain, ChosenIsGranted, OthersKeep, OneWorkerEach, ReadyBehindDone, BlockedBehindAFailure, OutcomeByInputs};
 
 use crate::board::Board;
@@ -47,11 +48,38 @@ pub fn chosen_is_granted(board: &Board)
     board.has_workers();
 }
 
-/// An event that is granted leaves what the workers other than its own do as it is.
+/// An event that is granted leaves what the workers other than its own do as it is. From a worker's claim to its settle it
+/// also leaves the instances of caches that the worker has alone, and whatever stood there the event would have the same
+/// reply, and the same effect elsewhere.
 pub fn others_keep(board: &Board)
-    ensures { OthersKeep board.now }
+    ensures workers { OthersKeep board.now }
+    ensures instances { machine.OthersKeep board.now.build }
+    ensures unseen { machine.OthersIgnore board.now.build }
 {
     let _ = board;
+}
+
+/// No two workers have one instance of a private or a locked cache at once, nor one locked key.
+pub fn held_once(board: &Board)
+    ensures instances { machine.IsHeldOnce board.now.build }
+    ensures locked { machine.IsLockedOnce board.now.build }
+{
+    let _ = board;
+}
+
+/// Where no cache is shared, after any list of granted events the settled vertices and the free instances of caches stand as
+/// if each claimed vertex had been run whole at its claim, in the order of the claims.
+pub fn runs_in_claim_order(board: &Board)
+    ensures { machine.NoShared board.now.build → machine.RunsInClaimOrder board.now.build }
+{
+    board.is_graph();
+}
+
+/// One driver that does the chosen events leaves all vertices and all instances of caches so, shared ones included.
+pub fn alone_in_claim_order(board: &Board)
+    ensures { machine.AloneInClaimOrder board.now.build }
+{
+    board.is_graph();
 }
 
 /// No two workers run one vertex.

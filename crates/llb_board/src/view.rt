@@ -1,6 +1,6 @@
 //! What a worker works on: the view of a vertex's program, which owns its data.
 
-ghost use Rattle.std.specs.Prelude.{◌≡◌, ◌≢◌, Ok, ℕ, map, option_map, unwrap_or, true, IfOk, IfErr, OnOk, OnErr};
+ghost use Rattle.std.specs.Prelude.{◌≡◌, ◌≢◌, Ok, ℕ, [], map, option_map, unwrap_or, true, IfOk, IfErr, OnOk, OnErr};
 ghost use Rattle.llb_tree.specs.Tree.{empty_tree};
 ghost use Rattle.llb_merge.specs.Laying.{lay};
 ghost use Rattle.llb_model.specs.Program.{view_on, trees_in, base_in, with_tree, lay_on, run_on};
@@ -59,15 +59,25 @@ impl View {
         requires { IsVertexOf vertex.now vertex.now.op.kind }
         ensures { GivesClaim (λ v. v) result (Ok (view_on build.now.locals vertex.now vertex.now.op.kind inputs.items)) }
     {
-        let own = match &vertex.op.kind {
-            Some(Kind::Source(_)) => Own::Local(build.local_tree(alloc, vertex)?),
-            Some(Kind::Merge(_)) => Own::Layers(inputs, Tree::empty(alloc)?),
-            Some(Kind::Exec(exec)) => {
-                Own::Mounted(view_of(alloc, inputs.as_slice(), exec.mounts.as_slice())?)
+        match &vertex.op.kind {
+            Some(Kind::Source(_)) => {
+                let own = Own::Local(build.local_tree(alloc, vertex)?);
+                Ok(View { own })
             }
-            _ => Own::Files(inputs, Vec::new(alloc)),
-        };
-        Ok(View { own })
+            Some(Kind::Merge(_)) => {
+                let own = Own::Layers(inputs, Tree::empty(alloc)?);
+                Ok(View { own })
+            }
+            Some(Kind::Exec(exec)) => {
+                let mounts = view_of(alloc, inputs.as_slice(), exec.mounts.as_slice())?;
+                let own = Own::Mounted(mounts);
+                Ok(View { own })
+            }
+            _ => {
+                let own = Own::Files(inputs, Vec::new(alloc));
+                Ok(View { own })
+            }
+        }
     }
 
     /// The tree of that number that an action can begin with; `None` stands for the empty tree.
@@ -128,7 +138,7 @@ impl View {
         command: &Command,
         setting: &Setting,
     ) -> Result<u32, StepFault>
-        ensures ran { IfOk result (λ status. (c : ℕ) → ends_as c status self.new ≡ run_on c setting.now command.now self.old) }
+        ensures ran { IfOk result (λ status. (c : ℕ) → ends_as c status self.new ≡ run_on c setting.now command.now self.old []) }
         ensures kept { IfOk result (λ status. status ≢ 0 → self.new ≡ self.old) }
         ensures err { OnErr result (self.new ≡ self.old) }
         ensures memory { IfErr result (λ e. step_memory e ≡ true) }

@@ -7,6 +7,8 @@ mod applet;
 #[cfg(test)]
 mod board;
 #[cfg(test)]
+mod cache;
+#[cfg(test)]
 mod faults;
 #[cfg(test)]
 mod fileop;

@@ -4,16 +4,20 @@ use Rattle.std.specs.Prelude.{slice_get, slice_set}
 use Rattle.std.proofs.lemmas.Bool.{cases_order}
 use Rattle.std.proofs.Math.Bool.{or-true}
 use Rattle.std.proofs.lemmas.List.{append-nil}
+use Rattle.llb_cache.specs.declared.key.Key.{Key}
+use Rattle.llb_cache.specs.declared.key.Mode.{Mode}
+use Rattle.llb_cache.specs.declared.key.Mode.TheVariants.{Shared, Private, Locked}
 use Rattle.llb_loader.specs.Graph.{LeadsBelow, IsGraph}
 use Rattle.llb_loader.specs.declared.graph.Edge.{Edge}
-use Rattle.llb_model.specs.Program.{Build, Start, begin, step_on}
-use Rattle.llb_model.specs.State.{Status, Waiting, Running, Settled, Execution, At, Idle, Runs, State, ending_of, ending_at, ready, is_ready, is_waiting, is_failed, program_in, work_of, is_finished, ending_from}
-use Rattle.llb_model.specs.Table.{Event, Claim, Step, Settle, Reply, claim_with, step_by, settle_with, after_claim, after_settle, table}
+use Rattle.llb_model.specs.Caches.{Store}
+use Rattle.llb_model.specs.Program.{Build, Need, Start, needs_of, step_on}
+use Rattle.llb_model.specs.State.{Status, Waiting, Running, Settled, Execution, At, Idle, Runs, State, ending_of, ending_at, ready, is_ready, is_waiting, is_failed, program_in, work_of, is_finished, ending_from, held, is_shut, held_key}
+use Rattle.llb_model.specs.Table.{Event, Claim, Step, Settle, Reply, claim_at, step_by, settle_with, after_settle, table}
 use Rattle.llb_model.specs.Run.{next_of, least, next_claim, or_else, chosen, is_settled, claims_of, AllAbove, AreAscending}
 use Rattle.llb_model.specs.Consistent.{IsConsistent}
 use Rattle.llb_model.proofs.Lists.{inside, eq_or, get_set_same, get_set_other, get_within, Each_of, any_true, true_any, some_as}
 use Rattle.llb_model.proofs.Parts.{unfinished_some}
-use Rattle.llb_model.proofs.Events.{Answer, claim_is, step_is, settle_is, ready_is, ready_as, claim_granted, step_granted, settle_granted}
+use Rattle.llb_model.proofs.Events.{Answer, claim_places, claim_is, step_is, settle_is, ready_is, ready_as, claim_granted, step_granted, settle_granted}
 use Rattle.llb_model.proofs.Outcomes.{each_below}
 use Rattle.llb_model.proofs.Stopped.{is_stopped, stopped_is, stopped_there, any_stopped, stopped_cases, ready_not_stopped}
 use Rattle.llb_model.proofs.Ready.{ready_waits}
@@ -79,13 +83,30 @@ next_granted b s e n = subst (IsGranted b s) (sym n.is) (by_test (is_finished (p
         granted_with b s (Step n.worker) (step_by s n.worker n.execution m.0 (step_on n.execution.done (Some m.0) (work_of s n.execution)))
         (step_granted b s n.worker n.execution m.0 n.there m.1)
 
+-- where nothing runs, nothing is held
+none_held : (ws : List At) → ((u : ℕ) (x : Execution) → slice_get ws u ≢ Some (Runs x)) → held ws ≡ []
+none_held [] none = refl
+none_held (Idle ∷ ws) none = none_held ws (λ u x. none (suc u) x)
+none_held (Runs x ∷ ws) none = absurd (none 0 x refl)
+
+none_shut : (needs : List Need) → held_key [] needs ≡ None
+none_shut [] = refl
+none_shut (n ∷ needs) = ap (λ t. cond t (Some n.key) (held_key [] needs)) (open_key n.key n.key.mode) ∙ none_shut needs
+  where
+    open_key : (k : Key) (m : Mode) → is_shut [] k m ≡ false
+    open_key k Shared = refl
+    open_key k Private = refl
+    open_key k Locked = refl
+
 first_claim : (b : Build) (s : State) (v : ℕ) (a : At) → slice_get s.workers 0 ≡ Some a → IsChosenClaim b s v → IsGranted b s (Claim 0 v)
 first_claim b s v (Runs x) there c = absurd (c.idle 0 x there)
 first_claim b s v Idle there c = by_start (ready b s.statuses v) refl c.least.passes
   where
     by_start : (o : Option Start) → ready b s.statuses v ≡ o → is_some o ≡ true → IsGranted b s (Claim 0 v)
     by_start None is some = absurd cc
-    by_start (Some start) is some = granted_with b s (Claim 0 v) (claim_with s 0 v start.vertex (begin b start [])) (claim_granted b s 0 v start there (ready_is b s.statuses v start is))
+    by_start (Some start) is some =
+        granted_with b s (Claim 0 v) (claim_at b s 0 v start (claim_places s start))
+        (claim_granted b s 0 v start there (ready_is b s.statuses v start is) (ap (λ ps. held_key ps (needs_of start.vertex)) (none_held s.workers c.idle) ∙ none_shut (needs_of start.vertex)))
 
 -- the event that is chosen is granted, where there is a worker
 pub chosen_granted : (b : Build) (s : State) (e : Event) (a : At) → slice_get s.workers 0 ≡ Some a → chosen b s ≡ Some e → IsGranted b s e
@@ -148,8 +169,8 @@ module _ (b : Build) (graph : IsGraph b.graph) where
 
   -- a status that is written where nothing was over
   written : (s : State) (v : ℕ) (old new : Status) → slice_get s.statuses v ≡ Some old → is_failed (ending_of (Some old)) ≡ false → is_over b s v ≡ false
-      → is_waiting (Some new) ≡ false → (ws : List At) → Keeps s (record { statuses = slice_set s.statuses v new; workers = ws })
-  written s v old new there unfailed open_ working ws = record {
+      → is_waiting (Some new) ≡ false → (ws : List At) (store : Store) → Keeps s (record { statuses = slice_set s.statuses v new; workers = ws; store = store })
+  written s v old new there unfailed open_ working ws store = record {
     failures = λ j failed. elim (eq_or j v) [
       | inl h ↦ absurd (cc (sym (ap (λ o. is_failed (ending_of o)) (ap (slice_get s.statuses) h ∙ there)) ∙ failed, unfailed))
       | inr h ↦ ap (λ o. is_failed (ending_of o)) (get_set_other s.statuses v new j h) ∙ failed
@@ -166,7 +187,8 @@ module _ (b : Build) (graph : IsGraph b.graph) where
       let c = claim_is b s w v a given in
       let clear = ready_not_stopped b graph s here v (ap is_some (ready_as b s.statuses v c.start c.begins)) in
       let unover = over_by b graph s here v (Some Waiting) c.begins.waits ∙ clear in
-      subst (λ (t : Answer). Keeps s t.0) (sym c.gives) (written s v Waiting (Running w) c.begins.waits refl unover refl (after_claim s w v (begin b c.start [])).workers)
+      let t = (claim_at b s w v c.start (claim_places s c.start)).0 in
+      subst (λ (t : Answer). Keeps s t.0) (sym c.gives) (written s v Waiting (Running w) c.begins.waits refl unover refl t.workers t.store)
   kept s (Step w) a here given =
       let c = step_is b s w a given in
       subst (λ (t : Answer). Keeps s t.0) (sym c.gives) (record { failures = λ j failed. failed; over = λ k over. refl; claimed_stay = λ k stays. stays })
@@ -175,7 +197,7 @@ module _ (b : Build) (graph : IsGraph b.graph) where
       let own = here.working w c.x c.there in
       let end = ending_from (program_in b c.x) c.x in
       let unover = over_by b graph s here c.x.vertex (Some (Running w)) own in
-      subst (λ (t : Answer). Keeps s t.0) (sym c.gives) (written s c.x.vertex (Running w) (Settled end) own refl unover refl (after_settle s w c.x.vertex end).workers)
+      subst (λ (t : Answer). Keeps s t.0) (sym c.gives) (written s c.x.vertex (Running w) (Settled end) own refl unover refl (after_settle s w c.x.vertex end).workers s.store)
 
   -- ---- claims ascend
 

@@ -8,15 +8,15 @@ use Rattle.llb_loader.specs.declared.graph.Edge.{Edge}
 use Rattle.llb_loader.specs.declared.graph.Vertex.{Vertex}
 use Rattle.llb_tree.specs.Tree.{TreeMap}
 use Rattle.llb_model.specs.Program.{Build}
-use Rattle.llb_model.specs.Outcome.{Done, Failed, output_in, inputs_from, outcome}
+use Rattle.llb_model.specs.Outcome.{Done, Failed, output_in, inputs_from, outcome, is_plain}
 use Rattle.llb_model.specs.State.{Status, Waiting, Running, Settled, Execution, At, Idle, Runs, State, ending_of, ending_at, is_ready, is_waiting, is_done, is_blocked, is_failed}
 use Rattle.llb_model.specs.Table.{Event, Claim}
 use Rattle.llb_model.specs.Run.{next_of, least, next_claim, or_else, chosen, is_settled, each, is_complete, StandsPlainly}
 use Rattle.llb_model.specs.Consistent.{IsConsistent}
 use Rattle.llb_model.specs.Plain.{StandsByOutcomes}
+use Rattle.llb_model.specs.Laws.{IsAtRest}
 use Rattle.llb_model.proofs.Lists.{get_within, got_within, true_any, some_as}
-use Rattle.llb_model.proofs.Outcomes.{none_in_inputs, each_below, edge_there, all_plain}
-use Rattle.llb_model.proofs.Plain.{settled_plain}
+use Rattle.llb_model.proofs.Outcomes.{none_in_inputs, each_below, edge_there}
 use Rattle.llb_model.proofs.Stopped.{is_stopped, stopped_is, any_stopped, done_count, ready_not_stopped, stopped_blocked}
 use Rattle.llb_model.proofs.Ready.{ready_by_inputs, ready_waits}
 
@@ -192,9 +192,15 @@ module _ (b : Build) (graph : IsGraph b.graph) (s : State) (here : IsConsistent 
 
 -- ---- complete runs
 
-pub complete_plain : (b : Build) → IsGraph b.graph → (s : State) → IsConsistent b s → StandsByOutcomes b s → is_complete b s ≡ true → (k : ℕ) → k < length b.graph.vertices
+-- then nothing runs
+pub complete_rests : (b : Build) → IsGraph b.graph → (s : State) → IsConsistent b s → is_complete b s ≡ true → IsAtRest s
+complete_rests b graph s here complete v w runs =
+    over_not_running b graph s here v w (each_true (is_over b s) 0 (length b.graph.vertices) complete v (omega arith) (omega (arith, got_within s.statuses v (Running w) runs, here.count))) runs
+
+-- a vertex with no cache at or before it
+pub complete_plain : (b : Build) → IsGraph b.graph → (s : State) → IsConsistent b s → StandsByOutcomes b s → is_complete b s ≡ true → (k : ℕ) → k < length b.graph.vertices → is_plain b k ≡ true
     → StandsPlainly (slice_get s.statuses k) (outcome b k)
-complete_plain b graph s here stands complete k lt =
+complete_plain b graph s here stands complete k lt plain =
     let status = get_within s.statuses k (omega (arith, here.count)) in
     subst (λ o. StandsPlainly o (outcome b k)) (sym status.1) (by_status status.0 status.1)
   where
@@ -203,6 +209,6 @@ complete_plain b graph s here stands complete k lt =
 
     by_status : (x : Status) → slice_get s.statuses k ≡ Some x → StandsPlainly (Some x) (outcome b k)
     by_status Waiting is =
-        stopped_blocked b graph s stands k (all_plain b graph k lt) (sym (over_by b graph s here k (Some Waiting) is) ∙ over) (ap (λ o. is_failed (ending_of o)) is)
+        stopped_blocked b graph s stands k plain (sym (over_by b graph s here k (Some Waiting) is) ∙ over) (ap (λ o. is_failed (ending_of o)) is)
     by_status (Running w) is = over_not_running b graph s here k w over is
-    by_status (Settled e) is = settled_plain b graph s here stands k e is
+    by_status (Settled e) is = stands.settled k e plain is

@@ -1,18 +1,19 @@
 -- Every state that events lead to is consistent.
-use Rattle.std.proofs.Common.{◌≡◌, ◌≢◌, ℕ, true, false, List, [], length, Option, Some, None, is_some, inl, inr, refl, sym, ap, subst, ◌∙◌, arith}
+use Rattle.std.proofs.Common.{◌≡◌, ◌≢◌, ℕ, true, false, List, length, Option, Some, None, is_some, inl, inr, refl, sym, ap, subst, ◌∙◌, arith}
 use Rattle.std.specs.Prelude.{slice_get, slice_set, replicate}
 use Rattle.std.proofs.lemmas.List.{length-replicate}
 use Rattle.llb_loader.specs.declared.graph.Edge.{Edge}
 use Rattle.llb_loader.specs.declared.graph.Vertex.{Vertex}
 use Rattle.llb_tree.specs.Tree.{TreeMap}
-use Rattle.llb_model.specs.Program.{Build, Work, Left, Start, begin, program_at, step_on}
+use Rattle.llb_model.specs.Caches.{Place}
+use Rattle.llb_model.specs.Program.{Build, Work, Left, Start, program_at, step_on}
 use Rattle.llb_model.specs.Outcome.{Ending, Done, inputs_from}
-use Rattle.llb_model.specs.State.{Status, Waiting, Running, Settled, Execution, Idle, Runs, State, Opening, opening, ending_of, ending_at, is_waiting, program_in, work_of, ending_from}
+use Rattle.llb_model.specs.State.{Status, Waiting, Running, Settled, Execution, Idle, Runs, State, Opening, opening, ending_of, ending_at, is_waiting, program_in, work_of, ending_from, begin_at}
 use Rattle.llb_model.specs.Table.{Event, Claim, Step, Settle, Reply, execution_on, after_claim, with_step, after_step, after_settle, table}
 use Rattle.llb_model.specs.Run.{run}
 use Rattle.llb_model.specs.Consistent.{IsConsistent}
 use Rattle.llb_model.proofs.Lists.{some_of, inside, eq_or, got_set, get_set_same, get_set_other, length_set, got_replicate, each_unit, get_within, got_within}
-use Rattle.llb_model.proofs.Events.{Answer, IsReady, claim_is, step_is, settle_is}
+use Rattle.llb_model.proofs.Events.{Answer, IsReady, claim_places, claim_is, step_is, settle_is}
 use Rattle.llb_model.proofs.Runs.{run_keeps}
 use Rattle.llb_model.proofs.Outcomes.{inputs_mono, ended_count}
 
@@ -55,8 +56,8 @@ module _ (b : Build) (s : State) (here : IsConsistent b s) where
     | inr h ↦ here.inputs k x at (sym (ap is_waiting (get_set_other s.statuses v new k h)) ∙ moved)
   ])
 
-  claim_keeps : (w v : ℕ) (start : Start) (work : Work) → slice_get s.workers w ≡ Some Idle → IsReady b s.statuses v start → IsConsistent b (after_claim s w v work)
-  claim_keeps w v start work idle ready = record {
+  claim_keeps : (w v : ℕ) (start : Start) (work : Work) (ps : List Place) → slice_get s.workers w ≡ Some Idle → IsReady b s.statuses v start → IsConsistent b (after_claim s w v work ps)
+  claim_keeps w v start work ps idle ready = record {
     count = length_set s.statuses v (Running w) ∙ here.count;
     running = λ k u there. elim (got_set s.statuses v (Running w) k (Running u) there) [
       | inl h ↦
@@ -80,7 +81,7 @@ module _ (b : Build) (s : State) (here : IsConsistent b s) where
   }
     where
       z : Execution
-      z = execution_on v work
+      z = execution_on v work ps
 
       apart : (u : ℕ) (x : Execution) → slice_get s.workers u ≡ Some (Runs x) → u ≢ w
       apart u x there same = let both : some_of Idle ≡ some_of (Runs x) = sym idle ∙ ap (slice_get s.workers) (sym same) ∙ there in cc
@@ -150,7 +151,7 @@ module _ (b : Build) (s : State) (here : IsConsistent b s) where
 pub event_consistent : (b : Build) (s : State) (e : Event) (a : Answer) → IsConsistent b s → table b s e ≡ Some a → IsConsistent b a.0
 event_consistent b s (Claim w v) a here given =
     let c = claim_is b s w v a given in
-    subst (λ (t : Answer). IsConsistent b t.0) (sym c.gives) (claim_keeps b s here w v c.start (begin b c.start []) c.idle c.begins)
+    subst (λ (t : Answer). IsConsistent b t.0) (sym c.gives) (claim_keeps b s here w v c.start (begin_at b s.store c.start (claim_places s c.start)) (claim_places s c.start) c.idle c.begins)
 event_consistent b s (Step w) a here given =
     let c = step_is b s w a given in
     subst (λ (t : Answer). IsConsistent b t.0) (sym c.gives) (step_keeps b s here w c.x (step_on c.x.done (Some c.step) (work_of s c.x)) c.there)

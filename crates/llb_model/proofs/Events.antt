@@ -1,14 +1,16 @@
 -- What an event that is granted does, and where one is granted.
-use Rattle.std.proofs.Common.{◌≡◌, ℕ, Bool, true, false, List, [], length, Option, Some, None, option_map, refl, sym, ap, subst, ◌∙◌, cond}
+use Rattle.std.proofs.Common.{◌≡◌, ℕ, Bool, true, false, List, length, Option, Some, None, option_map, refl, sym, ap, subst, ◌∙◌, cond}
 use Rattle.std.specs.Prelude.{slice_get, Result, Ok, Err}
 use Rattle.std.specs.Result.{result_ok}
+use Rattle.llb_cache.specs.declared.key.Key.{Key}
 use Rattle.llb_loader.specs.declared.graph.Vertex.{Vertex}
 use Rattle.llb_tree.specs.Tree.{TreeMap}
-use Rattle.llb_model.specs.Program.{Build, MicroStep, Start, start_with, begin, step_on}
+use Rattle.llb_model.specs.Caches.{Place}
+use Rattle.llb_model.specs.Program.{Build, MicroStep, Start, start_with, needs_of, step_on}
 use Rattle.llb_model.specs.Outcome.{inputs_from}
-use Rattle.llb_model.specs.State.{Status, Waiting, Running, Settled, Execution, At, Idle, Runs, State, ending_at, start_from, ready, program_in, work_of, is_finished, next_step, ending_from}
+use Rattle.llb_model.specs.State.{Status, Waiting, Running, Settled, Execution, At, Idle, Runs, State, ending_at, start_from, ready, program_in, work_of, is_finished, next_step, ending_from, held, places_for, held_key, begin_at}
 use Rattle.llb_model.specs.SettleCause.{SettleCause, NotFinished}
-use Rattle.llb_model.specs.Table.{Event, Claim, Step, Settle, Reply, or_not_ready, claim_start, claim_with, claimed, execution_on, with_step, step_by, step_with, stepped, settle_with, settled, table}
+use Rattle.llb_model.specs.Table.{Event, Claim, Step, Settle, Reply, or_not_ready, claim_start, claim_at, claim_unless, claimed, execution_on, with_step, step_by, step_with, stepped, settle_with, settled, table}
 use Rattle.llb_model.proofs.Lists.{inside, length_set}
 
 -- the state after an event, and its reply
@@ -21,11 +23,16 @@ pub record IsReady (b : Build) (statuses : List Status) (v : ℕ) (start : Start
   pub there : slice_get b.graph.vertices v ≡ Some start.vertex
   pub inputs : inputs_from (ending_at statuses) start.vertex.inputs ≡ Some start.inputs
 
+-- the instances that a claim takes
+abbrev pub claim_places : State → Start → List Place
+claim_places s start = places_for (held s.workers) (needs_of start.vertex)
+
 pub record IsClaim (b : Build) (s : State) (w v : ℕ) (a : Answer) : Type 0 where
   pub idle : slice_get s.workers w ≡ Some Idle
   pub start : Start
   pub begins : IsReady b s.statuses v start
-  pub gives : a ≡ claim_with s w v start.vertex (begin b start [])
+  pub unheld : held_key (held s.workers) (needs_of start.vertex) ≡ None
+  pub gives : a ≡ claim_at b s w v start (claim_places s start)
 
 pub record IsStep (b : Build) (s : State) (w : ℕ) (a : Answer) : Type 0 where
   pub x : Execution
@@ -80,9 +87,14 @@ unfolding table
 claim_is b s w v a e =
     by_worker (slice_get s.workers w) refl (slice_get b.graph.vertices v) refl (granted_ok (claimed b s w v (claim_start s.statuses v (slice_get s.workers w) (slice_get b.graph.vertices v))) a e)
   where
+    by_key : slice_get s.workers w ≡ Some Idle → (start : Start) → IsReady b s.statuses v start → (o : Option Key) → held_key (held s.workers) (needs_of start.vertex) ≡ o
+        → claim_unless b s w v start o ≡ Ok a → IsClaim b s w v a
+    by_key idle start begins (Some k) is e = absurd cc
+    by_key idle start begins None is e = record { idle = idle; start = start; begins = begins; unheld = is; gives = sym (inside_ok e) }
+
     by_ready : slice_get s.workers w ≡ Some Idle → (o : Option Start) → ready b s.statuses v ≡ o → claimed b s w v (or_not_ready o) ≡ Ok a → IsClaim b s w v a
     by_ready idle None is e = absurd cc
-    by_ready idle (Some start) is e = record { idle = idle; start = start; begins = ready_is b s.statuses v start is; gives = sym (inside_ok e) }
+    by_ready idle (Some start) is e = by_key idle start (ready_is b s.statuses v start is) (held_key (held s.workers) (needs_of start.vertex)) refl e
 
     by_worker : (o : Option At) → slice_get s.workers w ≡ o → (u : Option Vertex) → slice_get b.graph.vertices v ≡ u → claimed b s w v (claim_start s.statuses v o u) ≡ Ok a → IsClaim b s w v a
     by_worker None is u there e = absurd cc
@@ -122,7 +134,9 @@ settle_is b s w a e = by_worker (slice_get s.workers w) refl (granted_ok (settle
 
 -- as many workers as before
 pub workers_stay : (b : Build) (s : State) (e : Event) (a : Answer) → table b s e ≡ Some a → length a.0.workers ≡ length s.workers
-workers_stay b s (Claim w v) a given = let c = claim_is b s w v a given in ap (λ (t : Answer). length t.0.workers) c.gives ∙ length_set s.workers w (Runs (execution_on v (begin b c.start [])))
+workers_stay b s (Claim w v) a given =
+    let c = claim_is b s w v a given in
+    ap (λ (t : Answer). length t.0.workers) c.gives ∙ length_set s.workers w (Runs (execution_on v (begin_at b s.store c.start (claim_places s c.start)) (claim_places s c.start)))
 workers_stay b s (Step w) a given =
     let c = step_is b s w a given in
     ap (λ (t : Answer). length t.0.workers) c.gives ∙ length_set s.workers w (Runs (with_step c.x (step_on c.x.done (Some c.step) (work_of s c.x))))
@@ -131,12 +145,13 @@ workers_stay b s (Settle w) a given = let c = settle_is b s w a given in ap (λ 
 -- ---- where it is granted
 
 pub claim_granted : (b : Build) (s : State) (w v : ℕ) (start : Start) → slice_get s.workers w ≡ Some Idle → IsReady b s.statuses v start
-    → table b s (Claim w v) ≡ Some (claim_with s w v start.vertex (begin b start []))
+    → held_key (held s.workers) (needs_of start.vertex) ≡ None → table b s (Claim w v) ≡ Some (claim_at b s w v start (claim_places s start))
 unfolding table
-claim_granted b s w v start idle r =
+claim_granted b s w v start idle r unheld =
     ap (λ o. result_ok (claimed b s w v (claim_start s.statuses v o (slice_get b.graph.vertices v)))) idle
     ∙ ap (λ o. result_ok (claimed b s w v (claim_start s.statuses v (Some Idle) o))) r.there
     ∙ ap (λ o. result_ok (claimed b s w v (or_not_ready o))) (sym (ap (start_from s.statuses (slice_get s.statuses v)) r.there) ∙ ready_as b s.statuses v start r)
+    ∙ ap (λ o. result_ok (claim_unless b s w v start o)) unheld
 
 pub step_granted : (b : Build) (s : State) (w : ℕ) (x : Execution) (m : MicroStep) → slice_get s.workers w ≡ Some (Runs x) → next_step (program_in b x).steps x ≡ Some m
     → table b s (Step w) ≡ Some (step_by s w x m (step_on x.done (Some m) (work_of s x)))

@@ -1,5 +1,6 @@
 pub mod Lists
 pub mod ByNumber
+pub mod Views
 pub mod Parts
 pub mod Events
 pub mod Runs
@@ -12,3 +13,15 @@ pub mod Stopped
 pub mod Ready
 pub mod Complete
 pub mod Alone
+pub mod Stores
+pub mod Claims
+pub mod Separate
+pub mod Others
+pub mod Tracks
+pub mod Whole
+pub mod Dense
+pub mod There
+pub mod Needs
+pub mod Kept
+pub mod Leases
+pub mod Leasing

@@ -1,18 +1,23 @@
 -- The trees of inputs; and the outcome of a vertex is that of its program on the outcomes of its inputs.
-use Rattle.std.proofs.Common.{◌≡◌, ℕ, zero, suc, ◌<◌, ◌≤◌, Bool, true, false, not, ◌&&◌, List, [], ◌∷◌, length, take, Option, Some, None, is_some, unwrap_or, inl, inr, refl, sym, ap, subst, ◌∙◌, arith}
+use Rattle.std.proofs.Common.{◌≡◌, ℕ, zero, suc, ◌+◌, ◌<◌, ◌≤◌, Bool, true, false, not, ◌&&◌, ◌||◌, cond, List, [], ◌∷◌, length, take, Option, Some, None, is_some, unwrap_or, inl, inr, refl, sym, ap, subst, ◌∙◌, arith}
 use Rattle.std.specs.Prelude.{slice_get, map}
-use Rattle.std.specs.List.{All, list_all}
+use Rattle.std.specs.List.{All, list_all, list_any}
 use Rattle.std.proofs.lemmas.Bool.{and_parts}
 use Rattle.std.proofs.lemmas.List.FromFn.{length-map-range_with_len}
 use Rattle.std.proofs.lemmas.List.Elements.{All-head, All-tail}
 use Rattle.std.proofs.lemmas.Option.{get_or_from_slice_get}
 use Rattle.llb_loader.specs.Graph.{Numbered, LeadsBelow, IsGraph}
+use Rattle.llb_ops.specs.declared.op.Input.{Input}
+use Rattle.llb_ops.specs.declared.exec.Mount.{Mount}
+use Rattle.llb_loader.specs.Mounts.{cache, has_type, seed_of, key_by}
+use Rattle.llb_loader.specs.Rules.{kind_mounts}
 use Rattle.llb_loader.specs.declared.graph.Edge.{Edge}
 use Rattle.llb_loader.specs.declared.graph.Vertex.{Vertex}
 use Rattle.llb_tree.specs.Tree.{TreeMap}
 use Rattle.llb_model.specs.declared.fault.VertexFault.{VertexFault}
-use Rattle.llb_model.specs.Program.{Build, Program, View, program_of, start_with, begin, whole, outputs_of, output_from}
-use Rattle.llb_model.specs.Outcome.{Ending, Done, Failed, Ended, ended, ending, output_in, both, all_there, inputs_from, outcome_on, ending_in, next_outcome, outcomes, outcome, has_cache, next_plain, is_plain}
+use Rattle.llb_model.specs.Program.{Build, Program, View, program_of, start_with, needs_from, needs_of, with_need, has_cache, begin, whole, outputs_of, output_from}
+use Rattle.llb_model.specs.Outcome.{Ending, Done, Failed, Ended, ended, ending, output_in, both, all_there, inputs_from, outcome_on, ending_in, next_outcome, outcomes, outcome, next_plain, is_plain}
+use Rattle.llb_model.specs.Laws.{HasNoCaches}
 use Rattle.llb_model.specs.ByNumber.{by_number}
 use Rattle.llb_model.specs.State.{is_done}
 use Rattle.llb_model.proofs.Lists.{some_of, inside, get_take, Each_of, Some_of, some_with, get_within, got_within}
@@ -124,6 +129,19 @@ inputs_there g f counts k fits (e ∷ edges) each =
 abbrev pub plain : Build → ℕ → Option Ending
 plain b k = ending_in (outcome b k)
 
+-- without a mount that shows a cache there are no needs
+mounts_need : (inputs : List Input) (i : ℕ) (ms : List Mount) → list_any (has_type cache) ms ≡ false → needs_from inputs i ms ≡ []
+mounts_need inputs i [] none = refl
+mounts_need inputs i (m ∷ ms) none = by_test (has_type cache m) refl none (mounts_need inputs (i + 1) ms)
+  where
+    by_test : (t : Bool) → has_type cache m ≡ t → (t || list_any (has_type cache) ms) ≡ false → (list_any (has_type cache) ms ≡ false → needs_from inputs (i + 1) ms ≡ [])
+        → needs_from inputs i (m ∷ ms) ≡ []
+    by_test true is none rest = absurd cc
+    by_test false is none rest = ap (λ t. with_need i m (key_by (seed_of inputs m.input) (cond t m.cache_opt None)) (needs_from inputs (i + 1) ms)) is ∙ rest none
+
+pub no_needs : (v : Vertex) → has_cache v ≡ false → needs_of v ≡ []
+no_needs v none = mounts_need v.op.inputs 0 (kind_mounts v.op.kind) none
+
 module _ (b : Build) (graph : IsGraph b.graph) where
   -- the outcome of a vertex is its whole program on what its inputs end with
   pub outcome_is : (k : ℕ) (v : Vertex) → slice_get b.graph.vertices k ≡ Some v → outcome b k ≡ Some (outcome_on b v (inputs_from (plain b) v.inputs))
@@ -137,11 +155,24 @@ module _ (b : Build) (graph : IsGraph b.graph) where
 
   -- ---- plain vertices
 
+  plain_parts : (k : ℕ) (v : Vertex) → slice_get b.graph.vertices k ≡ Some v → is_plain b k ≡ true
+      → (not (has_cache v) ≡ true) × (list_all (λ (e : Edge). unwrap_or (slice_get (take k (by_number next_plain [] b.graph.vertices)) e.vertex) false) v.inputs ≡ true)
+  plain_parts k v there is =
+      and_parts (not (has_cache v)) (list_all (λ (e : Edge). unwrap_or (slice_get (take k (by_number next_plain [] b.graph.vertices)) e.vertex) false) v.inputs)
+      (sym (ap (λ o. unwrap_or o false) (by_number_is next_plain b.graph.vertices k v there)) ∙ is)
+
+  -- a plain vertex needs no instances
+  pub plain_needs : (k : ℕ) (v : Vertex) → slice_get b.graph.vertices k ≡ Some v → is_plain b k ≡ true → needs_of v ≡ []
+  plain_needs k v there is = no_needs v (not_true (has_cache v) (plain_parts k v there is).0)
+    where
+      not_true : (t : Bool) → not t ≡ true → t ≡ false
+      not_true true e = absurd cc
+      not_true false e = refl
+
   -- the vertices that a plain one's edges lead to are plain
   pub plain_inputs : (k : ℕ) (v : Vertex) → slice_get b.graph.vertices k ≡ Some v → is_plain b k ≡ true → Each_of (λ (e : Edge). is_plain b e.vertex ≡ true) v.inputs
   plain_inputs k v there is =
-      each v.inputs (each_below b.graph graph k v there)
-      (and_parts (not (has_cache v)) (list_all front v.inputs) (sym (ap (λ o. unwrap_or o false) (by_number_is next_plain b.graph.vertices k v there)) ∙ is)).1
+      each v.inputs (each_below b.graph graph k v there) (plain_parts k v there is).1
     where
       front : Edge → Bool
       front e = unwrap_or (slice_get (take k (by_number next_plain [] b.graph.vertices)) e.vertex) false
@@ -153,15 +184,16 @@ module _ (b : Build) (graph : IsGraph b.graph) where
           (ap (λ o. unwrap_or o false) (sym (get_take (by_number next_plain [] b.graph.vertices) k e.vertex leads.0.lower)) ∙ a.0, each edges leads.1 a.1)
 
   AllPlain : ℕ → Type 0
-  AllPlain n = (k : ℕ) → k < n → k < length b.graph.vertices → is_plain b k ≡ true
+  AllPlain n = HasNoCaches b → (k : ℕ) → k < n → k < length b.graph.vertices → is_plain b k ≡ true
 
   plain_below : (n : ℕ) → AllPlain n
   unfolding AllPlain
-  plain_below zero k lt fits = absurd (omega arith)
-  plain_below (suc n) k lt fits =
+  plain_below zero none k lt fits = absurd (omega arith)
+  plain_below (suc n) none k lt fits =
       let v = get_within b.graph.vertices k fits in
       ap (λ o. unwrap_or o false) (by_number_is next_plain b.graph.vertices k v.0 v.1)
-      ∙ all v.0.inputs (each_below b.graph graph k v.0 v.1) (λ j low. plain_below n j (omega arith) (omega arith))
+      ∙ ap (λ t. not t && list_all (λ (e : Edge). unwrap_or (slice_get (take k (by_number next_plain [] b.graph.vertices)) e.vertex) false) v.0.inputs) (none k v.0 v.1)
+      ∙ all v.0.inputs (each_below b.graph graph k v.0 v.1) (λ j low. plain_below n none j (omega arith) (omega arith))
     where
       all : (edges : List Edge) → Each_of (LeadsBelow b.graph.vertices k) edges → ((j : ℕ) → j < k → is_plain b j ≡ true)
           → list_all (λ (e : Edge). unwrap_or (slice_get (take k (by_number next_plain [] b.graph.vertices)) e.vertex) false) edges ≡ true
@@ -170,10 +202,10 @@ module _ (b : Build) (graph : IsGraph b.graph) where
           let first = ap (λ o. unwrap_or o false) (get_take (by_number next_plain [] b.graph.vertices) k e.vertex leads.0.lower) ∙ below e.vertex leads.0.lower in
           (λ i. first i && all edges leads.1 below i)
 
-  -- no vertex has a cache yet
-  pub all_plain : (k : ℕ) → k < length b.graph.vertices → is_plain b k ≡ true
+  -- where no vertex shows a cache, each is plain
+  pub all_plain : HasNoCaches b → (k : ℕ) → k < length b.graph.vertices → is_plain b k ≡ true
   unfolding AllPlain
-  all_plain k lt = plain_below (suc k) k (omega arith) lt
+  all_plain none k lt = plain_below (suc k) none k (omega arith) lt
 
 -- ---- the number of outputs
 

@@ -2,10 +2,15 @@
 use Rattle.std.proofs.Common.{◌≡◌, ℕ, zero, suc, ◌+◌, ◌-◌, ◌<◌, ◌≤◌, Bool, true, false, ◌||◌, List, length, Option, Some, None, is_some, inl, inr, refl, sym, ap, ◌∙◌, cond, add-zero, add-suc, arith}
 use Rattle.std.specs.Prelude.{slice_get, nat_le, Result, Ok, Err}
 use Rattle.std.proofs.lemmas.Bool.{leb-true, leb-false, le-leb, cases_lt}
+use Rattle.llb_applet.specs.Commands.{run}
+use Rattle.llb_applet.specs.declared.command.Command.{Command}
+use Rattle.llb_applet.specs.declared.setting.Setting.{Setting}
+use Rattle.llb_mount.specs.declared.shown.Shown.{Shown}
 use Rattle.llb_model.specs.declared.fault.VertexFault.{VertexFault}
-use Rattle.llb_model.specs.Program.{MicroStep, ReadLocal, Act, LayInput, Run, View, Work, Left, micro_step, with_own, tried, act_on, run_on, step_on, unless_faulted, go_on, part, whole}
+use Rattle.llb_model.specs.Program.{MicroStep, ReadLocal, Act, LayInput, Run, View, LocalTree, Files, Layers, Mounted, Work, Left, micro_step, with_own, tried, act_on, filled, ran, run_on, step_on, unless_faulted, go_on, part, whole}
 use Rattle.llb_model.specs.State.{Execution, is_finished, next_step}
 use Rattle.llb_model.proofs.Lists.{some_of, get_past, get_within}
+use Rattle.llb_model.proofs.Views.{parts_count}
 
 -- ---- past the end, or a fault
 
@@ -91,6 +96,16 @@ none_finished steps x e = by_test (is_finished steps x) refl
 
 -- ---- the trees of instances
 
+command_keeps : (k : ℕ) (setting : Setting) (command : Command) (work : Work) (own : View) → length (tried work (run_on k setting command own work.trees)).work.trees ≡ length work.trees
+command_keeps k setting command work (LocalTree t) = refl
+command_keeps k setting command work (Files inputs results) = refl
+command_keeps k setting command work (Layers inputs t) = refl
+command_keeps k setting command work (Mounted mounts caches) = by_view (run setting (filled mounts caches work.trees) command)
+  where
+    by_view : (o : Option (List Shown)) → length (tried work (ran k caches work.trees o)).work.trees ≡ length work.trees
+    by_view None = refl
+    by_view (Some after) = parts_count caches work.trees after
+
 -- as many trees as before
 own_keeps : (work : Work) (r : Result View VertexFault) → length (tried work (with_own work r)).work.trees ≡ length work.trees
 own_keeps work (Ok view) = refl
@@ -102,4 +117,16 @@ step_keeps k None work = refl
 step_keeps k (Some ReadLocal) work = refl
 step_keeps k (Some (Act action)) work = own_keeps work (act_on k action work.own)
 step_keeps k (Some (LayInput i)) work = refl
-step_keeps k (Some (Run setting command)) work = own_keeps work (run_on k setting command work.own)
+step_keeps k (Some (Run setting command)) work = command_keeps k setting command work work.own
+
+go_keeps : (steps : List MicroStep) (k : ℕ) (left : Left) → length (go_on steps k left).work.trees ≡ length left.work.trees
+go_keeps steps k left = by_fault left.fault
+  where
+    by_fault : (o : Option VertexFault) → length (unless_faulted o left (step_on k (slice_get steps k) left.work)).work.trees ≡ length left.work.trees
+    by_fault None = step_keeps k (slice_get steps k) left.work
+    by_fault (Some f) = refl
+
+pub part_keeps : (steps : List MicroStep) (work : Work) (k : ℕ) → length (part steps work k).work.trees ≡ length work.trees
+unfolding part
+part_keeps steps work zero = refl
+part_keeps steps work (suc k) = go_keeps steps k (part steps work k) ∙ part_keeps steps work k

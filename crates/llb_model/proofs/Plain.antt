@@ -5,18 +5,20 @@ use Rattle.std.proofs.lemmas.List.{nil_from_length}
 use Rattle.llb_loader.specs.Graph.{IsGraph}
 use Rattle.llb_tree.specs.Tree.{TreeMap}
 use Rattle.llb_model.specs.declared.fault.VertexFault.{VertexFault}
-use Rattle.llb_model.specs.Program.{Build, Program, Left, Start, program_of, program_at, start_with, begin, step_on, unless_faulted, go_on, part}
+use Rattle.llb_model.specs.Caches.{trees_at}
+use Rattle.llb_model.specs.Program.{Build, Program, View, Work, Left, Start, program_of, program_at, start_with, begin, step_on, unless_faulted, go_on, part}
 use Rattle.llb_model.specs.Outcome.{Ending, Ended, ending, ending_in, outcome_on, outcome, is_plain}
-use Rattle.llb_model.specs.State.{Status, Waiting, Running, Settled, Execution, Idle, Runs, State, Opening, opening, ending_of, ending_at, program_in, work_of, is_finished, ending_from}
-use Rattle.llb_model.specs.Table.{Event, Claim, Step, Settle, Reply, execution_on, after_claim, with_step, after_step, table}
+use Rattle.llb_model.specs.State.{Status, Waiting, Running, Settled, Execution, Idle, Runs, State, Opening, opening, ending_of, ending_at, program_in, work_of, is_finished, ending_from, held, places_for, begin_at}
+use Rattle.llb_model.specs.Table.{Event, Claim, Step, Settle, Reply, execution_on, with_step, table}
 use Rattle.llb_model.specs.Run.{run}
 use Rattle.llb_model.specs.Consistent.{IsConsistent}
+use Rattle.llb_model.specs.Laws.{HasNoCaches}
 use Rattle.llb_model.specs.Plain.{left_of, IsUnderWay, StandsByOutcomes}
 use Rattle.llb_model.proofs.Lists.{some_of, inside, got_set, got_replicate, got_within}
 use Rattle.llb_model.proofs.Parts.{is_over_at, finished_whole, IsNextStep, next_step_is, step_keeps}
-use Rattle.llb_model.proofs.Events.{Answer, IsReady, IsStep, IsSettle, claim_is, step_is, settle_is}
+use Rattle.llb_model.proofs.Events.{Answer, IsReady, IsStep, IsSettle, claim_places, claim_is, step_is, settle_is}
 use Rattle.llb_model.proofs.Runs.{run_keeps}
-use Rattle.llb_model.proofs.Outcomes.{inputs_mono, plain, outcome_is, plain_inputs, all_plain}
+use Rattle.llb_model.proofs.Outcomes.{inputs_mono, plain, outcome_is, plain_needs, plain_inputs, all_plain}
 
 pub opening_plain : (b : Build) (o : Opening) → StandsByOutcomes b (opening b o)
 opening_plain b o = record {
@@ -31,27 +33,32 @@ ending_settled (Some Waiting) e h = absurd cc
 ending_settled (Some (Running w)) e h = absurd cc
 ending_settled (Some (Settled x)) e h = ap (λ y. some_of (Settled y)) (inside h)
 
--- the state around an execution has no part in it
-moved : (b : Build) (s t : State) (x : Execution) → IsUnderWay b s x → IsUnderWay b t x
-moved b s t x old = record { vertex = old.vertex; trees = old.trees; there = old.there; inputs = old.inputs; so_far = old.so_far }
+-- a work that holds no instances
+bare_work : (s : State) (x : Execution) → x.places ≡ [] → work_of s x ≡ record { own = x.own; trees = [] }
+bare_work s x bare = ap (λ ps. work_with x.own (trees_at s.store ps)) bare
+  where
+    work_with : View → List TreeMap → Work
+    work_with own trees = record { own = own; trees = trees }
 
 module _ (b : Build) (graph : IsGraph b.graph) (s : State) (stands : StandsByOutcomes b s) where
   pub ending_plain : (j : ℕ) (e : Ending) → is_plain b j ≡ true → ending_at s.statuses j ≡ Some e → plain b j ≡ Some e
   ending_plain j e is there = ap ending_in (stands.settled j e is (ending_settled (slice_get s.statuses j) e there))
 
-  begun : (t : State) (v : ℕ) (start : Start) → IsReady b s.statuses v start → is_plain b v ≡ true → IsUnderWay b t (execution_on v (begin b start []))
+  begun : (v : ℕ) (start : Start) → IsReady b s.statuses v start → is_plain b v ≡ true
+      → IsUnderWay b (execution_on v (begin_at b s.store start (claim_places s start)) (claim_places s start))
   unfolding part
-  begun t v start ready is = record {
+  begun v start ready is = record {
     vertex = start.vertex;
     trees = start.inputs;
     there = ready.there;
     inputs = inputs_mono (λ j. is_plain b j ≡ true) (ending_at s.statuses) (plain b) ending_plain start.vertex.inputs (plain_inputs b graph v start.vertex ready.there is) start.inputs ready.inputs;
     so_far = refl;
+    bare = ap (places_for (held s.workers)) (plain_needs b graph v start.vertex ready.there is);
   }
 
-  further : (t : State) (w : ℕ) (a : Answer) (c : IsStep b s w a) → is_plain b c.x.vertex ≡ true → IsUnderWay b t (with_step c.x (step_on c.x.done (Some c.step) (work_of s c.x)))
+  further : (w : ℕ) (a : Answer) (c : IsStep b s w a) → is_plain b c.x.vertex ≡ true → IsUnderWay b (with_step c.x (step_on c.x.done (Some c.step) (work_of s c.x)))
   unfolding part
-  further t w a c is = record {
+  further w a c is = record {
     vertex = old.vertex;
     trees = old.trees;
     there = old.there;
@@ -59,13 +66,15 @@ module _ (b : Build) (graph : IsGraph b.graph) (s : State) (stands : StandsByOut
     so_far =
         ap (part (program_of old.vertex).steps (begin b (start_with old.vertex old.trees) [])) (add_one c.x.done)
         ∙ ap (go_on (program_of old.vertex).steps c.x.done) old.so_far
-        ∙ ap (λ (o : Option VertexFault). unless_faulted o (left_of s c.x) (step_on c.x.done (slice_get (program_of old.vertex).steps c.x.done) (work_of s c.x))) next.clean
+        ∙ ap (λ (o : Option VertexFault). unless_faulted o (left_of c.x) (step_on c.x.done (slice_get (program_of old.vertex).steps c.x.done) (left_of c.x).work)) next.clean
+        ∙ ap (λ (m : Work). step_on c.x.done (slice_get (program_of old.vertex).steps c.x.done) m) (sym (bare_work s c.x old.bare))
         ∙ ap (λ (p : Program). step_on c.x.done (slice_get p.steps c.x.done) (work_of s c.x)) (sym (ap program_at old.there))
         ∙ ap (λ m. step_on c.x.done m (work_of s c.x)) next.there
-        ∙ ap (left_with left) (nil_from_length left.work.trees (step_keeps c.x.done (Some c.step) (work_of s c.x)));
+        ∙ ap (left_with left) (nil_from_length left.work.trees (step_keeps c.x.done (Some c.step) (work_of s c.x) ∙ ap (λ (m : Work). length m.trees) (bare_work s c.x old.bare)));
+    bare = old.bare;
   }
     where
-      old : IsUnderWay b s c.x
+      old : IsUnderWay b c.x
       old = stands.working w c.x is c.there
 
       next : IsNextStep (program_in b c.x).steps c.x c.step
@@ -90,34 +99,32 @@ module _ (b : Build) (graph : IsGraph b.graph) (s : State) (stands : StandsByOut
       ∙ ap (λ l. some_of (Ended (ending (program_of old.vertex) l))) (finished_whole (program_of old.vertex).steps start c.x.done over ∙ old.so_far)
       ∙ ap (λ (p : Program). some_of (Ended (ending_from p c.x))) (sym program)
     where
-      old : IsUnderWay b s c.x
+      old : IsUnderWay b c.x
       old = stands.working w c.x is c.there
 
 pub event_plain : (b : Build) → IsGraph b.graph → (s : State) (e : Event) (a : Answer) → StandsByOutcomes b s → table b s e ≡ Some a → StandsByOutcomes b a.0
 event_plain b graph s (Claim w v) a stands given =
     let c = claim_is b s w v a given in
-    let z = execution_on v (begin b c.start []) in
-    let t = after_claim s w v (begin b c.start []) in
+    let z = execution_on v (begin_at b s.store c.start (claim_places s c.start)) (claim_places s c.start) in
     subst (λ (t : Answer). StandsByOutcomes b t.0) (sym c.gives) (record {
       settled = λ k e is there. elim (got_set s.statuses v (Running w) k (Settled e) there) [ inl h ↦ absurd (cc (h.1)) | inr h ↦ stands.settled k e is h.1 ];
       working = λ u x is there. elim (got_set s.workers w (Runs z) u (Runs x) there) [
         | inl h ↦
             let same : z ≡ x = cc (h.1) in
-            subst (IsUnderWay b t) same (begun b graph s stands t v c.start c.begins (subst (λ (y : Execution). is_plain b y.vertex ≡ true) (sym same) is))
-        | inr h ↦ moved b s t x (stands.working u x is h.1)
+            subst (IsUnderWay b) same (begun b graph s stands v c.start c.begins (subst (λ (y : Execution). is_plain b y.vertex ≡ true) (sym same) is))
+        | inr h ↦ stands.working u x is h.1
       ];
     })
 event_plain b graph s (Step w) a stands given =
     let c = step_is b s w a given in
     let z = with_step c.x (step_on c.x.done (Some c.step) (work_of s c.x)) in
-    let t = after_step s w c.x (step_on c.x.done (Some c.step) (work_of s c.x)) in
     subst (λ (t : Answer). StandsByOutcomes b t.0) (sym c.gives) (record {
       settled = stands.settled;
       working = λ u x is there. elim (got_set s.workers w (Runs z) u (Runs x) there) [
         | inl h ↦
             let same : z ≡ x = cc (h.1) in
-            subst (IsUnderWay b t) same (further b graph s stands t w a c (subst (λ (y : Execution). is_plain b y.vertex ≡ true) (sym same) is))
-        | inr h ↦ moved b s t x (stands.working u x is h.1)
+            subst (IsUnderWay b) same (further b graph s stands w a c (subst (λ (y : Execution). is_plain b y.vertex ≡ true) (sym same) is))
+        | inr h ↦ stands.working u x is h.1
       ];
     })
 event_plain b graph s (Settle w) a stands given =
@@ -130,13 +137,13 @@ event_plain b graph s (Settle w) a stands given =
             ap (outcome b) h.0 ∙ ends b graph s stands w a c (subst (λ n. is_plain b n ≡ true) h.0 is) ∙ ap (λ y. some_of (Ended y)) same
         | inr h ↦ stands.settled k e is h.1
       ];
-      working = λ u x is there. elim (got_set s.workers w Idle u (Runs x) there) [ inl h ↦ absurd (cc (h.1)) | inr h ↦ moved b s _ x (stands.working u x is h.1) ];
+      working = λ u x is there. elim (got_set s.workers w Idle u (Runs x) there) [ inl h ↦ absurd (cc (h.1)) | inr h ↦ stands.working u x is h.1 ];
     })
 
 pub run_plain : (b : Build) → IsGraph b.graph → (s t : State) (es : List Event) (rs : List Reply) → StandsByOutcomes b s → run b s es ≡ Some (t, rs) → StandsByOutcomes b t
 run_plain b graph = run_keeps b (StandsByOutcomes b) (event_plain b graph)
 
--- no vertex has a cache yet, so each that is settled has its plain outcome
-pub settled_plain : (b : Build) → IsGraph b.graph → (s : State) → IsConsistent b s → StandsByOutcomes b s → (v : ℕ) (e : Ending) → slice_get s.statuses v ≡ Some (Settled e)
+-- where no vertex shows a cache, each that is settled has its plain outcome
+pub settled_plain : (b : Build) → IsGraph b.graph → HasNoCaches b → (s : State) → IsConsistent b s → StandsByOutcomes b s → (v : ℕ) (e : Ending) → slice_get s.statuses v ≡ Some (Settled e)
     → outcome b v ≡ Some (Ended e)
-settled_plain b graph s here stands v e is = stands.settled v e (all_plain b graph v (omega (arith, got_within s.statuses v (Settled e) is, here.count))) is
+settled_plain b graph none s here stands v e is = stands.settled v e (all_plain b graph none v (omega (arith, got_within s.statuses v (Settled e) is, here.count))) is

@@ -4,15 +4,15 @@ use Rattle.std.specs.Prelude.{slice_get, slice_set, replicate}
 use Rattle.std.specs.List.{sum_by}
 use Rattle.std.proofs.lemmas.List.Sums.{sum_by-cons}
 use Rattle.llb_loader.specs.declared.graph.Vertex.{Vertex}
-use Rattle.llb_model.specs.Program.{Build, begin, program_at, step_on}
+use Rattle.llb_model.specs.Program.{Build, program_at, step_on}
 use Rattle.llb_model.specs.Outcome.{Ending}
-use Rattle.llb_model.specs.State.{Status, Waiting, Running, Settled, At, Idle, Runs, State, Opening, opening, program_in, work_of, ending_from}
+use Rattle.llb_model.specs.State.{Status, Waiting, Running, Settled, At, Idle, Runs, State, Opening, opening, program_in, work_of, ending_from, begin_at}
 use Rattle.llb_model.specs.Table.{Event, Claim, Step, Settle, Reply, execution_on, with_step, table}
 use Rattle.llb_model.specs.Run.{run}
 use Rattle.llb_model.specs.Room.{events_of, most_events, to_come, all_to_come, left_by, all_left, still_to_come}
 use Rattle.llb_model.proofs.Lists.{got_within}
 use Rattle.llb_model.proofs.Parts.{next_step_is}
-use Rattle.llb_model.proofs.Events.{Answer, claim_is, step_is, settle_is}
+use Rattle.llb_model.proofs.Events.{Answer, claim_places, claim_is, step_is, settle_is}
 use Rattle.llb_model.proofs.Runs.{run_none, run_first}
 
 -- ---- one status, one worker
@@ -60,7 +60,7 @@ opening_room b o = omega (arith, come_open b.graph.vertices, left_none b o.worke
 pub event_room : (b : Build) (s : State) (e : Event) (a : Answer) → table b s e ≡ Some a → still_to_come b a.0 + 1 ≤ still_to_come b s
 event_room b s (Claim w v) a given =
     let c = claim_is b s w v a given in
-    let z = execution_on v (begin b c.start []) in
+    let z = execution_on v (begin_at b s.store c.start (claim_places s c.start)) (claim_places s c.start) in
     let statuses = come_set b.graph.vertices s.statuses v c.start.vertex Waiting (Running w) c.begins.there c.begins.waits in
     let workers = left_set b s.workers w Idle (Runs z) c.idle in
     let steps : length (program_in b z).steps ≡ length (program_at (Some c.start.vertex)).steps = ap (λ o. length (program_at o).steps) c.begins.there in

@@ -1,4 +1,5 @@
 pub mod ByNumber
+pub mod Caches
 pub mod Program
 pub mod Outcome
 pub mod State
@@ -10,3 +11,7 @@ pub mod Run
 pub mod Room
 pub mod Consistent
 pub mod Plain
+pub mod Order
+pub mod Laws
+pub mod Kept
+pub mod Leases

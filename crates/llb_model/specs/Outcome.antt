@@ -6,7 +6,7 @@ use Rattle.llb_loader.specs.declared.graph.Vertex.{Vertex}
 use Rattle.llb_tree.specs.Tree.{TreeMap}
 use Rattle.llb_model.specs.declared.fault.VertexFault.{VertexFault}
 use Rattle.llb_model.specs.ByNumber.{by_number}
-use Rattle.llb_model.specs.Program.{Build, Program, View, Left, start_with, program_of, begin, whole, outputs_of}
+use Rattle.llb_model.specs.Program.{Build, Program, View, Left, start_with, program_of, begin, whole, outputs_of, has_cache}
 
 -- how a vertex ends: with its outputs, or with its first fault
 pub data Ending : Type 0 where
@@ -45,7 +45,7 @@ all_there (o ∷ os) = both o (all_there os)
 unfoldable pub inputs_from : (ℕ → Option Ending) → List Edge → Option (List TreeMap)
 inputs_from ending_of edges = all_there (map (λ (e : Edge). output_in (ending_of e.vertex) e.index) edges)
 
--- the whole program on the trees of the inputs
+-- the whole program on the trees of the inputs, with no instances of caches
 abbrev pub outcome_on : Build → Vertex → Option (List TreeMap) → Outcome
 outcome_on b v None = Blocked
 outcome_on b v (Some trees) = Ended (ending (program_of v) (whole (program_of v).steps (begin b (start_with v trees) [])))
@@ -65,10 +65,6 @@ outcomes b = by_number (next_outcome b) [] b.graph.vertices
 
 abbrev pub outcome : Build → ℕ → Option Outcome
 outcome b v = slice_get (outcomes b) v
-
--- whether a vertex mounts a cache, which none does yet
-abbrev pub has_cache : Vertex → Bool
-has_cache v = false
 
 -- neither it nor a vertex that an edge of it leads to has a cache before it
 abbrev pub next_plain : List Bool → Vertex → Bool

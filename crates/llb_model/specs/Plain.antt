@@ -4,20 +4,21 @@ use Rattle.llb_loader.specs.declared.graph.Vertex.{Vertex}
 use Rattle.llb_tree.specs.Tree.{TreeMap}
 use Rattle.llb_model.specs.Program.{Build, Left, program_of, start_with, begin, part}
 use Rattle.llb_model.specs.Outcome.{Ending, Ended, outcome, ending_in, inputs_from, is_plain}
-use Rattle.llb_model.specs.State.{Settled, Execution, Runs, State, work_of}
+use Rattle.llb_model.specs.State.{Settled, Execution, Runs, State}
 
--- what an execution has left so far
-abbrev pub left_of : State → Execution → Left
-left_of s x = record { work = work_of s x; fault = x.fault }
+-- what an execution that holds no instances has left so far
+abbrev pub left_of : Execution → Left
+left_of x = record { work = record { own = x.own; trees = [] }; fault = x.fault }
 
--- what is under way is so much of the vertex's program, on the inputs' plain outcomes
-pub record IsUnderWay (b : Build) (s : State) (x : Execution) : Type 0 where
+-- what is under way is so much of the vertex's program, on the inputs' plain outcomes, and holds no instances
+pub record IsUnderWay (b : Build) (x : Execution) : Type 0 where
   pub vertex : Vertex
   pub trees : List TreeMap
   pub there : slice_get b.graph.vertices x.vertex ≡ Some vertex
   pub inputs : inputs_from (λ k. ending_in (outcome b k)) vertex.inputs ≡ Some trees
-  pub so_far : part (program_of vertex).steps (begin b (start_with vertex trees) []) x.done ≡ left_of s x
+  pub so_far : part (program_of vertex).steps (begin b (start_with vertex trees) []) x.done ≡ left_of x
+  pub bare : x.places ≡ []
 
 pub record StandsByOutcomes (b : Build) (s : State) : Type 0 where
   pub settled : (v : ℕ) (e : Ending) → is_plain b v ≡ true → slice_get s.statuses v ≡ Some (Settled e) → outcome b v ≡ Some (Ended e)
-  pub working : (w : ℕ) (x : Execution) → is_plain b x.vertex ≡ true → slice_get s.workers w ≡ Some (Runs x) → IsUnderWay b s x
+  pub working : (w : ℕ) (x : Execution) → is_plain b x.vertex ≡ true → slice_get s.workers w ≡ Some (Runs x) → IsUnderWay b x

@@ -1,16 +1,23 @@
--- What a vertex does: its program of micro-steps on a work, and what the first of them leave.
-use Rattle.std.specs.Prelude.{ℕ, zero, suc, ◌==◌, ℤ, pos, negsuc, Bool, false, List, [], ◌∷◌, ◌++◌, length, map, Option, Some, None, unwrap_or, slice_get, Result, Ok, Err, if◌then◌else◌}
-use Rattle.std.specs.List.{range_with_len}
+-- What a vertex does: its program of micro-steps on a work, and what the first of them leave; and the caches that it needs.
+use Rattle.std.specs.Prelude.{ℕ, zero, suc, ◌+◌, ◌==◌, ℤ, pos, negsuc, Bool, false, List, [], ◌∷◌, ◌++◌, length, map, Option, Some, None, option_map, unwrap_or, slice_get, Result, Ok, Err, if◌then◌else◌}
+use Rattle.std.specs.List.{list_any, range_with_len}
+use Rattle.std.specs.Ordering.{int_eq}
 use Rattle.llb_ops.specs.declared.file.Action.{Action}
+use Rattle.llb_cache.specs.declared.key.Key.{Key}
+use Rattle.llb_cache.specs.declared.key.Seed.{Seed}
+use Rattle.llb_cache.specs.declared.key.Mode.{Mode}
+use Rattle.llb_cache.specs.declared.key.Mode.TheVariants.{Shared, Private, Locked}
+use Rattle.llb_ops.specs.declared.op.Input.{Input}
 use Rattle.llb_ops.specs.declared.op.Kind.{Kind}
 use Rattle.llb_ops.specs.declared.op.Kind.TheVariants as kind
 use Rattle.llb_ops.specs.declared.merge.MergeInput.{MergeInput}
-use Rattle.llb_ops.specs.declared.exec.ExecOp.{ExecOp}
 use Rattle.llb_ops.specs.declared.exec.Meta.{Meta}
 use Rattle.llb_ops.specs.declared.exec.Mount.{Mount}
-use Rattle.llb_loader.specs.Mounts.{bind, tmpfs, has_type, read_as}
+use Rattle.llb_loader.specs.Mounts as mounts
+use Rattle.llb_loader.specs.Mounts.{bind, cache, tmpfs, has_type, read_as, CacheKey}
 use Rattle.llb_loader.specs.Rules.{kind_mounts, mount_outputs}
 use Rattle.llb_mount.specs.declared.shown.Shown.{Shown}
+use Rattle.llb_mount.specs.View.{mount_at, with_tree_of}
 use Rattle.llb_applet.specs.declared.setting.Setting.{Setting}
 use Rattle.llb_applet.specs.declared.command.Command.{Command}
 use Rattle.llb_applet.specs.Commands.{run, status_of}
@@ -47,14 +54,14 @@ pub record Program : Type 0 where
   pub given : List ℤ
 
 -- what a program has for itself: of a source its local tree, of a file op the trees of its inputs and the results so far, of
--- a merge the trees of its inputs and what is laid so far, of an exec its mounts
+-- a merge the trees of its inputs and what is laid so far, of an exec its mounts, of which those that show caches, by number, are empty
 pub data View : Type 0 where
   LocalTree : TreeMap → View
   Files : List TreeMap → List TreeMap → View
   Layers : List TreeMap → TreeMap → View
-  Mounted : List Shown → View
+  Mounted : List Shown → List ℕ → View
 
--- what micro-steps work on: a view of its own, and the trees of the cache instances that it holds, of which there are none yet
+-- what micro-steps work on: a view of its own, and the trees of the cache instances that it holds, in the order of the needs
 pub record Work : Type 0 where
   pub own : View
   pub trees : List TreeMap
@@ -75,6 +82,55 @@ start_with v trees = record { vertex = v; inputs = trees }
 -- the path that a text reads as; the texts of a vertex that are to be paths all read
 abbrev pub path_in : List ℕ → List (List ℕ)
 path_in text = unwrap_or (read_as text) []
+
+-- ---- the caches that a vertex needs
+
+-- a cache that an exec shows: at which mount, its key, and the number of the input that a new instance begins with, -1 for none
+pub record Need : Type 0 where
+  pub mount : ℕ
+  pub key : Key
+  pub input : ℤ
+
+abbrev pub key_of : Need → Key
+key_of n = n.key
+
+abbrev pub mount_of : Need → ℕ
+mount_of n = n.mount
+
+-- the way in which a cache is shared, by its number
+abbrev pub mode_of : ℤ → Mode
+mode_of n = if int_eq n (pos 1) then Private else if int_eq n (pos 2) then Locked else Shared
+
+-- the index of an output; those of a graph are at least 0
+abbrev pub index_of : ℤ → ℕ
+index_of (pos n) = n
+index_of (negsuc n) = 0
+
+abbrev pub seed_as : mounts.Seed → Seed
+seed_as s = record { digest = s.digest; index = index_of s.index }
+
+abbrev pub key_as : CacheKey → Key
+key_as k = record { id = k.id; seed = option_map seed_as k.seed; mode = mode_of k.mode }
+
+-- of a mount that shows a cache, in front of the later ones
+abbrev pub with_need : ℕ → Mount → Option CacheKey → List Need → List Need
+with_need i m (Some k) needs = record { mount = i; key = key_as k; input = m.input } ∷ needs
+with_need i m None needs = needs
+
+-- of mounts from a number on
+abbrev pub needs_from : List Input → ℕ → List Mount → List Need
+needs_from inputs i [] = []
+needs_from inputs i (m ∷ ms) = with_need i m (mounts.key_of inputs m) (needs_from inputs (i + 1) ms)
+
+-- the caches that a vertex shows, in the order of its mounts
+abbrev pub needs_of : Vertex → List Need
+needs_of v = needs_from v.op.inputs 0 (kind_mounts v.op.kind)
+
+-- whether a vertex shows a cache
+abbrev pub has_cache : Vertex → Bool
+has_cache v = list_any (has_type cache) (kind_mounts v.op.kind)
+
+-- ---- programs
 
 -- where an exec's commands run; an exec has its meta
 abbrev pub setting_of : Option Meta → Setting
@@ -124,7 +180,7 @@ abbrev pub view_on : List Local → Vertex → Option Kind → List TreeMap → 
 view_on locals v (Some (kind.Source s)) inputs = LocalTree (local_tree locals v)
 view_on locals v (Some (kind.File f)) inputs = Files inputs []
 view_on locals v (Some (kind.Merge m)) inputs = Layers inputs empty_tree
-view_on locals v (Some (kind.Exec x)) inputs = Mounted (map (shown_of inputs) x.mounts)
+view_on locals v (Some (kind.Exec x)) inputs = Mounted (map (shown_of inputs) x.mounts) (map mount_of (needs_of v))
 view_on locals v (Some (kind.Build b)) inputs = Files inputs []
 view_on locals v (Some (kind.Diff d)) inputs = Files inputs []
 view_on locals v None inputs = Files inputs []
@@ -153,14 +209,14 @@ abbrev pub trees_in : View → List TreeMap
 trees_in (Files inputs results) = inputs ++ results
 trees_in (LocalTree t) = []
 trees_in (Layers inputs t) = inputs
-trees_in (Mounted mounts) = []
+trees_in (Mounted mounts caches) = []
 
 -- one result more of a file op
 abbrev pub with_tree : View → TreeMap → View
 with_tree (Files inputs results) t = Files inputs (results ++ t ∷ [])
 with_tree (LocalTree own) t = LocalTree own
 with_tree (Layers inputs laid) t = Layers inputs laid
-with_tree (Mounted mounts) t = Mounted mounts
+with_tree (Mounted mounts caches) t = Mounted mounts caches
 
 abbrev pub with_result : ℕ → View → Result TreeMap ActFault → Result View VertexFault
 with_result a view (Ok t) = Ok (with_tree view t)
@@ -179,19 +235,39 @@ abbrev pub lay_on : ℤ → View → View
 lay_on i (Layers inputs t) = Layers inputs (lay t (base_in i inputs))
 lay_on i (LocalTree t) = LocalTree t
 lay_on i (Files inputs results) = Files inputs results
-lay_on i (Mounted mounts) = Mounted mounts
+lay_on i (Mounted mounts caches) = Mounted mounts caches
+
+-- the mounts of these numbers with these trees
+abbrev pub filled : List Shown → List ℕ → List TreeMap → List Shown
+filled mounts [] trees = mounts
+filled mounts (m ∷ ms) [] = mounts
+filled mounts (m ∷ ms) (t ∷ trees) = filled (with_tree_of mounts m t) ms trees
+
+-- the trees that they show, as many as there were
+abbrev pub taken : List Shown → List ℕ → List TreeMap → List TreeMap
+taken mounts ms [] = []
+taken mounts [] (t ∷ trees) = t ∷ trees
+taken mounts (m ∷ ms) (t ∷ trees) = (mount_at mounts m).tree ∷ taken mounts ms trees
+
+-- without them
+abbrev pub blanked : List Shown → List ℕ → List TreeMap → List Shown
+blanked mounts ms trees = filled mounts ms (map (λ t. empty_tree) trees)
+
+-- a view with caches at mounts, parted into its own trees and those of the caches
+abbrev pub parted : List ℕ → List TreeMap → List Shown → Work
+parted caches trees mounts = record { own = Mounted (blanked mounts caches trees) caches; trees = taken mounts caches trees }
 
 -- what command c leaves of the mounts, or its status where that is not 0
-abbrev pub ran : ℕ → Option (List Shown) → Result View VertexFault
-ran c (Some mounts) = Ok (Mounted mounts)
-ran c None = Err (fault.Exit c (status_of None))
+abbrev pub ran : ℕ → List ℕ → List TreeMap → Option (List Shown) → Result Work VertexFault
+ran c caches trees (Some mounts) = Ok (parted caches trees mounts)
+ran c caches trees None = Err (fault.Exit c (status_of None))
 
--- the view after command c
-abbrev pub run_on : ℕ → Setting → Command → View → Result View VertexFault
-run_on c setting command (Mounted mounts) = ran c (run setting mounts command)
-run_on c setting command (LocalTree t) = Ok (LocalTree t)
-run_on c setting command (Files inputs results) = Ok (Files inputs results)
-run_on c setting command (Layers inputs t) = Ok (Layers inputs t)
+-- the work after command c, which sees the caches as they are now
+abbrev pub run_on : ℕ → Setting → Command → View → List TreeMap → Result Work VertexFault
+run_on c setting command (Mounted mounts caches) trees = ran c caches trees (run setting (filled mounts caches trees) command)
+run_on c setting command (LocalTree t) trees = Ok (record { own = LocalTree t; trees = trees })
+run_on c setting command (Files inputs results) trees = Ok (record { own = Files inputs results; trees = trees })
+run_on c setting command (Layers inputs t) trees = Ok (record { own = Layers inputs t; trees = trees })
 
 -- another view of its own
 abbrev pub with_own : Work → Result View VertexFault → Result Work VertexFault
@@ -203,7 +279,7 @@ unfoldable pub micro_step : ℕ → MicroStep → Work → Result Work VertexFau
 micro_step k ReadLocal work = Ok work
 micro_step k (Act action) work = with_own work (act_on k action work.own)
 micro_step k (LayInput i) work = with_own work (Ok (lay_on i work.own))
-micro_step k (Run setting command) work = with_own work (run_on k setting command work.own)
+micro_step k (Run setting command) work = run_on k setting command work.own work.trees
 
 -- a micro-step that faults changes nothing
 abbrev pub tried : Work → Result Work VertexFault → Left
@@ -259,7 +335,7 @@ output_from p (LocalTree t) zero = t
 output_from p (LocalTree t) (suc i) = empty_tree
 output_from p (Layers inputs t) zero = t
 output_from p (Layers inputs t) (suc i) = empty_tree
-output_from p (Mounted mounts) i = tree_for i p.given mounts
+output_from p (Mounted mounts caches) i = tree_for i p.given mounts
 
 -- the outputs that are taken from what all micro-steps leave
 unfoldable pub outputs_of : Program → View → List TreeMap

@@ -1,12 +1,17 @@
 -- The state of the machine, and the tests on it.
-use Rattle.std.specs.Prelude.{ℕ, Bool, true, false, ◌&&◌, ◌||◌, List, [], ◌∷◌, length, Option, Some, None, is_some, option_map, unwrap_or, slice_get, nat_le, replicate, if◌then◌else◌}
+use Rattle.std.specs.Prelude.{◌≡◌, ℕ, zero, suc, ◌+◌, Bool, true, false, ◌&&◌, ◌||◌, List, [], ◌∷◌, ◌++◌, length, map, Option, Some, None, is_some, option_map, unwrap_or, slice_get, nat_le, replicate, if◌then◌else◌}
 use Rattle.std.specs.List.{list_any}
+use Rattle.llb_cache.specs.declared.key.Key.{Key}
+use Rattle.llb_cache.specs.declared.key.Mode.{Mode}
+use Rattle.llb_cache.specs.declared.key.Mode.TheVariants.{Shared, Private, Locked}
 use Rattle.llb_loader.specs.declared.graph.Edge.{Edge}
 use Rattle.llb_loader.specs.declared.graph.Vertex.{Vertex}
 use Rattle.llb_loader.specs.Locals.{Local, local_name, tree_of_local}
+use Rattle.llb_tree.specs.Tree.{TreeMap}
 use Rattle.llb_model.specs.declared.fault.VertexFault.{VertexFault}
 use Rattle.llb_model.specs.ByNumber.{by_number}
-use Rattle.llb_model.specs.Program.{Build, MicroStep, Program, View, Work, Start, start_with, program_at}
+use Rattle.llb_model.specs.Caches.{Place, place, Store, content, trees_at, is_in, Has}
+use Rattle.llb_model.specs.Program.{Build, MicroStep, Program, View, Work, Need, Start, start_with, program_at, needs_of, base_in, begin}
 use Rattle.llb_model.specs.Outcome.{Ending, Done, Failed, ended, inputs_from}
 
 -- of a vertex
@@ -15,12 +20,14 @@ pub data Status : Type 0 where
   Running : ℕ → Status
   Settled : Ending → Status
 
--- of a running worker: its vertex, the micro-steps done (one that faults is counted), their fault if any, and its view
+-- of a running worker: its vertex, the micro-steps done (one that faults is counted), their fault if any, its view, and the
+-- instances of caches that it has, in the order of the needs
 pub record Execution : Type 0 where
   pub vertex : ℕ
   pub done : ℕ
   pub fault : Option VertexFault
   pub own : View
+  pub places : List Place
 
 -- of a worker
 pub data At : Type 0 where
@@ -30,10 +37,12 @@ pub data At : Type 0 where
 pub record State : Type 0 where
   pub statuses : List Status
   pub workers : List At
+  pub store : Store
 
 -- what a machine is opened with beside the build
 pub record Opening : Type 0 where
   pub workers : ℕ
+  pub store : Store
 
 -- the name of a source whose local tree is not there
 abbrev pub lacks : List Local → Option (List ℕ) → Option (List ℕ)
@@ -49,9 +58,9 @@ abbrev pub missing_local : List Local → List Vertex → Option (List ℕ)
 missing_local locals [] = None
 missing_local locals (v ∷ vs) = first_of (lacks locals (local_name v.op)) (missing_local locals vs)
 
--- all vertices wait, and so many workers are idle
+-- all vertices wait, so many workers are idle, and the caches are as they were
 abbrev pub opening : Build → Opening → State
-opening b o = record { statuses = replicate (length b.graph.vertices) Waiting; workers = replicate o.workers Idle }
+opening b o = record { statuses = replicate (length b.graph.vertices) Waiting; workers = replicate o.workers Idle; store = o.store }
 
 abbrev pub ending_of : Option Status → Option Ending
 ending_of (Some (Settled e)) = Some e
@@ -116,7 +125,7 @@ program_in b x = program_at (slice_get b.graph.vertices x.vertex)
 
 -- what an execution works on, with the trees of the instances that it holds as they are now
 abbrev pub work_of : State → Execution → Work
-work_of s x = record { own = x.own; trees = [] }
+work_of s x = record { own = x.own; trees = trees_at s.store x.places }
 
 -- after its first fault, or the last of its micro-steps
 abbrev pub is_finished : List MicroStep → Execution → Bool
@@ -129,3 +138,65 @@ next_step steps x = if is_finished steps x then None else slice_get steps x.done
 -- how a finished execution ends
 abbrev pub ending_from : Program → Execution → Ending
 ending_from p x = ended p x.own x.fault
+
+-- ---- the instances that claims take
+
+-- those that the running workers have
+abbrev pub held : List At → List Place
+held [] = []
+held (Idle ∷ workers) = held workers
+held (Runs x ∷ workers) = x.places ++ held workers
+
+-- no running worker has it
+abbrev pub IsFree : List At → Place → Type 0
+IsFree workers p = (w : ℕ) (x : Execution) → slice_get workers w ≡ Some (Runs x) → Has x.places p → ⊥
+
+-- above the number of each place
+abbrev pub above : List Place → ℕ
+above [] = 0
+above (p ∷ ps) = p.number + 1 + above ps
+
+-- the least number from n on that is not among the places of a key, in so many tries
+abbrev pub first_free : List Place → Key → ℕ → ℕ → ℕ
+first_free ps k n zero = n
+first_free ps k n (suc tries) = if is_in ps (place k n) then first_free ps k (n + 1) tries else n
+
+-- of a private cache the least that is not held; the others have one instance
+abbrev pub number_for : List Place → Key → Mode → ℕ
+number_for ps k Shared = 0
+number_for ps k Locked = 0
+number_for ps k Private = first_free ps k 0 (above ps)
+
+-- the instance that a claim takes, where these places are held
+abbrev pub place_for : List Place → Need → Place
+place_for ps n = place n.key (number_for ps n.key n.key.mode)
+
+abbrev pub places_for : List Place → List Need → List Place
+places_for ps needs = map (place_for ps) needs
+
+-- it is locked, and its instance is held
+abbrev pub is_shut : List Place → Key → Mode → Bool
+is_shut ps k Locked = is_in ps (place k 0)
+is_shut ps k Private = false
+is_shut ps k Shared = false
+
+-- the first locked key among the needs that is held
+abbrev pub held_key : List Place → List Need → Option Key
+held_key ps [] = None
+held_key ps (n ∷ needs) = if is_shut ps n.key n.key.mode then Some n.key else held_key ps needs
+
+-- what stands at the places, and where nothing does the tree that the seed has among those of the inputs
+abbrev pub first_trees : Store → List TreeMap → List Place → List Need → List TreeMap
+first_trees s inputs [] needs = []
+first_trees s inputs (p ∷ ps) [] = []
+first_trees s inputs (p ∷ ps) (n ∷ needs) = unwrap_or (content s p) (base_in n.input inputs) ∷ first_trees s inputs ps needs
+
+-- a work before the first micro-step, at these places
+abbrev pub begin_at : Build → Store → Start → List Place → Work
+begin_at b s start ps = begin b start (first_trees s start.inputs ps (needs_of start.vertex))
+
+-- the places of needs, by the numbers of the instances
+abbrev pub places_by : List Need → List ℕ → List Place
+places_by [] numbers = []
+places_by (n ∷ needs) [] = []
+places_by (n ∷ needs) (i ∷ numbers) = place n.key i ∷ places_by needs numbers

@@ -1,12 +1,14 @@
 -- The transition table: which event is granted in a state, the state after it, and its reply; else the first cause.
-use Rattle.std.specs.Prelude.{ℕ, ◌+◌, List, [], Option, Some, None, slice_get, slice_set, Result, Ok, Err, if◌then◌else◌}
+use Rattle.std.specs.Prelude.{ℕ, ◌+◌, List, map, Option, Some, None, slice_get, slice_set, Result, Ok, Err, if◌then◌else◌}
 use Rattle.std.specs.Result.{result_ok}
+use Rattle.llb_cache.specs.declared.key.Key.{Key}
 use Rattle.llb_loader.specs.declared.graph.Vertex.{Vertex}
 use Rattle.llb_model.specs.declared.fault.VertexFault.{VertexFault}
 use Rattle.llb_model.specs.declared.fault.VertexFault.TheVariants as fault
-use Rattle.llb_model.specs.Program.{Build, MicroStep, ReadLocal, Act, LayInput, Run, Program, Work, Left, Start, program_of, begin, step_on}
+use Rattle.llb_model.specs.Caches.{Place, put_all}
+use Rattle.llb_model.specs.Program.{Build, MicroStep, ReadLocal, Act, LayInput, Run, Program, Work, Left, Start, program_of, needs_of, step_on}
 use Rattle.llb_model.specs.Outcome.{Ending, Done, Failed}
-use Rattle.llb_model.specs.State.{Status, Running, Settled, Execution, At, Idle, Runs, State, start_from, program_in, work_of, is_finished, next_step, ending_from}
+use Rattle.llb_model.specs.State.{Status, Running, Settled, Execution, At, Idle, Runs, State, start_from, program_in, work_of, is_finished, next_step, ending_from, held, places_for, held_key, begin_at}
 use Rattle.llb_model.specs.ClaimCause as claim
 use Rattle.llb_model.specs.StepCause as step
 use Rattle.llb_model.specs.SettleCause as settle
@@ -22,13 +24,15 @@ worker_of (Claim w v) = w
 worker_of (Step w) = w
 worker_of (Settle w) = w
 
--- what a worker is to do
+-- what a worker is to do; the work has the trees of the instances as they are at the claim, and these are named by their numbers, in
+-- the order of the needs
 pub record Job : Type 0 where
   pub worker : ℕ
   pub vertex : ℕ
   pub program : Program
   pub done : ℕ
   pub work : Work
+  pub instances : List ℕ
 
 pub data Reply : Type 0 where
   Claimed : Job → Reply
@@ -54,20 +58,34 @@ claim_start statuses v (Some Idle) None = Err claim.NoVertex
 claim_start statuses v (Some Idle) (Some vertex) = or_not_ready (start_from statuses (slice_get statuses v) (Some vertex))
 
 -- a worker that has not yet done anything of a vertex
-abbrev pub execution_on : ℕ → Work → Execution
-execution_on v work = record { vertex = v; done = 0; fault = None; own = work.own }
+abbrev pub execution_on : ℕ → Work → List Place → Execution
+execution_on v work ps = record { vertex = v; done = 0; fault = None; own = work.own; places = ps }
 
-abbrev pub job_on : ℕ → ℕ → Vertex → Work → Job
-job_on w v vertex work = record { worker = w; vertex = v; program = program_of vertex; done = 0; work = work }
+abbrev pub job_on : ℕ → ℕ → Vertex → Work → List Place → Job
+job_on w v vertex work ps = record { worker = w; vertex = v; program = program_of vertex; done = 0; work = work; instances = map (λ (p : Place). p.number) ps }
 
-abbrev pub after_claim : State → ℕ → ℕ → Work → State
-after_claim s w v work = record s { statuses = slice_set s.statuses v (Running w); workers = slice_set s.workers w (Runs (execution_on v work)) }
+-- an instance that was not there is there now
+abbrev pub after_claim : State → ℕ → ℕ → Work → List Place → State
+after_claim s w v work ps = record {
+  statuses = slice_set s.statuses v (Running w);
+  workers = slice_set s.workers w (Runs (execution_on v work ps));
+  store = put_all s.store ps work.trees;
+}
 
-abbrev pub claim_with : State → ℕ → ℕ → Vertex → Work → State × Reply
-claim_with s w v vertex work = (after_claim s w v work, Claimed (job_on w v vertex work))
+abbrev pub claim_with : State → ℕ → ℕ → Vertex → Work → List Place → State × Reply
+claim_with s w v vertex work ps = (after_claim s w v work ps, Claimed (job_on w v vertex work ps))
+
+-- a claim that takes these instances
+abbrev pub claim_at : Build → State → ℕ → ℕ → Start → List Place → State × Reply
+claim_at b s w v start ps = claim_with s w v start.vertex (begin_at b s.store start ps) ps
+
+-- where no locked key among the needs is held
+abbrev pub claim_unless : Build → State → ℕ → ℕ → Start → Option Key → Result (State × Reply) claim.ClaimCause
+claim_unless b s w v start (Some k) = Err (claim.Held k)
+claim_unless b s w v start None = Ok (claim_at b s w v start (places_for (held s.workers) (needs_of start.vertex)))
 
 abbrev pub claimed : Build → State → ℕ → ℕ → Result Start claim.ClaimCause → Result (State × Reply) claim.ClaimCause
-claimed b s w v (Ok start) = Ok (claim_with s w v start.vertex (begin b start []))
+claimed b s w v (Ok start) = claim_unless b s w v start (held_key (held s.workers) (needs_of start.vertex))
 claimed b s w v (Err cause) = Err cause
 
 abbrev pub claim_grant : Build → State → ℕ → ℕ → Result (State × Reply) claim.ClaimCause
@@ -95,8 +113,9 @@ step_reply k (Act action) (Some f) = Faulted f
 step_reply k (LayInput i) None = HasMerged k
 step_reply k (LayInput i) (Some f) = Faulted f
 
+-- the trees are written back to the instances, also where a later micro-step fails
 abbrev pub after_step : State → ℕ → Execution → Left → State
-after_step s w x left = record s { workers = slice_set s.workers w (Runs (with_step x left)) }
+after_step s w x left = record s { workers = slice_set s.workers w (Runs (with_step x left)); store = put_all s.store x.places left.work.trees }
 
 abbrev pub step_by : State → ℕ → Execution → MicroStep → Left → State × Reply
 step_by s w x m left = (after_step s w x left, step_reply x.done m left.fault)
@@ -120,6 +139,7 @@ abbrev pub settle_reply : ℕ → Ending → Reply
 settle_reply v (Done trees) = SettledDone v
 settle_reply v (Failed f) = SettledFailed v
 
+-- its instances are free again
 abbrev pub after_settle : State → ℕ → ℕ → Ending → State
 after_settle s w v e = record s { statuses = slice_set s.statuses v (Settled e); workers = slice_set s.workers w Idle }
 

@@ -1,4 +1,4 @@
-use Rattle.std.proofs.Common.{◌≡◌, ◌+◌, map, length, refl, sym, ap, ◌∙◌, rules}
+use Rattle.std.proofs.Common.{◌≡◌, ◌+◌, [], map, length, refl, sym, ap, ◌∙◌, rules}
 use Rattle.std.specs.Prelude.{slice_get, Some, Ok, Err, is_ok}
 use Rattle.std.proofs.lemmas.Option.{slice_get_read}
 use Rattle.llb_model.specs.declared.fault.VertexFault.TheVariants as fault
@@ -17,7 +17,7 @@ returns-in_ok-push-in-Ok-clause-gives c =
     as_clean (map Act c.args.actions.now) x.vertex x.done x.fault x.view c.requires.clean
     ∙ worked_at (map Act c.args.actions.now) x.vertex x.done x.view (Act c.in-Some.action.now) (get_map Act c.args.actions.now x.done c.in-Some.action.now at)
     ∙ acted x.vertex x.done x.view c.in-Some.action.now c.in-Ok.tree c.in-Ok.ensures
-    ∙ (λ i. Ok (record { vertex = x.vertex; done = x.done + 1; fault = sym c.requires.clean i; own = sym c.in_ok-push-in-Ok.ensures.ok i }, Acted x.done))
+    ∙ (λ i. Ok (record { vertex = x.vertex; done = x.done + 1; fault = sym c.requires.clean i; own = sym c.in_ok-push-in-Ok.ensures.ok i; places = [] }, Acted x.done))
 
 pub returns-in-Err-Memory-clause-last : goal.returns-in-Err-Memory-clause-last
 returns-in-Err-Memory-clause-last c =
@@ -39,7 +39,7 @@ returns-in-Err c =
       gives = as_clean (map Act c.args.actions.now) x.vertex x.done x.fault x.view c.requires.clean
           ∙ worked_at (map Act c.args.actions.now) x.vertex x.done x.view (Act c.in-Some.action.now) (get_map Act c.args.actions.now x.done c.in-Some.action.now at)
           ∙ act_failed x.vertex x.done x.view c.in-Some.action.now c.in-Err.fault fails
-          ∙ (λ i. Ok (record { vertex = x.vertex; done = x.done + 1; fault = Some (fault.Action x.done (sym c.number.ensures i)); own = x.view }, Faulted (fault.Action x.done (sym c.number.ensures i))));
+          ∙ (λ i. Ok (record { vertex = x.vertex; done = x.done + 1; fault = Some (fault.Action x.done (sym c.number.ensures i)); own = x.view; places = [] }, Faulted (fault.Action x.done (sym c.number.ensures i))));
       last = tt;
       supplies = refl;
       err = tt;

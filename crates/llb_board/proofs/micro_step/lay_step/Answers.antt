@@ -1,4 +1,4 @@
-use Rattle.std.proofs.Common.{◌≡◌, ◌+◌, map, length, refl, sym, ◌∙◌}
+use Rattle.std.proofs.Common.{◌≡◌, ◌+◌, [], map, length, refl, sym, ◌∙◌}
 use Rattle.std.specs.Prelude.{slice_get, Some, Ok}
 use Rattle.std.proofs.lemmas.Option.{slice_get_read}
 use Rattle.llb_ops.specs.declared.merge.MergeInput.{MergeInput}
@@ -18,4 +18,4 @@ returns-clause-gives c =
     as_clean (map lays c.args.inputs.now) x.vertex x.done x.fault x.view c.requires.clean
     ∙ worked_at (map lays c.args.inputs.now) x.vertex x.done x.view (LayInput c.in-Some.input.now.input) (get_map lays c.args.inputs.now x.done c.in-Some.input.now at)
     ∙ merged x.vertex x.done x.view c.in-Some.input.now.input
-    ∙ (λ i. Ok (record { vertex = x.vertex; done = x.done + 1; fault = sym c.requires.clean i; own = sym c.in_ok-lay.ensures.ok i }, HasMerged x.done))
+    ∙ (λ i. Ok (record { vertex = x.vertex; done = x.done + 1; fault = sym c.requires.clean i; own = sym c.in_ok-lay.ensures.ok i; places = [] }, HasMerged x.done))

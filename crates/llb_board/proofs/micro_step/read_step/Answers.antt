@@ -12,4 +12,4 @@ returns-clause-gives c =
     let none : x.done ≡ 0 = omega (arith, c.if-execution-gt0.false) in
     as_clean (ReadLocal ∷ []) x.vertex x.done x.fault x.view c.requires
     ∙ (λ i. worked (ReadLocal ∷ []) (clean x.vertex (none i) x.view)) ∙ worked_at (ReadLocal ∷ []) x.vertex 0 x.view ReadLocal refl ∙ read x.vertex 0 x.view
-    ∙ (λ i. Ok (record { vertex = x.vertex; done = 1; fault = sym c.requires i; own = x.view }, HasRead))
+    ∙ (λ i. Ok (record { vertex = x.vertex; done = 1; fault = sym c.requires i; own = x.view; places = [] }, HasRead))

@@ -1,4 +1,4 @@
-use Rattle.std.proofs.Common.{◌≡◌, ◌+◌, map, length, refl, sym, ◌∙◌}
+use Rattle.std.proofs.Common.{◌≡◌, ◌+◌, [], map, length, refl, sym, ◌∙◌}
 use Rattle.std.specs.Prelude.{slice_get, Some, Ok}
 use Rattle.std.proofs.lemmas.Option.{slice_get_read}
 use Rattle.llb_model.specs.Program.{Run}
@@ -17,4 +17,4 @@ returns-clause-gives c =
     ∙ worked_at (map (Run x.setting) c.args.commands.now) x.vertex x.done x.view (Run x.setting c.in-Some.command.now)
     (get_map (Run x.setting) c.args.commands.now x.done c.in-Some.command.now at)
     ∙ ran x.vertex x.done x.view c.run.new.self x.setting c.in-Some.command.now c.in_ok-status.status (c.in_ok-status.ensures.ran x.done) c.in_ok-status.ensures.kept
-    ∙ (λ i. Ok (record { vertex = x.vertex; done = x.done + 1; fault = sym c.exit_of-execution.ensures i; own = c.run.new.self }, HasRun x.done c.in_ok-status.status))
+    ∙ (λ i. Ok (record { vertex = x.vertex; done = x.done + 1; fault = sym c.exit_of-execution.ensures i; own = c.run.new.self; places = [] }, HasRun x.done c.in_ok-status.status))

@@ -1,5 +1,6 @@
 use Rattle.std.proofs.Common.{◌≡◌, ◌∙◌, true, ap, sym}
 use Rattle.std.specs.Prelude.{Bool, Ok, Err, Result, if◌then◌else◌}
+use Rattle.llb_model.specs.Caches.{no_instances}
 use Rattle.llb_board.specs.Board.{Seen, opened}
 use Rattle.llb_board.specs.Rules.{may_work}
 use Rattle.llb_board.specs.declared.fault.OpenFault.{OpenFault}
@@ -18,5 +19,5 @@ returns-in-Ok-clause-gives c =
     let e = c.in-Ok.ensures in
     let may : may_work c.args.workers ≡ true = sym c.may_work.ensures ∙ c.if-not-may_work.false in
     let open_is : (b : Bool) → Result Seen OpenFault
-    = λ b. if b then Ok (opened c.args.build (record { workers = c.args.workers })) else Err (Workers c.args.build.graph c.args.build.locals) in
+    = λ b. if b then Ok (opened c.args.build (record { workers = c.args.workers; store = no_instances })) else Err (Workers c.args.build.graph c.args.build.locals) in
     ap open_is may ∙ ap (λ (s : Seen). Ok s) (sym (seen_open c.args.build c.args.workers _ _ _ e.stands e.desks e.events))

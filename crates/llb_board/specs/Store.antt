@@ -1,0 +1,51 @@
+-- The contents of caches as a value that a type can be seen as.
+use Rattle.std.specs.Prelude.{◌≡◌, ℕ, zero, suc, List, Option, Some, None, refl}
+use Rattle.std.specs.FinMap as finite
+use Rattle.std.specs.Coded.{Coded, code_by, coded×, coded_ℕ, coded_list, coded_option}
+use Rattle.llb_cache.specs.declared.key.Seed.{Seed}
+use Rattle.llb_cache.specs.declared.key.Mode.{Mode}
+use Rattle.llb_cache.specs.declared.key.Mode.TheVariants.{Shared, Private, Locked}
+use Rattle.llb_tree.specs.Tree.{coded_tree}
+use Rattle.llb_model.specs.Caches.{Place, Store, mode_number}
+
+-- the way in which a cache is shared, by its number
+abbrev pub mode_by : ℕ → Mode
+mode_by zero = Shared
+mode_by (suc zero) = Private
+mode_by (suc (suc n)) = Locked
+
+-- a place as the numbers and texts in it
+abbrev pub Packed : Type 0
+Packed = (ℕ × ℕ) × (List ℕ × Option (List ℕ × ℕ))
+
+abbrev pub packed_seed : Option Seed → Option (List ℕ × ℕ)
+packed_seed None = None
+packed_seed (Some s) = Some (s.digest, s.index)
+
+abbrev pub unpacked_seed : Option (List ℕ × ℕ) → Option Seed
+unpacked_seed None = None
+unpacked_seed (Some p) = Some (record { digest = p.0; index = p.1 })
+
+abbrev pub packed : Place → Packed
+packed p = ((p.number, mode_number p.key.mode), (p.key.id, packed_seed p.key.seed))
+
+abbrev pub unpacked : Packed → Place
+unpacked p = record { number = p.0.0; key = record { id = p.1.0; seed = unpacked_seed p.1.1; mode = mode_by p.0.1 } }
+
+pub mode_back : (m : Mode) → mode_by (mode_number m) ≡ m
+mode_back Shared = refl
+mode_back Private = refl
+mode_back Locked = refl
+
+pub seed_back : (o : Option Seed) → unpacked_seed (packed_seed o) ≡ o
+seed_back None = refl
+seed_back (Some s) = refl
+
+pub unpacked-packed : (p : Place) → unpacked (packed p) ≡ p
+unpacked-packed p = λ i. record { number = p.number; key = record { id = p.key.id; seed = seed_back p.key.seed i; mode = mode_back p.key.mode i } }
+
+abbrev pub coded_place : Coded Place
+coded_place = code_by Packed (coded× (coded× coded_ℕ coded_ℕ) (coded× (coded_list coded_ℕ) (coded_option (coded× (coded_list coded_ℕ) coded_ℕ)))) packed unpacked unpacked-packed
+
+abbrev pub coded_store : Coded Store
+coded_store = finite.code coded_place coded_tree

@@ -1,0 +1,114 @@
+-- What holds of caches holds behind each call.
+use Rattle.std.proofs.Common.{◌≡◌, ◌≢◌, ℕ, ◌<◌, ◌≤◌, Bool, true, false, cond, List, [], ◌∷◌, length, map, get_or, Some, None, refl, sym, ap, ◌∙◌, subst, arith, inl, inr, true≢false, find}
+use Rattle.std.specs.List.{All, AllPairs, AllByRecursion, Contains}
+use Rattle.std.proofs.lemmas.List.Elements.{All-from_recursion}
+use Rattle.llb_tree.specs.Tree.{TreeMap}
+use Rattle.llb_cache.specs.declared.key.Key.{Key}
+use Rattle.llb_cache.specs.declared.need.Need.{Need}
+use Rattle.llb_cache.specs.declared.need.Place.{Place}
+use Rattle.llb_cache.specs.Caches.{CachesValue, Row, Leases, Taken, place_for, taken, made_all, is_shut, is_held, leases, granted, free_lease, put, given_back, trees_of, IsCaches, IsExclusive, Has, AreApart, AreThere}
+use Rattle.llb_cache.proofs.Members.{In, in_contained, in_map, pairs_map}
+use Rattle.llb_cache.proofs.Leased.{held_by, lease_cases, lease_short, back_cases, back_short}
+use Rattle.llb_cache.proofs.Numbers.{number_within, number_free, number_next}
+use Rattle.llb_cache.proofs.Rows.{IsNext, all_grow, all_there, all_few, put_counts}
+
+-- ---- what a lease takes
+
+none_shut : (out : Leases) (needs : List Need) → find (is_shut out) needs ≡ None → (n : Need) → In needs n → is_shut out n ≡ false
+none_shut out [] e n h = absurd h
+none_shut out (m ∷ needs) e n h = go (is_shut out m) refl e h (none_shut out needs)
+  where
+    go : (b : Bool) → is_shut out m ≡ b → cond b (Some m) (find (is_shut out) needs) ≡ None → In (m ∷ needs) n
+        → (find (is_shut out) needs ≡ None → (n : Need) → In needs n → is_shut out n ≡ false) → is_shut out n ≡ false
+    go true is e h rest = absurd cc
+    go false is e (inl same) rest = ap (is_shut out) same ∙ is
+    go false is e (inr later) rest = rest e n later
+
+places : Leases → List Need → List Place
+places out needs = map (λ t. t.0) (taken out needs)
+
+places_are : (out : Leases) (needs : List Need) → places out needs ≡ map (λ (n : Need). place_for out n.key) needs
+unfolding places
+places_are out [] = refl
+places_are out (n ∷ needs) = ap (λ ps. place_for out n.key ∷ ps) (places_are out needs)
+
+-- the need of an instance that is taken
+need_of : (out : Leases) (needs : List Need) (p : Place) → Contains (places out needs) p → (n : Need) × In needs n × (p ≡ place_for out n.key)
+need_of out needs p h = in_map (λ (n : Need). place_for out n.key) needs p (subst (λ ps. In ps p) (places_are out needs) (in_contained (places out needs) p h))
+
+-- no lease has what a lease takes for itself
+taken_free : (out : Leases) (needs : List Need) → AreApart out → find (is_shut out) needs ≡ None → (p : Place) → Contains (places out needs) p → IsExclusive p.key.mode → is_held out p ≡ false
+taken_free out needs apart none p h alone =
+    let n = need_of out needs p h in
+    let mode = ap (λ (q : Place). q.key.mode) n.2 in
+    ap (is_held out) n.2
+    ∙ number_free out n.0.key n.0.key.mode apart (none_shut out needs none n.0 n.1) (subst IsExclusive mode alone)
+
+next_all : (rows : List Row) (out : Leases) (needs : List Need) → AreThere rows out → AllByRecursion (IsNext rows) (taken out needs)
+next_all rows out [] there = tt
+next_all rows out (n ∷ needs) there = (number_next rows out n.key n.key.mode there, next_all rows out needs there)
+
+small_all : (out : Leases) (needs : List Need) → leases out < 65536 → AllByRecursion (λ (t : Taken). t.0.number < 65536) (taken out needs)
+small_all out [] few = tt
+small_all out (n ∷ needs) few = (let w = number_within out n.key n.key.mode in omega (arith, w, few), small_all out needs few)
+
+first_of_each : (P : Place → Type 0) (ts : List Taken) → AllByRecursion (λ t. P t.0) ts → AllByRecursion P (map (λ t. t.0) ts)
+first_of_each P [] all = tt
+first_of_each P (t ∷ ts) all = (all.0, first_of_each P ts all.1)
+
+-- ---- a lease
+
+-- two leases of which one is the new one
+pub lease_keeps : (c : CachesValue) (needs : List Need) → IsCaches c → leases c.out < 65536 → AllPairs (λ n m. n.key ≢ m.key) needs → find (is_shut c.out) needs ≡ None
+    → IsCaches (granted c needs).1
+unfolding places
+lease_keeps c needs is few differ none =
+    let out = c.out in
+    let lease = free_lease out in
+    let new : List Place = places out needs in
+    let rows : List Row = made_all c.rows (taken out needs) in
+    let cases = lease_cases out new in
+    let clash : (a : ℕ) (qs : List Place) (p : Place) → Has out a qs → Contains new p → Contains qs p → IsExclusive p.key.mode → ⊥ =
+    λ a qs p at mine theirs alone. true≢false (sym (held_by out a qs p at (in_contained qs p theirs)) ∙ taken_free out needs is.apart none p mine alone) in
+    record {
+      exclusive = λ a b ps qs p at bt mine theirs alone. elim (cases a ps at) [
+        | inl x ↦ elim (cases b qs bt) [
+          | inl y ↦ x.0 ∙ sym y.0
+          | inr y ↦ absurd (clash b qs p y (subst (λ l. Contains l p) (sym x.1) mine) theirs alone)
+        ]
+        | inr x ↦ elim (cases b qs bt) [
+          | inl y ↦ absurd (clash a ps p x (subst (λ l. Contains l p) (sym y.1) theirs) mine alone)
+          | inr y ↦ is.exclusive a b ps qs p x y mine theirs alone
+        ]
+      ];
+      apart = λ a ps at. elim (cases a ps at) [
+        | inl x ↦ subst (λ l. AllPairs (λ p q. p.key ≢ q.key) l) (sym (places_are out needs) ∙ x.1) (pairs_map (λ p q. p.key ≢ q.key) (λ (n : Need). place_for out n.key) needs differ)
+        | inr x ↦ is.apart a ps x
+      ];
+      there = λ a ps at. elim (cases a ps at) [
+        | inl x ↦ subst (λ l. All (λ p. p.number < length (trees_of rows p.key)) l) x.1
+            (All-from_recursion (λ p. p.number < length (trees_of rows p.key)) new (first_of_each (λ p. p.number < length (trees_of rows p.key)) (taken out needs) (all_there c.rows (taken out needs) (next_all c.rows out needs is.there))))
+        | inr x ↦ λ k d below. let old = is.there a ps x k d below in let more = all_grow c.rows (taken out needs) (get_or ps k d).key in omega (arith, old, more)
+      ];
+      few = all_few c.rows (taken out needs) is.few (small_all out needs few);
+      short = lease_short out new is.short few;
+    }
+
+-- ---- the other calls
+
+-- with no lease more, and no instance less
+fewer : (c d : CachesValue) → IsCaches c → ((a : ℕ) (ps : List Place) → Has d.out a ps → Has c.out a ps) → length d.out ≤ length c.out
+    → ((k : Key) → length (trees_of d.rows k) ≡ length (trees_of c.rows k)) → IsCaches d
+fewer c d is before short same = record {
+  exclusive = λ a b ps qs p at bt mine theirs alone. is.exclusive a b ps qs p (before a ps at) (before b qs bt) mine theirs alone;
+  apart = λ a ps at. is.apart a ps (before a ps at);
+  there = λ a ps at k d below. let old = is.there a ps (before a ps at) k d below in let e = same (get_or ps k d).key in omega (arith, old, e);
+  few = λ k. let e = same k in let old = is.few k in omega (arith, e, old);
+  short = let s = is.short in omega (arith, s, short);
+}
+
+pub put_keeps : (c : CachesValue) (p : Place) (tree : TreeMap) → IsCaches c → IsCaches (record c { rows = put c.rows p tree })
+put_keeps c p tree is = fewer c (record c { rows = put c.rows p tree }) is (λ a ps at. at) (omega arith) (λ k. put_counts c.rows p tree k)
+
+pub back_keeps : (c : CachesValue) (lease : ℕ) → IsCaches c → IsCaches (given_back c lease)
+back_keeps c lease is = fewer c (given_back c lease) is (λ a ps at. back_cases c.out lease a ps at) (back_short c.out lease) (λ k. refl)

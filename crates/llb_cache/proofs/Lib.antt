@@ -1,0 +1,9 @@
+pub mod Free
+pub mod Rows
+pub mod Members
+pub mod Leased
+pub mod Numbers
+pub mod Kept
+pub mod Granting
+pub mod Copies
+pub mod Differing

@@ -1,0 +1,202 @@
+-- Caches and the leases of them: for each key the list of its instances, and for each lease the instances that it has. What
+-- a lease takes depends on what other leases have alone, and on the modes of the keys.
+use Rattle.std.specs.Prelude.{◌≡◌, ◌≢◌, ℕ, zero, suc, ◌+◌, ◌<◌, ◌≤◌, ◌==◌, Bool, true, false, not, ◌&&◌, nat_lt, if◌then◌else◌, List, [], ◌∷◌, ◌++◌, length, map, fold, count_by, slice_get, slice_set, slice_index_or, Option, Some, None, is_some, unwrap_or, Result, Ok, Err}
+use Rattle.std.specs.List.{list_any, find, position_or_len, All, AllPairs, Contains}
+use Rattle.std.specs.Map.{lookup}
+use Rattle.indexmap.specs.IndexMap.{insert_entry}
+use Rattle.llb_tree.specs.Tree.{TreeMap}
+use Rattle.llb_cache.specs.Key.{same_key}
+use Rattle.llb_cache.specs.declared.key.Key.{Key}
+use Rattle.llb_cache.specs.declared.key.Mode.{Mode}
+use Rattle.llb_cache.specs.declared.key.Mode.TheVariants.{Shared, Private, Locked}
+use Rattle.llb_cache.specs.declared.need.Need.{Need}
+use Rattle.llb_cache.specs.declared.need.Place.{Place}
+use Rattle.llb_cache.specs.declared.fault.LeaseFault.{LeaseFault}
+use Rattle.llb_cache.specs.declared.fault.LeaseFault.TheVariants.{Held}
+
+-- a key, and the trees of its instances by number
+abbrev pub Row : Type 0
+Row = Key × List TreeMap
+
+-- what the leases have: by its number the instances of a lease that is out, in the order of its needs
+abbrev pub Leases : Type 0
+Leases = List (Option (List Place))
+
+-- the keys in the order in which they were first leased, and the leases
+pub record CachesValue : Type 0 where
+  pub rows : List Row
+  pub out : Leases
+
+-- ---- instances
+
+abbrev pub place : Key → ℕ → Place
+place key number = record { key = key; number = number }
+
+-- the trees of a key, by number
+abbrev pub trees_of : List Row → Key → List TreeMap
+trees_of rows key = unwrap_or (lookup (same_key key) rows) []
+
+-- a key has these trees, in the place of those that it had; a new key stands behind all others
+abbrev pub with_trees : List Row → Key → List TreeMap → List Row
+with_trees rows key trees = insert_entry same_key rows key trees
+
+-- the tree of an instance
+abbrev pub tree_at : List Row → Place → Option TreeMap
+tree_at rows p = slice_get (trees_of rows p.key) p.number
+
+-- an instance has this tree
+abbrev pub put : List Row → Place → TreeMap → List Row
+put rows p tree = with_trees rows p.key (slice_set (trees_of rows p.key) p.number tree)
+
+-- an instance that is not there is made with a tree, behind the others of its key
+abbrev pub made : List Row → Place → TreeMap → List Row
+made rows p tree = if nat_lt p.number (length (trees_of rows p.key)) then rows else with_trees rows p.key (trees_of rows p.key ++ tree ∷ [])
+
+-- ---- who has what
+
+abbrev pub same_place : Place → Place → Bool
+same_place p q = (p.number == q.number) && same_key p.key q.key
+
+-- whether a lease has an instance
+abbrev pub has : Place → Option (List Place) → Bool
+has p None = false
+has p (Some ps) = list_any (same_place p) ps
+
+-- whether a lease that is out has an instance
+unfoldable pub is_held : Leases → Place → Bool
+is_held out p = list_any (has p) out
+
+-- how many leases are out
+abbrev pub leases : Leases → ℕ
+leases out = count_by is_some out
+
+-- the instances of a lease that is out
+abbrev pub places_of : Leases → ℕ → List Place
+places_of out lease = unwrap_or (unwrap_or (slice_get out lease) None) []
+
+-- a lease is out
+abbrev pub IsOut : Leases → ℕ → Type 0
+IsOut out lease = (ps : List Place) × (slice_get out lease ≡ Some (Some ps))
+
+-- the instance of a need of a lease
+abbrev pub place_at : Leases → ℕ → ℕ → Place
+place_at out lease i = slice_index_or (places_of out lease) i (place (record { id = []; seed = None; mode = Shared }) 0)
+
+-- ---- what a lease takes
+
+-- the least number from n on whose instance no lease has, where it is among so many or the one behind them
+unfoldable pub first_free : Leases → Key → ℕ → ℕ → ℕ
+first_free out key n zero = n
+first_free out key n (suc more) = if is_held out (place key n) then first_free out key (n + 1) more else n
+
+-- the number of the instance that a key gives: of a private one the least that no lease has, where so many are out
+abbrev pub number_for : Leases → Key → Mode → ℕ
+number_for out key Shared = 0
+number_for out key Locked = 0
+number_for out key Private = first_free out key 0 (leases out)
+
+abbrev pub place_for : Leases → Key → Place
+place_for out key = place key (number_for out key key.mode)
+
+-- for each need an instance, and the tree that it holds where it is new
+abbrev pub Taken : Type 0
+Taken = Place × TreeMap
+
+abbrev pub taken : Leases → List Need → List Taken
+taken out needs = map (λ n. (place_for out n.key, n.tree)) needs
+
+-- the caches with the instances that were not there
+abbrev pub made_all : List Row → List Taken → List Row
+made_all rows ts = fold (λ rows t. made rows t.0 t.1) rows ts
+
+abbrev pub is_locked : Mode → Bool
+is_locked Locked = true
+is_locked Shared = false
+is_locked Private = false
+
+-- a locked key whose instance a lease has
+abbrev pub is_shut : Leases → Need → Bool
+is_shut out n = is_locked n.key.mode && is_held out (place n.key 0)
+
+-- the least number that no lease has
+abbrev pub free_lease : Leases → ℕ
+free_lease out = position_or_len (λ o. not (is_some o)) out
+
+-- a lease is out under a number, that of one that was given back or the next
+abbrev pub with_lease : Leases → ℕ → List Place → Leases
+with_lease out lease ps = if nat_lt lease (length out) then slice_set out lease (Some ps) else out ++ Some ps ∷ []
+
+-- a lease of all needs, and its number
+abbrev pub granted : CachesValue → List Need → ℕ × CachesValue
+granted c needs = (
+  free_lease c.out,
+  record {
+    rows = made_all c.rows (taken c.out needs);
+    out = with_lease c.out (free_lease c.out) (map (λ t. t.0) (taken c.out needs));
+  },
+)
+
+-- where a need is refused, all are
+abbrev pub lease_by : CachesValue → List Need → Option Need → Result (ℕ × CachesValue) LeaseFault
+lease_by c needs None = Ok (granted c needs)
+lease_by c needs (Some n) = Err (Held n.key)
+
+-- the first need whose locked key is held refuses them
+abbrev pub lease_of : CachesValue → List Need → Result (ℕ × CachesValue) LeaseFault
+lease_of c needs = lease_by c needs (find (is_shut c.out) needs)
+
+-- ---- the other calls
+
+-- with another tree in the instance of a need
+abbrev pub with_content : CachesValue → ℕ → ℕ → TreeMap → CachesValue
+with_content c lease i tree = record c { rows = put c.rows (place_at c.out lease i) tree }
+
+-- a number that is free, before those of leases
+abbrev pub before : Leases → Leases
+before [] = []
+before (o ∷ out) = None ∷ o ∷ out
+
+-- behind the last lease that is out there is nothing
+unfoldable pub trimmed : Leases → Leases
+trimmed [] = []
+trimmed (Some ps ∷ out) = Some ps ∷ trimmed out
+trimmed (None ∷ out) = before (trimmed out)
+
+-- a lease is out no more, and all trees stay
+abbrev pub given_back : CachesValue → ℕ → CachesValue
+given_back c lease = record c { out = trimmed (slice_set c.out lease None) }
+
+-- ---- what holds of caches
+
+-- one lease at a time has such an instance
+abbrev pub IsExclusive : Mode → Type 0
+IsExclusive Shared = ⊥
+IsExclusive Private = Unit {0}
+IsExclusive Locked = Unit {0}
+
+-- a lease that is out has these instances
+abbrev pub Has : Leases → ℕ → List Place → Type 0
+Has out lease ps = slice_get out lease ≡ Some (Some ps)
+
+-- no two leases have one instance of a private or a locked key
+abbrev pub AreExclusive : Leases → Type 0
+AreExclusive out = (a b : ℕ) (ps qs : List Place) (p : Place) → Has out a ps → Has out b qs → Contains ps p → Contains qs p → IsExclusive p.key.mode → a ≡ b
+
+-- the keys of a lease differ
+abbrev pub AreApart : Leases → Type 0
+AreApart out = (a : ℕ) (ps : List Place) → Has out a ps → AllPairs (λ p q. p.key ≢ q.key) ps
+
+-- what a lease has is there
+abbrev pub AreThere : List Row → Leases → Type 0
+AreThere rows out = (a : ℕ) (ps : List Place) → Has out a ps → All (λ p. p.number < length (trees_of rows p.key)) ps
+
+-- no key has more instances than leases can be out, at most 65,536
+abbrev pub AreFew : List Row → Type 0
+AreFew rows = (key : Key) → length (trees_of rows key) ≤ 65536
+
+pub record IsCaches (c : CachesValue) : Type 0 where
+  pub exclusive : AreExclusive c.out
+  pub apart : AreApart c.out
+  pub there : AreThere c.rows c.out
+  pub few : AreFew c.rows
+  pub short : length c.out ≤ 65536

@@ -1,0 +1,4 @@
+pub mod Key
+pub mod Caches
+pub mod Faults
+pub mod Growing

@@ -1,0 +1,225 @@
+//! Caches with their leases. Contracts see the keys in the order in which they were first leased, each with the trees of its
+//! instances, and the instances that each lease has. A refusal changes nothing, and only a lease and a copy take memory.
+
+ghost use Rattle.std.specs.Prelude.{◌≡◌, ◌≢◌, ◌↔◌, IsTrue, ◌<◌, length, map, slice_get, option_map, AllPairs, OnErr, IfOk, Some, []};
+ghost use Rattle.std.specs.Map.{keys_of};
+ghost use Rattle.llb_cache.specs.Caches.{IsOut, place_for, AreExclusive, IsCaches, leases, lease_of, place_at, places_of, trees_of, tree_at, with_content, given_back};
+ghost use Rattle.llb_cache.specs.Faults.{Gives, MemoryLast};
+
+use crate::copying::{copied_leases, copied_rows, same_leases, same_rows};
+use crate::fault::{LeaseFault, Memory};
+use crate::growing::{
+    admitted, make_all, places_at, places_for, readied, set_at, take_back, take_lease,
+};
+use crate::key::Key;
+use crate::need::{Need, Place};
+use crate::search::{count, keys_differ};
+use crate::trees::Trees;
+use indexmap::IndexMap;
+use llb_tree::Tree;
+use llb_wire::Many;
+use std::alloc::Global;
+use std::marker::Model;
+
+/// A lease that is out, by its number: the least that no other lease has.
+#[derive(Clone, Copy)]
+pub struct Lease {
+    number: u32,
+}
+
+impl Model for Lease {
+    ghost use Rattle.std.specs.Prelude.{ℕ};
+
+    ghost Value = { ℕ };
+
+    ghost view = { λ l. l.number };
+
+    ghost inverse = { λ n. record { number = n } };
+}
+
+impl Lease {
+    /// The least number that no other lease had when this one was granted.
+    pub fn number(&self) -> u32
+        ensures { result ≡ self.now }
+    {
+        self.number
+    }
+}
+
+/// Caches, and the leases of them that are out. Contracts see both as lists.
+#[derive(Drop)]
+pub struct Caches {
+    rows: IndexMap<Key, Trees>,
+    out: Vec<Option<Many<Place>>>,
+}
+
+impl Model for Caches {
+    ghost use Rattle.std.specs.Coded.{codes};
+    ghost use Rattle.llb_tree.specs.Tree.{coded_tree};
+    ghost use Rattle.llb_cache.specs.Caches.{CachesValue, IsCaches};
+
+    ghost Value = { CachesValue };
+
+    ghost coded = { Prim.hlevel (codes, coded_tree) };
+
+    ghost view = { λ c. record { rows = c.rows.entries; out = c.out.items } };
+
+    ghost invariant = { λ c. IsCaches (record { rows = c.rows.entries; out = c.out.items }) };
+}
+
+impl Caches {
+    /// No cache, and no lease. Takes no memory.
+    pub fn new(alloc: Global) -> Caches
+        ensures { result ≡ record { rows = []; out = [] } }
+    {
+        Caches {
+            rows: IndexMap::new(alloc),
+            out: Vec::new(alloc),
+        }
+    }
+
+    /// Whether a lease of these needs can be asked for: their keys differ, and fewer than 65,536 leases are out. Takes no
+    /// memory, and time in the square of the number of needs.
+    pub fn can_lease(&self, needs: &[Need]) -> bool
+        ensures { IsTrue result ↔ (AllPairs (λ n m. n.key ≢ m.key) needs.now × (leases self.now.out < 65536)) }
+    {
+        if count(&self.out) >= 65_536 {
+            return false;
+        }
+        keys_differ(needs)
+    }
+
+    /// An instance for each need, or none at all: of a shared or a locked key instance 0, of a private one the least that no
+    /// lease has. An instance that is not there is made with the tree of its need. The keys of the needs differ, and fewer
+    /// than 65,536 leases are out. 111 `Held` with the first locked key whose instance a lease has; then 112 `Memory`. After
+    /// a refusal the caches are unchanged.
+    pub fn lease(&mut self, needs: Many<Need>) -> Result<Lease, LeaseFault>
+        requires differ { AllPairs (λ n m. n.key ≢ m.key) needs }
+        requires few { leases self.old.out < 65536 }
+        ensures gives { Gives (λ l. (l, self.new)) result (lease_of self.old needs) }
+        ensures has { IfOk result (λ l. places_of self.new.out l ≡ map (λ n. place_for self.old.out n.key) needs) }
+        ensures last { MemoryLast result (lease_of self.old needs) }
+        ensures err { OnErr result (self.new ≡ self.old) }
+    {
+        let needs = admitted(&self.out, needs.into_vec())?;
+        let readies = readied(&self.out, needs)?;
+        let places = places_for(&self.out, &readies)?;
+        self.rows.reserve(readies.len())?;
+        self.out.reserve(1)?;
+        make_all(&mut self.rows, readies);
+        let number = take_lease(&mut self.out, places);
+        Ok(Lease { number })
+    }
+
+    /// Whether a lease is out. Takes no memory.
+    pub fn is_out(&self, lease: Lease) -> bool
+        ensures { IsTrue result ↔ IsOut self.now.out lease }
+    {
+        match self.out.get(lease.number as usize) {
+            Some(Some(_)) => true,
+            _ => false,
+        }
+    }
+
+    /// How many needs a lease has, none where it is not out. Takes no memory.
+    pub fn needs(&self, lease: Lease) -> usize
+        ensures { result ≡ length (places_of self.now.out lease) }
+    {
+        match self.out.get(lease.number as usize) {
+            Some(Some(places)) => places.len(),
+            _ => 0,
+        }
+    }
+
+    /// The number of the instance that a need of a lease that is out has. Takes no memory.
+    pub fn instance_of(&self, lease: Lease, need: u32) -> u32
+        requires { need < length (places_of self.now.out lease) }
+        ensures { result ≡ (place_at self.now.out lease need).number }
+    {
+        places_at(&self.out, lease.number)[need as usize].number
+    }
+
+    /// The tree of the instance that a need of a lease that is out has. Takes no memory.
+    pub fn content(&self, lease: Lease, need: u32) -> &Tree
+        requires { need < length (places_of self.now.out lease) }
+        ensures { tree_at self.now.rows (place_at self.now.out lease need) ≡ Some result.now }
+    {
+        let place = &places_at(&self.out, lease.number)[need as usize];
+        self.rows[&place.key].at(place.number)
+    }
+
+    /// Puts a tree in the place of the one that the instance of a need has, for all leases that have it. Takes no memory.
+    pub fn set_content(&mut self, lease: Lease, need: u32, tree: Tree)
+        requires { need < length (places_of self.old.out lease) }
+        ensures { self.new ≡ with_content self.old lease need tree }
+    {
+        let place = &places_at(&self.out, lease.number)[need as usize];
+        set_at(&mut self.rows, place, tree);
+    }
+
+    /// Frees the instances of a lease that is out. No tree changes. Takes no memory.
+    pub fn give_back(&mut self, lease: Lease)
+        requires { IsOut self.old.out lease }
+        ensures { self.new ≡ given_back self.old lease }
+    {
+        take_back(&mut self.out, lease.number);
+    }
+
+    /// How many leases are out. Takes no memory.
+    pub fn leases(&self) -> u32
+        ensures { result ≡ leases self.now.out }
+    {
+        count(&self.out)
+    }
+
+    /// How many instances a key has. Takes no memory.
+    pub fn instances(&self, key: &Key) -> u32
+        ensures { result ≡ length (trees_of self.now.rows key.now) }
+    {
+        match self.rows.get(key) {
+            Some(trees) => trees.len() as u32,
+            None => 0,
+        }
+    }
+
+    /// The tree of an instance of a key. Takes no memory.
+    pub fn instance(&self, key: &Key, number: u32) -> Option<&Tree>
+        ensures { option_map (λ t. t.now) result ≡ slice_get (trees_of self.now.rows key.now) number }
+    {
+        match self.rows.get(key) {
+            Some(trees) => trees.get(number),
+            None => None,
+        }
+    }
+
+    /// An equal second owner, of the leases too; 112 `Memory`.
+    pub fn copy(&self) -> Result<Caches, Memory>
+        ensures { IfOk result (λ c. c ≡ self.now) }
+    {
+        let rows = copied_rows(&self.rows)?;
+        let out = copied_leases(&self.out)?;
+        Ok(Caches { rows, out })
+    }
+
+    /// Whether both have the same keys in the same order with the same trees, and the same leases. Takes no memory.
+    pub fn same(&self, other: &Caches) -> bool
+        ensures { IsTrue result ↔ (self.now ≡ other.now) }
+    {
+        same_rows(&self.rows, &other.rows) && same_leases(&self.out, &other.out)
+    }
+
+    /// A law: no key stands twice.
+    pub fn keys_differ(&self)
+        ensures { AllPairs (λ k l. k ≢ l) (keys_of self.now.rows) }
+    {
+        let _len = self.rows.len();
+    }
+
+    /// A law: no two leases have one instance of a locked or a private key, nor have two needs of one lease; what a lease
+    /// has is there; and no key has more than 65,536 instances.
+    pub fn is_exclusive(&self)
+        ensures { IsCaches self.now }
+    {
+        let _out = &self.out;
+    }
+}

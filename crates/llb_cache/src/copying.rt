@@ -1,0 +1,145 @@
+//! Equal second owners of caches and of leases, and whether two are the same.
+
+ghost use Rattle.std.specs.Prelude.{◌≡◌, ◌↔◌, ◌<◌, IsTrue, IfOk, IfSome, OnOk, slice_get};
+ghost use Rattle.indexmap.specs.IndexMap.{insert_entry};
+ghost use Rattle.llb_cache.specs.Key.{same_key};
+
+use crate::fault::Memory;
+use crate::key::Key;
+use crate::need::Place;
+use crate::trees::Trees;
+use indexmap::IndexMap;
+use llb_wire::Many;
+use std::alloc::Global;
+
+// Puts a copy of the row at an index behind the copies.
+fn copy_row(
+    copies: &mut IndexMap<Key, Trees>,
+    rows: &IndexMap<Key, Trees>,
+    i: usize,
+) -> Result<(), Memory>
+    ensures { OnOk result (IfSome (slice_get rows.now.entries i) (λ e. copies.new.entries ≡ insert_entry same_key copies.old.entries e.0 e.1)) }
+{
+    match rows.get_index(i) {
+        Some((key, trees)) => {
+            copies.insert(key.copy()?, trees.copy()?)?;
+            Ok(())
+        }
+        None => Ok(()),
+    }
+}
+
+pub(crate) fn copied_rows(rows: &IndexMap<Key, Trees>) -> Result<IndexMap<Key, Trees>, Memory>
+    ensures { IfOk result (λ r. r.entries ≡ rows.now.entries) }
+{
+    let mut copies = IndexMap::new(*rows.allocator());
+    for i in 0..rows.len() {
+        copy_row(&mut copies, rows, i)?;
+    }
+    Ok(copies)
+}
+
+fn copied_places(alloc: Global, places: &[Place]) -> Result<Many<Place>, Memory>
+    ensures { IfOk result (λ ps. ps ≡ places.now) }
+{
+    let mut copies = Vec::new(alloc);
+    for place in places {
+        copies.push(place.copy()?)?;
+    }
+    Ok(Many::new(copies))
+}
+
+fn copied_lease(alloc: Global, lease: &Option<Many<Place>>) -> Result<Option<Many<Place>>, Memory>
+    ensures { IfOk result (λ l. l ≡ lease.now) }
+{
+    match lease {
+        Some(places) => Ok(Some(copied_places(alloc, places.as_slice())?)),
+        None => Ok(None),
+    }
+}
+
+pub(crate) fn copied_leases(
+    out: &Vec<Option<Many<Place>>>,
+) -> Result<Vec<Option<Many<Place>>>, Memory>
+    ensures { IfOk result (λ o. o.items ≡ out.now.items) }
+{
+    let alloc = *out.allocator();
+    let mut copies = Vec::new(alloc);
+    for lease in out {
+        copies.push(copied_lease(alloc, lease)?)?;
+    }
+    Ok(copies)
+}
+
+// Whether both have the same key with the same trees at an index.
+fn same_row(rows: &IndexMap<Key, Trees>, others: &IndexMap<Key, Trees>, i: usize) -> bool
+    ensures { IsTrue result ↔ (slice_get rows.now.entries i ≡ slice_get others.now.entries i) }
+{
+    match rows.get_index(i) {
+        Some((key, trees)) => match others.get_index(i) {
+            Some((other, others)) => key.same(other) && trees.same(others),
+            None => false,
+        },
+        None => others.get_index(i).is_none(),
+    }
+}
+
+pub(crate) fn same_rows(rows: &IndexMap<Key, Trees>, others: &IndexMap<Key, Trees>) -> bool
+    ensures { IsTrue result ↔ (rows.now.entries ≡ others.now.entries) }
+{
+    if rows.len() != others.len() {
+        return false;
+    }
+    for i in 0..rows.len() {
+        if !same_row(rows, others, i) {
+            return false;
+        }
+    }
+    true
+}
+
+fn same_place(place: &Place, other: &Place) -> bool
+    ensures { IsTrue result ↔ (place.now ≡ other.now) }
+{
+    place.number == other.number && place.key.same(&other.key)
+}
+
+fn same_places(places: &[Place], others: &[Place]) -> bool
+    ensures { IsTrue result ↔ (places.now ≡ others.now) }
+{
+    if places.len() != others.len() {
+        return false;
+    }
+    for i in 0..places.len() {
+        if !same_place(&places[i], &others[i]) {
+            return false;
+        }
+    }
+    true
+}
+
+fn same_lease(lease: &Option<Many<Place>>, other: &Option<Many<Place>>) -> bool
+    ensures { IsTrue result ↔ (lease.now ≡ other.now) }
+{
+    match lease {
+        Some(places) => match other {
+            Some(others) => same_places(places.as_slice(), others.as_slice()),
+            None => false,
+        },
+        None => other.is_none(),
+    }
+}
+
+pub(crate) fn same_leases(out: &[Option<Many<Place>>], others: &[Option<Many<Place>>]) -> bool
+    ensures { IsTrue result ↔ (out.now ≡ others.now) }
+{
+    if out.len() != others.len() {
+        return false;
+    }
+    for i in 0..out.len() {
+        if !same_lease(&out[i], &others[i]) {
+            return false;
+        }
+    }
+    true
+}

@@ -1,0 +1,70 @@
+//! Why a lease is refused, and the want of memory of a copy. A fault prints its number, and behind it the ID of a key.
+//! Refusals of memory of any kind become `Memory` by `?`.
+
+use crate::key::Key;
+use llb_tree::TreeFault;
+use std::alloc::{AllocError, AllocFailed};
+use thiserror::Error;
+
+/// Why a lease is refused.
+#[derive(Debug, Drop, Error)]
+pub enum LeaseFault {
+    /// 111: a lease that is out has the instance of this locked key.
+    #[error("111 {0}")]
+    Held(Key),
+    /// 112: memory was refused.
+    #[error("112")]
+    Memory,
+}
+
+/// 112: memory was refused to a copy.
+#[derive(Clone, Copy, Debug, PartialEq, Eq, Error)]
+#[error("112")]
+pub struct Memory;
+
+impl From<Memory> for LeaseFault {
+    ghost use Rattle.std.specs.Prelude.{◌≡◌};
+    ghost use Rattle.llb_cache.specs.declared.fault.LeaseFault.TheVariants as lease;
+
+    ghost from_gives = { λ _ e. e ≡ lease.Memory };
+
+    fn from(_: Memory) -> LeaseFault {
+        LeaseFault::Memory
+    }
+}
+
+impl From<AllocError> for LeaseFault {
+    ghost use Rattle.std.specs.Prelude.{◌≡◌};
+    ghost use Rattle.llb_cache.specs.declared.fault.LeaseFault.TheVariants as lease;
+
+    ghost from_gives = { λ _ e. e ≡ lease.Memory };
+
+    fn from(_: AllocError) -> LeaseFault {
+        LeaseFault::Memory
+    }
+}
+
+impl From<AllocError> for Memory {
+    fn from(_: AllocError) -> Memory {
+        Memory
+    }
+}
+
+impl<T: Drop> From<AllocFailed<T>> for Memory {
+    fn from(_: AllocFailed<T>) -> Memory {
+        Memory
+    }
+}
+
+impl From<llb_wire::Memory> for Memory {
+    fn from(_: llb_wire::Memory) -> Memory {
+        Memory
+    }
+}
+
+/// Of a copy of a tree, which can only lack memory.
+impl From<TreeFault> for Memory {
+    fn from(_: TreeFault) -> Memory {
+        Memory
+    }
+}

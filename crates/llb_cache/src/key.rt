@@ -1,0 +1,148 @@
+//! What a cache is known by: its ID, the output that a new instance begins with, and how leases share it. Two keys are one
+//! where all three are equal.
+
+ghost use Rattle.std.specs.Prelude.{◌≡◌, ◌↔◌, IsTrue, IfOk};
+ghost use Rattle.llb_cache.specs.Key.{same_key, same_seed, same_seeds, same_mode};
+
+use crate::fault::Memory;
+use llb_wire::Text;
+use std::fmt;
+use std::hash::{Hash, Hasher};
+
+/// How leases share the instances of a cache.
+#[derive(Clone, Copy, Debug)]
+pub enum Mode {
+    /// One instance, which any number of leases have at once.
+    Shared,
+    /// An instance for each lease: the least that no other has.
+    Private,
+    /// One instance, which one lease has at a time.
+    Locked,
+}
+
+/// An output that a new instance begins with: the digest text of an entry, and the output's index.
+#[derive(Debug, Drop)]
+pub struct Seed {
+    pub digest: Text,
+    pub index: u32,
+}
+
+/// What a cache is known by. A new instance of a key without a seed begins empty.
+#[derive(Debug, Drop)]
+pub struct Key {
+    pub id: Text,
+    pub seed: Option<Seed>,
+    pub mode: Mode,
+}
+
+fn same_mode(mode: Mode, other: Mode) -> bool
+    ensures { result ≡ same_mode mode other }
+{
+    match mode {
+        Mode::Shared => matches!(other, Mode::Shared),
+        Mode::Private => matches!(other, Mode::Private),
+        Mode::Locked => matches!(other, Mode::Locked),
+    }
+}
+
+fn same_seed(seed: &Seed, other: &Seed) -> bool
+    ensures { result ≡ same_seed seed.now other.now }
+{
+    seed.index == other.index && seed.digest == other.digest
+}
+
+fn same_seeds(seed: &Option<Seed>, other: &Option<Seed>) -> bool
+    ensures { result ≡ same_seeds seed.now other.now }
+{
+    match seed {
+        Some(seed) => match other {
+            Some(other) => same_seed(seed, other),
+            None => false,
+        },
+        None => other.is_none(),
+    }
+}
+
+fn copy_of(seed: &Option<Seed>) -> Result<Option<Seed>, Memory>
+    ensures { IfOk result (λ s. s ≡ seed.now) }
+{
+    match seed {
+        Some(seed) => {
+            let digest = seed.digest.copy()?;
+            let index = seed.index;
+            Ok(Some(Seed { digest, index }))
+        }
+        None => Ok(None),
+    }
+}
+
+impl Key {
+    /// An equal second owner; 112 `Memory`.
+    pub fn copy(&self) -> Result<Key, Memory>
+        ensures { IfOk result (λ k. k ≡ self.now) }
+    {
+        let id = self.id.copy()?;
+        let seed = copy_of(&self.seed)?;
+        let mode = self.mode;
+        Ok(Key { id, seed, mode })
+    }
+
+    /// Whether both are the same key. Takes no memory.
+    pub fn same(&self, other: &Key) -> bool
+        ensures { IsTrue result ↔ (self.now ≡ other.now) }
+    {
+        self == other
+    }
+}
+
+/// A key is printed by its ID.
+impl fmt::Display for Key {
+    ghost use Rattle.std.specs.Prelude.{Some};
+
+    ghost output = { λ k. Some k.id };
+
+    fn fmt<W: fmt::Write>(&self, f: &mut fmt::Formatter<W>) -> fmt::Result {
+        let id = &self.id;
+        write!(f, "{id}")
+    }
+}
+
+impl PartialEq for Key {
+    ghost use Rattle.std.specs.Cmp.{partial_equiv_from_equiv};
+    ghost use Rattle.llb_cache.specs.Key.{same_key, key_equiv};
+
+    ghost eq = { same_key };
+
+    ghost laws = { partial_equiv_from_equiv key_equiv };
+
+    #[tactic(auto, unfolding(crate::specs::Key::same_key))]
+    fn eq(&self, other: &Self) -> bool {
+        if !same_mode(self.mode, other.mode) {
+            return false;
+        }
+        if !same_seeds(&self.seed, &other.seed) {
+            return false;
+        }
+        self.id == other.id
+    }
+}
+
+impl Eq for Key {
+    ghost use Rattle.llb_cache.specs.Key.{key_equiv};
+
+    ghost laws = { key_equiv };
+}
+
+// Keys of one ID are few, so that the ID alone is hashed.
+impl Hash for Key {
+    ghost use Rattle.std.specs.Hash as fed;
+    ghost use Rattle.llb_cache.specs.Key.{keys_alike};
+
+    ghost hash_input = { λ k. fed.str k.id };
+
+    ghost respects_eq = { keys_alike };
+
+    fn hash<H: Hasher>(&self, state: &mut H) {
+        self.id.as_str().hash(state);
+    }
+}

@@ -1,0 +1,38 @@
+//! What a lease is asked for, and what it has: an instance of a cache for each need.
+
+ghost use Rattle.std.specs.Prelude.{◌≡◌, IfOk};
+ghost use Rattle.llb_cache.specs.Caches.{same_place, place};
+
+use crate::fault::Memory;
+use crate::key::Key;
+use llb_tree::Tree;
+
+/// An instance of this key. Where it is a new one, it begins with this tree: the seed's, or the empty one.
+#[derive(Drop)]
+pub struct Need {
+    pub key: Key,
+    pub tree: Tree,
+}
+
+/// An instance: a key, and a number among its instances.
+#[derive(Drop)]
+pub struct Place {
+    pub key: Key,
+    pub number: u32,
+}
+
+impl Place {
+    pub(crate) fn copy(&self) -> Result<Place, Memory>
+        ensures { IfOk result (λ p. p ≡ self.now) }
+    {
+        let key = self.key.copy()?;
+        let number = self.number;
+        Ok(Place { key, number })
+    }
+
+    pub(crate) fn is(&self, key: &Key, number: u32) -> bool
+        ensures { result ≡ same_place (place key.now number) self.now }
+    {
+        number == self.number && key == &self.key
+    }
+}

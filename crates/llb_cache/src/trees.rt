@@ -1,0 +1,124 @@
+//! The instances of one key as the list of their trees, and the room that a new one takes, which is made before anything
+//! changes.
+
+ghost use Rattle.std.specs.Prelude.{◌≡◌, ◌↔◌, IsTrue, ◌<◌, ◌++◌, List, [], ◌∷◌, length, slice_get, slice_set, option_map, IfOk, Some};
+
+use crate::fault::Memory;
+use llb_tree::Tree;
+use std::alloc::Global;
+use std::marker::Model;
+
+// The trees of a key's instances, by number.
+#[derive(Drop)]
+pub(crate) struct Trees {
+    items: Vec<Tree>,
+}
+
+impl Model for Trees {
+    ghost use Rattle.std.specs.Prelude.{List};
+    ghost use Rattle.std.specs.Coded.{codes};
+    ghost use Rattle.llb_tree.specs.Tree.{TreeMap, coded_tree};
+
+    ghost Value = { List TreeMap };
+
+    ghost coded = { Prim.hlevel (codes, coded_tree) };
+
+    ghost view = { λ t. t.items.items };
+}
+
+// An empty list. Contracts see how many trees fit.
+#[derive(Drop)]
+pub(crate) struct Room {
+    items: Vec<Tree>,
+}
+
+impl Model for Room {
+    ghost use Rattle.std.specs.Prelude.{◌≡◌, ℕ, [], vec_capacity};
+
+    ghost Value = { ℕ };
+
+    ghost view = { λ r. vec_capacity r.items };
+
+    ghost invariant = { λ r. r.items.items ≡ [] };
+}
+
+impl Room {
+    // For the instance of a number and all before it.
+    pub(crate) fn up_to(alloc: Global, number: u32) -> Result<Room, Memory>
+        ensures { IfOk result (λ r. number < r) }
+    {
+        let items = Vec::with_capacity(alloc, number as usize + 1)?;
+        Ok(Room { items })
+    }
+}
+
+impl Trees {
+    pub(crate) fn new(alloc: Global) -> Trees
+        ensures { result ≡ [] }
+    {
+        Trees {
+            items: Vec::new(alloc),
+        }
+    }
+
+    pub(crate) fn len(&self) -> usize
+        ensures { result ≡ length self.now }
+    {
+        self.items.len()
+    }
+
+    pub(crate) fn get(&self, number: u32) -> Option<&Tree>
+        ensures { option_map (λ t. t.now) result ≡ slice_get self.now number }
+    {
+        self.items.get(number as usize)
+    }
+
+    pub(crate) fn at(&self, number: u32) -> &Tree
+        requires { number < length self.now }
+        ensures { slice_get self.now number ≡ Some result.now }
+    {
+        &self.items[number as usize]
+    }
+
+    pub(crate) fn set(&mut self, number: u32, tree: Tree)
+        requires { number < length self.old }
+        ensures { self.new ≡ slice_set self.old number tree }
+    {
+        self.items[number as usize] = tree;
+    }
+
+    // One more tree. All of them move into the room.
+    pub(crate) fn push_into(&mut self, room: Room, tree: Tree)
+        requires { length self.old < room }
+        ensures { self.new ≡ self.old ++ tree ∷ [] }
+    {
+        let mut items = room.items;
+        items.append(&mut self.items).unwrap();
+        items.push_reserved(tree);
+        self.items = items;
+    }
+
+    pub(crate) fn copy(&self) -> Result<Trees, Memory>
+        ensures { IfOk result (λ t. t ≡ self.now) }
+    {
+        let mut items = Vec::new(*self.items.allocator());
+        for tree in &self.items {
+            items.push(tree.copy()?)?;
+        }
+        Ok(Trees { items })
+    }
+
+    pub(crate) fn same(&self, other: &Trees) -> bool
+        ensures { IsTrue result ↔ (self.now ≡ other.now) }
+    {
+        if self.items.len() != other.items.len() {
+            return false;
+        }
+        for i in 0..self.items.len() {
+            if !self.items[i].same(&other.items[i]) {
+                return false;
+            }
+        }
+        true
+    }
+}

@@ -1,0 +1,213 @@
+-- Contents and places: what a write changes, and what stays.
+use Rattle.std.proofs.Common.{◌≡◌, ◌≢◌, suc, Bool, true, false, ◌||◌, List, [], ◌∷◌, ◌++◌, length, map, Option, Some, None, unwrap_or, ◌⊎◌, inl, inr, refl, sym, ap, subst, ◌∙◌, cond, arith}
+use Rattle.std.specs.Ordering.{eq_by_cmp}
+use Rattle.std.specs.Cmp.{IsTotalOrder, Equal-is, on_total}
+use Rattle.std.specs.Cmp.Lexicographic.{lists_total, nat_list_cmp_total}
+use Rattle.std.proofs.lemmas.Cmp.{eq_by_cmp_equiv}
+use Rattle.std.specs.FinMap as finite
+use Rattle.std.specs.FinMap.{IsAntisymmetric, slice_cmp-IsAntisymmetric, nat_cmp-IsAntisymmetric}
+use Rattle.llb_cache.specs.declared.key.Key.{Key}
+use Rattle.llb_cache.specs.declared.key.Seed.{Seed}
+use Rattle.llb_cache.specs.declared.key.Mode.{Mode}
+use Rattle.llb_cache.specs.declared.key.Mode.TheVariants.{Shared, Private, Locked}
+use Rattle.llb_tree.specs.Tree.{TreeMap, empty_tree}
+use Rattle.llb_model.specs.Caches.{Place, mode_number, seed_name, key_name, name_of, place_cmp, Store, content, put, put_all, trees_at, Hold, Has, Distinct, is_in}
+
+-- ---- places
+
+mode_same : (a b : Mode) → mode_number a ≡ mode_number b → a ≡ b
+mode_same Shared Shared e = refl
+mode_same Shared Private e = absurd (omega arith)
+mode_same Shared Locked e = absurd (omega arith)
+mode_same Private Shared e = absurd (omega arith)
+mode_same Private Private e = refl
+mode_same Private Locked e = absurd (omega arith)
+mode_same Locked Shared e = absurd (omega arith)
+mode_same Locked Private e = absurd (omega arith)
+mode_same Locked Locked e = refl
+
+mode_of_name : (k l : Mode) → mode_number k ∷ [] ≡ mode_number l ∷ [] → k ≡ l
+mode_of_name k l e = mode_same k l cc
+
+seed_same : (a b : Option Seed) → seed_name a ≡ seed_name b → a ≡ b
+seed_same None None e = refl
+seed_same None (Some t) e = absurd cc
+seed_same (Some s) None e = absurd cc
+seed_same (Some s) (Some t) e =
+    let index : s.index ≡ t.index = cc in
+    let digest : s.digest ≡ t.digest = cc in
+    (λ i. Some (record { digest = digest i; index = index i }))
+
+key_same : (k l : Key) → key_name k ≡ key_name l → k ≡ l
+key_same k l e =
+    let id : k.id ≡ l.id = cc in
+    let seed : seed_name k.seed ≡ seed_name l.seed = cc in
+    let mode : mode_number k.mode ∷ [] ≡ mode_number l.mode ∷ [] = cc in
+    (λ i. record { id = id i; seed = seed_same k.seed l.seed seed i; mode = mode_of_name k.mode l.mode mode i })
+
+place_same : (p q : Place) → name_of p ≡ name_of q → p ≡ q
+place_same p q e =
+    let number : p.number ≡ q.number = cc in
+    let key : key_name p.key ≡ key_name q.key = cc in
+    (λ i. record { key = key_same p.key q.key key i; number = number i })
+
+place_total : IsTotalOrder place_cmp
+place_total = on_total name_of (lists_total nat_list_cmp_total)
+
+place_antisymmetric : IsAntisymmetric place_cmp
+place_antisymmetric p q e = place_same p q (slice_cmp-IsAntisymmetric (slice_cmp-IsAntisymmetric nat_cmp-IsAntisymmetric) (name_of p) (name_of q) e)
+
+pub place_test : (p q : Place) → eq_by_cmp place_cmp p q ≡ true → p ≡ q
+place_test p q e = place_antisymmetric p q ((Equal-is (place_cmp p q)).0 e)
+
+pub place_itself : (p : Place) → eq_by_cmp place_cmp p p ≡ true
+place_itself p = (eq_by_cmp_equiv place_total).refl p
+
+pub place_or : (p q : Place) → (p ≡ q) ⊎ (p ≢ q)
+place_or p q = go (eq_by_cmp place_cmp p q) refl
+  where
+    go : (b : Bool) → eq_by_cmp place_cmp p q ≡ b → (p ≡ q) ⊎ (p ≢ q)
+    go true is = inl (place_test p q is)
+    go false is = inr (λ same. let h : false ≡ true = sym is ∙ ap (eq_by_cmp place_cmp p) (sym same) ∙ place_itself p in cc)
+
+place_apart : (p q : Place) → p ≢ q → eq_by_cmp place_cmp p q ≡ false
+place_apart p q apart = go (eq_by_cmp place_cmp p q) refl
+  where
+    go : (b : Bool) → eq_by_cmp place_cmp p q ≡ b → b ≡ false
+    go true is = absurd (apart (place_test p q is))
+    go false is = refl
+
+-- ---- one write
+
+pub content_same : (s : Store) (p : Place) (t : TreeMap) → content (put s p t) p ≡ Some t
+unfolding content put
+content_same s p t = finite.get-insert place_total s p t p ∙ ap (λ b. cond b (Some t) (finite.get s p)) (place_itself p)
+
+pub content_other : (s : Store) (p : Place) (t : TreeMap) (q : Place) → q ≢ p → content (put s p t) q ≡ content s q
+unfolding content put
+content_other s p t q apart = finite.get-insert place_total s p t q ∙ ap (λ b. cond b (Some t) (finite.get s q)) (place_apart q p apart)
+
+pub same_store : (a b : Store) → ((p : Place) → content a p ≡ content b p) → a ≡ b
+unfolding content
+same_store a b same = finite.same_map place_total place_antisymmetric a b same
+
+pub put_put : (s : Store) (p q : Place) (t u : TreeMap) → p ≢ q → put (put s p t) q u ≡ put (put s q u) p t
+put_put s p q t u apart = same_store (put (put s p t) q u) (put (put s q u) p t) each
+  where
+    each : (r : Place) → content (put (put s p t) q u) r ≡ content (put (put s q u) p t) r
+    each r = elim (place_or r p) [
+      | inl h ↦ subst (λ x. content (put (put s p t) q u) x ≡ content (put (put s q u) p t) x) (sym h)
+          (content_other (put s p t) q u p apart ∙ content_same s p t ∙ sym (content_same (put s q u) p t))
+      | inr h ↦ elim (place_or r q) [
+        | inl k ↦ subst (λ x. content (put (put s p t) q u) x ≡ content (put (put s q u) p t) x) (sym k)
+            (content_same (put s p t) q u ∙ sym (content_other (put s q u) p t q (λ e. apart (sym e)) ∙ content_same s q u))
+        | inr k ↦ content_other (put s p t) q u r k ∙ content_other s p t r h ∙ sym (content_other (put s q u) p t r h ∙ content_other s q u r k)
+      ]
+    ]
+
+-- ---- membership
+
+pub has_or : (ps : List Place) (p : Place) → Has ps p ⊎ (Has ps p → ⊥)
+has_or [] p = inr (λ h. h)
+has_or (q ∷ ps) p = elim (place_or p q) [
+  | inl h ↦ inl (inl h)
+  | inr h ↦ elim (has_or ps p) [
+    | inl k ↦ inl (inr k)
+    | inr k ↦ inr (λ e. elim e [ inl a ↦ h a | inr b ↦ k b ])
+  ]
+]
+
+pub has_in : (ps : List Place) (p : Place) → Has ps p → is_in ps p ≡ true
+has_in [] p h = absurd h
+has_in (q ∷ ps) p (inl h) = ap (λ b. b || is_in ps p) (ap (eq_by_cmp place_cmp p) (sym h) ∙ place_itself p)
+has_in (q ∷ ps) p (inr h) = go (eq_by_cmp place_cmp p q) (is_in ps p) (has_in ps p h)
+  where
+    go : (a b : Bool) → b ≡ true → (a || b) ≡ true
+    go true b e = refl
+    go false b e = e
+
+pub has_left : {A : Type 0} (xs ys : List A) (x : A) → Has xs x → Has (xs ++ ys) x
+has_left [] ys x h = absurd h
+has_left (a ∷ xs) ys x (inl h) = inl h
+has_left (a ∷ xs) ys x (inr h) = inr (has_left xs ys x h)
+
+pub has_right : {A : Type 0} (xs ys : List A) (x : A) → Has ys x → Has (xs ++ ys) x
+has_right [] ys x h = h
+has_right (a ∷ xs) ys x h = inr (has_right xs ys x h)
+
+pub has_map : {A B : Type 0} (f : A → B) (xs : List A) (y : B) → Has (map f xs) y → (x : A) × Has xs x × (y ≡ f x)
+has_map f [] y h = absurd h
+has_map f (x ∷ xs) y (inl h) = (x, inl refl, h)
+has_map f (x ∷ xs) y (inr h) = let r = has_map f xs y h in (r.0, inr r.1, r.2)
+
+pub mapped_has : {A B : Type 0} (f : A → B) (xs : List A) (x : A) → Has xs x → Has (map f xs) (f x)
+mapped_has f [] x h = absurd h
+mapped_has f (a ∷ xs) x (inl h) = inl (ap f h)
+mapped_has f (a ∷ xs) x (inr h) = inr (mapped_has f xs x h)
+
+-- ---- writes at several places
+
+pub kept_all : (s : Store) (ps : List Place) (ts : List TreeMap) (q : Place) → (Has ps q → ⊥) → content (put_all s ps ts) q ≡ content s q
+kept_all s [] ts q apart = refl
+kept_all s (p ∷ ps) [] q apart = refl
+kept_all s (p ∷ ps) (t ∷ ts) q apart = kept_all (put s p t) ps ts q (λ h. apart (inr h)) ∙ content_other s p t q (λ e. apart (inl e))
+
+pub hold_moved : (s r : Store) (ps : List Place) (ts : List TreeMap) → Hold s ps ts → ((p : Place) → Has ps p → content r p ≡ content s p) → Hold r ps ts
+hold_moved s r [] [] hold same = tt
+hold_moved s r [] (t ∷ ts) hold same = absurd hold
+hold_moved s r (p ∷ ps) [] hold same = absurd hold
+hold_moved s r (p ∷ ps) (t ∷ ts) hold same = (same p (inl refl) ∙ hold.0, hold_moved s r ps ts hold.1 (λ q h. same q (inr h)))
+
+pub hold_all : (s : Store) (ps : List Place) (ts : List TreeMap) → Distinct ps → length ts ≡ length ps → Hold (put_all s ps ts) ps ts
+hold_all s [] [] apart len = tt
+hold_all s [] (t ∷ ts) apart len = absurd (omega (arith, len))
+hold_all s (p ∷ ps) [] apart len = absurd (omega (arith, len))
+hold_all s (p ∷ ps) (t ∷ ts) apart len =
+    (kept_all (put s p t) ps ts p apart.0 ∙ content_same s p t, hold_all (put s p t) ps ts apart.1 (omega (arith, len)))
+
+pub hold_trees : (s : Store) (ps : List Place) (ts : List TreeMap) → Hold s ps ts → trees_at s ps ≡ ts
+hold_trees s [] [] hold = refl
+hold_trees s [] (t ∷ ts) hold = absurd hold
+hold_trees s (p ∷ ps) [] hold = absurd hold
+hold_trees s (p ∷ ps) (t ∷ ts) hold =
+    ap (λ o. unwrap_or o empty_tree ∷ trees_at s ps) hold.0 ∙ ap (λ us. t ∷ us) (hold_trees s ps ts hold.1)
+
+pub hold_length : (s : Store) (ps : List Place) (ts : List TreeMap) → Hold s ps ts → length ts ≡ length ps
+hold_length s [] [] hold = refl
+hold_length s [] (t ∷ ts) hold = absurd hold
+hold_length s (p ∷ ps) [] hold = absurd hold
+hold_length s (p ∷ ps) (t ∷ ts) hold = ap suc (hold_length s ps ts hold.1)
+
+pub hold_same : (s r : Store) (ps : List Place) (ts : List TreeMap) → Hold s ps ts → Hold r ps ts → (p : Place) → Has ps p → content s p ≡ content r p
+hold_same s r [] ts a b p h = absurd h
+hold_same s r (q ∷ ps) [] a b p h = absurd a
+hold_same s r (q ∷ ps) (t ∷ ts) a b p (inl h) = ap (content s) h ∙ a.0 ∙ sym b.0 ∙ ap (content r) (sym h)
+hold_same s r (q ∷ ps) (t ∷ ts) a b p (inr h) = hold_same s r ps ts a.1 b.1 p h
+
+pub put_all_put : (s : Store) (p : Place) (t : TreeMap) (ps : List Place) (ts : List TreeMap) → (Has ps p → ⊥) → put_all (put s p t) ps ts ≡ put (put_all s ps ts) p t
+put_all_put s p t [] ts apart = refl
+put_all_put s p t (q ∷ ps) [] apart = refl
+put_all_put s p t (q ∷ ps) (u ∷ ts) apart =
+    ap (λ r. put_all r ps ts) (put_put s p q t u (λ e. apart (inl e))) ∙ put_all_put (put s q u) p t ps ts (λ h. apart (inr h))
+
+pub trees_same : (s r : Store) (ps : List Place) → ((p : Place) → Has ps p → content r p ≡ content s p) → trees_at r ps ≡ trees_at s ps
+trees_same s r [] same = refl
+trees_same s r (p ∷ ps) same =
+    ap (λ o. unwrap_or o empty_tree ∷ trees_at r ps) (same p (inl refl)) ∙ ap (λ us. unwrap_or (content s p) empty_tree ∷ us) (trees_same s r ps (λ q h. same q (inr h)))
+
+-- what stands at a place still does, with this or another tree
+pub put_holds : (s : Store) (ps : List Place) (ts : List TreeMap) (qs : List Place) (us : List TreeMap) → Hold s qs us → (vs : List TreeMap) × Hold (put_all s ps ts) qs vs
+put_holds s [] ts qs us hold = (us, hold)
+put_holds s (p ∷ ps) [] qs us hold = (us, hold)
+put_holds s (p ∷ ps) (t ∷ ts) qs us hold = let h = one s p t qs us hold in put_holds (put s p t) ps ts qs h.0 h.1
+  where
+    one : (s : Store) (p : Place) (t : TreeMap) (qs : List Place) (us : List TreeMap) → Hold s qs us → (vs : List TreeMap) × Hold (put s p t) qs vs
+    one s p t [] [] hold = ([], tt)
+    one s p t [] (u ∷ us) hold = absurd hold
+    one s p t (q ∷ qs) [] hold = absurd hold
+    one s p t (q ∷ qs) (u ∷ us) hold =
+        let rest = one s p t qs us hold.1 in
+        elim (place_or q p) [
+          | inl h ↦ (t ∷ rest.0, (ap (content (put s p t)) h ∙ content_same s p t, rest.1))
+          | inr h ↦ (u ∷ rest.0, (content_other s p t q h ∙ hold.0, rest.1))
+        ]

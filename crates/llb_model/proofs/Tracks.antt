@@ -1,0 +1,401 @@
+-- A run keeps step with its claim order: what runs has done the first micro-steps of what the order did at the claim.
+use Rattle.std.proofs.Common.{◌≡◌, ◌≢◌, ℕ, zero, suc, ◌+◌, true, List, [], ◌∷◌, length, map, Option, Some, None, unwrap_or, inl, inr, refl, sym, ap, subst, ◌∙◌, arith}
+use Rattle.std.specs.Prelude.{slice_get, slice_set, replicate}
+use Rattle.llb_loader.specs.declared.graph.Vertex.{Vertex}
+use Rattle.llb_tree.specs.Tree.{TreeMap}
+use Rattle.llb_model.specs.declared.fault.VertexFault.{VertexFault}
+use Rattle.llb_model.specs.Caches.{Place, Store, content, Hold, Has, Distinct}
+use Rattle.llb_model.specs.Program.{Build, MicroStep, ReadLocal, Act, LayInput, Run, Program, View, Need, Work, Left, Start, program_of, program_at, needs_of, base_in, step_on, unless_faulted, go_on, part, whole}
+use Rattle.llb_model.specs.Outcome.{Ending, Done, Failed, ending}
+use Rattle.llb_model.specs.State.{Status, Waiting, Running, Settled, Execution, Idle, Runs, State, Opening, opening, ending_of, ending_at, ready, program_in, is_finished, next_step, work_of, ending_from, held, IsFree, first_trees, begin_at}
+use Rattle.llb_model.specs.Table.{Event, Claim, Step, Settle, Reply, execution_on, claim_at, with_step, after_step, after_settle, step_reply, settle_reply, table}
+use Rattle.llb_model.specs.Order.{Order, at_first, named, whole_at, run_whole, order, claims_in}
+use Rattle.llb_model.specs.Laws.{HasDistinctNeeds}
+use Rattle.llb_model.proofs.Lists.{some_of, got_set, get_set_same, get_set_other, got_replicate, each_unit}
+use Rattle.llb_model.proofs.Stores.{kept_all, has_or, hold_moved, hold_all, hold_trees, hold_length, hold_same}
+use Rattle.llb_model.proofs.Parts.{is_over_at, finished_whole, next_step_is, IsNextStep, step_keeps, part_keeps}
+use Rattle.llb_model.proofs.Claims.{places_distinct, places_length, places_numbered, first_length}
+use Rattle.llb_model.proofs.Events.{Answer, IsReady, ready_as, claim_places, claim_is, step_is, settle_is}
+use Rattle.llb_model.proofs.Outcomes.{inputs_mono}
+use Rattle.llb_model.proofs.Plain.{ending_settled}
+use Rattle.llb_model.proofs.Separate.{IsSeparate, TakesFree, opening_separate, event_separate}
+
+-- all places count
+abbrev pub any : Place → Type 0
+any p = Unit {0}
+
+abbrev at_work : View → List TreeMap → Work
+at_work own trees = record { own = own; trees = trees }
+
+abbrev left_at : View → List TreeMap → Option VertexFault → Left
+left_at own trees fault = record { work = at_work own trees; fault = fault }
+
+-- what a worker runs: so much of its program on what the order began it with, on its instances as they are now
+pub record IsWorking (b : Build) (s : State) (o : Order) (w : ℕ) (x : Execution) : Type 0 where
+  pub vertex : Vertex
+  pub there : slice_get b.graph.vertices x.vertex ≡ Some vertex
+  pub start : Work
+  pub trees : List TreeMap
+  pub so_far : part (program_of vertex).steps start x.done ≡ left_at x.own trees x.fault
+  pub now : Hold s.store x.places trees
+  pub apart : Distinct x.places
+  pub status : slice_get s.statuses x.vertex ≡ Some (Running w)
+  pub ends : slice_get o.statuses x.vertex ≡ Some (Settled (ending (program_of vertex) (whole (program_of vertex).steps start)))
+  pub leaves : Hold o.store x.places (whole (program_of vertex).steps start).work.trees
+
+-- a status, and that of the order
+abbrev pub Agrees : Option Status → Option Status → Type 0
+Agrees (Some (Running w)) b = Unit {0}
+Agrees (Some Waiting) b = b ≡ Some Waiting
+Agrees (Some (Settled e)) b = b ≡ Some (Settled e)
+Agrees None b = b ≡ None
+
+pub record Tracks (b : Build) (s : State) (o : Order) : Type 0 where
+  pub agree : (v : ℕ) → Agrees (slice_get s.statuses v) (slice_get o.statuses v)
+  pub working : (w : ℕ) (x : Execution) → slice_get s.workers w ≡ Some (Runs x) → IsWorking b s o w x
+  pub separate : IsSeparate any s.workers
+  pub free : (p : Place) → IsFree s.workers p → content s.store p ≡ content o.store p
+
+-- ---- statuses
+
+pub agree_settled : (a b : Option Status) (e : Ending) → Agrees a b → a ≡ Some (Settled e) → b ≡ Some (Settled e)
+agree_settled a b e h is = subst (λ (x : Option Status). Agrees x b) is h
+
+pub agree_waiting : (a b : Option Status) → Agrees a b → a ≡ Some Waiting → b ≡ Some Waiting
+agree_waiting a b h is = subst (λ (x : Option Status). Agrees x b) is h
+
+-- what stands after a write in both, and where only what runs is written over
+agree_written : (xs ys : List Status) (v : ℕ) (a b : Status) → Agrees (Some a) (Some b) → (x y : Status) → slice_get xs v ≡ Some x → slice_get ys v ≡ Some y
+    → ((k : ℕ) → Agrees (slice_get xs k) (slice_get ys k)) → (k : ℕ) → Agrees (slice_get (slice_set xs v a) k) (slice_get (slice_set ys v b) k)
+agree_written [] ys v a b new x y at_x at_y old k = absurd cc
+agree_written (c ∷ xs) [] v a b new x y at_x at_y old k = absurd cc
+agree_written (c ∷ xs) (d ∷ ys) zero a b new x y at_x at_y old zero = new
+agree_written (c ∷ xs) (d ∷ ys) zero a b new x y at_x at_y old (suc k) = old (suc k)
+agree_written (c ∷ xs) (d ∷ ys) (suc v) a b new x y at_x at_y old zero = old zero
+agree_written (c ∷ xs) (d ∷ ys) (suc v) a b new x y at_x at_y old (suc k) = agree_written xs ys v a b new x y at_x at_y (λ j. old (suc j)) k
+
+agree_one : (xs ys : List Status) (v : ℕ) (a : Status) (x : Status) → slice_get xs v ≡ Some x → Agrees (Some a) (slice_get ys v)
+    → ((k : ℕ) → Agrees (slice_get xs k) (slice_get ys k)) → (k : ℕ) → Agrees (slice_get (slice_set xs v a) k) (slice_get ys k)
+agree_one xs ys v a x at_x new old k = go (slice_get (slice_set xs v a) k) refl
+  where
+    at_other : k ≢ v → Agrees (slice_get (slice_set xs v a) k) (slice_get ys k)
+    at_other other = subst (λ (o : Option Status). Agrees o (slice_get ys k)) (sym (get_set_other xs v a k other)) (old k)
+
+    go : (o : Option Status) → slice_get (slice_set xs v a) k ≡ o → Agrees (slice_get (slice_set xs v a) k) (slice_get ys k)
+    go None is = at_other (λ same. let both : some_of a ≡ None = sym (get_set_same xs v a x at_x) ∙ ap (slice_get (slice_set xs v a)) (sym same) ∙ is in cc)
+    go (Some z) is = elim (got_set xs v a k z is) [
+      | inl h ↦ subst (λ j. Agrees (slice_get (slice_set xs v a) j) (slice_get ys j)) (sym h.0) (subst (λ (r : Option Status). Agrees r (slice_get ys v)) (sym (get_set_same xs v a x at_x)) new)
+      | inr h ↦ at_other h.0
+    ]
+
+-- ---- inputs
+
+-- what has ended has ended so in the order
+ends_too : (xs ys : List Status) → ((k : ℕ) → Agrees (slice_get xs k) (slice_get ys k)) → (j : ℕ) (e : Ending) → ending_at xs j ≡ Some e → ending_at ys j ≡ Some e
+ends_too xs ys same j e is = ap ending_of (agree_settled (slice_get xs j) (slice_get ys j) e (same j) (ending_settled (slice_get xs j) e is))
+
+-- a Ready vertex is Ready in the order, with the same inputs
+pub ready_too : (b : Build) (xs ys : List Status) → ((k : ℕ) → Agrees (slice_get xs k) (slice_get ys k)) → (v : ℕ) (start : Start) → IsReady b xs v start → ready b ys v ≡ Some start
+ready_too b xs ys same v start r = ready_as b ys v start (record {
+  waits = agree_waiting (slice_get xs v) (slice_get ys v) (same v) r.waits;
+  there = r.there;
+  inputs = inputs_mono (λ j. Unit {0}) (ending_at xs) (ending_at ys) (λ j e u. ends_too xs ys same j e) start.vertex.inputs (each_unit start.vertex.inputs) start.inputs r.inputs;
+})
+
+-- ---- what a claim begins with
+
+first_agrees : (a b : Store) (inputs : List TreeMap) (ps : List Place) (ns : List Need) → ((p : Place) → Has ps p → content a p ≡ content b p) → first_trees a inputs ps ns ≡ first_trees b inputs ps ns
+first_agrees a b inputs [] ns same = refl
+first_agrees a b inputs (p ∷ ps) [] same = refl
+first_agrees a b inputs (p ∷ ps) (n ∷ ns) same =
+    ap (λ o. unwrap_or o (base_in n.input inputs) ∷ first_trees a inputs ps ns) (same p (inl refl))
+    ∙ ap (λ ts. unwrap_or (content b p) (base_in n.input inputs) ∷ ts) (first_agrees a b inputs ps ns (λ q h. same q (inr h)))
+
+module _ (b : Build) (s : State) (o : Order) (tracks : Tracks b s o) where
+  -- a worker that takes free instances
+  pub claim_tracks : (w v : ℕ) (start : Start) (ps : List Place) → slice_get s.workers w ≡ Some Idle → IsReady b s.statuses v start
+      → ((p : Place) → Has ps p → IsFree s.workers p) → Distinct ps → length ps ≡ length (needs_of start.vertex)
+      → IsSeparate any (claim_at b s w v start ps).0.workers
+      → Tracks b (claim_at b s w v start ps).0 (whole_at b o v start ps)
+  unfolding part
+  claim_tracks w v start ps idle r free apart count separate = record {
+    agree = agree_written s.statuses o.statuses v (Running w) (Settled (ending p left)) tt Waiting Waiting r.waits waits tracks.agree;
+    working = λ u x there. elim (got_set s.workers w (Runs z) u (Runs x) there) [
+      | inl h ↦
+          let same : z ≡ x = cc (h.1) in
+          subst (λ (n : ℕ). IsWorking b new later n x) (sym h.0) (subst (IsWorking b new later w) same fresh)
+      | inr h ↦ moved u x h.1 (tracks.working u x h.1)
+    ];
+    separate = separate;
+    free = λ q is_free.
+        let mine : Has ps q → ⊥ = λ h. is_free w z (get_set_same s.workers w (Runs z) Idle idle) h in
+        kept_all s.store ps work.trees q mine
+        ∙ tracks.free q (λ u x at_u h. is_free u x (get_set_other s.workers w (Runs z) u (λ same. busy u x at_u same) ∙ at_u) h)
+        ∙ sym (kept_all o.store ps left.work.trees q mine);
+  }
+    where
+      p : Program
+      p = program_of start.vertex
+
+      work : Work
+      work = begin_at b s.store start ps
+
+      z : Execution
+      z = execution_on v work ps
+
+      begun : Work
+      begun = begin_at b o.store start ps
+
+      left : Left
+      left = whole p.steps begun
+
+      new : State
+      new = (claim_at b s w v start ps).0
+
+      later : Order
+      later = whole_at b o v start ps
+
+      waits : slice_get o.statuses v ≡ Some Waiting
+      waits = agree_waiting (slice_get s.statuses v) (slice_get o.statuses v) (tracks.agree v) r.waits
+
+      same_trees : first_trees s.store start.inputs ps (needs_of start.vertex) ≡ first_trees o.store start.inputs ps (needs_of start.vertex)
+      same_trees = first_agrees s.store o.store start.inputs ps (needs_of start.vertex) (λ q h. tracks.free q (free q h))
+
+      busy : (u : ℕ) (x : Execution) → slice_get s.workers u ≡ Some (Runs x) → u ≡ w → ⊥
+      busy u x at_u same = let both : some_of Idle ≡ some_of (Runs x) = sym idle ∙ ap (slice_get s.workers) (sym same) ∙ at_u in cc
+
+      fresh : IsWorking b new later w z
+      fresh = record {
+        vertex = start.vertex;
+        there = r.there;
+        start = begun;
+        trees = work.trees;
+        so_far = ap (λ ts. left_at begun.own ts None) (sym same_trees);
+        now = hold_all s.store ps work.trees apart (first_length s.store start.inputs ps (needs_of start.vertex) count);
+        apart = apart;
+        status = get_set_same s.statuses v (Running w) Waiting r.waits;
+        ends = get_set_same o.statuses v (Settled (ending p left)) Waiting waits;
+        leaves = hold_all o.store ps left.work.trees apart (part_keeps p.steps begun (length p.steps) ∙ first_length o.store start.inputs ps (needs_of start.vertex) count);
+      }
+
+      moved : (u : ℕ) (x : Execution) → slice_get s.workers u ≡ Some (Runs x) → IsWorking b s o u x → IsWorking b new later u x
+      moved u x at_u old =
+          let other : x.vertex ≢ v = λ same. let both : some_of Waiting ≡ some_of (Running u) = sym r.waits ∙ ap (slice_get s.statuses) (sym same) ∙ old.status in absurd cc in
+          let mine : (q : Place) → Has x.places q → Has ps q → ⊥ = λ q h k. free q k u x at_u h in
+          record {
+            vertex = old.vertex;
+            there = old.there;
+            start = old.start;
+            trees = old.trees;
+            so_far = old.so_far;
+            now = hold_moved s.store new.store x.places old.trees old.now (λ q h. kept_all s.store ps work.trees q (mine q h));
+            apart = old.apart;
+            status = get_set_other s.statuses v (Running w) x.vertex other ∙ old.status;
+            ends = get_set_other o.statuses v (Settled (ending p left)) x.vertex other ∙ old.ends;
+            leaves = hold_moved o.store later.store x.places (whole (program_of old.vertex).steps old.start).work.trees old.leaves
+                (λ q h. kept_all o.store ps left.work.trees q (mine q h));
+          }
+
+  pub step_tracks : (w : ℕ) (x : Execution) (m : MicroStep) → slice_get s.workers w ≡ Some (Runs x) → next_step (program_in b x).steps x ≡ Some m
+      → IsSeparate any (after_step s w x (step_on x.done (Some m) (work_of s x))).workers → Tracks b (after_step s w x (step_on x.done (Some m) (work_of s x))) o
+  unfolding part
+  step_tracks w x m at_w comes separate = record {
+    agree = tracks.agree;
+    working = λ u y there. elim (got_set s.workers w (Runs z) u (Runs y) there) [
+      | inl h ↦
+          let same : z ≡ y = cc (h.1) in
+          subst (λ (n : ℕ). IsWorking b new o n y) (sym h.0) (subst (IsWorking b new o w) same further)
+      | inr h ↦ moved u y h.0 h.1 (tracks.working u y h.1)
+    ];
+    separate = separate;
+    free = λ p is_free.
+        let mine : Has x.places p → ⊥ = λ h. is_free w z (get_set_same s.workers w (Runs z) (Runs x) at_w) h in
+        kept_all s.store x.places left.work.trees p mine ∙ tracks.free p (λ u y at_u h. by_worker p is_free mine u y at_u h);
+  }
+    where
+      left : Left
+      left = step_on x.done (Some m) (work_of s x)
+
+      z : Execution
+      z = with_step x left
+
+      new : State
+      new = after_step s w x left
+
+      own : IsWorking b s o w x
+      own = tracks.working w x at_w
+
+      same_worker : (u : ℕ) (y : Execution) → slice_get s.workers u ≡ Some (Runs y) → u ≡ w → y ≡ x
+      same_worker u y at_u same = let both : some_of (Runs y) ≡ some_of (Runs x) = sym at_u ∙ ap (slice_get s.workers) same ∙ at_w in cc
+
+      by_worker : (p : Place) → IsFree new.workers p → (Has x.places p → ⊥) → (u : ℕ) (y : Execution) → slice_get s.workers u ≡ Some (Runs y) → Has y.places p → ⊥
+      by_worker p is_free mine u y at_u h =
+          is_free u y (get_set_other s.workers w (Runs z) u (λ same. mine (subst (λ (t : Execution). Has t.places p) (same_worker u y at_u same) h)) ∙ at_u) h
+
+      steps : List MicroStep
+      steps = (program_of own.vertex).steps
+
+      -- the micro-step is the next one of what the order did
+      next : part steps own.start (suc x.done) ≡ left
+      next =
+          let it : IsNextStep (program_in b x).steps x m = next_step_is (program_in b x).steps x m comes in
+          let now = left_at x.own own.trees x.fault in
+          ap (go_on steps x.done) own.so_far
+          ∙ ap (λ (f : Option VertexFault). unless_faulted f now (step_on x.done (slice_get steps x.done) now.work)) it.clean
+          ∙ ap (λ ts. step_on x.done (slice_get steps x.done) (at_work x.own ts)) (sym (hold_trees s.store x.places own.trees own.now))
+          ∙ ap (λ (p : Program). step_on x.done (slice_get p.steps x.done) (work_of s x)) (sym (ap program_at own.there))
+          ∙ ap (λ n. step_on x.done n (work_of s x)) it.there
+
+      count : length left.work.trees ≡ length x.places
+      count = step_keeps x.done (Some m) (work_of s x) ∙ ap length (hold_trees s.store x.places own.trees own.now) ∙ hold_length s.store x.places own.trees own.now
+
+      add_one : (n : ℕ) → n + 1 ≡ suc n
+      add_one n = omega arith
+
+      further : IsWorking b new o w z
+      further = record {
+        vertex = own.vertex;
+        there = own.there;
+        start = own.start;
+        trees = left.work.trees;
+        so_far = ap (part steps own.start) (add_one x.done) ∙ next;
+        now = hold_all s.store x.places left.work.trees own.apart count;
+        apart = own.apart;
+        status = own.status;
+        ends = own.ends;
+        leaves = own.leaves;
+      }
+
+      moved : (u : ℕ) (y : Execution) → u ≢ w → slice_get s.workers u ≡ Some (Runs y) → IsWorking b s o u y → IsWorking b new o u y
+      moved u y other at_u old = record {
+        vertex = old.vertex;
+        there = old.there;
+        start = old.start;
+        trees = old.trees;
+        so_far = old.so_far;
+        now = hold_moved s.store new.store y.places old.trees old.now
+            (λ p h. kept_all s.store x.places left.work.trees p (λ k. other (tracks.separate.once u w y x p at_u at_w h k tt)));
+        apart = old.apart;
+        status = old.status;
+        ends = old.ends;
+        leaves = old.leaves;
+      }
+
+  pub settle_tracks : (w : ℕ) (x : Execution) → slice_get s.workers w ≡ Some (Runs x) → is_finished (program_in b x).steps x ≡ true
+      → IsSeparate any (slice_set s.workers w Idle) → Tracks b (after_settle s w x.vertex (ending_from (program_in b x) x)) o
+  settle_tracks w x at_w fin separate = record {
+    agree = agree_one s.statuses o.statuses x.vertex (Settled end) (Running w) own.status (own.ends ∙ ap (λ (e : Ending). some_of (Settled e)) same_end) tracks.agree;
+    working = λ u y there. elim (got_set s.workers w Idle u (Runs y) there) [
+      | inl h ↦ absurd (cc (h.1))
+      | inr h ↦
+          let old = tracks.working u y h.1 in
+          record {
+            vertex = old.vertex;
+            there = old.there;
+            start = old.start;
+            trees = old.trees;
+            so_far = old.so_far;
+            now = old.now;
+            apart = old.apart;
+            status = get_set_other s.statuses x.vertex (Settled end) y.vertex (λ same. h.0 (one_worker u y old.status same)) ∙ old.status;
+            ends = old.ends;
+            leaves = old.leaves;
+          }
+    ];
+    separate = separate;
+    free = λ p is_free. elim (has_or x.places p) [
+      | inl h ↦ hold_same s.store o.store x.places own.trees own.now leaves p h
+      | inr h ↦ tracks.free p (λ u y at_u k. by_worker p is_free h u y at_u k)
+    ];
+  }
+    where
+      end : Ending
+      end = ending_from (program_in b x) x
+
+      own : IsWorking b s o w x
+      own = tracks.working w x at_w
+
+      program : program_in b x ≡ program_of own.vertex
+      program = ap program_at own.there
+
+      done : whole (program_of own.vertex).steps own.start ≡ left_at x.own own.trees x.fault
+      done =
+          let over : is_over_at (program_of own.vertex).steps (part (program_of own.vertex).steps own.start x.done) x.done ≡ true =
+          ap (λ (l : Left). is_over_at (program_of own.vertex).steps l x.done) own.so_far ∙ ap (λ (p : Program). is_finished p.steps x) (sym program) ∙ fin in
+          finished_whole (program_of own.vertex).steps own.start x.done over ∙ own.so_far
+
+      same_end : ending (program_of own.vertex) (whole (program_of own.vertex).steps own.start) ≡ end
+      same_end = ap (ending (program_of own.vertex)) done ∙ ap (λ (p : Program). ending_from p x) (sym program)
+
+      leaves : Hold o.store x.places own.trees
+      leaves = subst (Hold o.store x.places) (ap (λ (l : Left). l.work.trees) done) own.leaves
+
+      same_worker : (u : ℕ) (y : Execution) → slice_get s.workers u ≡ Some (Runs y) → u ≡ w → y ≡ x
+      same_worker u y at_u same = let both : some_of (Runs y) ≡ some_of (Runs x) = sym at_u ∙ ap (slice_get s.workers) same ∙ at_w in cc
+
+      by_worker : (p : Place) → IsFree (slice_set s.workers w Idle) p → (Has x.places p → ⊥) → (u : ℕ) (y : Execution) → slice_get s.workers u ≡ Some (Runs y) → Has y.places p → ⊥
+      by_worker p is_free mine u y at_u h =
+          is_free u y (get_set_other s.workers w Idle u (λ same. mine (subst (λ (t : Execution). Has t.places p) (same_worker u y at_u same) h)) ∙ at_u) h
+
+      one_worker : (u : ℕ) (y : Execution) → slice_get s.statuses y.vertex ≡ Some (Running u) → y.vertex ≡ x.vertex → u ≡ w
+      one_worker u y status same = let both : some_of (Running u) ≡ some_of (Running w) = sym status ∙ ap (slice_get s.statuses) same ∙ own.status in cc
+
+-- ---- events
+
+-- the claim order after a reply
+abbrev pub after_reply : Build → Order → Reply → Order
+after_reply b o r = order b o (claims_in (r ∷ []))
+
+-- a reply that is no claim leaves it
+step_stays : (b : Build) (o : Order) (k : ℕ) (m : MicroStep) (f : Option VertexFault) → after_reply b o (step_reply k m f) ≡ o
+step_stays b o k ReadLocal None = refl
+step_stays b o k ReadLocal (Some f) = refl
+step_stays b o k (Act action) None = refl
+step_stays b o k (Act action) (Some f) = refl
+step_stays b o k (LayInput i) None = refl
+step_stays b o k (LayInput i) (Some f) = refl
+step_stays b o k (Run setting command) f = refl
+
+settle_stays : (b : Build) (o : Order) (v : ℕ) (e : Ending) → after_reply b o (settle_reply v e) ≡ o
+settle_stays b o v (Done trees) = refl
+settle_stays b o v (Failed f) = refl
+
+pub event_tracks : (b : Build) → HasDistinctNeeds b → (s : State) (o : Order) (e : Event) (a : Answer) → Tracks b s o → TakesFree any b s a e → table b s e ≡ Some a
+    → Tracks b a.0 (after_reply b o a.1)
+event_tracks b differ s o (Claim w v) a tracks free given =
+    let c = claim_is b s w v a given in
+    let r = c.begins in
+    let ps = claim_places s c.start in
+    let apart = places_distinct (held s.workers) (needs_of c.start.vertex) (differ v c.start.vertex r.there) in
+    let separate = subst (λ (t : Answer). IsSeparate any t.0.workers) c.gives (event_separate any b s (Claim w v) a tracks.separate free given) in
+    let now = claim_tracks b s o tracks w v c.start ps c.idle r (λ p h. free c p h tt) apart (places_length (held s.workers) (needs_of c.start.vertex)) separate in
+    let numbers = map (λ (p : Place). p.number) ps in
+    subst (λ (t : Answer). Tracks b t.0 (after_reply b o t.1)) (sym c.gives)
+    (subst (λ (q : Option Start). Tracks b (claim_at b s w v c.start ps).0 (run_whole b o (named v numbers) q)) (sym (ready_too b s.statuses o.statuses tracks.agree v c.start r))
+    (subst (λ qs. Tracks b (claim_at b s w v c.start ps).0 (whole_at b o v c.start qs)) (sym (places_numbered (held s.workers) (needs_of c.start.vertex))) now))
+event_tracks b differ s o (Step w) a tracks free given =
+    let c = step_is b s w a given in
+    let left = step_on c.x.done (Some c.step) (work_of s c.x) in
+    let separate = subst (λ (t : Answer). IsSeparate any t.0.workers) c.gives (event_separate any b s (Step w) a tracks.separate free given) in
+    subst (λ (t : Answer). Tracks b t.0 (after_reply b o t.1)) (sym c.gives)
+    (subst (Tracks b (after_step s w c.x left)) (sym (step_stays b o c.x.done c.step left.fault)) (step_tracks b s o tracks w c.x c.step c.there c.next separate))
+event_tracks b differ s o (Settle w) a tracks free given =
+    let c = settle_is b s w a given in
+    let end = ending_from (program_in b c.x) c.x in
+    let separate = subst (λ (t : Answer). IsSeparate any t.0.workers) c.gives (event_separate any b s (Settle w) a tracks.separate free given) in
+    subst (λ (t : Answer). Tracks b t.0 (after_reply b o t.1)) (sym c.gives)
+    (subst (Tracks b (after_settle s w c.x.vertex end)) (sym (settle_stays b o c.x.vertex end)) (settle_tracks b s o tracks w c.x c.there c.finished separate))
+
+pub opening_tracks : (b : Build) (o : Opening) → Tracks b (opening b o) (at_first b o.store)
+opening_tracks b o = record {
+  agree = λ v. go v (slice_get (replicate (length b.graph.vertices) Waiting) v) refl;
+  working = λ w x there. absurd (let h : Runs x ≡ Idle = got_replicate o.workers Idle w (Runs x) there in cc);
+  separate = opening_separate any o.workers;
+  free = λ p is_free. refl;
+}
+  where
+    go : (v : ℕ) (r : Option Status) → slice_get (replicate (length b.graph.vertices) Waiting) v ≡ r → Agrees r r
+    go v None is = refl
+    go v (Some Waiting) is = refl
+    go v (Some (Settled e)) is = refl
+    go v (Some (Running w)) is = tt

@@ -1,0 +1,91 @@
+-- The contents of caches: a finite map from places, each a key and the number of an instance, to trees.
+use Rattle.std.specs.Prelude.{◌≡◌, ℕ, Bool, List, [], ◌∷◌, map, Option, Some, None, unwrap_or, ◌⊎◌}
+use Rattle.std.specs.Ordering.{on, nat_cmp, eq_by_cmp}
+use Rattle.std.specs.Cmp.Lexicographic.{slice_cmp}
+use Rattle.std.specs.List.{list_any}
+use Rattle.std.specs.declared.cmp.Ordering.{Ordering}
+use Rattle.std.specs.FinMap as finite
+use Rattle.std.specs.FinMap.{FinMap}
+use Rattle.llb_cache.specs.declared.key.Key.{Key}
+use Rattle.llb_cache.specs.declared.key.Seed.{Seed}
+use Rattle.llb_cache.specs.declared.key.Mode.{Mode}
+use Rattle.llb_cache.specs.declared.key.Mode.TheVariants.{Shared, Private, Locked}
+pub use Rattle.llb_cache.specs.declared.need.Place.{Place}
+pub use Rattle.llb_cache.specs.Caches.{place}
+use Rattle.llb_tree.specs.Tree.{TreeMap, empty_tree}
+
+-- ---- places
+
+abbrev pub mode_number : Mode → ℕ
+mode_number Shared = 0
+mode_number Private = 1
+mode_number Locked = 2
+
+abbrev pub seed_name : Option Seed → List (List ℕ)
+seed_name None = []
+seed_name (Some s) = (s.index ∷ []) ∷ s.digest ∷ []
+
+-- a key, written as texts
+abbrev pub key_name : Key → List (List ℕ)
+key_name k = (mode_number k.mode ∷ []) ∷ k.id ∷ seed_name k.seed
+
+-- a place, written as texts
+abbrev pub name_of : Place → List (List ℕ)
+name_of p = (p.number ∷ []) ∷ key_name p.key
+
+abbrev pub place_cmp : Place → Place → Ordering
+place_cmp = on name_of (slice_cmp (slice_cmp nat_cmp))
+
+abbrev pub is_in : List Place → Place → Bool
+is_in ps p = list_any (λ q. eq_by_cmp place_cmp p q) ps
+
+-- an execution has it alone
+abbrev pub IsExclusive : Mode → Type 0
+IsExclusive Shared = ⊥
+IsExclusive Private = Unit {0}
+IsExclusive Locked = Unit {0}
+
+-- ---- contents
+
+abbrev pub Store : Type 0
+Store = FinMap place_cmp TreeMap
+
+-- no cache has an instance
+abbrev pub no_instances : Store
+no_instances = finite.empty
+
+-- the tree of an instance, where it is there
+unfoldable pub content : Store → Place → Option TreeMap
+content s p = finite.get s p
+
+-- another tree at one place
+unfoldable pub put : Store → Place → TreeMap → Store
+put s p t = finite.insert s p t
+
+-- one tree at each place
+abbrev pub put_all : Store → List Place → List TreeMap → Store
+put_all s [] ts = s
+put_all s (p ∷ ps) [] = s
+put_all s (p ∷ ps) (t ∷ ts) = put_all (put s p t) ps ts
+
+-- the trees at places, which are there
+abbrev pub trees_at : Store → List Place → List TreeMap
+trees_at s ps = map (λ p. unwrap_or (content s p) empty_tree) ps
+
+-- these trees stand at these places
+abbrev pub Hold : Store → List Place → List TreeMap → Type 0
+Hold s [] [] = Unit {0}
+Hold s [] (t ∷ ts) = ⊥
+Hold s (p ∷ ps) [] = ⊥
+Hold s (p ∷ ps) (t ∷ ts) = (content s p ≡ Some t) × Hold s ps ts
+
+-- ---- lists
+
+abbrev pub Has : {A : Type 0} → List A → A → Type 0
+Has [] p = ⊥
+Has (q ∷ qs) p = (p ≡ q) ⊎ Has qs p
+
+-- no item stands twice
+abbrev pub Distinct : {A : Type 0} → List A → Type 0
+Distinct [] = Unit {0}
+Distinct (p ∷ ps) = (Has ps p → ⊥) × Distinct ps
