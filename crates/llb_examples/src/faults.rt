@@ -2,12 +2,13 @@
 
 use llb_applet::ScriptFault;
 use llb_board::{ClaimFault, SettleFault, StepFault};
+use llb_cache::{Key, Mode};
 use llb_glob::PatternFault;
 use llb_loader::{Feature, LoadFault, Rule};
 use llb_model::VertexFault;
 use llb_ops::OpFault;
 use llb_tree::TreeFault;
-use llb_wire::{Memory, WireFault};
+use llb_wire::{Memory, Text, WireFault};
 use std::alloc::{AllocError, Global};
 use std::fmt::Display;
 
@@ -66,6 +67,25 @@ fn faults_of_trees_patterns_and_vertices(rt: HostRuntime) {
     assert!(rt; print(alloc, &patterns, "41\n42\n"));
     let vertices = [VertexFault::Action(3, 21), VertexFault::Exit(0, 1)];
     assert!(rt; print(alloc, &vertices, "action 3 fault 21\ncommand 0 status 1\n"));
+}
+
+fn held(alloc: Global, id: &str) -> Option<ClaimFault> {
+    let id = Text::from_str(alloc, id).ok()?;
+    let key = Key {
+        id,
+        seed: None,
+        mode: Mode::Locked,
+    };
+    Some(ClaimFault::Held(key))
+}
+
+#[test]
+fn a_locked_cache_that_is_held(rt: HostRuntime) {
+    let alloc = rt.alloc();
+    match held(alloc, "go-mod") {
+        Some(fault) => assert!(rt; print(alloc, &[fault], "135 go-mod\n")),
+        None => panic!(rt; "no memory"),
+    }
 }
 
 #[test]
@@ -166,4 +186,5 @@ fn rules_by_their_names(rt: HostRuntime) {
         89 15 Sharing\n89 16 CacheTwice\n89 17 Script 72 2\n\
         89 18 Script 73 5\n89 19 MergeInput\n";
     assert!(rt; print(rt.alloc(), &rules, wanted));
+use llb_cache::{Key, Mode};
 }

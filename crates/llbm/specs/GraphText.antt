@@ -12,7 +12,7 @@ use Rattle.llbm.specs.Output as output
 use Rattle.llbm.specs.declared.fault.OutputFault.{OutputFault}
 use Rattle.llbm.specs.declared.fault.OutputFault.TheVariants.{Write, Memory}
 
--- the kind of an op; no graph has an op of the last three
+-- the kind of an op; no graph has an op of the last two, or of none
 abbrev pub kind_text : Option Kind → List ℕ
 kind_text (Some (Source s)) = codes "source"
 kind_text (Some (File f)) = codes "file"

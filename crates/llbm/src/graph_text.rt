@@ -10,7 +10,7 @@ use llb_ops::{Kind, Op};
 use llb_wire::{Sink, write_all};
 use std::alloc::Global;
 
-// The name of an op's kind. No graph has an op of the last three.
+// The name of an op's kind. No graph has an op of the last two, or of none.
 fn kind_name(op: &Op) -> &'static str
     ensures { result.now ≡ kind_text op.now.kind }
 {

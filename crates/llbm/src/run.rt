@@ -1,6 +1,7 @@
 //! From the bytes of a definition to the text of its result: read, load, open a board, do the chosen events, print.
 
 ghost use Rattle.std.specs.Prelude.{◌≡◌, IfOk, IfErr};
+ghost use Rattle.llb_model.specs.Caches.{no_instances};
 ghost use Rattle.llb_model.specs.Outcome.{output_in};
 ghost use Rattle.llb_model.specs.State.{ending_at};
 ghost use Rattle.llb_board.specs.Board.{opened};
@@ -23,7 +24,7 @@ use std::io::{Read, Write};
 
 // A board with one worker, or why there is none.
 fn opened(alloc: Global, graph: Graph, locals: Locals) -> Result<Board, ProgramFault>
-    ensures board { IfOk result (λ b. b ≡ opened (build_of locals graph) (record { workers = 1 })) }
+    ensures board { IfOk result (λ b. b ≡ opened (build_of locals graph) (record { workers = 1; store = no_instances })) }
     ensures fault { IfErr result (λ e. IsRefusal e → Lacks locals graph) }
 {
     match Board::open(alloc, graph, locals, 1) {
