@@ -4,3 +4,4 @@ pub mod Gathered
 pub mod Taken
 pub mod Shown
 pub mod Vertices
+pub mod NoCaches

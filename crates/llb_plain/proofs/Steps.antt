@@ -66,28 +66,28 @@ unfolding micro_step
 laid k i inputs t = refl
 
 ran_as : (k : ℕ) (setting : Setting) (command : Command) (mounts : List Shown) (o : Option (List Shown)) → commands.run setting mounts command ≡ o
-    → step_on k (Some (Run setting command)) (work_on (Mounted mounts)) ≡ tried (work_on (Mounted mounts)) (with_own (work_on (Mounted mounts)) (ran k o))
+    → step_on k (Some (Run setting command)) (work_on (Mounted mounts [])) ≡ tried (work_on (Mounted mounts [])) (ran k [] [] o)
 unfolding micro_step
-ran_as k setting command mounts o is = ap (λ r. tried (work_on (Mounted mounts)) (with_own (work_on (Mounted mounts)) (ran k r))) is
+ran_as k setting command mounts o is = ap (λ r. tried (work_on (Mounted mounts [])) (ran k [] [] r)) is
 
 -- a command with status 0 leaves other mounts
 pub ran_well : (k : ℕ) (setting : Setting) (command : Command) (mounts after : List Shown) (status : ℕ) → status ≡ commands.status_of (commands.run setting mounts command)
     → after ≡ commands.left mounts (commands.run setting mounts command) → status ≡ 0
-    → step_on k (Some (Run setting command)) (work_on (Mounted mounts)) ≡ left_at (Mounted after)
+    → step_on k (Some (Run setting command)) (work_on (Mounted mounts [])) ≡ left_at (Mounted after [])
 ran_well k setting command mounts after status is leaves none = by_run (commands.run setting mounts command) refl
   where
-    by_run : (o : Option (List Shown)) → commands.run setting mounts command ≡ o → step_on k (Some (Run setting command)) (work_on (Mounted mounts)) ≡ left_at (Mounted after)
-    by_run (Some view) run = ran_as k setting command mounts (Some view) run ∙ ap (λ m. left_at (Mounted m)) (sym (leaves ∙ ap (commands.left mounts) run))
+    by_run : (o : Option (List Shown)) → commands.run setting mounts command ≡ o → step_on k (Some (Run setting command)) (work_on (Mounted mounts [])) ≡ left_at (Mounted after [])
+    by_run (Some view) run = ran_as k setting command mounts (Some view) run ∙ ap (λ m. left_at (Mounted m [])) (sym (leaves ∙ ap (commands.left mounts) run))
     by_run None run = absurd (omega (arith, is ∙ ap commands.status_of run, none))
 
 -- any other status is a fault, and the mounts stay
 pub ran_ill : (k : ℕ) (setting : Setting) (command : Command) (mounts after : List Shown) (status : ℕ) → status ≡ commands.status_of (commands.run setting mounts command)
     → after ≡ commands.left mounts (commands.run setting mounts command) → status ≢ 0
-    → (step_on k (Some (Run setting command)) (work_on (Mounted mounts)) ≡ faulted_at (Mounted mounts) (fault.Exit k status)) × (after ≡ mounts)
+    → (step_on k (Some (Run setting command)) (work_on (Mounted mounts [])) ≡ faulted_at (Mounted mounts []) (fault.Exit k status)) × (after ≡ mounts)
 ran_ill k setting command mounts after status is leaves some = by_run (commands.run setting mounts command) refl
   where
     by_run : (o : Option (List Shown)) → commands.run setting mounts command ≡ o
-        → (step_on k (Some (Run setting command)) (work_on (Mounted mounts)) ≡ faulted_at (Mounted mounts) (fault.Exit k status)) × (after ≡ mounts)
+        → (step_on k (Some (Run setting command)) (work_on (Mounted mounts [])) ≡ faulted_at (Mounted mounts []) (fault.Exit k status)) × (after ≡ mounts)
     by_run (Some view) run = absurd (some (is ∙ ap commands.status_of run))
     by_run None run =
-        (ran_as k setting command mounts None run ∙ ap (λ n. faulted_at (Mounted mounts) (fault.Exit k n)) (sym (is ∙ ap commands.status_of run)), leaves ∙ ap (commands.left mounts) run)
+        (ran_as k setting command mounts None run ∙ ap (λ n. faulted_at (Mounted mounts []) (fault.Exit k n)) (sym (is ∙ ap commands.status_of run)), leaves ∙ ap (commands.left mounts) run)

@@ -22,7 +22,6 @@ use Rattle.llb_model.specs.Program.{Build, Program, Files, Layers, LocalTree, Mo
 use Rattle.llb_model.specs.Outcome.{Outcome, Done, ending, next_outcome, outcomes}
 use Rattle.llb_model.specs.State.{lacks, missing_local, first_of}
 use Rattle.llb_plain.specs.Programs.{work_on, left_at, ended_from, ended_by, layings, runs_of, program_by, file_program, exec_program}
-use Rattle.llb_plain.specs.Evaluation.{cache_from}
 use Rattle.llb_plain.proofs.Lists.{drop_at}
 
 pub kind_at : (g : Numbered) (k : ℕ) (v : Vertex) → IsGraph g → slice_get g.vertices k ≡ Some v → IsVertexOf v v.op.kind
@@ -60,11 +59,6 @@ missing_unnamed locals vs i v here at unnamed =
 
 pub missing_end : (locals : List Local) (vs : List Vertex) (i : ℕ) → AsMissing locals vs i → length vs ≤ i → None ≡ missing_local locals vs
 missing_end locals vs i here past = ap (missing_local locals) (sym (drop_all i vs past)) ∙ here
-
--- no vertex mounts a cache yet
-pub no_cache : (k : ℕ) (vs : List Vertex) → cache_from k vs ≡ None
-no_cache k [] = refl
-no_cache k (v ∷ vs) = no_cache (k + 1) vs
 
 -- ---- outcomes by number
 
@@ -108,10 +102,10 @@ file_outputs actions n inputs results = refl
 
 pub exec_ends : (setting setting' : Setting) (x : ExecOp) (commands : List Command) (n : ℕ) (start start' mounts : List Shown) (outs : List TreeMap)
     → setting ≡ setting' → start ≡ start'
-    → whole (runs_of setting' commands) (work_on (Mounted start')) ≡ left_at (Mounted mounts)
+    → whole (runs_of setting' commands) (work_on (Mounted start' [])) ≡ left_at (Mounted mounts [])
     → map (λ i. tree_for i (mount_outputs x.mounts) mounts) (range_with_len 0 n) ≡ outs
-    → ended_from (exec_program setting x commands n) (Mounted start) ≡ Done outs
+    → ended_from (exec_program setting x commands n) (Mounted start []) ≡ Done outs
 unfolding outputs_of
 exec_ends setting setting' x commands n start start' mounts outs settings starts left given =
-    (λ j. ended_from (exec_program (settings j) x commands n) (Mounted (starts j)))
+    (λ j. ended_from (exec_program (settings j) x commands n) (Mounted (starts j) []))
     ∙ ap (ending (exec_program setting' x commands n)) left ∙ ap Done given

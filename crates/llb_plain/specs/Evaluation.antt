@@ -1,8 +1,8 @@
 -- What an evaluation answers: first of all a local tree that is missing, then a cache, else the plain outcome of each vertex.
 use Rattle.std.specs.Prelude.{ℕ, ◌+◌, List, [], ◌∷◌, Option, Some, None, Result, Ok, Err, if◌then◌else◌}
 use Rattle.llb_loader.specs.declared.graph.Vertex.{Vertex}
-use Rattle.llb_model.specs.Program.{Build}
-use Rattle.llb_model.specs.Outcome.{Outcome, outcomes, has_cache}
+use Rattle.llb_model.specs.Program.{Build, has_cache}
+use Rattle.llb_model.specs.Outcome.{Outcome, outcomes}
 use Rattle.llb_model.specs.State.{missing_local}
 use Rattle.llb_plain.specs.declared.fault.PlainFault.{PlainFault}
 use Rattle.llb_plain.specs.declared.fault.PlainFault.TheVariants.{MissingLocal, HasCache}

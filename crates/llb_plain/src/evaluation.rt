@@ -1,14 +1,17 @@
 //! The plain outcome of every vertex of a graph, from the lowest on.
 
-ghost use Rattle.std.specs.Prelude.{◌≡◌, Ok, [], map, option_map, unwrap_or};
+ghost use Rattle.std.specs.Prelude.{◌≡◌, false, Ok, [], map, option_map, unwrap_or};
 ghost use Rattle.llb_loader.specs.Graph.{IsVertexOf, Numbered};
 ghost use Rattle.llb_model.specs.Outcome.{Ended, next_outcome, outcomes};
+ghost use Rattle.llb_model.specs.Program.{has_cache};
 ghost use Rattle.llb_model.specs.State.{missing_local};
+ghost use Rattle.llb_model.specs.Laws.{HasNoCaches};
 ghost use Rattle.llb_plain.specs.Endings.{outcome_of};
 ghost use Rattle.llb_plain.specs.Programs.{ended_by};
 ghost use Rattle.llb_plain.specs.Faults.{Gives, MemoryLast};
 ghost use Rattle.llb_plain.specs.Evaluation.{evaluate_of};
 
+use crate::cache::first_with_cache;
 use crate::exec::run_all;
 use crate::fault::PlainFault;
 use crate::file_op::act_all;
@@ -25,8 +28,8 @@ use std::alloc::Global;
 
 /// The plain outcome of every vertex: `Blocked` where an input of it is not done, else what its whole program leaves of its
 /// inputs' outputs, be it its outputs or its first fault. 101 `MissingLocal` with the name of the least vertex whose local
-/// source has no tree; 102 `HasCache`, of a vertex that mounts a cache; 103 `Memory`, after those, but also in place of 101
-/// where the name can't be held.
+/// source has no tree; then 102 `HasCache` with the least vertex that mounts a cache; 103 `Memory`, after those, but also in
+/// place of 101 where the name can't be held.
 pub fn evaluate(alloc: Global, graph: &Graph, locals: &Locals) -> Result<Outcomes, PlainFault>
     ensures gives { Gives (λ o. o) result (evaluate_of (record { graph = graph.now; locals = locals.now })) }
     ensures last { MemoryLast result (evaluate_of (record { graph = graph.now; locals = locals.now })) }
@@ -34,6 +37,9 @@ pub fn evaluate(alloc: Global, graph: &Graph, locals: &Locals) -> Result<Outcome
     if let Some(name) = missing(graph, locals) {
         let name = Text::from_str(alloc, name)?;
         return Err(PlainFault::MissingLocal(name));
+    }
+    if let Some(vertex) = first_with_cache(graph) {
+        return Err(PlainFault::HasCache(vertex));
     }
     evaluate_all(alloc, graph, locals)
 }
@@ -54,6 +60,7 @@ fn missing<'a>(graph: &'a Graph, locals: &Locals) -> Option<&'a str>
 
 // One vertex after another.
 fn evaluate_all(alloc: Global, graph: &Graph, locals: &Locals) -> Result<Outcomes, PlainFault>
+    requires { HasNoCaches (record { graph = graph.now; locals = locals.now }) }
     ensures { Gives (λ o. o) result (Ok (outcomes (record { graph = graph.now; locals = locals.now }))) }
 {
     graph.is_graph();
@@ -72,7 +79,8 @@ fn next(
     locals: &Locals,
     before: &[Outcome],
 ) -> Result<Outcome, PlainFault>
-    requires { IsVertexOf vertex.now vertex.now.op.kind }
+    requires kind { IsVertexOf vertex.now vertex.now.op.kind }
+    requires cacheless { has_cache vertex.now ≡ false }
     ensures { (graph : Numbered) → Gives outcome_of result (Ok (next_outcome (record { graph = graph; locals = locals.now }) (map outcome_of before.now) vertex.now)) }
 {
     match gathered(alloc, before, vertex.inputs.as_slice())? {
@@ -88,7 +96,8 @@ fn run(
     locals: &Locals,
     inputs: &[&Tree],
 ) -> Result<Outcome, PlainFault>
-    requires { IsVertexOf vertex.now vertex.now.op.kind }
+    requires kind { IsVertexOf vertex.now vertex.now.op.kind }
+    requires cacheless { has_cache vertex.now ≡ false }
     ensures { Gives outcome_of result (Ok (Ended (ended_by locals.now vertex.now (map (λ t. t.now) inputs.now) vertex.now.op.kind))) }
 {
     match &vertex.op.kind {

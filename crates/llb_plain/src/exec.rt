@@ -1,6 +1,6 @@
 //! How an exec ends: its commands one after another, until one has a status other than 0, and then the trees of its mounts.
 
-ghost use Rattle.std.specs.Prelude.{◌<◌, ◌^◌, Ok, length, map};
+ghost use Rattle.std.specs.Prelude.{◌<◌, ◌^◌, [], Ok, length, map};
 ghost use Rattle.std.specs.List.{range_with_len};
 ghost use Rattle.llb_loader.specs.Rules.{mount_outputs};
 ghost use Rattle.llb_mount.specs.View.{IsView};
@@ -21,7 +21,7 @@ use llb_tree::Tree;
 use llb_wire::Many;
 use std::alloc::Global;
 
-/// The commands of an exec with so many outputs, on the trees of its inputs.
+/// The commands of an exec that shows no cache, with so many outputs, on the trees of its inputs.
 pub(crate) fn run_all(
     alloc: Global,
     exec: &ExecOp,
@@ -32,7 +32,7 @@ pub(crate) fn run_all(
     requires few { length commands.now < 2 ^ 32 }
     requires view { IsView (map (shown_of (map (λ t. t.now) inputs.now)) exec.now.mounts) }
     ensures { Gives outcome_of result (Ok (Ended (ended_from (exec_program (setting_of exec.now.meta) exec.now commands.now outputs)
-        (Mounted (map (shown_of (map (λ t. t.now) inputs.now)) exec.now.mounts))))) }
+        (Mounted (map (shown_of (map (λ t. t.now) inputs.now)) exec.now.mounts) [])))) }
 {
     let setting = setting(alloc, exec.meta.as_ref())?;
     let mut view = view(alloc, exec.mounts.as_slice(), inputs)?;
@@ -53,8 +53,8 @@ fn run_script(
     view: &mut View,
 ) -> Result<Option<VertexFault>, PlainFault>
     requires { length commands.now < 2 ^ 32 }
-    ensures { Gives (λ f. record { work = work_on (Mounted view.new); fault = f }) result
-        (Ok (whole (runs_of setting.now commands.now) (work_on (Mounted view.old)))) }
+    ensures { Gives (λ f. record { work = work_on (Mounted view.new []); fault = f }) result
+        (Ok (whole (runs_of setting.now commands.now) (work_on (Mounted view.old [])))) }
 {
     for (c, command) in commands.iter().enumerate() {
         let status = run_command(alloc, command, setting, view)?;

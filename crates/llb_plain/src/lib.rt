@@ -1,7 +1,8 @@
-//! The plain outcome of every vertex of a graph, by number: on one thread, one vertex after another, with no record and no
-//! workers. It stands on what one micro-step does, and on nothing of the machine that runs many at a time.
+//! The plain outcome of every vertex of a graph that mounts no cache, by number: on one thread, one vertex after another, with no
+//! record and no workers. It stands on what one micro-step does, and on nothing of the machine that runs many at a time.
 #![tactic(auto)]
 
+mod cache;
 mod evaluation;
 mod exec;
 mod fault;

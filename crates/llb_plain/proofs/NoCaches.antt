@@ -1,0 +1,47 @@
+-- The least vertex that mounts a cache; and an exec of a graph where none does.
+use Rattle.std.proofs.Common.{◌≡◌, ℕ, zero, suc, ◌+◌, ◌≤◌, List, [], ◌∷◌, map, drop, length, refl, sym, ap, ◌∙◌}
+use Rattle.std.specs.Prelude.{Bool, Some, None, true, false, unwrap_or, slice_get, if◌then◌else◌}
+use Rattle.std.proofs.lemmas.List.{drop_all}
+use Rattle.llb_ops.specs.declared.op.Kind.TheVariants as kind
+use Rattle.llb_ops.specs.declared.exec.ExecOp.{ExecOp}
+use Rattle.llb_loader.specs.Locals.{Local}
+use Rattle.llb_loader.specs.declared.graph.Vertex.{Vertex}
+use Rattle.llb_tree.specs.Tree.{TreeMap}
+use Rattle.llb_model.specs.Program.{Mounted, has_cache, mount_of, setting_of, shown_of}
+use Rattle.llb_model.proofs.Outcomes.{no_needs}
+use Rattle.llb_plain.specs.Programs.{ended_from, ended_by, program_by, exec_program}
+use Rattle.llb_plain.specs.Evaluation.{cache_from}
+use Rattle.llb_plain.proofs.Lists.{drop_at}
+
+-- none of the vertices so far mounts one
+abbrev pub AsCache : List Vertex → ℕ → Type 0
+AsCache vs i = cache_from i (drop i vs) ≡ cache_from 0 vs
+
+cache_next : (vs : List Vertex) (i : ℕ) (v : Vertex) → slice_get vs i ≡ Some v
+    → cache_from i (drop i vs) ≡ (if has_cache v then Some i else cache_from (i + 1) (drop (i + 1) vs))
+cache_next vs i v at = ap (cache_from i) (drop_at vs i v at)
+
+pub cache_there : (vs : List Vertex) (i : ℕ) (v : Vertex) → AsCache vs i → slice_get vs i ≡ Some v → has_cache v ≡ true → cache_from 0 vs ≡ Some i
+cache_there vs i v here at has = sym here ∙ cache_next vs i v at ∙ ap (λ b. if b then Some i else cache_from (i + 1) (drop (i + 1) vs)) has
+
+pub cache_passed : (vs : List Vertex) (i : ℕ) (v : Vertex) → AsCache vs i → slice_get vs i ≡ Some v → has_cache v ≡ false → AsCache vs (i + 1)
+cache_passed vs i v here at none = sym (cache_next vs i v at ∙ ap (λ b. if b then Some i else cache_from (i + 1) (drop (i + 1) vs)) none) ∙ here
+
+pub cache_end : (vs : List Vertex) (i : ℕ) → AsCache vs i → length vs ≤ i → cache_from 0 vs ≡ None
+cache_end vs i here past = sym here ∙ ap (cache_from i) (drop_all i vs past)
+
+-- where none is found, none has one
+pub none_has : (k : ℕ) (vs : List Vertex) (i : ℕ) (v : Vertex) → cache_from k vs ≡ None → slice_get vs i ≡ Some v → has_cache v ≡ false
+none_has k [] i v none at = absurd cc
+none_has k (u ∷ vs) i v none at = by_test (has_cache u) refl none i at (none_has (k + 1) vs)
+  where
+    by_test : (t : Bool) → has_cache u ≡ t → (if t then Some k else cache_from (k + 1) vs) ≡ None → (i : ℕ) → slice_get (u ∷ vs) i ≡ Some v
+        → ((j : ℕ) (x : Vertex) → cache_from (k + 1) vs ≡ None → slice_get vs j ≡ Some x → has_cache x ≡ false) → has_cache v ≡ false
+    by_test true is none i at rest = absurd cc
+    by_test false is none zero at rest = let same : u ≡ v = cc in ap has_cache (sym same) ∙ is
+    by_test false is none (suc j) at rest = rest j v none at
+
+-- an exec without a cache works on its own mounts alone
+pub exec_plain : (locals : List Local) (v : Vertex) (inputs : List TreeMap) (x : ExecOp) → has_cache v ≡ false
+    → ended_by locals v inputs (Some (kind.Exec x)) ≡ ended_from (exec_program (setting_of x.meta) x (unwrap_or v.script []) v.outputs) (Mounted (map (shown_of inputs) x.mounts) [])
+exec_plain locals v inputs x none = ap (λ needs. ended_from (program_by v (Some (kind.Exec x))) (Mounted (map (shown_of inputs) x.mounts) (map mount_of needs))) (no_needs v none)
