@@ -186,5 +186,5 @@ fn rules_by_their_names(rt: HostRuntime) {
         89 15 Sharing\n89 16 CacheTwice\n89 17 Script 72 2\n\
         89 18 Script 73 5\n89 19 MergeInput\n";
     assert!(rt; print(rt.alloc(), &rules, wanted));
-use llb_cache::{Key, Mode};
+    use llb_cache::{Key, Mode};
 }
