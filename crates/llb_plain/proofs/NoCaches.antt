@@ -1,7 +1,6 @@
 -- The least vertex that mounts a cache; and an exec of a graph where none does.
-use Rattle.std.proofs.Common.{◌≡◌, ℕ, zero, suc, ◌+◌, ◌≤◌, List, [], ◌∷◌, map, drop, length, refl, sym, ap, ◌∙◌}
+use Rattle.std.proofs.Common.{◌≡◌, ℕ, zero, suc, ◌+◌, List, [], ◌∷◌, map, drop, refl, sym, ap, ◌∙◌}
 use Rattle.std.specs.Prelude.{Bool, Some, None, true, false, unwrap_or, slice_get, if◌then◌else◌}
-use Rattle.std.proofs.lemmas.List.{drop_all}
 use Rattle.llb_ops.specs.declared.op.Kind.TheVariants as kind
 use Rattle.llb_ops.specs.declared.exec.ExecOp.{ExecOp}
 use Rattle.llb_loader.specs.Locals.{Local}
@@ -11,24 +10,10 @@ use Rattle.llb_model.specs.Program.{Mounted, has_cache, mount_of, setting_of, sh
 use Rattle.llb_model.proofs.Outcomes.{no_needs}
 use Rattle.llb_plain.specs.Programs.{ended_from, ended_by, program_by, exec_program}
 use Rattle.llb_plain.specs.Evaluation.{cache_from}
-use Rattle.llb_plain.proofs.Lists.{drop_at}
 
 -- none of the vertices so far mounts one
 abbrev pub AsCache : List Vertex → ℕ → Type 0
 AsCache vs i = cache_from i (drop i vs) ≡ cache_from 0 vs
-
-cache_next : (vs : List Vertex) (i : ℕ) (v : Vertex) → slice_get vs i ≡ Some v
-    → cache_from i (drop i vs) ≡ (if has_cache v then Some i else cache_from (i + 1) (drop (i + 1) vs))
-cache_next vs i v at = ap (cache_from i) (drop_at vs i v at)
-
-pub cache_there : (vs : List Vertex) (i : ℕ) (v : Vertex) → AsCache vs i → slice_get vs i ≡ Some v → has_cache v ≡ true → cache_from 0 vs ≡ Some i
-cache_there vs i v here at has = sym here ∙ cache_next vs i v at ∙ ap (λ b. if b then Some i else cache_from (i + 1) (drop (i + 1) vs)) has
-
-pub cache_passed : (vs : List Vertex) (i : ℕ) (v : Vertex) → AsCache vs i → slice_get vs i ≡ Some v → has_cache v ≡ false → AsCache vs (i + 1)
-cache_passed vs i v here at none = sym (cache_next vs i v at ∙ ap (λ b. if b then Some i else cache_from (i + 1) (drop (i + 1) vs)) none) ∙ here
-
-pub cache_end : (vs : List Vertex) (i : ℕ) → AsCache vs i → length vs ≤ i → cache_from 0 vs ≡ None
-cache_end vs i here past = sym here ∙ ap (cache_from i) (drop_all i vs past)
 
 -- where none is found, none has one
 pub none_has : (k : ℕ) (vs : List Vertex) (i : ℕ) (v : Vertex) → cache_from k vs ≡ None → slice_get vs i ≡ Some v → has_cache v ≡ false
