@@ -1,9 +1,9 @@
 //! Caches with their leases. Contracts see the keys in the order in which they were first leased, each with the trees of its
 //! instances, and the instances that each lease has. A refusal changes nothing, and only a lease and a copy take memory.
 
-ghost use Rattle.std.specs.Prelude.{◌≡◌, ◌≢◌, ◌↔◌, IsTrue, ◌<◌, length, map, slice_get, option_map, AllPairs, OnErr, IfOk, Some, []};
+ghost use Rattle.std.specs.Prelude.{◌≡◌, ◌≢◌, ◌↔◌, IsTrue, ◌<◌, ◌&&◌, length, map, slice_get, option_map, AllPairs, OnErr, IfOk, Some, []};
 ghost use Rattle.std.specs.Map.{keys_of};
-ghost use Rattle.llb_cache.specs.Caches.{IsOut, place_for, AreExclusive, IsCaches, leases, lease_of, place_at, places_of, trees_of, tree_at, with_content, given_back};
+ghost use Rattle.llb_cache.specs.Caches.{IsOut, place_for, AreExclusive, IsCaches, leases, lease_of, place_at, places_of, trees_of, tree_at, with_content, given_back, is_locked, is_held, number_for, place};
 ghost use Rattle.llb_cache.specs.Faults.{Gives, MemoryLast};
 
 use crate::copying::{copied_leases, copied_rows, same_leases, same_rows};
@@ -13,7 +13,7 @@ use crate::growing::{
 };
 use crate::key::Key;
 use crate::need::{Need, Place};
-use crate::search::{count, keys_differ};
+use crate::search::{count, is_shut, keys_differ, number_for};
 use crate::trees::Trees;
 use indexmap::IndexMap;
 use llb_tree::Tree;
@@ -163,6 +163,20 @@ impl Caches {
         ensures { self.new ≡ given_back self.old lease }
     {
         take_back(&mut self.out, lease.number);
+    }
+
+    /// Whether a lease of this key would be refused: it is locked, and a lease has its instance. Takes no memory.
+    pub fn is_shut(&self, key: &Key) -> bool
+        ensures { result ≡ (is_locked key.now.mode && is_held self.now.out (place key.now 0)) }
+    {
+        is_shut(&self.out, key)
+    }
+
+    /// The number of the instance that a lease of this key would have now. Takes no memory.
+    pub fn next_instance(&self, key: &Key) -> u32
+        ensures { result ≡ number_for self.now.out key.now key.now.mode }
+    {
+        number_for(&self.out, key, count(&self.out))
     }
 
     /// How many leases are out. Takes no memory.

@@ -1,9 +1,9 @@
 //! What leases have, and what is free: searches that take no memory, in time by the number of instances that leases have.
 
-ghost use Rattle.std.specs.Prelude.{◌≡◌, ◌≢◌, ◌↔◌, ◌<◌, ◌≤◌, IsTrue, AllPairs, length, slice_get, IfSome, option_and_then};
+ghost use Rattle.std.specs.Prelude.{◌≡◌, ◌≢◌, ◌↔◌, ◌<◌, ◌≤◌, ◌&&◌, IsTrue, AllPairs, length, slice_get, IfSome, option_and_then};
 ghost use Rattle.std.specs.List.{list_any, find};
 ghost use Rattle.llb_cache.specs.Key.{same_key};
-ghost use Rattle.llb_cache.specs.Caches.{same_place, place, is_held, leases, first_free, number_for, is_shut, free_lease};
+ghost use Rattle.llb_cache.specs.Caches.{same_place, place, is_held, leases, first_free, number_for, is_locked, is_shut, free_lease};
 
 use crate::key::{Key, Mode};
 use crate::need::{Need, Place};
@@ -74,13 +74,14 @@ pub(crate) fn number_for(out: &[Option<Many<Place>>], key: &Key, count: u32) -> 
     }
 }
 
-fn is_shut(out: &[Option<Many<Place>>], need: &Need) -> bool
-    ensures { result ≡ is_shut out.now need.now }
+// Whether a key is locked, and a lease has its instance.
+pub(crate) fn is_shut(out: &[Option<Many<Place>>], key: &Key) -> bool
+    ensures { result ≡ (is_locked key.now.mode && is_held out.now (place key.now 0)) }
 {
-    match need.key.mode {
+    match key.mode {
         Mode::Shared => false,
         Mode::Private => false,
-        Mode::Locked => is_held(out, &need.key, 0),
+        Mode::Locked => is_held(out, key, 0),
     }
 }
 
@@ -90,7 +91,7 @@ pub(crate) fn first_shut(out: &[Option<Many<Place>>], needs: &[Need]) -> Option<
     ensures within { IfSome result (λ i. i < length needs.now) }
 {
     for (i, need) in needs.iter().enumerate() {
-        if is_shut(out, need) {
+        if is_shut(out, &need.key) {
             return Some(i);
         }
     }
