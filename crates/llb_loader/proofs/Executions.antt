@@ -18,15 +18,15 @@ use Rattle.llb_loader.specs.Rules.{IsBelow, HasWord, MeetsAll, rules_on, kind_st
 use Rattle.llb_loader.specs.Graph.{IsExecVertex}
 use Rattle.llb_loader.proofs.Lengths.{script_short}
 
--- a known type that is none of three is one of two
-two_types : (t : ℤ) → IsBelow 5 t → int_eq t secret ≡ false → int_eq t ssh ≡ false → int_eq t cache ≡ false → (t ≡ bind) ⊎ (t ≡ tmpfs)
-two_types (pos zero) b s h c = inl refl
-two_types (pos (suc zero)) b s h c = absurd (let x : true ≡ false = s in cc)
-two_types (pos (suc (suc zero))) b s h c = absurd (let x : true ≡ false = h in cc)
-two_types (pos (suc (suc (suc zero)))) b s h c = absurd (let x : true ≡ false = c in cc)
-two_types (pos (suc (suc (suc (suc zero))))) b s h c = inr refl
-two_types (pos (suc (suc (suc (suc (suc n)))))) b s h c = absurd (let l = b.high in omega (arith, ints, l))
-two_types (negsuc n) b s h c = absurd (let l = b.low in omega (arith, ints, l))
+-- a known type that is neither a secret nor an agent is one of three
+three_types : (t : ℤ) → IsBelow 5 t → int_eq t secret ≡ false → int_eq t ssh ≡ false → (t ≡ bind) ⊎ ((t ≡ tmpfs) ⊎ (t ≡ cache))
+three_types (pos zero) b s h = inl refl
+three_types (pos (suc zero)) b s h = absurd (let x : true ≡ false = s in cc)
+three_types (pos (suc (suc zero))) b s h = absurd (let x : true ≡ false = h in cc)
+three_types (pos (suc (suc (suc zero)))) b s h = inr (inr refl)
+three_types (pos (suc (suc (suc (suc zero))))) b s h = inr (inl refl)
+three_types (pos (suc (suc (suc (suc (suc n)))))) b s h = absurd (let l = b.high in omega (arith, ints, l))
+three_types (negsuc n) b s h = absurd (let l = b.low in omega (arith, ints, l))
 
 there : (o : Option Meta) → IsSome o → (m : Meta) × (o ≡ Some m)
 there (Some m) e = (m, refl)
@@ -36,10 +36,10 @@ commands_there : (r : Result (List Command) ScriptFault) → IsSome (result_ok r
 commands_there (Ok cs) e = (cs, refl)
 commands_there (Err f) e = absurd (let x : false ≡ true = e in cc)
 
-pub exec_vertex : (v : Vertex) (x : ExecOp) → All (λ m. has_type cache m ≡ false) x.mounts → All (λ m. has_type secret m ≡ false) x.mounts → All (λ m. has_type ssh m ≡ false) x.mounts
+pub exec_vertex : (v : Vertex) (x : ExecOp) → All (λ m. has_type secret m ≡ false) x.mounts → All (λ m. has_type ssh m ≡ false) x.mounts
     → MeetsAll v.op.inputs (Some (Exec x)) (rules_on (Some (Exec x))) → IsKindWithin (Some (Exec x)) → length v.inputs ≡ length v.op.inputs
     → v.script ≡ commands_in x.meta → v.steps ≡ kind_steps (Some (Exec x)) → v.outputs ≡ kind_outputs (Some (Exec x)) → IsExecVertex v x
-exec_vertex v x caches secrets agents met within inputs script steps outputs =
+exec_vertex v x secrets agents met within inputs script steps outputs =
     let m = there x.meta met.1.1.1.1.1.0 in
     let paths = met.1.1.1.1.1.1.1.1.1.0 in
     let known = met.1.1.1.1.1.1.1.1.1.1.1.0 in
@@ -65,7 +65,7 @@ exec_vertex v x caches secrets agents met within inputs script steps outputs =
       dests = paths.dests;
       selectors = paths.selectors;
       apart = met.1.1.1.1.1.1.1.1.1.1.0;
-      kinds = λ i d h. two_types (get_or x.mounts i d).mount_type (known i d h) (secrets i d h) (agents i d h) (caches i d h);
+      kinds = λ i d h. three_types (get_or x.mounts i d).mount_type (known i d h) (secrets i d h) (agents i d h);
       shown = met.1.1.1.1.1.1.1.1.1.1.1.1.0;
       given = met.1.1.1.1.1.1.1.1.1.1.1.1.1.0;
       options = met.1.1.1.1.1.1.1.1.1.1.1.1.1.1.0;

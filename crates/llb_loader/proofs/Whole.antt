@@ -24,7 +24,7 @@ use Rattle.llb_loader.specs.Naming.{row_at, row_named}
 use Rattle.llb_loader.specs.Features.{is_nameless, has, features, feature_of}
 use Rattle.llb_applet.specs.declared.command.Command.{Command}
 use Rattle.llb_loader.specs.Locals.{behind}
-use Rattle.llb_loader.specs.Mounts.{secret, ssh, cache, has_type}
+use Rattle.llb_loader.specs.Mounts.{secret, ssh, has_type}
 use Rattle.llb_loader.specs.Scripts.{kind_script, script_in}
 use Rattle.llb_loader.specs.Rules.{kind_steps, kind_outputs, is_output, owner_of, owner_by_name, outputs_of, mount_outputs, step_count, output_count, IsBelow, MeetsAll, MeetsRules, rules_on}
 use Rattle.llb_loader.specs.Graph.{links, LeadsBelow, StandsFor, HasInputs, IsVertex, IsVertexOf, IsGraph}
@@ -112,7 +112,7 @@ kind_vertex : (v : Vertex) (kind : Option Kind) → find (has kind) features ≡
     → length v.inputs ≡ length v.op.inputs → v.script ≡ kind_script kind → v.steps ≡ kind_steps kind → v.outputs ≡ kind_outputs kind → IsVertexOf v kind
 kind_vertex v (Some (Source s)) free met within inputs script steps outputs =
     let r = none_found (has (Some (Source s))) features free in
-    let local : starts_with nat_eq s.identifier (codes "local://") ≡ true = not_false (starts_with nat_eq s.identifier (codes "local://")) r.1.1.1.0 in
+    let local : starts_with nat_eq s.identifier (codes "local://") ≡ true = not_false (starts_with nat_eq s.identifier (codes "local://")) r.1.1.0 in
     let b = behind_front (codes "local://") s.identifier local met.1.0 in
     record { name = drop (length (codes "local://")) s.identifier; local = b.2; some = b.1; identifier = b.0; steps = steps; outputs = outputs }
   where
@@ -121,12 +121,12 @@ kind_vertex v (Some (Source s)) free met within inputs script steps outputs =
     not_false false e = absurd (let x : true ≡ false = e in cc)
 kind_vertex v (Some (File f)) free met within inputs script steps outputs =
     let r = none_found (has (Some (File f))) features free in
-    let named = all_false (λ (a : Action). is_nameless a.kind) f.actions r.1.1.1.1.1.1.1.0 in
+    let named = all_false (λ (a : Action). is_nameless a.kind) f.actions r.1.1.1.1.1.1.0 in
     record {
       some = met.1.1.0;
       few = within.actions;
       members = λ a d h. member_there (get_or f.actions a d).kind (named a d h);
-      numbered = all_false (λ (a : Action). owner_by_name (owner_of a.kind)) f.actions r.1.1.1.1.1.1.1.1.1.1.0;
+      numbered = all_false (λ (a : Action). owner_by_name (owner_of a.kind)) f.actions r.1.1.1.1.1.1.1.1.1.0;
       action_inputs = met.1.1.1.0.first;
       second_inputs = met.1.1.1.0.second;
       action_outputs = met.1.1.1.1.0;
@@ -143,9 +143,9 @@ kind_vertex v (Some (Merge m)) free met within inputs script steps outputs = rec
 }
 kind_vertex v (Some (Exec x)) free met within inputs script steps outputs =
     let r = none_found (has (Some (Exec x))) features free in
-    exec_vertex v x (all_false (has_type cache) x.mounts r.0) (all_false (has_type secret) x.mounts r.1.1.1.1.0) (all_false (has_type ssh) x.mounts r.1.1.1.1.1.0) met within inputs script steps outputs
-kind_vertex v (Some (Diff x)) free met within inputs script steps outputs = absurd (let r = (none_found (has (Some (Diff x))) features free).1.0 in let y : true ≡ false = r in cc)
-kind_vertex v (Some (Build x)) free met within inputs script steps outputs = absurd (let r = (none_found (has (Some (Build x))) features free).1.1.0 in let y : true ≡ false = r in cc)
+    exec_vertex v x (all_false (has_type secret) x.mounts r.1.1.1.0) (all_false (has_type ssh) x.mounts r.1.1.1.1.0) met within inputs script steps outputs
+kind_vertex v (Some (Diff x)) free met within inputs script steps outputs = absurd (let r = (none_found (has (Some (Diff x))) features free).0 in let y : true ≡ false = r in cc)
+kind_vertex v (Some (Build x)) free met within inputs script steps outputs = absurd (let r = (none_found (has (Some (Build x))) features free).1.0 in let y : true ≡ false = r in cc)
 kind_vertex v None free met within inputs script steps outputs = absurd (let y : false ≡ true = met.0 in cc)
 
 cons_le : (o : Option ℕ) (ys : List ℕ) (n : ℕ) → length ys ≤ n → length (cons_option o ys) ≤ suc n

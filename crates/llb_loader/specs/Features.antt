@@ -9,12 +9,8 @@ use Rattle.llb_ops.specs.declared.file.ActionKind.TheVariants.{Copy}
 use Rattle.llb_ops.specs.declared.file.CopyFile.{CopyFile}
 use Rattle.llb_loader.specs.declared.fault.Feature.{Feature}
 use Rattle.llb_loader.specs.declared.fault.Feature.TheVariants as feature
-use Rattle.llb_loader.specs.Mounts.{secret, ssh, cache, has_type}
+use Rattle.llb_loader.specs.Mounts.{secret, ssh, has_type}
 use Rattle.llb_loader.specs.Rules.{kind_actions, kind_mounts, owner_of, owner_by_name}
-
--- an exec that is not taken yet: one with a cache mount
-abbrev pub is_not_yet : Option Kind → Bool
-is_not_yet kind = list_any (has_type cache) (kind_mounts kind)
 
 abbrev pub is_diff : Option Kind → Bool
 is_diff (Some (Diff b)) = true
@@ -55,7 +51,6 @@ abbrev pub has_field : CopyFile → Bool
 has_field c = not (length c.extra == 0)
 
 abbrev pub has : Option Kind → Feature → Bool
-has kind feature.NotYet = is_not_yet kind
 has kind feature.DiffOp = is_diff kind
 has kind feature.BuildOp = is_build kind
 has kind feature.Source = is_remote kind
@@ -68,15 +63,11 @@ has kind feature.Patterns = list_any (λ a. copies_with has_pattern a.kind) (kin
 has kind feature.OwnerByName = list_any (λ a. owner_by_name (owner_of a.kind)) (kind_actions kind)
 has kind feature.CopyField = list_any (λ a. copies_with has_field a.kind) (kind_actions kind)
 
--- the features that are not taken at all, in their order
-abbrev pub refused_features : List Feature
-refused_features =
-    feature.DiffOp ∷ feature.BuildOp ∷ feature.Source ∷ feature.SecretMount ∷ feature.SshMount ∷ feature.SecretEnv
-    ∷ feature.Action ∷ feature.Unpack ∷ feature.Patterns ∷ feature.OwnerByName ∷ feature.CopyField ∷ []
-
 -- the features in their order
 abbrev pub features : List Feature
-features = feature.NotYet ∷ refused_features
+features =
+    feature.DiffOp ∷ feature.BuildOp ∷ feature.Source ∷ feature.SecretMount ∷ feature.SshMount ∷ feature.SecretEnv
+    ∷ feature.Action ∷ feature.Unpack ∷ feature.Patterns ∷ feature.OwnerByName ∷ feature.CopyField ∷ []
 
 -- the first feature of an op
 abbrev pub feature_of : Op → Option Feature

@@ -17,7 +17,7 @@ use Rattle.llb_loader.specs.Features.{feature_of}
 use Rattle.llb_loader.specs.Rules.{owner_of, owner_by_name, IsInput, ActionInputs, SecondInputs, outputs_of, count_outputs, AreOutputs, step_count, output_count, MeetsRules, mount_outputs, ShowsInput, AreMountOutputs, HasOptions, IsShared}
 use Rattle.llb_applet.specs.declared.command.Command.{Command}
 use Rattle.llb_applet.specs.Scripts.{script_of}
-use Rattle.llb_loader.specs.Mounts.{bind, tmpfs, read_as, dests_of, keys_of, AreApart}
+use Rattle.llb_loader.specs.Mounts.{bind, cache, tmpfs, read_as, dests_of, keys_of, AreApart}
 use Rattle.llb_loader.specs.Scripts.{script_in}
 use Rattle.llb_loader.specs.Locals.{source_name}
 
@@ -107,7 +107,7 @@ pub record IsExecVertex (v : Vertex) (x : ExecOp) : Type 0 where
   pub dests : All IsSome (dests_of x.mounts)
   pub selectors : All (λ m. IsSome (read_as m.selector)) x.mounts
   pub apart : AreApart (dests_of x.mounts)
-  pub kinds : All (λ m. (m.mount_type ≡ bind) ⊎ (m.mount_type ≡ tmpfs)) x.mounts
+  pub kinds : All (λ m. (m.mount_type ≡ bind) ⊎ ((m.mount_type ≡ tmpfs) ⊎ (m.mount_type ≡ cache))) x.mounts
   pub shown : All (ShowsInput (length v.op.inputs)) x.mounts
   pub given : AreMountOutputs x.mounts
   pub options : All HasOptions x.mounts

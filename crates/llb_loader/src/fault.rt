@@ -48,8 +48,6 @@ pub enum LoadFault {
 /// What an op can have that is not taken; of several the first.
 #[derive(Clone, Copy, Debug, PartialEq, Eq)]
 pub enum Feature {
-    /// An exec with a cache mount, which is not taken yet.
-    NotYet,
     /// A diff op.
     DiffOp,
     /// A build op.

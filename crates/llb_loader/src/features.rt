@@ -5,10 +5,10 @@ ghost use Rattle.std.specs.List.{list_any, find};
 ghost use Rattle.llb_ops.specs.declared.op.Kind.TheVariants as kind;
 ghost use Rattle.llb_loader.specs.Mounts.{has_type};
 ghost use Rattle.llb_loader.specs.Rules.{owner_of, owner_by_name, user_by_name};
-ghost use Rattle.llb_loader.specs.Features.{is_not_yet, is_nameless, copies_with, has_pattern, has_field, unpacks, has, refused_features, feature_of};
+ghost use Rattle.llb_loader.specs.Features.{is_nameless, copies_with, has_pattern, has_field, unpacks, has, features, feature_of};
 
 use crate::fault::Feature;
-use crate::mount_type::{CACHE, SECRET, SSH};
+use crate::mount_type::{SECRET, SSH};
 use llb_ops::{
     Action, ActionKind, ChownOpt, CopyFile, ExecOp, FileOp, Kind, Mount, Op, SourceOp, User,
     UserOpt,
@@ -18,9 +18,6 @@ use llb_ops::{
 pub(crate) fn first_feature(op: &Op) -> Option<Feature>
     ensures { result ≡ feature_of op.now }
 {
-    if is_not_yet(&op.kind) {
-        return Some(Feature::NotYet);
-    }
     match &op.kind {
         Some(Kind::Diff(_)) => Some(Feature::DiffOp),
         Some(Kind::Build(_)) => Some(Feature::BuildOp),
@@ -32,17 +29,8 @@ pub(crate) fn first_feature(op: &Op) -> Option<Feature>
     }
 }
 
-fn is_not_yet(kind: &Option<Kind>) -> bool
-    ensures { result ≡ is_not_yet kind.now }
-{
-    match kind {
-        Some(Kind::Exec(exec)) => any_of_type(exec.mounts.as_slice(), CACHE),
-        _ => false,
-    }
-}
-
 fn source_feature(source: &SourceOp) -> Option<Feature>
-    ensures { result ≡ find (has (Some (kind.Source source.now))) refused_features }
+    ensures { result ≡ find (has (Some (kind.Source source.now))) features }
 {
     if !source.identifier.as_str().starts_with("local://") {
         return Some(Feature::Source);
@@ -51,7 +39,7 @@ fn source_feature(source: &SourceOp) -> Option<Feature>
 }
 
 fn exec_feature(exec: &ExecOp) -> Option<Feature>
-    ensures { result ≡ find (has (Some (kind.Exec exec.now))) refused_features }
+    ensures { result ≡ find (has (Some (kind.Exec exec.now))) features }
 {
     let mounts = exec.mounts.as_slice();
     if any_of_type(mounts, SECRET) {
@@ -78,7 +66,7 @@ fn any_of_type(mounts: &[Mount], number: i32) -> bool
 }
 
 fn file_feature(file: &FileOp) -> Option<Feature>
-    ensures { result ≡ find (has (Some (kind.File file.now))) refused_features }
+    ensures { result ≡ find (has (Some (kind.File file.now))) features }
 {
     let actions = file.actions.as_slice();
     if any_nameless(actions) {
