@@ -2,22 +2,27 @@
 use Rattle.std.proofs.Common.{◌≡◌, ℕ, ◌<◌, List, [], ◌∷◌, ◌++◌, map, length, refl, sym, ap, subst, ◌∙◌, arith, take, drop}
 use Rattle.std.specs.Prelude.{Bool, true, false, Option, Some, None, Result, Ok, slice_get, slice_set, replicate}
 use Rattle.std.proofs.lemmas.List.{length_push, length-replicate, drop_all, take_all, append-nil}
+use Rattle.llb_cache.specs.Caches.{CachesValue, Row, Leases, free_lease, with_lease, trimmed, IsOut}
 use Rattle.llb_tree.specs.Tree.{empty_tree}
 use Rattle.llb_loader.specs.declared.graph.Vertex.{Vertex}
-use Rattle.llb_model.specs.Caches.{no_instances}
 use Rattle.llb_model.specs.Program.{Build, program_at, step_on}
-use Rattle.llb_model.specs.State.{Status, Running, Settled, Idle, Runs, State, opening, ending_at, program_in, work_of, is_finished, stopped}
+use Rattle.llb_model.specs.State.{Status, Running, Settled, At, Idle, Runs, State, opening, program_in, work_of, is_finished, stopped}
 use Rattle.llb_model.specs.State.{is_failed, ending_of}
-use Rattle.llb_model.specs.Table.{Event, Step, Reply, SettledDone, SettledFailed, settle_reply, with_step, claim_grant, step_grant, settle_grant, table}
-use Rattle.llb_model.specs.Outcome.{Ending, Done, Failed, ended, inputs_from}
+use Rattle.llb_model.specs.Kept.{store_of}
+use Rattle.llb_model.specs.Leases.{AreLeased}
+use Rattle.llb_model.specs.Table.{Event, Step, Reply, SettledDone, SettledFailed, settle_reply, worker_of, with_step, claim_grant, step_grant, settle_grant, table}
+use Rattle.llb_model.specs.Outcome.{Ending, Done, Failed, ended}
 use Rattle.llb_model.specs.Run.{run}
-use Rattle.llb_model.proofs.Lists.{inside}
+use Rattle.llb_model.proofs.Lists.{inside, get_set_same}
 use Rattle.llb_model.proofs.Events.{Answer, IsStep, step_is}
 use Rattle.llb_model.proofs.Runs.{run_more}
 use Rattle.llb_model.proofs.Rooms.{event_room}
-use Rattle.llb_board.specs.Views.{status_of, at_of, execution_of, state_of}
-use Rattle.llb_board.specs.Board.{Seen, Replays, recorded}
-use Rattle.llb_board.specs.Rules.{faulted, step_fault, begun, left_at}
+use Rattle.llb_model.proofs.Leasing.{claim_leases, settle_gives_back}
+use Rattle.llb_model.specs.Caches.{Place}
+use Rattle.llb_board.specs.Caches.{written, places_at, rows_after}
+use Rattle.llb_board.specs.Views.{status_of, at_of, leased_by, execution_of, state_of}
+use Rattle.llb_board.specs.Board.{Seen, Replays, opening_with, recorded}
+use Rattle.llb_board.specs.Rules.{faulted, step_fault, left_at}
 use Rattle.llb_board.specs.Room.{IsKept, Supplies, supplies_of, supplies_for, seen, ready_made, needed}
 use Rattle.llb_board.specs.declared.stand.Stand.{Stand}
 use Rattle.llb_board.specs.declared.stand.Stand.TheVariants as stand
@@ -25,89 +30,152 @@ use Rattle.llb_board.specs.declared.stand.Desk.{Desk}
 use Rattle.llb_board.specs.declared.stand.Desk.TheVariants as desk
 use Rattle.llb_board.specs.declared.stand.Execution as own
 use Rattle.llb_board.proofs.Lists.{map_set, set_same, length_map, get_map}
-use Rattle.llb_board.proofs.Calls.{CanClaim, begins, steps, CanSettle, left_if}
+use Rattle.llb_board.proofs.Calls.{Claims, steps, CanSettle, left_if}
 use Rattle.llb_board.proofs.Sound.{consistent}
 use Rattle.llb_board.proofs.Stopped.{marks_stay}
 
--- there is room for an event that is granted
-pub has_room : (b : Seen) (desks : List Desk) (halted : List Bool) (capacity : ℕ) (e : Event) (a : Answer) → IsKept b desks halted capacity
-    → table b.build b.state e ≡ Some a → length b.events < capacity
-has_room b desks halted capacity e a kept granted = omega (arith, event_room b.build b.state e a granted, kept.room)
+-- a board's data: what stands at the vertices, what the workers do, the lists of instances, the leases, the marks
+pub record Data : Type 0 where
+  pub stands : List Stand
+  pub desks : List Desk
+  pub rows : List Row
+  pub out : Leases
+  pub halted : List Bool
 
-pub kept_after : (b : Build) (ss ss' : List Stand) (ds ds' : List Desk) (es : List Event) (halted halted' : List Bool) (capacity : ℕ) (e : Event)
-    (r : Reply) → IsKept (seen b ss ds es) ds halted capacity
-    → table b (state_of ss ds) e ≡ Some (state_of ss' ds', r) → length ds' ≡ length ds
-    → map ready_made ds' ≡ map (needed b) (map at_of ds')
-    → halted' ≡ stopped b (map status_of ss') → IsKept (seen b ss' ds' (es ++ e ∷ [])) ds' halted' capacity
-kept_after b ss ss' ds ds' es halted halted' capacity e r kept granted same supplies marks =
-    let leads : run b (opening b (record { workers = length ds; store = no_instances })) (es ++ e ∷ []) ≡ Some (state_of ss' ds', kept.replays.replies ++ r ∷ [])
-    = run_more b (opening b (record { workers = length ds; store = no_instances })) (state_of ss ds) (state_of ss' ds') es kept.replays.replies e r kept.replays.leads granted in
-    let less = event_room b (state_of ss ds) e (state_of ss' ds', r) granted in
+abbrev pub seen_as : Build → List Row → Data → List Event → Seen
+seen_as b first d es = seen b first d.stands d.desks d.rows es
+
+abbrev pub state_as : Data → State
+state_as d = state_of d.stands d.desks d.rows
+
+abbrev pub Keeps : Build → List Row → Data → List Event → ℕ → Type 0
+Keeps b first d es capacity = IsKept (seen_as b first d es) d.desks d.out d.halted capacity
+
+-- there is room for an event that is granted
+pub has_room : (b : Seen) (desks : List Desk) (out : Leases) (halted : List Bool) (capacity : ℕ) (e : Event) (a : Answer) → IsKept b desks out halted capacity
+    → table b.build b.state e ≡ Some a → length b.events < capacity
+has_room b desks out halted capacity e a kept granted = omega (arith, event_room b.build b.state e a granted, kept.room)
+
+-- what an event has to keep beside the run
+pub record Stays (b : Build) (d d' : Data) : Type 0 where
+  pub same : length d'.desks ≡ length d.desks
+  pub leased : AreLeased d'.out (map at_of d'.desks) (map leased_by d'.desks)
+  pub supplies : map ready_made d'.desks ≡ map (needed b) (map at_of d'.desks)
+  pub marks : d'.halted ≡ stopped b (map status_of d'.stands)
+
+pub kept_after : (b : Build) (first : List Row) (d d' : Data) (es : List Event) (capacity : ℕ) (e : Event) (r : Reply) → Keeps b first d es capacity
+    → table b (state_as d) e ≡ Some (state_as d', r) → Stays b d d' → Keeps b first d' (es ++ e ∷ []) capacity
+kept_after b first d d' es capacity e r kept granted stays =
+    let o = opening_with (length d.desks) first in
+    let leads : run b (opening b o) (es ++ e ∷ []) ≡ Some (state_as d', kept.replays.replies ++ r ∷ [])
+    = run_more b (opening b o) (state_as d) (state_as d') es kept.replays.replies e r kept.replays.leads granted in
+    let less = event_room b (state_as d) e (state_as d', r) granted in
     let room = kept.room in
     let some = kept.some in
     let few = kept.few in
+    let same = stays.same in
     record {
-      replays = record { replies = kept.replays.replies ++ r ∷ []; leads = ap (λ n. run b (opening b (record { workers = n; store = no_instances })) (es ++ e ∷ [])) same ∙ leads };
+      replays = record { replies = kept.replays.replies ++ r ∷ []; leads = ap (λ n. run b (opening b (opening_with n first)) (es ++ e ∷ [])) same ∙ leads };
       room = omega (arith, less, room, length_push es e);
-      supplies = supplies;
-      some = omega (arith, length_map at_of ds', length_map at_of ds, same, some);
-      few = omega (arith, length_map at_of ds', length_map at_of ds, same, few);
-      halted_are = marks;
+      leased = stays.leased;
+      supplies = stays.supplies;
+      some = omega (arith, length_map at_of d'.desks, length_map at_of d.desks, same, some);
+      few = omega (arith, length_map at_of d'.desks, length_map at_of d.desks, same, few);
+      halted_are = stays.marks;
     }
 
 -- what is recorded of an event that is granted
-pub recorded_as : {C F : Type 0} (b : Build) (ss ss' : List Stand) (ds ds' : List Desk) (es : List Event) (e : Event) (fault : C → F)
-    (answer : Result Answer C) (r : Reply)
-    → answer ≡ Ok (state_of ss' ds', r) → length ds' ≡ length ds → recorded (seen b ss ds es) e fault answer ≡ Ok (seen b ss' ds' (es ++ e ∷ []), r)
-recorded_as b ss ss' ds ds' es e fault answer r is same =
-    ap (recorded (seen b ss ds es) e fault) is
-    ∙ (λ i. Ok (record { build = b; opening = record { workers = sym same i; store = no_instances }; state = state_of ss' ds'; events = es ++ e ∷ [] }, r))
+pub recorded_as : {C F : Type 0} (b : Build) (first : List Row) (d d' : Data) (es : List Event) (e : Event) (fault : C → F) (answer : Result Answer C) (r : Reply)
+    → answer ≡ Ok (state_as d', r) → length d'.desks ≡ length d.desks → d'.rows ≡ rows_after d.rows (state_as d') (worker_of e)
+    → recorded (seen_as b first d es) e fault answer ≡ Ok (seen_as b first d' (es ++ e ∷ []), r)
+recorded_as b first d d' es e fault answer r is same rows =
+    ap (recorded (seen_as b first d es) e fault) is
+    ∙ (λ i. Ok (
+      record {
+        build = b;
+        opening = opening_with (sym same i) first;
+        first = first;
+        state = state_as d';
+        rows = sym rows i;
+        events = es ++ e ∷ [];
+      },
+      r,
+    ))
 
 -- a list that is written whole
 pub whole_written : {A : Type 0} (n : ℕ) (new old : List A) → length new ≡ length old → n ≡ length old → take n (new ++ drop (length new) old) ≡ new
 whole_written n new old same is =
     ap (λ l. take n (new ++ l)) (drop_all (length new) old (omega (arith, same))) ∙ ap (take n) (append-nil new) ∙ take_all n new (omega (arith, same, is))
 
-pub kept_written : (b : Build) (ss : List Stand) (ds ds' : List Desk) (es : List Event) (halted halted' : List Bool) (capacity : ℕ) → ds' ≡ ds
-    → halted' ≡ halted → IsKept (seen b ss ds es) ds halted capacity
-    → IsKept (seen b ss ds' es) ds' halted' capacity
-kept_written b ss ds ds' es halted halted' capacity d h kept =
-    subst (λ (l : List Desk). IsKept (seen b ss l es) l halted' capacity) (sym d)
-    (subst (λ (m : List Bool). IsKept (seen b ss ds es) ds m capacity) (sym h) kept)
+-- the same where some of the data is written otherwise
+pub kept_written : (b : Build) (first : List Row) (d d' : Data) (es : List Event) (capacity : ℕ) → d' ≡ d → Keeps b first d es capacity → Keeps b first d' es capacity
+kept_written b first d d' es capacity same kept = subst (λ (x : Data). Keeps b first x es capacity) (sym same) kept
 
 -- ---- a claim
 
--- the board's data after a claim, as the machine's state
-pub state_claimed : (ss : List Stand) (ds : List Desk) (w v : ℕ) (x : own.Execution)
-    → state_of (slice_set ss v (stand.Running w)) (slice_set ds w (desk.Runs x))
-    ≡ record { statuses = slice_set (map status_of ss) v (Running w); workers = slice_set (map at_of ds) w (Runs (execution_of x)); store = no_instances }
-state_claimed ss ds w v x = λ i. record { statuses = map_set status_of ss v (stand.Running w) i; workers = map_set at_of ds w (desk.Runs x) i; store = no_instances }
+-- the board's data after a claim
+abbrev pub claimed : Data → ℕ → ℕ → ℕ → own.Execution → CachesValue → Data
+claimed d w v l x new = record {
+  stands = slice_set d.stands v (stand.Running w);
+  desks = slice_set d.desks w (desk.Runs l x);
+  rows = new.rows;
+  out = new.out;
+  halted = d.halted;
+}
+
+pub state_claimed : (d : Data) (w v l : ℕ) (x : own.Execution) (new : CachesValue)
+    → state_as (claimed d w v l x new)
+    ≡ record { statuses = slice_set (map status_of d.stands) v (Running w); workers = slice_set (map at_of d.desks) w (Runs (execution_of x)); store = store_of new.rows }
+state_claimed d w v l x new =
+    λ i. record { statuses = map_set status_of d.stands v (stand.Running w) i; workers = map_set at_of d.desks w (desk.Runs l x) i; store = store_of new.rows }
 
 -- the machine's claim is what the board does
-pub claim_does : (b : Build) (ss : List Stand) (ds : List Desk) (w v : ℕ) (x : Vertex) (own : own.Execution) (r : Reply)
-    → CanClaim b (state_of ss ds) w v x
-    → begun b w v x (inputs_from (ending_at (map status_of ss)) x.inputs) ≡ Ok (execution_of own, r)
-    → claim_grant b (state_of ss ds) w v ≡ Ok (state_of (slice_set ss v (stand.Running w)) (slice_set ds w (desk.Runs own)), r)
-claim_does b ss ds w v x own r can is =
-    begins b (state_of ss ds) w v x (execution_of own, r) can is ∙ (λ i. Ok (sym (state_claimed ss ds w v own) i, r))
+pub claim_does : (b : Build) (d : Data) (w v l : ℕ) (x : Vertex) (c new : CachesValue) (own : own.Execution) (r : Reply)
+    → Claims b (state_as d) w v x c new (execution_of own) r → claim_grant b (state_as d) w v ≡ Ok (state_as (claimed d w v l own new), r)
+claim_does b d w v l x c new own r claims = claims.grants ∙ (λ i. Ok (sym (state_claimed d w v l own new) i, r))
+
+-- a worker of a list that is set at its place
+pub set_there : {A : Type 0} (xs : List A) (i : ℕ) (old x : A) → slice_get xs i ≡ Some old → slice_get (slice_set xs i x) i ≡ Some x
+set_there xs i old x at = get_set_same xs i x old at
+
+-- its instances are the ones that are written or made
+pub claim_rows : (b : Build) (d : Data) (w v l : ℕ) (x : Vertex) (c new : CachesValue) (own : own.Execution) (r : Reply)
+    → slice_get (map at_of d.desks) w ≡ Some Idle → d.rows ≡ c.rows
+    → Claims b (state_as d) w v x c new (execution_of own) r → new.rows ≡ rows_after d.rows (state_as (claimed d w v l own new)) w
+claim_rows b d w v l x c new own r idle same claims =
+    claims.rows
+    ∙ (λ i. written (store_of new.rows) (sym same i) (places_at (sym (set_there (map at_of d.desks) w Idle (Runs (execution_of own)) idle) i)))
+    ∙ ap (λ (ws : List At). written (store_of new.rows) d.rows (places_at (slice_get ws w))) (sym (map_set at_of d.desks w (desk.Runs l own)))
+
+pub leased_claimed : (d : Data) (w l : ℕ) (own : own.Execution) (ps : List Place) (new : Leases) → AreLeased d.out (map at_of d.desks) (map leased_by d.desks)
+    → slice_get (map at_of d.desks) w ≡ Some Idle → l ≡ free_lease d.out → own.places.items ≡ ps → new ≡ with_lease d.out (free_lease d.out) ps
+    → AreLeased new (map at_of (slice_set d.desks w (desk.Runs l own))) (map leased_by (slice_set d.desks w (desk.Runs l own)))
+leased_claimed d w l own ps new leased idle number same is =
+    let after = claim_leases d.out (map at_of d.desks) (map leased_by d.desks) w (execution_of own) leased idle in
+    let ls : map leased_by (slice_set d.desks w (desk.Runs l own)) ≡ slice_set (map leased_by d.desks) w (Some (free_lease d.out))
+    = map_set leased_by d.desks w (desk.Runs l own) ∙ ap (λ n. slice_set (map leased_by d.desks) w (Some n)) number in
+    let out : new ≡ with_lease d.out (free_lease d.out) own.places.items = is ∙ ap (with_lease d.out (free_lease d.out)) (sym same) in
+    subst (λ (o : Leases). AreLeased o (map at_of (slice_set d.desks w (desk.Runs l own))) (map leased_by (slice_set d.desks w (desk.Runs l own)))) (sym out)
+    (subst (λ (ws : List At). AreLeased (with_lease d.out (free_lease d.out) own.places.items) ws (map leased_by (slice_set d.desks w (desk.Runs l own)))) (sym (map_set at_of d.desks w (desk.Runs l own)))
+    (subst (AreLeased (with_lease d.out (free_lease d.out) own.places.items) (slice_set (map at_of d.desks) w (Runs (execution_of own)))) (sym ls) after))
 
 pub made_for : (b : Build) (x : Vertex) (v n : ℕ) → slice_get b.graph.vertices v ≡ Some x → n ≡ v → supplies_for (Some x) ≡ supplies_for (slice_get b.graph.vertices n)
 made_for b x v n there same = sym (ap (λ k. supplies_for (slice_get b.graph.vertices k)) same ∙ ap supplies_for there)
 
-pub supplies_claimed : (b : Build) (ds : List Desk) (w : ℕ) (x : own.Execution) → map ready_made ds ≡ map (needed b) (map at_of ds)
+pub supplies_claimed : (b : Build) (ds : List Desk) (w l : ℕ) (x : own.Execution) → map ready_made ds ≡ map (needed b) (map at_of ds)
     → supplies_of x ≡ supplies_for (slice_get b.graph.vertices x.vertex)
-    → map ready_made (slice_set ds w (desk.Runs x)) ≡ map (needed b) (map at_of (slice_set ds w (desk.Runs x)))
-supplies_claimed b ds w x kept made =
-    map_set ready_made ds w (desk.Runs x) ∙ (λ i. slice_set (kept i) w (made i))
-    ∙ sym (map_set (needed b) (map at_of ds) w (Runs (execution_of x))) ∙ ap (map (needed b)) (sym (map_set at_of ds w (desk.Runs x)))
+    → map ready_made (slice_set ds w (desk.Runs l x)) ≡ map (needed b) (map at_of (slice_set ds w (desk.Runs l x)))
+supplies_claimed b ds w l x kept made =
+    map_set ready_made ds w (desk.Runs l x) ∙ (λ i. slice_set (kept i) w (made i))
+    ∙ sym (map_set (needed b) (map at_of ds) w (Runs (execution_of x))) ∙ ap (map (needed b)) (sym (map_set at_of ds w (desk.Runs l x)))
 
 -- ---- a micro-step
 
 -- the machine's micro-step is what the board does
-pub step_does : (b : Build) (ss : List Stand) (ds ds' : List Desk) (w : ℕ) (r : Reply)
-    → faulted step_fault (step_grant b (state_of [] ds) w) ≡ Ok (state_of [] ds', r)
-    → step_grant b (state_of ss ds) w ≡ Ok (state_of ss ds', r)
-step_does b ss ds ds' w r is = steps b (state_of ss ds) w (map at_of ds') r is
+pub step_does : (b : Build) (ss : List Stand) (ds ds' : List Desk) (rows rows' : List Row) (w : ℕ) (r : Reply)
+    → faulted step_fault (step_grant b (state_of [] ds rows) w) ≡ Ok (state_of [] ds' rows', r)
+    → step_grant b (state_of ss ds rows) w ≡ Ok (state_of ss ds' rows', r)
+step_does b ss ds ds' rows rows' w r is = steps b (state_of ss ds rows) (state_of ss ds' rows') w r is
 
 -- a worker goes on with its vertex
 needs_stay : (b : Build) (s : State) (w : ℕ) (a : Answer) → IsStep b s w a → map (needed b) a.0.workers ≡ map (needed b) s.workers
@@ -117,14 +185,14 @@ needs_stay b s w a step =
     ∙ map_set (needed b) s.workers w (Runs (with_step step.x left))
     ∙ set_same (map (needed b) s.workers) w (needed b (Runs step.x)) (get_map (needed b) s.workers w (Runs step.x) step.there)
 
-pub supplies_stepped : (b : Build) (ss : List Stand) (ds ds' : List Desk) (w : ℕ) (r : Reply)
+pub supplies_stepped : (b : Build) (ss : List Stand) (ds ds' : List Desk) (rows rows' : List Row) (w : ℕ) (r : Reply)
     → map ready_made ds ≡ map (needed b) (map at_of ds)
-    → table b (state_of ss ds) (Step w) ≡ Some (state_of ss ds', r) → map ready_made ds' ≡ map ready_made ds
+    → table b (state_of ss ds rows) (Step w) ≡ Some (state_of ss ds' rows', r) → map ready_made ds' ≡ map ready_made ds
     → map ready_made ds' ≡ map (needed b) (map at_of ds')
-supplies_stepped b ss ds ds' w r kept granted same =
+supplies_stepped b ss ds ds' rows rows' w r kept granted same =
     same ∙ kept
-    ∙ sym (needs_stay b (state_of ss ds) w (state_of ss ds', r)
-    (step_is b (state_of ss ds) w (state_of ss ds', r) granted))
+    ∙ sym (needs_stay b (state_of ss ds rows) w (state_of ss ds' rows', r)
+    (step_is b (state_of ss ds rows) w (state_of ss ds' rows', r) granted))
 
 pub same_length : (ds ds' : List Desk) → map ready_made ds' ≡ map ready_made ds → length ds' ≡ length ds
 same_length ds ds' same = sym (length_map ready_made ds') ∙ ap length same ∙ length_map ready_made ds
@@ -132,51 +200,88 @@ same_length ds ds' same = sym (length_map ready_made ds') ∙ ap length same ∙
 -- ---- a settle
 
 -- what a worker has ready is what its vertex needs
-pub made_enough : (b : Build) (ds : List Desk) (w : ℕ) (x : own.Execution) → map ready_made ds ≡ map (needed b) (map at_of ds)
-    → slice_get ds w ≡ Some (desk.Runs x)
+pub made_enough : (b : Build) (ds : List Desk) (w l : ℕ) (x : own.Execution) → map ready_made ds ≡ map (needed b) (map at_of ds)
+    → slice_get ds w ≡ Some (desk.Runs l x)
     → supplies_of x ≡ supplies_for (slice_get b.graph.vertices x.vertex)
-made_enough b ds w x kept at =
-    inside (sym (get_map ready_made ds w (desk.Runs x) at) ∙ ap (λ l. slice_get l w) kept
-    ∙ get_map (needed b) (map at_of ds) w (Runs (execution_of x)) (get_map at_of ds w (desk.Runs x) at))
+made_enough b ds w l x kept at =
+    inside (sym (get_map ready_made ds w (desk.Runs l x) at) ∙ ap (λ l. slice_get l w) kept
+    ∙ get_map (needed b) (map at_of ds) w (Runs (execution_of x)) (get_map at_of ds w (desk.Runs l x) at))
 
-pub all_empty : (b : Build) (ds : List Desk) (w : ℕ) (x : own.Execution) → map ready_made ds ≡ map (needed b) (map at_of ds)
-    → slice_get ds w ≡ Some (desk.Runs x) → x.outputs.items ≡ replicate (length x.outputs.items) empty_tree
-all_empty b ds w x kept at =
-    let made = ap (λ (s : Supplies). s.outputs) (made_enough b ds w x kept at) in
+pub all_empty : (b : Build) (ds : List Desk) (w l : ℕ) (x : own.Execution) → map ready_made ds ≡ map (needed b) (map at_of ds)
+    → slice_get ds w ≡ Some (desk.Runs l x) → x.outputs.items ≡ replicate (length x.outputs.items) empty_tree
+all_empty b ds w l x kept at =
+    let made = ap (λ (s : Supplies). s.outputs) (made_enough b ds w l x kept at) in
     made ∙ ap (λ n. replicate n empty_tree) (sym (ap length made ∙ length-replicate (program_in b (execution_of x)).outputs empty_tree))
 
 finished_at : Build → Desk → Bool
 finished_at b desk.Idle = false
-finished_at b (desk.Runs x) = is_finished (program_in b (execution_of x)).steps (execution_of x)
+finished_at b (desk.Runs l x) = is_finished (program_in b (execution_of x)).steps (execution_of x)
 
 -- how the worker's execution ends: x is what was looked at, and y what was taken
-pub leaves : (b : Build) (ds : List Desk) (w : ℕ) (x y : own.Execution) (o : Option Vertex) (stands : Status)
+pub leaves : (b : Build) (ds : List Desk) (w l k : ℕ) (x y : own.Execution) (o : Option Vertex) (stands : Status)
     → map ready_made ds ≡ map (needed b) (map at_of ds)
-    → slice_get ds w ≡ Some (desk.Runs x) → slice_get ds w ≡ Some (desk.Runs y)
+    → slice_get ds w ≡ Some (desk.Runs l x) → slice_get ds w ≡ Some (desk.Runs k y)
     → is_finished (program_in b (execution_of x)).steps (execution_of x) ≡ true → o ≡ slice_get b.graph.vertices y.vertex
     → stands ≡ Settled (ended (record (program_at o) { outputs = length y.outputs.items }) y.view y.fault)
     → left_at b (slice_get (map at_of ds) w) ≡ Ok (y.vertex, stands)
 unfolding finished_at
-leaves b ds w x y o stands kept looked taken finished same ends =
+leaves b ds w l k x y o stands kept looked taken finished same ends =
     let count : length y.outputs.items ≡ (program_in b (execution_of y)).outputs
-    = ap (λ (s : Supplies). length s.outputs) (made_enough b ds w y kept taken) ∙ length-replicate (program_in b (execution_of y)).outputs empty_tree in
-    let is : finished_at b (desk.Runs y) ≡ true = ap (finished_at b) (inside (sym taken ∙ looked)) ∙ finished in
-    ap (left_at b) (get_map at_of ds w (desk.Runs y) taken)
+    = ap (λ (s : Supplies). length s.outputs) (made_enough b ds w k y kept taken) ∙ length-replicate (program_in b (execution_of y)).outputs empty_tree in
+    let is : finished_at b (desk.Runs k y) ≡ true = ap (finished_at b) (inside (sym taken ∙ looked)) ∙ finished in
+    ap (left_at b) (get_map at_of ds w (desk.Runs k y) taken)
     ∙ ap (left_if b (execution_of y)) is
     ∙ (λ i. Ok (y.vertex, Settled (ended (record (program_at (sym same i)) { outputs = sym count i }) y.view y.fault)))
     ∙ ap (λ s. Ok (y.vertex, s)) (sym ends)
 
-pub state_settled : (ss : List Stand) (ds : List Desk) (w v : ℕ) (s : Stand) (e : Ending) → status_of s ≡ Settled e
-    → state_of (slice_set ss v s) (slice_set ds w desk.Idle)
-    ≡ record { statuses = slice_set (map status_of ss) v (Settled e); workers = slice_set (map at_of ds) w Idle; store = no_instances }
-state_settled ss ds w v s e is =
-    λ i. record { statuses = (map_set status_of ss v s ∙ ap (slice_set (map status_of ss) v) is) i; workers = map_set at_of ds w desk.Idle i; store = no_instances }
+-- the board's data after a settle
+abbrev pub settled : Data → ℕ → ℕ → Stand → Leases → List Bool → Data
+settled d w v s out halted = record {
+  stands = slice_set d.stands v s;
+  desks = slice_set d.desks w desk.Idle;
+  rows = d.rows;
+  out = out;
+  halted = halted;
+}
+
+pub state_settled : (d : Data) (w v : ℕ) (s : Stand) (out : Leases) (halted : List Bool) (e : Ending) → status_of s ≡ Settled e
+    → state_as (settled d w v s out halted)
+    ≡ record { statuses = slice_set (map status_of d.stands) v (Settled e); workers = slice_set (map at_of d.desks) w Idle; store = store_of d.rows }
+state_settled d w v s out halted e is = λ i. record {
+  statuses = (map_set status_of d.stands v s ∙ ap (slice_set (map status_of d.stands) v) is) i;
+  workers = map_set at_of d.desks w desk.Idle i;
+  store = store_of d.rows;
+}
 
 -- the machine's settle is what the board does
-pub settle_does : (b : Build) (ss : List Stand) (ds : List Desk) (w v : ℕ) (s : Stand)
-    (can : CanSettle b (state_of ss ds) w v (status_of s))
-    → settle_grant b (state_of ss ds) w ≡ Ok (state_of (slice_set ss v s) (slice_set ds w desk.Idle), settle_reply v can.ending)
-settle_does b ss ds w v s can = can.grants ∙ (λ i. Ok (sym (state_settled ss ds w v s can.ending can.is) i, settle_reply v can.ending))
+pub settle_does : (b : Build) (d : Data) (w v : ℕ) (s : Stand) (out : Leases) (halted : List Bool) (can : CanSettle b (state_as d) w v (status_of s))
+    → settle_grant b (state_as d) w ≡ Ok (state_as (settled d w v s out halted), settle_reply v can.ending)
+settle_does b d w v s out halted can = can.grants ∙ (λ i. Ok (sym (state_settled d w v s out halted can.ending can.is) i, settle_reply v can.ending))
+
+-- a worker that is idle has no instances
+pub settle_rows : (d : Data) (w v : ℕ) (s : Stand) (out : Leases) (halted : List Bool) (x : At) → slice_get (map at_of d.desks) w ≡ Some x
+    → d.rows ≡ rows_after d.rows (state_as (settled d w v s out halted)) w
+settle_rows d w v s out halted x at =
+    (λ i. written (store_of d.rows) d.rows (places_at (sym (set_there (map at_of d.desks) w x Idle at) i)))
+    ∙ ap (λ (ws : List At). written (store_of d.rows) d.rows (places_at (slice_get ws w))) (sym (map_set at_of d.desks w desk.Idle))
+
+pub leased_settled : (d : Data) (w l : ℕ) → AreLeased d.out (map at_of d.desks) (map leased_by d.desks) → slice_get (map leased_by d.desks) w ≡ Some (Some l)
+    → AreLeased (trimmed (slice_set d.out l None)) (map at_of (slice_set d.desks w desk.Idle)) (map leased_by (slice_set d.desks w desk.Idle))
+leased_settled d w l leased at =
+    let out = trimmed (slice_set d.out l None) in
+    let after = settle_gives_back d.out (map at_of d.desks) (map leased_by d.desks) w l leased at in
+    subst (λ (ws : List At). AreLeased out ws (map leased_by (slice_set d.desks w desk.Idle))) (sym (map_set at_of d.desks w desk.Idle))
+    (subst (AreLeased out (slice_set (map at_of d.desks) w Idle)) (sym (map_set leased_by d.desks w desk.Idle)) after)
+
+-- the lease of a worker is out
+pub lease_out : (d : Data) (w l : ℕ) → AreLeased d.out (map at_of d.desks) (map leased_by d.desks) → slice_get (map leased_by d.desks) w ≡ Some (Some l) → IsOut d.out l
+lease_out d w l leased at =
+    let x = leased.runs w l at in
+    let has = leased.has w x.0 x.1 in
+    let same : has.0 ≡ l = lease_inside (sym has.1 ∙ at) in (x.0.places, ap (slice_get d.out) (sym same) ∙ has.2)
+  where
+    lease_inside : {k n : ℕ} → ◌≡◌ {A = Option (Option ℕ)} (Some (Some k)) (Some (Some n)) → k ≡ n
+    lease_inside e = cc
 
 -- the vertex that a worker leaves was Running by it
 pub leaves_running : (b : Seen) (w v : ℕ) (stands : Status) → Replays b → CanSettle b.build b.state w v stands → slice_get b.state.statuses v ≡ Some (Running w)

@@ -1,6 +1,6 @@
 pub mod Lists
 pub mod Vertices
-pub mod Bare
+pub mod Needed
 pub mod Inputs
 pub mod Stopped
 pub mod Counted
@@ -8,8 +8,18 @@ pub mod Steps
 pub mod Outputs
 pub mod Shown
 pub mod Choices
+pub mod Wanting
+pub mod Exchanges
+pub mod Commands
+pub mod Written
+pub mod Returned
+pub mod Lent
+pub mod Begins
 pub mod Calls
 pub mod Sound
 pub mod Others
 pub mod Kept
+pub mod Claiming
+pub mod Settling
+pub mod Stepping
 pub mod Opened

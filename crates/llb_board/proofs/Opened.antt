@@ -3,45 +3,49 @@ use Rattle.std.proofs.Common.{◌≡◌, ℕ, zero, suc, ◌<◌, ◌≤◌, Lis
 use Rattle.std.specs.Prelude.{Bool, true, false, ◌&&◌, nat_le, replicate}
 use Rattle.std.proofs.lemmas.Bool.{leb-true}
 use Rattle.std.proofs.lemmas.List.{length-replicate}
-use Rattle.llb_model.specs.Caches.{no_instances}
+use Rattle.llb_cache.specs.Caches.{Row, Leases, leases}
 use Rattle.llb_model.specs.Program.{Build}
 use Rattle.llb_model.specs.State as model
-use Rattle.llb_model.specs.State.{Opening}
+use Rattle.llb_model.specs.Kept.{store_of}
+use Rattle.llb_model.specs.Leases.{AreLeased}
 use Rattle.llb_model.specs.Table.{Event}
 use Rattle.llb_model.specs.Room.{most_events}
 use Rattle.llb_model.specs.Run.{run}
 use Rattle.llb_model.proofs.Rooms.{opening_room}
-use Rattle.llb_board.specs.Views.{status_of, at_of}
-use Rattle.llb_board.specs.Board.{Replays, opened}
+use Rattle.llb_board.specs.Views.{status_of, at_of, leased_by}
+use Rattle.llb_board.specs.Board.{Replays, opening_with, opened}
 use Rattle.llb_board.specs.Rules.{may_work}
 use Rattle.llb_board.specs.Room.{IsKept, seen, ready_made, needed}
 use Rattle.llb_board.specs.declared.stand.Stand.{Stand}
 use Rattle.llb_board.specs.declared.stand.Stand.TheVariants.{Waiting}
 use Rattle.llb_board.specs.declared.stand.Desk.{Desk}
 use Rattle.llb_board.specs.declared.stand.Desk.TheVariants.{Idle}
+use Rattle.llb_board.proofs.Returned.{none_leased}
 use Rattle.llb_board.proofs.Stopped.{unmarked}
 
 map_replicate : {A B : Type 0} (f : A → B) (n : ℕ) (x : A) → map f (replicate n x) ≡ replicate n (f x)
 map_replicate f zero x = refl
 map_replicate f (suc n) x = ap (λ l. f x ∷ l) (map_replicate f n x)
 
-pub seen_open : (b : Build) (workers : ℕ) (ss : List Stand) (ds : List Desk) (es : List Event) → ss ≡ replicate (length b.graph.vertices) Waiting
-    → ds ≡ replicate workers Idle → es ≡ []
-    → seen b ss ds es ≡ opened b (record { workers = workers; store = no_instances })
-seen_open b workers ss ds es s d e = λ i. record {
+pub seen_open : (b : Build) (first : List Row) (workers : ℕ) (ss : List Stand) (ds : List Desk) (rows : List Row) (es : List Event)
+    → ss ≡ replicate (length b.graph.vertices) Waiting → ds ≡ replicate workers Idle → es ≡ [] → first ≡ rows
+    → seen b first ss ds rows es ≡ opened b workers rows
+seen_open b first workers ss ds rows es s d e f = λ i. record {
   build = b;
-  opening = record { workers = (ap length d ∙ length-replicate workers Idle) i; store = no_instances };
+  opening = opening_with ((ap length d ∙ length-replicate workers Idle) i) (f i);
+  first = f i;
   state = record {
     statuses = (ap (map status_of) s ∙ map_replicate status_of (length b.graph.vertices) Waiting) i;
     workers = (ap (map at_of) d ∙ map_replicate at_of workers Idle) i;
-    store = no_instances;
+    store = store_of rows;
   };
+  rows = rows;
   events = e i;
 }
 
-opened_replays : (b : Build) (o : Opening) → Replays (opened b o)
+opened_replays : (b : Build) (workers : ℕ) (rows : List Row) → Replays (opened b workers rows)
 unfolding run
-opened_replays b o = record { replies = []; leads = refl }
+opened_replays b workers rows = record { replies = []; leads = refl }
 
 both : (a b : Bool) → (a && b) ≡ true → (a ≡ true) × (b ≡ true)
 both true true is = (refl, refl)
@@ -55,17 +59,30 @@ some_work n is = let some : 1 ≤ n = leb-true 1 n (both (nat_le 1 n) (nat_le n 
 pub few_work : (n : ℕ) → may_work n ≡ true → n ≤ 64
 few_work n is = leb-true n 64 (both (nat_le 1 n) (nat_le n 64) is).1
 
-pub kept_open : (b : Build) (workers capacity : ℕ) (ss : List Stand) (ds : List Desk) (es : List Event) (halted : List Bool)
-    → ss ≡ replicate (length b.graph.vertices) Waiting → ds ≡ replicate workers Idle → es ≡ []
-    → halted ≡ replicate (length b.graph.vertices) false → most_events b ≤ capacity → 0 < workers → workers ≤ 64 → IsKept (seen b ss ds es) ds halted capacity
-kept_open b workers capacity ss ds es halted s d e h room one most =
-    let o : Opening = record { workers = workers; store = no_instances } in
-    let kept : IsKept (opened b o) ds halted capacity = record {
-      replays = opened_replays b o;
-      room = omega (arith, opening_room b o, room);
-      supplies = ap (map ready_made) d ∙ map_replicate ready_made workers Idle ∙ sym (map_replicate (needed b) workers model.Idle);
+-- no worker has a lease
+leased_open : (workers : ℕ) (ds : List Desk) (out : Leases) → ds ≡ replicate workers Idle → leases out ≡ 0 → AreLeased out (replicate workers model.Idle) (map leased_by ds)
+leased_open workers ds out d none =
+    subst (AreLeased out (replicate workers model.Idle)) (sym (ap (map leased_by) d ∙ map_replicate leased_by workers Idle)) (none_leased out workers none)
+
+pub record IsFresh (b : Build) (workers : ℕ) (ss : List Stand) (ds : List Desk) (es : List Event) (halted : List Bool) (capacity : ℕ) : Type 0 where
+  pub stands : ss ≡ replicate (length b.graph.vertices) Waiting
+  pub desks : ds ≡ replicate workers Idle
+  pub events : es ≡ []
+  pub marks : halted ≡ replicate (length b.graph.vertices) false
+  pub room : most_events b ≤ capacity
+
+pub kept_open : (b : Build) (first : List Row) (workers capacity : ℕ) (ss : List Stand) (ds : List Desk) (rows : List Row) (out : Leases) (es : List Event) (halted : List Bool)
+    → IsFresh b workers ss ds es halted capacity → first ≡ rows → leases out ≡ 0 → 0 < workers → workers ≤ 64
+    → IsKept (seen b first ss ds rows es) ds out halted capacity
+kept_open b first workers capacity ss ds rows out es halted fresh f none one most =
+    let room = fresh.room in
+    let kept : IsKept (opened b workers rows) ds out halted capacity = record {
+      replays = opened_replays b workers rows;
+      room = omega (arith, opening_room b (opening_with workers rows), room);
+      leased = leased_open workers ds out fresh.desks none;
+      supplies = ap (map ready_made) fresh.desks ∙ map_replicate ready_made workers Idle ∙ sym (map_replicate (needed b) workers model.Idle);
       some = omega (arith, length-replicate workers model.Idle, one);
       few = omega (arith, length-replicate workers model.Idle, most);
-      halted_are = h ∙ sym (unmarked b.graph.vertices);
+      halted_are = fresh.marks ∙ sym (unmarked b.graph.vertices);
     } in
-    subst (λ b. IsKept b ds halted capacity) (sym (seen_open b workers ss ds es s d e)) kept
+    subst (λ b. IsKept b ds out halted capacity) (sym (seen_open b first workers ss ds rows es fresh.stands fresh.desks fresh.events f)) kept

@@ -196,10 +196,10 @@ unfolding outputs_of
 outputs_of_files o inputs results outs n is =
     is ∙ same_map (λ i. tree_by i (numbers_of (actions_at o)) results) (output_from (program_with o n) (Files inputs results)) (λ i. by_actions i o results) (range_with_len 0 n)
 
-pub outputs_of_mounts : (o : Option Vertex) (mounts : List Shown) (given : List ℤ) (outs : List TreeMap) (n : ℕ) → given ≡ (program_at o).given
-    → outs ≡ map (λ i. tree_for i given mounts) (range_with_len 0 n) → outs ≡ outputs_of (program_with o n) (Mounted mounts [])
+pub outputs_of_mounts : (o : Option Vertex) (mounts : List Shown) (caches : List ℕ) (given : List ℤ) (outs : List TreeMap) (n : ℕ) → given ≡ (program_at o).given
+    → outs ≡ map (λ i. tree_for i given mounts) (range_with_len 0 n) → outs ≡ outputs_of (program_with o n) (Mounted mounts caches)
 unfolding outputs_of
-outputs_of_mounts o mounts given outs n same is = is ∙ ap (λ l. map (λ i. tree_for i l mounts) (range_with_len 0 n)) same
+outputs_of_mounts o mounts caches given outs n same is = is ∙ ap (λ l. map (λ i. tree_for i l mounts) (range_with_len 0 n)) same
 
 -- behind the first output all are empty
 behind_first : (f : ℕ → TreeMap) → ((i : ℕ) → f (suc i) ≡ empty_tree) → (n a : ℕ) → map f (range_with_len (a + 1) n) ≡ replicate n empty_tree

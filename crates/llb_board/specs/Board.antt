@@ -4,20 +4,32 @@ use Rattle.std.specs.List.{list_any, list_all}
 use Rattle.llb_loader.specs.declared.graph.Edge.{Edge}
 use Rattle.llb_loader.specs.declared.graph.Vertex.{Vertex}
 use Rattle.llb_model.specs.Program.{Build}
-use Rattle.llb_model.specs.Outcome.{Ending, Ended, outcome, outcome_on, ending_in, inputs_from}
+use Rattle.llb_cache.specs.Caches.{Row}
+use Rattle.llb_model.specs.Kept.{store_of}
+use Rattle.llb_model.specs.Outcome.{Ending, Ended, outcome, outcome_on, ending_in, inputs_from, is_plain}
 use Rattle.llb_model.specs.State.{State, Execution, Runs, Opening, Settled, opening, ending_at, is_done, is_failed, is_waiting, is_ready, is_blocked}
 use Rattle.llb_model.specs.Table.{Event, Reply, worker_of, table}
 use Rattle.llb_model.specs.Run.{run, chosen}
+use Rattle.llb_board.specs.Caches.{rows_after}
 
+-- the caches are seen as they were handed in and as they are now: their contents as the machine has them, and the lists of instances, in
+-- the order of their keys
 pub record Seen : Type 0 where
   pub build : Build
   pub opening : Opening
+  pub first : List Row
   pub state : State
+  pub rows : List Row
   pub events : List Event
 
+-- so many workers, and the caches that are handed in
+abbrev pub opening_with : ℕ → List Row → Opening
+opening_with workers rows = record { workers = workers; store = store_of rows }
+
 -- nothing has happened yet
-abbrev pub opened : Build → Opening → Seen
-opened b o = record { build = b; opening = o; state = opening b o; events = [] }
+abbrev pub opened : Build → ℕ → List Row → Seen
+opened b workers rows =
+    record { build = b; opening = opening_with workers rows; first = rows; state = opening b (opening_with workers rows); rows = rows; events = [] }
 
 -- the record is a run from the opening state to where the board is
 pub record Replays (b : Seen) : Type 0 where
@@ -25,16 +37,16 @@ pub record Replays (b : Seen) : Type 0 where
   pub leads : run b.build (opening b.build b.opening) b.events ≡ Some (b.state, replies)
 
 abbrev pub after_event : Seen → Event → State → Seen
-after_event b e s = record b { state = s; events = b.events ++ e ∷ [] }
+after_event b e s = record b { state = s; rows = rows_after b.rows s (worker_of e); events = b.events ++ e ∷ [] }
 
 -- what an event gives, with the event at the end of the record; where it is not granted, the cause as a fault
 abbrev pub recorded : {C F : Type 0} → Seen → Event → (C → F) → Result (State × Reply) C → Result (Seen × Reply) F
 recorded b e fault (Ok (s, r)) = Ok (after_event b e s, r)
 recorded b e fault (Err cause) = Err (fault cause)
 
--- a settled vertex has its plain outcome
+-- a settled vertex with no cache mount at or before it has its plain outcome
 abbrev pub SettledArePlain : Seen → Type 0
-SettledArePlain b = (v : ℕ) (e : Ending) → slice_get b.state.statuses v ≡ Some (Settled e) → outcome b.build v ≡ Some (Ended e)
+SettledArePlain b = (v : ℕ) (e : Ending) → is_plain b.build v ≡ true → slice_get b.state.statuses v ≡ Some (Settled e) → outcome b.build v ≡ Some (Ended e)
 
 -- the event that a driver chooses is granted
 abbrev pub ChosenIsGranted : Seen → Type 0

@@ -1,5 +1,5 @@
 -- What a job's parts stand for, in the words of the machine's definitions.
-use Rattle.std.specs.Prelude.{ℕ, zero, suc, ℤ, pos, negsuc, slice_set, Option, Some, None, List, [], ◌∷◌, map, Result, Ok, Err, if◌then◌else◌}
+use Rattle.std.specs.Prelude.{ℕ, zero, suc, ℤ, pos, negsuc, slice_set, Option, Some, None, List, [], ◌∷◌, map, if◌then◌else◌}
 use Rattle.llb_ops.specs.declared.op.Kind.{Kind}
 use Rattle.llb_ops.specs.declared.op.Kind.TheVariants as kind
 use Rattle.llb_ops.specs.declared.file.Action.{Action}
@@ -25,7 +25,7 @@ abbrev pub own_of : Own → model.View
 own_of (own.Local t) = model.LocalTree t
 own_of (own.Files inputs results) = model.Files inputs.items results.items
 own_of (own.Layers inputs t) = model.Layers inputs.items t
-own_of (own.Mounted mounts) = model.Mounted mounts []
+own_of (own.Mounted mounts numbers) = model.Mounted mounts numbers.items
 
 -- the actions of a kind: those of a file op
 abbrev pub actions_in : Option Kind → List Action
@@ -74,12 +74,3 @@ setting_at None = model.setting_of None
 abbrev pub exit_of : ℕ → ℕ → Option VertexFault
 exit_of c zero = None
 exit_of c (suc status) = Some (fault.Exit c (suc status))
-
--- a work that holds no trees of instances
-abbrev pub work_with : model.View → model.Work
-work_with view = record { own = view; trees = [] }
-
--- what a command leaves that ended with a status: a work on a view, or that fault
-abbrev pub ends_as : ℕ → ℕ → model.View → Result model.Work VertexFault
-ends_as c zero view = Ok (work_with view)
-ends_as c (suc status) view = Err (fault.Exit c (suc status))

@@ -1,49 +1,93 @@
--- What a board keeps so that no event to come needs memory for the record, nor a settle memory for its outputs, and that
--- commands run where their exec says.
-use Rattle.std.specs.Prelude.{◌≡◌, ℕ, ◌+◌, ◌<◌, ◌≤◌, Bool, List, map, replicate, length, Option, None, slice_get}
+-- What a board keeps so that no event to come needs memory for the record, nor a settle memory for its outputs, that commands run where their
+-- exec says and see the caches that it shows, and that each running worker has a lease of its instances.
+use Rattle.std.specs.Prelude.{◌≡◌, ℕ, ◌+◌, ◌<◌, ◌≤◌, Bool, List, [], map, replicate, length, Option, Some, None, slice_get}
 use Rattle.llb_tree.specs.Tree.{TreeMap, empty_tree}
 use Rattle.llb_applet.specs.declared.setting.Setting.{Setting}
 use Rattle.llb_loader.specs.declared.graph.Vertex.{Vertex}
-use Rattle.llb_model.specs.Caches.{no_instances}
-use Rattle.llb_model.specs.Program.{Build, program_at}
+use Rattle.llb_cache.specs.declared.key.Key.{Key}
+use Rattle.llb_cache.specs.Caches.{Row, Leases}
+use Rattle.llb_ops.specs.declared.exec.Mount.{Mount}
+use Rattle.llb_loader.specs.Rules.{kind_mounts}
+use Rattle.llb_model.specs.Caches.{Place}
+use Rattle.llb_model.specs.Program.{Build, View, LocalTree, Files, Layers, Mounted, Need, key_of, mount_of, needs_of, program_at}
+use Rattle.llb_model.specs.Leases.{AreLeased}
 use Rattle.llb_model.specs.State.{At, Idle, Runs, stopped}
 use Rattle.llb_model.specs.Table.{Event}
 use Rattle.llb_model.specs.Room.{still_to_come}
-use Rattle.llb_board.specs.Board.{Seen, Replays}
+use Rattle.llb_board.specs.Board.{Seen, Replays, opening_with}
 use Rattle.llb_board.specs.Jobs.{setting_at}
-use Rattle.llb_board.specs.Views.{state_of}
+use Rattle.llb_board.specs.Views.{state_of, leased_by}
 use Rattle.llb_board.specs.declared.stand.Stand.{Stand}
 use Rattle.llb_board.specs.declared.stand.Desk.{Desk}
 use Rattle.llb_board.specs.declared.stand.Execution as own
 use Rattle.llb_board.specs.declared.stand.Desk.TheVariants as desk
 
--- what a worker has from its claim on: an empty tree for each output of its vertex, and where its commands run
+-- what a worker has from its claim on: an empty tree for each output of its vertex, where its commands run, how many mounts they see, which
+-- of these show caches, and the keys of those
 pub record Supplies : Type 0 where
   pub outputs : List TreeMap
   pub setting : Setting
+  pub mounts : ℕ
+  pub shown : List ℕ
+  pub keys : List Key
+
+abbrev pub mounts_in : View → ℕ
+mounts_in (Mounted mounts caches) = length mounts
+mounts_in (LocalTree t) = 0
+mounts_in (Files inputs results) = 0
+mounts_in (Layers inputs t) = 0
+
+abbrev pub shown_in : View → List ℕ
+shown_in (Mounted mounts caches) = caches
+shown_in (LocalTree t) = []
+shown_in (Files inputs results) = []
+shown_in (Layers inputs t) = []
 
 abbrev pub supplies_of : own.Execution → Supplies
-supplies_of x = record { outputs = x.outputs.items; setting = x.setting }
+supplies_of x = record { outputs = x.outputs.items; setting = x.setting; mounts = mounts_in x.view; shown = shown_in x.view; keys = map (λ (p : Place). p.key) x.places.items }
+
+-- the mounts that a vertex shows, and the caches that it needs
+abbrev pub mounts_at : Option Vertex → List Mount
+mounts_at (Some v) = kind_mounts v.op.kind
+mounts_at None = []
+
+abbrev pub needs_at : Option Vertex → List Need
+needs_at (Some v) = needs_of v
+needs_at None = []
 
 abbrev pub supplies_for : Option Vertex → Supplies
-supplies_for o = record { outputs = replicate (program_at o).outputs empty_tree; setting = setting_at o }
+supplies_for o = record {
+  outputs = replicate (program_at o).outputs empty_tree;
+  setting = setting_at o;
+  mounts = length (mounts_at o);
+  shown = map mount_of (needs_at o);
+  keys = map key_of (needs_at o);
+}
 
 -- what a worker has ready, and what it needs
 abbrev pub ready_made : Desk → Supplies
 ready_made desk.Idle = supplies_for None
-ready_made (desk.Runs x) = supplies_of x
+ready_made (desk.Runs l x) = supplies_of x
 
 abbrev pub needed : Build → At → Supplies
 needed b Idle = supplies_for None
 needed b (Runs x) = supplies_for (slice_get b.graph.vertices x.vertex)
 
-abbrev pub seen : Build → List Stand → List Desk → List Event → Seen
-seen b stands desks events =
-    record { build = b; opening = record { workers = length desks; store = no_instances }; state = state_of stands desks; events = events }
+-- over a build and the caches that were handed in
+abbrev pub seen : Build → List Row → List Stand → List Desk → List Row → List Event → Seen
+seen b first stands desks rows events = record {
+  build = b;
+  opening = opening_with (length desks) first;
+  first = first;
+  state = state_of stands desks rows;
+  rows = rows;
+  events = events;
+}
 
-pub record IsKept (b : Seen) (desks : List Desk) (halted : List Bool) (capacity : ℕ) : Type 0 where
+pub record IsKept (b : Seen) (desks : List Desk) (out : Leases) (halted : List Bool) (capacity : ℕ) : Type 0 where
   pub replays : Replays b
   pub room : still_to_come b.build b.state + length b.events ≤ capacity
+  pub leased : AreLeased out b.state.workers (map leased_by desks)
   pub supplies : map ready_made desks ≡ map (needed b.build) b.state.workers
   pub some : 0 < length b.state.workers
   pub few : length b.state.workers ≤ 64

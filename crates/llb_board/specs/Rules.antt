@@ -1,10 +1,14 @@
 -- What each call answers: what the table gives, or the first cause of its refusal as a fault.
-use Rattle.std.specs.Prelude.{ℕ, nat_le, Bool, true, false, ◌&&◌, List, [], Option, Some, None, Result, Ok, Err, if◌then◌else◌}
+use Rattle.std.specs.Prelude.{ℕ, nat_le, Bool, true, false, ◌&&◌, List, Option, Some, None, Result, Ok, Err, if◌then◌else◌}
 use Rattle.llb_wire.specs.Answer as answer
 use Rattle.llb_loader.specs.declared.graph.Vertex.{Vertex}
 use Rattle.llb_tree.specs.Tree.{TreeMap}
-use Rattle.llb_model.specs.Caches.{no_instances, trees_at}
-use Rattle.llb_model.specs.Program.{Build, MicroStep, Work, Left, start_with, step_on}
+use Rattle.llb_cache.specs.declared.need.Need as cache_need
+use Rattle.llb_cache.specs.Caches.{CachesValue, Row}
+use Rattle.llb_model.specs.Caches.{Place, trees_at}
+use Rattle.llb_model.specs.Kept.{store_of}
+use Rattle.llb_model.specs.Leases.{asked, put_each}
+use Rattle.llb_model.specs.Program.{Build, MicroStep, Left, needs_of, start_with, step_on}
 use Rattle.llb_model.specs.State.{missing_local, Status, Settled, At, Idle, Runs, Execution, program_in, is_finished, next_step, ending_from, begin_at}
 use Rattle.llb_model.specs.ClaimCause as no_claim
 use Rattle.llb_model.specs.ClaimCause.{ClaimCause}
@@ -14,6 +18,7 @@ use Rattle.llb_model.specs.SettleCause as no_settle
 use Rattle.llb_model.specs.SettleCause.{SettleCause}
 use Rattle.llb_model.specs.Table.{Claim, Step, Settle, Reply, Claimed, claim_grant, step_grant, settle_grant, execution_on, job_on, with_step, step_reply}
 use Rattle.llb_board.specs.Board.{Seen, opened, recorded}
+use Rattle.llb_board.specs.Caches.{places_taken, work_with}
 use Rattle.llb_board.specs.declared.fault.OpenFault.{OpenFault}
 use Rattle.llb_board.specs.declared.fault.OpenFault.TheVariants as opening
 use Rattle.llb_board.specs.declared.fault.ClaimFault.{ClaimFault}
@@ -29,29 +34,29 @@ use Rattle.llb_board.specs.declared.fault.SettleFault.TheVariants as settle
 abbrev pub may_work : ℕ → Bool
 may_work workers = nat_le 1 workers && nat_le workers 64
 
-abbrev pub open_with : Build → ℕ → Result Seen OpenFault
-open_with b workers = if may_work workers then Ok (opened b (record { workers = workers; store = no_instances })) else Err (opening.Workers b.graph b.locals)
+abbrev pub open_with : Build → CachesValue → ℕ → Result Seen OpenFault
+open_with b c workers = if may_work workers then Ok (opened b workers c.rows) else Err (opening.Workers b.graph b.locals c)
 
 -- first of all a local tree that is missing
-abbrev pub open_unless : Option (List ℕ) → Build → ℕ → Result Seen OpenFault
-open_unless (Some name) b workers = Err (opening.MissingLocal name b.graph b.locals)
-open_unless None b workers = open_with b workers
+abbrev pub open_unless : Option (List ℕ) → Build → CachesValue → ℕ → Result Seen OpenFault
+open_unless (Some name) b c workers = Err (opening.MissingLocal name b.graph b.locals c)
+open_unless None b c workers = open_with b c workers
 
-abbrev pub open_of : Build → ℕ → Result Seen OpenFault
-open_of b workers = open_unless (missing_local b.locals b.graph.vertices) b workers
+abbrev pub open_of : Build → CachesValue → ℕ → Result Seen OpenFault
+open_of b c workers = open_unless (missing_local b.locals b.graph.vertices) b c workers
 
 -- where memory may be wanted: where nothing else stands in the way, or for the name of a local tree that is missing
 abbrev pub may_want_memory : Result Seen OpenFault → Bool
 may_want_memory (Ok b) = true
-may_want_memory (Err (opening.MissingLocal name g ts)) = true
-may_want_memory (Err (opening.Workers g ts)) = false
-may_want_memory (Err (opening.Memory g ts)) = false
+may_want_memory (Err (opening.MissingLocal name g ts c)) = true
+may_want_memory (Err (opening.Workers g ts c)) = false
+may_want_memory (Err (opening.Memory g ts c)) = false
 
--- the graph and the local trees that come back
-abbrev pub build_in : OpenFault → Build
-build_in (opening.Memory g ts) = record { graph = g; locals = ts }
-build_in (opening.Workers g ts) = record { graph = g; locals = ts }
-build_in (opening.MissingLocal name g ts) = record { graph = g; locals = ts }
+-- the graph, the local trees and the caches that come back
+abbrev pub returned : OpenFault → Build × CachesValue
+returned (opening.Memory g ts c) = (record { graph = g; locals = ts }, c)
+returned (opening.Workers g ts c) = (record { graph = g; locals = ts }, c)
+returned (opening.MissingLocal name g ts c) = (record { graph = g; locals = ts }, c)
 
 -- ---- what an event answers
 
@@ -77,6 +82,16 @@ settle_fault no_settle.NoWorker = settle.NoWorker
 settle_fault no_settle.NotRunning = settle.NotRunning
 settle_fault no_settle.NotFinished = settle.NotFinished
 
+-- where memory may be wanted of a claim: where nothing else stands in the way, or for a key that is held
+abbrev pub claim_may_want : {A : Type 0} → Result A ClaimFault → Bool
+claim_may_want (Ok a) = true
+claim_may_want (Err (claim.Held k)) = true
+claim_may_want (Err claim.NoWorker) = false
+claim_may_want (Err claim.Busy) = false
+claim_may_want (Err claim.NoVertex) = false
+claim_may_want (Err claim.NotReady) = false
+claim_may_want (Err claim.Memory) = false
+
 abbrev pub claim_of : Seen → ℕ → ℕ → Result (Seen × Reply) ClaimFault
 claim_of b w v = recorded b (Claim w v) claim_fault (claim_grant b.build b.state w v)
 
@@ -89,9 +104,9 @@ settle_of b w = recorded b (Settle w) settle_fault (settle_grant b.build b.state
 -- ---- want of memory, which no rule gives
 
 abbrev pub open_memory : OpenFault → Bool
-open_memory (opening.Memory g ts) = true
-open_memory (opening.Workers g ts) = false
-open_memory (opening.MissingLocal name g ts) = false
+open_memory (opening.Memory g ts c) = true
+open_memory (opening.Workers g ts c) = false
+open_memory (opening.MissingLocal name g ts c) = false
 
 abbrev pub claim_memory : ClaimFault → Bool
 claim_memory claim.Memory = true
@@ -129,32 +144,51 @@ abbrev pub or_not_ready : {A : Type 0} → Option A → Result A ClaimFault
 or_not_ready (Some x) = Ok x
 or_not_ready None = Err claim.NotReady
 
--- what a claim that takes no instances begins on the trees of the inputs
-abbrev pub work_on : Build → Vertex → List TreeMap → Work
-work_on b vertex trees = begin_at b no_instances (start_with vertex trees) []
+-- what a claim begins: the worker's execution, the reply, and what is to be leased
+pub record Begun : Type 0 where
+  pub execution : Execution
+  pub reply : Reply
+  pub needs : List cache_need.Need
 
--- the execution and the reply
-abbrev pub begun_on : Build → ℕ → ℕ → Vertex → List TreeMap → Execution × Reply
-begun_on b w v vertex trees = (execution_on v (work_on b vertex trees) [], Claimed (job_on w v vertex (work_on b vertex trees) []))
+-- on the trees of the inputs, and these instances
+abbrev pub begun_at : Build → CachesValue → ℕ → ℕ → Vertex → List TreeMap → List Place → Begun
+begun_at b c w v vertex trees ps = record {
+  execution = execution_on v (begin_at b (store_of c.rows) (start_with vertex trees) ps) ps;
+  reply = Claimed (job_on w v vertex (begin_at b (store_of c.rows) (start_with vertex trees) ps) ps);
+  needs = asked trees (needs_of vertex);
+}
 
-abbrev pub begun : Build → ℕ → ℕ → Vertex → Option (List TreeMap) → Result (Execution × Reply) ClaimFault
-begun b w v vertex (Some trees) = Ok (begun_on b w v vertex trees)
-begun b w v vertex None = Err claim.NotReady
+abbrev pub begun : Build → CachesValue → ℕ → ℕ → Vertex → Option (List TreeMap) → Result Begun ClaimFault
+begun b c w v vertex (Some trees) = Ok (begun_at b c w v vertex trees (places_taken c.out (needs_of vertex)))
+begun b c w v vertex None = Err claim.NotReady
 
-abbrev pub stepped_to : Execution → MicroStep → Left → Execution × Reply
-stepped_to x m left = (with_step x left, step_reply x.done m left.fault)
+-- what a micro-step leaves: the execution, the trees of its instances, and the reply
+pub record Worked : Type 0 where
+  pub execution : Execution
+  pub trees : List TreeMap
+  pub reply : Reply
 
--- what an execution works on where no cache has an instance
-abbrev pub work_in : Execution → Work
-work_in x = record { own = x.own; trees = trees_at no_instances x.places }
+abbrev pub worked_to : Execution → MicroStep → Left → Worked
+worked_to x m left = record { execution = with_step x left; trees = left.work.trees; reply = step_reply x.done m left.fault }
 
-abbrev pub worked_by : Execution → Option MicroStep → Result (Execution × Reply) StepFault
-worked_by x None = Err step.NothingLeft
-worked_by x (Some m) = Ok (stepped_to x m (step_on x.done (Some m) (work_in x)))
+abbrev pub worked_by : Execution → List TreeMap → Option MicroStep → Result Worked StepFault
+worked_by x trees None = Err step.NothingLeft
+worked_by x trees (Some m) = Ok (worked_to x m (step_on x.done (Some m) (work_with x.own trees)))
 
--- the next micro-step of an execution: the execution after it, and the reply
-abbrev pub worked : List MicroStep → Execution → Result (Execution × Reply) StepFault
-worked steps x = worked_by x (next_step steps x)
+-- the next micro-step of an execution, whose instances have these trees
+abbrev pub worked : List MicroStep → Execution → List TreeMap → Result Worked StepFault
+worked steps x trees = worked_by x trees (next_step steps x)
+
+-- a micro-step over the lists of instances: what it leaves of them, and the rest
+abbrev pub Written : Type 0
+Written = Execution × List Row × Reply
+
+abbrev pub written_by : List Row → List Place → Result Worked StepFault → Result Written StepFault
+written_by rows ps (Ok w) = Ok (w.execution, put_each rows ps w.trees, w.reply)
+written_by rows ps (Err e) = Err e
+
+abbrev pub worked_in : Build → List Row → Execution → Result Written StepFault
+worked_in b rows x = written_by rows x.places (worked (program_in b x).steps x (trees_at (store_of rows) x.places))
 
 -- the vertex that a worker leaves, and how it stands then
 abbrev pub left_at : Build → Option At → Result (ℕ × Status) SettleFault

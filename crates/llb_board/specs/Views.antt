@@ -1,6 +1,7 @@
 -- What the board's data stands for, in the words of the machine's definitions.
-use Rattle.std.specs.Prelude.{ℕ, Bool, [], List, map, Option, option_map, slice_get, if◌then◌else◌}
-use Rattle.llb_model.specs.Caches.{no_instances}
+use Rattle.std.specs.Prelude.{ℕ, Bool, List, map, Option, Some, None, option_map, slice_get, if◌then◌else◌}
+use Rattle.llb_cache.specs.Caches.{Row}
+use Rattle.llb_model.specs.Kept.{store_of}
 use Rattle.llb_model.specs.Program.{Build}
 use Rattle.llb_model.specs.Outcome.{Done, Failed}
 use Rattle.llb_model.specs.State as model
@@ -29,17 +30,21 @@ status_of (stand.Running w) = model.Running w
 status_of (stand.Done trees) = model.Settled (Done trees)
 status_of (stand.Failed f) = model.Settled (Failed f)
 
--- it has no instances of caches, since no graph shows any
 abbrev pub execution_of : Execution → model.Execution
-execution_of x = record { vertex = x.vertex; done = x.done; fault = x.fault; own = x.view; places = [] }
+execution_of x = record { vertex = x.vertex; done = x.done; fault = x.fault; own = x.view; places = x.places.items }
 
 -- what a worker does
 abbrev pub at_of : Desk → model.At
 at_of desk.Idle = model.Idle
-at_of (desk.Runs x) = model.Runs (execution_of x)
+at_of (desk.Runs l x) = model.Runs (execution_of x)
 
-abbrev pub state_of : List Stand → List Desk → model.State
-state_of stands desks = record { statuses = map status_of stands; workers = map at_of desks; store = no_instances }
+-- the lease of a worker's instances
+abbrev pub leased_by : Desk → Option ℕ
+leased_by desk.Idle = None
+leased_by (desk.Runs l x) = Some l
+
+abbrev pub state_of : List Stand → List Desk → List Row → model.State
+state_of stands desks rows = record { statuses = map status_of stands; workers = map at_of desks; store = store_of rows }
 
 abbrev pub event_of : Event → table.Event
 event_of (event.Claim w v) = table.Claim w v
@@ -48,7 +53,7 @@ event_of (event.Settle w) = table.Settle w
 
 -- the replies
 abbrev pub claim_reply : Job → table.Reply
-claim_reply j = table.Claimed (record { worker = j.worker; vertex = j.vertex; program = j.program; done = j.done; work = record { own = j.view; trees = [] }; instances = [] })
+claim_reply j = table.Claimed (record { worker = j.worker; vertex = j.vertex; program = j.program; done = j.done; work = record { own = j.view; trees = j.trees }; instances = j.instances })
 
 abbrev pub step_reply : Stepped → table.Reply
 step_reply Read = table.HasRead

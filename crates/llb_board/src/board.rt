@@ -1,5 +1,6 @@
-//! The board: what stands at each vertex, what each worker runs, and the record of events since it was opened. Its type
-//! keeps that the record is a run of the table to where the board is, and that it has room for every event to come.
+//! The board: what stands at each vertex, what each worker runs, the caches, and the record of events since it was opened. Its
+//! type keeps that the record is a run of the table to where the board is, that it has room for every event to come, and that each
+//! running worker has a lease of its instances of caches.
 
 ghost use Rattle.std.specs.Prelude.{◌≡◌, ◌<◌, ◌≤◌, length, map, true, is_some, option_map, OnErr, IfErr, IfOk};
 ghost use Rattle.llb_model.specs.Outcome.{output_in};
@@ -9,7 +10,10 @@ ghost use Rattle.llb_model.specs.Run.{chosen, is_complete};
 ghost use Rattle.llb_loader.specs.Graph.{IsGraph};
 ghost use Rattle.llb_board.specs.Board.{Seen, Replays};
 ghost use Rattle.llb_wire.specs.Answer.{MemoryLast};
-ghost use Rattle.llb_board.specs.Rules.{may_work, open_memory, claim_memory, step_memory, GivesOpen, open_of, open_with, build_in, may_want_memory};
+ghost use Rattle.llb_cache.specs.Caches.{leases};
+ghost use Rattle.llb_model.specs.Kept.{store_of};
+ghost use Rattle.llb_model.specs.Leases.{HoldsAs};
+ghost use Rattle.llb_board.specs.Rules.{may_work, open_memory, claim_memory, step_memory, claim_may_want, GivesOpen, open_of, open_with, returned, may_want_memory};
 ghost use Rattle.llb_board.specs.Rules.{GivesClaim, claim_of, GivesStep, step_of, GivesSettle, settle_of};
 ghost use Rattle.llb_board.specs.Views.{event_of, claim_reply, step_reply, settle_reply, status_of, look, look_at, worker_look};
 
@@ -19,21 +23,26 @@ use crate::event::{At, Event, Settled, Status, Stepped};
 use crate::events::Events;
 use crate::fault::{ClaimFault, OpenFault, SettleFault, StepFault};
 use crate::fresh::opening;
+use crate::instances::give_all_back;
 use crate::job::Job;
+use crate::needs::wanted_by;
 use crate::ready::{is_marked, is_ready, mark_stopped, output_at, stand_at};
 use crate::stand::{Desk, Stand};
 use crate::step::{Begun, begin, claimable, desk_at, is_finished, leave, step_at};
+use llb_cache::Caches;
 use llb_loader::{Graph, Locals};
 use llb_tree::Tree;
-use llb_wire::{Memory, Text};
+use llb_wire::{Many, Memory, Text};
 use std::alloc::Global;
 use std::marker::Model;
 
-/// A graph that is worked on with its local trees, and the record of what was done.
+/// A graph that is worked on with its local trees and caches, and the record of what was done.
 #[derive(Drop)]
 pub struct Board {
     alloc: Global,
     build: Build,
+    caches: Caches,
+    start: Caches,
     stands: Vec<Stand>,
     desks: Vec<Desk>,
     halted: Vec<bool>,
@@ -51,53 +60,63 @@ impl Model for Board {
 
     ghost coded = { Prim.hlevel (codes, coded_tree, coded_store) };
 
-    ghost view = { λ b. seen b.build b.stands.items b.desks.items b.events.list };
+    ghost view = { λ b. seen b.build b.start.rows b.stands.items b.desks.items b.caches.rows b.events.list };
 
-    ghost invariant = { λ b. IsKept (seen b.build b.stands.items b.desks.items b.events.list) b.desks.items b.halted.items b.events.room };
+    ghost invariant = { λ b. IsKept (seen b.build b.start.rows b.stands.items b.desks.items b.caches.rows b.events.list) b.desks.items b.caches.out b.halted.items b.events.room };
 }
 
 impl Board {
     /// A board on which nothing has happened. In this order: 121 with the name of the least vertex's local source that
-    /// no tree is given for, 122 where the number of workers is 0 or more than 64; 123 is want of memory. The graph and the local trees
-    /// come back in the fault.
+    /// no tree is given for, 122 where the number of workers is 0 or more than 64; 123 is want of memory. The graph, the local trees and
+    /// the caches come back in the fault. No lease of the caches is out.
     pub fn open(
         alloc: Global,
         graph: Graph,
         locals: Locals,
+        caches: Caches,
         workers: u32,
     ) -> Result<Board, OpenFault>
-        ensures gives { GivesOpen (λ b. b) result (open_of (record { graph = graph; locals = locals }) workers) }
-        ensures last { IfErr result (λ e. open_memory e ≡ true → may_want_memory (open_of (record { graph = graph; locals = locals }) workers) ≡ true) }
-        ensures back { IfErr result (λ e. build_in e ≡ record { graph = graph; locals = locals }) }
+        requires { leases caches.out ≡ 0 }
+        ensures gives { GivesOpen (λ b. b) result (open_of (record { graph = graph; locals = locals }) caches workers) }
+        ensures last { IfErr result (λ e. open_memory e ≡ true → may_want_memory (open_of (record { graph = graph; locals = locals }) caches workers) ≡ true) }
+        ensures back { IfErr result (λ e. returned e ≡ (record { graph = graph; locals = locals }, caches)) }
     {
         let build = Build::new(graph, locals);
         match missing(alloc, &build) {
-            Ok(None) => Board::open_with(alloc, build, workers),
+            Ok(None) => Board::open_with(alloc, build, caches, workers),
             Ok(Some(name)) => {
                 let (graph, locals) = build.into_parts();
-                Err(OpenFault::MissingLocal(name, graph, locals))
+                Err(OpenFault::MissingLocal(name, graph, locals, caches))
             }
             Err(_) => {
                 let (graph, locals) = build.into_parts();
-                Err(OpenFault::Memory(graph, locals))
+                Err(OpenFault::Memory(graph, locals, caches))
             }
         }
     }
 
     // Where all local trees are there.
-    fn open_with(alloc: Global, build: Build, workers: u32) -> Result<Board, OpenFault>
-        ensures gives { GivesOpen (λ b. b) result (open_with build workers) }
-        ensures last { MemoryLast open_memory result (open_with build workers) }
-        ensures back { IfErr result (λ e. build_in e ≡ build) }
+    fn open_with(
+        alloc: Global,
+        build: Build,
+        caches: Caches,
+        workers: u32,
+    ) -> Result<Board, OpenFault>
+        requires { leases caches.out ≡ 0 }
+        ensures gives { GivesOpen (λ b. b) result (open_with build caches workers) }
+        ensures last { MemoryLast open_memory result (open_with build caches workers) }
+        ensures back { IfErr result (λ e. returned e ≡ (build, caches)) }
     {
         if !may_work(workers) {
             let (graph, locals) = build.into_parts();
-            return Err(OpenFault::Workers(graph, locals));
+            return Err(OpenFault::Workers(graph, locals, caches));
         }
-        match opening(alloc, &build, workers) {
+        match opening(alloc, &build, &caches, workers) {
             Ok(fresh) => Ok(Board {
                 alloc,
                 build,
+                caches,
+                start: fresh.start,
                 stands: fresh.stands,
                 desks: fresh.desks,
                 halted: fresh.halted,
@@ -105,42 +124,67 @@ impl Board {
             }),
             Err(_) => {
                 let (graph, locals) = build.into_parts();
-                Err(OpenFault::Memory(graph, locals))
+                Err(OpenFault::Memory(graph, locals, caches))
             }
         }
     }
 
-    /// An idle worker takes a vertex that waits and has all its inputs. 131, 132, 133, 134, 135, 141.
+    /// An idle worker takes a vertex that waits and has all its inputs, with an instance of each cache that the vertex shows. 131, 132,
+    /// 133, 134, 135 with the first locked key that a running worker has, 141; where memory is refused for a key, 141 stands in the place of 135.
     pub fn claim(&mut self, w: u32, v: u32) -> Result<Job, ClaimFault>
         ensures gives { GivesClaim (λ job. (self.new, claim_reply job)) result (claim_of self.old w v) }
-        ensures last { MemoryLast claim_memory result (claim_of self.old w v) }
+        ensures last { IfErr result (λ e. claim_memory e ≡ true → claim_may_want (claim_of self.old w v) ≡ true) }
         ensures err { OnErr result (self.new ≡ self.old) }
     {
         let vertex = claimable(&self.build, &self.stands, &self.desks, w, v)?;
-        let Begun { job, execution } = begin(self.alloc, &self.build, &self.stands, w, v, vertex)?;
+        let wanted = wanted_by(self.alloc, &self.caches, vertex)?;
+        let begun = begin(
+            self.alloc,
+            &self.build,
+            &self.caches,
+            &self.stands,
+            (w, v),
+            vertex,
+            wanted,
+        )?;
+        let Begun {
+            job,
+            execution,
+            needs,
+        } = begun;
+        self.caches.is_exclusive();
+        let lease = self.caches.lease(Many::new(needs))?;
         self.events.push_reserved(Event::Claim(w, v));
         self.stands[v as usize] = Stand::Running(w);
-        self.desks[w as usize] = Desk::Runs(execution);
+        self.desks[w as usize] = Desk::Runs(lease, execution);
         Ok(job)
     }
 
-    /// The next micro-step of what a worker runs. A command that ends with another status than 0 is the last. 131, 136, 137, 141.
+    /// The next micro-step of what a worker runs. A command that ends with another status than 0 is the last. It sees the caches as they
+    /// are now, and they are written at once. 131, 136, 137, 141.
     pub fn step(&mut self, w: u32) -> Result<Stepped, StepFault>
         ensures gives { GivesStep (λ r. (self.new, step_reply r)) result (step_of self.old w) }
         ensures last { MemoryLast step_memory result (step_of self.old w) }
         ensures err { OnErr result (self.new ≡ self.old) }
     {
-        let stepped = step_at(self.alloc, &self.build, &mut self.desks, w)?;
+        let stepped = step_at(
+            self.alloc,
+            &self.build,
+            &mut self.desks,
+            &mut self.caches,
+            w,
+        )?;
         self.events.push_reserved(Event::Step(w));
         Ok(stepped)
     }
 
-    /// A worker leaves what it runs, which is finished. 131, 136, 138; no memory.
+    /// A worker leaves what it runs, which is finished, and its instances of caches are free again. 131, 136, 138; no memory.
     pub fn settle(&mut self, w: u32) -> Result<Settled, SettleFault>
         ensures gives { GivesSettle (λ r. (self.new, settle_reply r)) result (settle_of self.old w) }
         ensures err { OnErr result (self.new ≡ self.old) }
     {
-        let (v, stand) = leave(&self.build, &mut self.desks, w)?;
+        let (v, stand, lease) = leave(&self.build, &mut self.desks, w)?;
+        self.caches.give_back(lease);
         let failed = stand.has_failed();
         self.stands[v as usize] = stand;
         self.events.push_reserved(Event::Settle(w));
@@ -169,7 +213,7 @@ impl Board {
     {
         match desk_at(&self.desks, w)? {
             Desk::Idle => Some(At::Idle),
-            Desk::Runs(execution) => {
+            Desk::Runs(_, execution) => {
                 let finished = is_finished(execution, self.build.steps(execution.vertex));
                 Some(At::Runs(execution.vertex, execution.done, finished))
             }
@@ -208,12 +252,28 @@ impl Board {
         all_settled(&self.build, &self.stands, &self.halted)
     }
 
-    /// The graph and the local trees come back.
-    pub fn into_parts(self) -> (Graph, Locals)
+    /// The caches as they are now: each key in the order in which the first claim took it, behind those that were handed in, with its
+    /// instances. The leases that are out have the instances of the running workers. No memory.
+    pub fn caches(&self) -> &Caches
+        ensures rows { result.now.rows ≡ self.now.rows }
+        ensures contents { store_of result.now.rows ≡ self.now.state.store }
+        ensures leased { HoldsAs result.now.out self.now.state.workers }
+    {
+        &self.caches
+    }
+
+    /// The graph, the local trees and the caches as they are now come back, the leases of running workers given back. No memory.
+    pub fn into_parts(self) -> (Graph, Locals, Caches)
         ensures graph { result.0 ≡ self.build.graph }
         ensures locals { result.1 ≡ self.build.locals }
+        ensures rows { result.2.rows ≡ self.rows }
+        ensures contents { store_of result.2.rows ≡ self.state.store }
+        ensures free { leases result.2.out ≡ 0 }
     {
-        self.build.into_parts()
+        let mut caches = self.caches;
+        give_all_back(&mut caches, &self.desks);
+        let (graph, locals) = self.build.into_parts();
+        (graph, locals, caches)
     }
 
     /// What is true of every graph is true of the board's.

@@ -20,7 +20,7 @@ pub(crate) fn next_event(build: &Build, desks: &[Desk]) -> Option<Event>
     for w in 0..desks.len() {
         match &desks[w] {
             Desk::Idle => {}
-            Desk::Runs(execution) => {
+            Desk::Runs(_, execution) => {
                 if is_finished(execution, build.steps(execution.vertex)) {
                     return Some(Event::Settle(w as u32));
                 }
@@ -33,7 +33,7 @@ pub(crate) fn next_event(build: &Build, desks: &[Desk]) -> Option<Event>
 
 /// The claim of the least Ready vertex, by worker 0.
 pub(crate) fn next_claim(build: &Build, stands: &[Stand]) -> Option<Event>
-    ensures { option_map event_of result ≡ next_claim build.now (state_of stands.now []) }
+    ensures { option_map event_of result ≡ next_claim build.now (state_of stands.now [] []) }
 {
     let vertices = build.vertices();
     for v in 0..vertices.len() as u32 {
@@ -47,7 +47,7 @@ pub(crate) fn next_claim(build: &Build, stands: &[Stand]) -> Option<Event>
 /// Whether every vertex is done, failed or blocked.
 pub(crate) fn all_settled(build: &Build, stands: &[Stand], halted: &[bool]) -> bool
     requires { halted.now ≡ stopped build.now (map status_of stands.now) }
-    ensures { result ≡ is_complete build.now (state_of stands.now []) }
+    ensures { result ≡ is_complete build.now (state_of stands.now [] []) }
 {
     for v in 0..build.vertices().len() as u32 {
         if !is_over(stands, halted, v) {

@@ -44,7 +44,7 @@ fn outputs(own: Own, outputs: Vec<Tree>, vertex: Option<&Vertex>) -> Vec<Tree>
         Own::Local(tree) => place_first(outputs, tree),
         Own::Layers(_, tree) => place_first(outputs, tree),
         Own::Files(_, results) => place_all(outputs, results, actions_at(vertex)),
-        Own::Mounted(view) => place_shown(
+        Own::Mounted(view, _) => place_shown(
             outputs,
             view.into_mounts().into_vec(),
             mounts_at(vertex),

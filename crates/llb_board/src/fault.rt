@@ -1,6 +1,6 @@
 //! Why a call on a board is refused. A fault prints its number. What comes back from a refused call is in its fault.
 
-use llb_cache::Key;
+use llb_cache::{Caches, Key};
 use llb_loader::{Graph, Locals};
 use llb_ops::OpFault;
 use llb_tree::TreeFault;
@@ -14,18 +14,18 @@ use thiserror::Error;
 #[error("141")]
 pub struct Memory;
 
-/// Why a graph is not opened. The graph and the local trees come back.
+/// Why a graph is not opened. The graph, the local trees and the caches come back.
 #[derive(Drop, Error)]
 pub enum OpenFault {
     /// 121: no tree is given for a local source, the least vertex's of those; its name.
     #[error("121 {0}")]
-    MissingLocal(Text, Graph, Locals),
+    MissingLocal(Text, Graph, Locals, Caches),
     /// 122: the number of workers is 0 or more than 64.
     #[error("122")]
-    Workers(Graph, Locals),
+    Workers(Graph, Locals, Caches),
     /// 123: memory was refused.
     #[error("123")]
-    Memory(Graph, Locals),
+    Memory(Graph, Locals, Caches),
 }
 
 impl fmt::Debug for OpenFault {
@@ -49,7 +49,7 @@ pub enum ClaimFault {
     /// 134: the vertex does not wait, or an input of it is not done.
     #[error("134")]
     NotReady,
-    /// 135: another worker has the locked cache of this key. No graph shows a cache, so that it is not answered.
+    /// 135: a running worker has the locked cache of this key, the first such key in the order of the mounts.
     #[error("135 {0}")]
     Held(Key),
     /// 141: memory was refused.
@@ -96,6 +96,13 @@ impl From<AllocError> for Memory {
 
 impl<T: Drop> From<AllocFailed<T>> for Memory {
     fn from(_: AllocFailed<T>) -> Memory {
+        Memory
+    }
+}
+
+/// Of a copy of caches.
+impl From<llb_cache::Memory> for Memory {
+    fn from(_: llb_cache::Memory) -> Memory {
         Memory
     }
 }
@@ -178,6 +185,30 @@ impl From<llb_applet::ScriptFault> for ClaimFault {
     ghost from_gives = { λ _ e. e ≡ Memory };
 
     fn from(_: llb_applet::ScriptFault) -> ClaimFault {
+        ClaimFault::Memory
+    }
+}
+
+/// Of a copy of a key.
+impl From<llb_cache::Memory> for ClaimFault {
+    ghost use Rattle.std.specs.Prelude.{◌≡◌};
+    ghost use Rattle.llb_board.specs.declared.fault.ClaimFault.TheVariants.{Memory};
+
+    ghost from_gives = { λ _ e. e ≡ Memory };
+
+    fn from(_: llb_cache::Memory) -> ClaimFault {
+        ClaimFault::Memory
+    }
+}
+
+/// Of a lease that can only lack memory.
+impl From<llb_cache::LeaseFault> for ClaimFault {
+    ghost use Rattle.std.specs.Prelude.{◌≡◌};
+    ghost use Rattle.llb_board.specs.declared.fault.ClaimFault.TheVariants.{Memory};
+
+    ghost from_gives = { λ _ e. e ≡ Memory };
+
+    fn from(_: llb_cache::LeaseFault) -> ClaimFault {
         ClaimFault::Memory
     }
 }

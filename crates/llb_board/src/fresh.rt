@@ -1,4 +1,5 @@
-//! What a board begins with: all vertices wait, all workers are idle, and the record has room for every event.
+//! What a board begins with: all vertices wait, all workers are idle, the caches are kept as they were handed in, and the record has
+//! room for every event.
 
 ghost use Rattle.std.specs.Prelude.{◌≡◌, ◌≤◌, [], length, replicate, false, IfOk};
 ghost use Rattle.llb_model.specs.Room.{most_events};
@@ -7,7 +8,9 @@ ghost use Rattle.llb_board.specs.declared.stand.Stand.TheVariants as stand;
 
 use crate::build::Build;
 use crate::events::Events;
+use crate::fault::Memory;
 use crate::stand::{Desk, Stand};
+use llb_cache::Caches;
 use std::alloc::{AllocError, Global};
 
 /// The parts of a board on which nothing has happened.
@@ -16,14 +19,22 @@ pub(crate) struct Fresh {
     pub stands: Vec<Stand>,
     pub desks: Vec<Desk>,
     pub halted: Vec<bool>,
+    /// The caches as they were handed in.
+    pub start: Caches,
     pub events: Events,
 }
 
-/// For a graph and so many workers.
-pub(crate) fn opening(alloc: Global, build: &Build, workers: u32) -> Result<Fresh, AllocError>
+/// For a graph, caches and so many workers.
+pub(crate) fn opening(
+    alloc: Global,
+    build: &Build,
+    caches: &Caches,
+    workers: u32,
+) -> Result<Fresh, Memory>
     ensures stands { IfOk result (λ f. f.stands.items ≡ replicate (length build.now.graph.vertices) stand.Waiting) }
     ensures desks { IfOk result (λ f. f.desks.items ≡ replicate workers desk.Idle) }
     ensures halted { IfOk result (λ f. f.halted.items ≡ replicate (length build.now.graph.vertices) false) }
+    ensures start { IfOk result (λ f. f.start ≡ caches.now) }
     ensures events { IfOk result (λ f. f.events.list ≡ []) }
     ensures room { IfOk result (λ f. most_events build.now ≤ f.events.room) }
 {
@@ -32,6 +43,7 @@ pub(crate) fn opening(alloc: Global, build: &Build, workers: u32) -> Result<Fres
         stands: waiting(alloc, count)?,
         desks: idle(alloc, workers)?,
         halted: Vec::from_elem(alloc, false, count)?,
+        start: caches.copy()?,
         events: Events::with_room(alloc, room(build))?,
     })
 }

@@ -1,4 +1,4 @@
-//! What a worker is to do: a vertex's program, and the view that it works on. Both own their data.
+//! What a worker is to do: a vertex's program, and what it works on. All parts own their data.
 
 ghost use Rattle.std.specs.Prelude.{◌≡◌, [], Ok, map, unwrap_or, IfOk};
 ghost use Rattle.llb_model.specs.Program.{Run, program_of, steps_of};
@@ -13,6 +13,8 @@ use crate::view::View;
 use llb_applet::{Script, Setting};
 use llb_loader::Vertex;
 use llb_ops::{FileOp, Kind, MergeInput, Mount};
+use llb_tree::Tree;
+use llb_wire::Many;
 use std::alloc::{AllocError, Global};
 use std::marker::Model;
 
@@ -121,5 +123,10 @@ pub struct Job {
     pub program: Program,
     /// The micro-steps that are done.
     pub done: u32,
+    /// What it works on, the mounts of caches empty.
     pub view: View,
+    /// The trees of the instances of caches as they are at the claim, in the order of the mounts that show them.
+    pub trees: Many<Tree>,
+    /// The numbers of these instances.
+    pub instances: Many<u32>,
 }

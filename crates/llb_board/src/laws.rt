@@ -16,7 +16,7 @@ pub fn is_consistent(board: &Board)
     board.replays();
 }
 
-/// A settled vertex has its plain outcome, failures included.
+/// A settled vertex with no cache mount at or before it has its plain outcome, failures included, whoever shares caches elsewhere.
 pub fn settled_are_plain(board: &Board)
     ensures { SettledArePlain board.now }
 {
@@ -24,9 +24,9 @@ pub fn settled_are_plain(board: &Board)
     board.replays();
 }
 
-/// On a complete board every vertex stands as its plain outcome: ended so, or Blocked.
+/// On a complete board of a graph without cache mounts every vertex stands as its plain outcome: ended so, or Blocked.
 pub fn complete_is_plain(board: &Board)
-    ensures { is_complete board.now.build board.now.state ≡ true → (v : ℕ) → v < length board.now.build.graph.vertices
+    ensures { machine.HasNoCaches board.now.build → is_complete board.now.build board.now.state ≡ true → (v : ℕ) → v < length board.now.build.graph.vertices
         → StandsPlainly (slice_get board.now.state.statuses v) (outcome board.now.build v) }
 {
     board.is_graph();

@@ -1,5 +1,5 @@
-//! One state, changed by the transition table alone: claims, steps and settles of workers on the vertices of a graph,
-//! and the record of them. Stands on the graph and on trees; it starts no thread and takes no lock.
+//! One state, changed by the transition table alone: claims, steps and settles of workers on the vertices of a graph with caches,
+//! and the record of them. Stands on the graph, on trees and on caches; it starts no thread and takes no lock.
 #![tactic(auto)]
 
 mod board;
@@ -10,10 +10,13 @@ mod event;
 mod events;
 mod exec;
 mod fault;
+mod filling;
 mod fresh;
+mod instances;
 mod job;
 pub mod laws;
 mod micro_step;
+mod needs;
 mod ready;
 mod stand;
 mod step;

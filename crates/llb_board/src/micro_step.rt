@@ -1,12 +1,14 @@
 //! One micro-step of an execution, on its own view: the read of a local tree, an action, the laying of an input, or a command.
 
-ghost use Rattle.std.specs.Prelude.{◌≡◌, ◌<◌, ◌^◌, ◌∷◌, [], map, option_map, unwrap_or, length, None, OnErr};
+ghost use Rattle.std.specs.Prelude.{◌≡◌, ◌<◌, ◌^◌, ◌∷◌, [], map, option_map, unwrap_or, length, Some, None, OnErr};
 ghost use Rattle.llb_fileop.specs.Faults.{Gives};
 ghost use Rattle.llb_model.specs.Program.{ReadLocal, Act, LayInput, Run, program_at, program_of, trees_in, act_among, tree_fault_number, fault_number};
 ghost use Rattle.llb_wire.specs.Answer.{MemoryLast};
 ghost use Rattle.llb_board.specs.Views.{execution_of, step_reply};
-ghost use Rattle.llb_board.specs.Jobs.{kind_setting, setting_at, exit_of};
-ghost use Rattle.llb_board.specs.Room.{supplies_of};
+ghost use Rattle.llb_board.specs.Jobs.{exit_of};
+ghost use Rattle.llb_board.specs.Room.{supplies_of, supplies_for, mounts_in, shown_in};
+ghost use Rattle.llb_model.specs.Caches.{Distinct};
+ghost use Rattle.std.specs.List.{All};
 ghost use Rattle.llb_board.specs.Rules.{step_memory, GivesStep, worked};
 ghost use Rattle.llb_ops.specs.declared.merge.MergeInput as merge_input;
 
@@ -22,44 +24,57 @@ use llb_ops::{Action, Kind, MergeInput};
 use llb_tree::{Tree, TreeFault};
 use std::alloc::Global;
 
-/// The next micro-step of an execution.
+/// The next micro-step of an execution, whose instances of caches have these trees: it leaves others of them.
 pub(crate) fn step(
     alloc: Global,
     execution: &mut Execution,
+    trees: &mut Vec<Tree>,
     vertex: Option<&Vertex>,
 ) -> Result<Stepped, StepFault>
     requires few { length (program_at (option_map (λ v. v.now) vertex)).steps < 2 ^ 32 }
-    requires setting { execution.old.setting ≡ setting_at (option_map (λ v. v.now) vertex) }
-    ensures gives { GivesStep (λ r. (execution_of execution.new, step_reply r)) result
-        (worked (program_at (option_map (λ v. v.now) vertex.entry)).steps (execution_of execution.old)) }
-    ensures last { MemoryLast step_memory result (worked (program_at (option_map (λ v. v.now) vertex.entry)).steps (execution_of execution.old)) }
+    requires supplies { supplies_of execution.old ≡ supplies_for (option_map (λ v. v.now) vertex) }
+    requires count { length trees.old.items ≡ length execution.old.places.items }
+    ensures gives { GivesStep (λ r. record { execution = execution_of execution.new; trees = trees.new.items; reply = step_reply r }) result
+        (worked (program_at (option_map (λ v. v.now) vertex.entry)).steps (execution_of execution.old) trees.old.items) }
+    ensures last { MemoryLast step_memory result (worked (program_at (option_map (λ v. v.now) vertex.entry)).steps (execution_of execution.old) trees.old.items) }
     ensures supplies { supplies_of execution.new ≡ supplies_of execution.old }
+    ensures places { execution.new.places ≡ execution.old.places }
+    ensures count { length trees.new.items ≡ length trees.old.items }
     ensures err { OnErr result (execution.new ≡ execution.old) }
 {
     if execution.fault.is_some() {
         return Err(StepFault::NothingLeft);
     }
     match vertex {
-        Some(vertex) => step_of(alloc, execution, vertex),
+        Some(vertex) => step_of(alloc, execution, trees, vertex),
         None => Err(StepFault::NothingLeft),
     }
 }
 
 // The next micro-step of an execution that has not faulted.
-fn step_of(alloc: Global, execution: &mut Execution, vertex: &Vertex) -> Result<Stepped, StepFault>
+fn step_of(
+    alloc: Global,
+    execution: &mut Execution,
+    trees: &mut Vec<Tree>,
+    vertex: &Vertex,
+) -> Result<Stepped, StepFault>
     requires clean { execution.old.fault ≡ None }
     requires few { length (program_of vertex.now).steps < 2 ^ 32 }
-    requires setting { execution.old.setting ≡ kind_setting vertex.now.op.kind }
-    ensures gives { GivesStep (λ r. (execution_of execution.new, step_reply r)) result (worked (program_of vertex.now).steps (execution_of execution.old)) }
-    ensures last { MemoryLast step_memory result (worked (program_of vertex.now).steps (execution_of execution.old)) }
+    requires supplies { supplies_of execution.old ≡ supplies_for (Some vertex.now) }
+    requires count { length trees.old.items ≡ length execution.old.places.items }
+    ensures gives { GivesStep (λ r. record { execution = execution_of execution.new; trees = trees.new.items; reply = step_reply r }) result
+        (worked (program_of vertex.now).steps (execution_of execution.old) trees.old.items) }
+    ensures last { MemoryLast step_memory result (worked (program_of vertex.now).steps (execution_of execution.old) trees.old.items) }
     ensures supplies { supplies_of execution.new ≡ supplies_of execution.old }
+    ensures places { execution.new.places ≡ execution.old.places }
+    ensures count { length trees.new.items ≡ length trees.old.items }
     ensures err { OnErr result (execution.new ≡ execution.old) }
 {
     match &vertex.op.kind {
         Some(Kind::Source(_)) => read_step(execution),
         Some(Kind::File(file)) => act_step(alloc, execution, file.actions.as_slice()),
         Some(Kind::Merge(merge)) => lay_step(alloc, execution, merge.inputs.as_slice()),
-        Some(Kind::Exec(_)) => run_step(alloc, execution, commands_of(&vertex.script)),
+        Some(Kind::Exec(_)) => run_step(alloc, execution, trees, commands_of(&vertex.script)),
         _ => Err(StepFault::NothingLeft),
     }
 }
@@ -67,9 +82,10 @@ fn step_of(alloc: Global, execution: &mut Execution, vertex: &Vertex) -> Result<
 // The read of a source's local tree, which the view has from the claim on.
 fn read_step(execution: &mut Execution) -> Result<Stepped, StepFault>
     requires { execution.old.fault ≡ None }
-    ensures gives { GivesStep (λ r. (execution_of execution.new, step_reply r)) result (worked (ReadLocal ∷ []) (execution_of execution.old)) }
-    ensures last { MemoryLast step_memory result (worked (ReadLocal ∷ []) (execution_of execution.old)) }
+    ensures gives { GivesStep (λ r. record { execution = execution_of execution.new; trees = []; reply = step_reply r }) result (worked (ReadLocal ∷ []) (execution_of execution.old) []) }
+    ensures last { MemoryLast step_memory result (worked (ReadLocal ∷ []) (execution_of execution.old) []) }
     ensures supplies { supplies_of execution.new ≡ supplies_of execution.old }
+    ensures places { execution.new.places ≡ execution.old.places }
     ensures err { OnErr result (execution.new ≡ execution.old) }
 {
     if execution.done > 0 {
@@ -87,9 +103,10 @@ fn act_step(
 ) -> Result<Stepped, StepFault>
     requires clean { execution.old.fault ≡ None }
     requires few { length actions.now < 2 ^ 32 }
-    ensures gives { GivesStep (λ r. (execution_of execution.new, step_reply r)) result (worked (map Act actions.now) (execution_of execution.old)) }
-    ensures last { MemoryLast step_memory result (worked (map Act actions.now) (execution_of execution.old)) }
+    ensures gives { GivesStep (λ r. record { execution = execution_of execution.new; trees = []; reply = step_reply r }) result (worked (map Act actions.now) (execution_of execution.old) []) }
+    ensures last { MemoryLast step_memory result (worked (map Act actions.now) (execution_of execution.old) []) }
     ensures supplies { supplies_of execution.new ≡ supplies_of execution.old }
+    ensures places { execution.new.places ≡ execution.old.places }
     ensures err { OnErr result (execution.new ≡ execution.old) }
 {
     let done = execution.done;
@@ -157,10 +174,11 @@ fn lay_step(
 ) -> Result<Stepped, StepFault>
     requires clean { execution.old.fault ≡ None }
     requires few { length inputs.now < 2 ^ 32 }
-    ensures gives { GivesStep (λ r. (execution_of execution.new, step_reply r)) result
-        (worked (map (λ (i : merge_input.MergeInput). LayInput i.input) inputs.now) (execution_of execution.old)) }
-    ensures last { MemoryLast step_memory result (worked (map (λ (i : merge_input.MergeInput). LayInput i.input) inputs.now) (execution_of execution.old)) }
+    ensures gives { GivesStep (λ r. record { execution = execution_of execution.new; trees = []; reply = step_reply r }) result
+        (worked (map (λ (i : merge_input.MergeInput). LayInput i.input) inputs.now) (execution_of execution.old) []) }
+    ensures last { MemoryLast step_memory result (worked (map (λ (i : merge_input.MergeInput). LayInput i.input) inputs.now) (execution_of execution.old) []) }
     ensures supplies { supplies_of execution.new ≡ supplies_of execution.old }
+    ensures places { execution.new.places ≡ execution.old.places }
     ensures err { OnErr result (execution.new ≡ execution.old) }
 {
     let done = execution.done;
@@ -186,21 +204,29 @@ fn commands_of(script: &Option<Script>) -> &[Command]
 fn run_step(
     alloc: Global,
     execution: &mut Execution,
+    trees: &mut Vec<Tree>,
     commands: &[Command],
 ) -> Result<Stepped, StepFault>
     requires clean { execution.old.fault ≡ None }
     requires few { length commands.now < 2 ^ 32 }
-    ensures gives { GivesStep (λ r. (execution_of execution.new, step_reply r)) result
-        (worked (map (Run execution.old.setting) commands.now) (execution_of execution.old)) }
-    ensures last { MemoryLast step_memory result (worked (map (Run execution.old.setting) commands.now) (execution_of execution.old)) }
+    requires apart { Distinct (shown_in execution.old.view) }
+    requires within { All (λ n. n < mounts_in execution.old.view) (shown_in execution.old.view) }
+    requires count { length trees.old.items ≡ length (shown_in execution.old.view) }
+    ensures gives { GivesStep (λ r. record { execution = execution_of execution.new; trees = trees.new.items; reply = step_reply r }) result
+        (worked (map (Run execution.old.setting) commands.now) (execution_of execution.old) trees.old.items) }
+    ensures last { MemoryLast step_memory result (worked (map (Run execution.old.setting) commands.now) (execution_of execution.old) trees.old.items) }
     ensures supplies { supplies_of execution.new ≡ supplies_of execution.old }
+    ensures places { execution.new.places ≡ execution.old.places }
+    ensures count { length trees.new.items ≡ length trees.old.items }
     ensures err { OnErr result (execution.new ≡ execution.old) }
 {
     let done = execution.done;
     let Some(command) = commands.get(done as usize) else {
         return Err(StepFault::NothingLeft);
     };
-    let status = execution.view.run(alloc, command, &execution.setting)?;
+    let status = execution
+        .view
+        .run(alloc, command, &execution.setting, trees)?;
     execution.done = done + 1;
     execution.fault = exit_of(done, status);
     Ok(Stepped::Ran(done, status))

@@ -7,6 +7,7 @@ ghost use Rattle.llb_board.specs.Views.{status_of};
 
 use crate::view::View;
 use llb_applet::Setting;
+use llb_cache::{Lease, Place};
 use llb_model::VertexFault;
 use llb_tree::Tree;
 use llb_wire::Many;
@@ -35,11 +36,12 @@ impl Stand {
 #[derive(Drop)]
 pub(crate) enum Desk {
     Idle,
-    Runs(Execution),
+    /// The lease of its instances of caches, and what it has else.
+    Runs(Lease, Execution),
 }
 
-/// What a running worker has. In `outputs` there is an empty tree for each output of its vertex, and `setting` is where its
-/// commands run.
+/// What a running worker has. In `places` are the instances of caches that it has leased, in `outputs` an empty tree for each
+/// output of its vertex, and `setting` is where its commands run.
 #[derive(Drop)]
 pub(crate) struct Execution {
     pub vertex: u32,
@@ -47,6 +49,7 @@ pub(crate) struct Execution {
     pub done: u32,
     pub fault: Option<VertexFault>,
     pub view: View,
+    pub places: Vec<Place>,
     pub outputs: Vec<Tree>,
     pub setting: Setting,
 }

@@ -1,17 +1,22 @@
 //! What a worker works on: the view of a vertex's program, which owns its data.
 
-ghost use Rattle.std.specs.Prelude.{◌≡◌, ◌≢◌, Ok, ℕ, [], map, option_map, unwrap_or, true, IfOk, IfErr, OnOk, OnErr};
+ghost use Rattle.std.specs.Prelude.{◌≡◌, ◌≢◌, ◌<◌, Ok, ℕ, length, map, option_map, unwrap_or, true, IfOk, IfErr, OnOk, OnErr};
+ghost use Rattle.std.specs.List.{All};
 ghost use Rattle.llb_tree.specs.Tree.{empty_tree};
 ghost use Rattle.llb_merge.specs.Laying.{lay};
-ghost use Rattle.llb_model.specs.Program.{view_on, trees_in, base_in, with_tree, lay_on, run_on};
+ghost use Rattle.llb_model.specs.Caches.{Distinct};
+ghost use Rattle.llb_model.specs.Program.{view_on, mount_of, needs_of, trees_in, base_in, with_tree, lay_on, run_on};
 ghost use Rattle.llb_board.specs.Rules.{GivesClaim, step_memory};
-ghost use Rattle.llb_board.specs.Jobs.{own_of, ends_as};
+ghost use Rattle.llb_board.specs.Jobs.{own_of};
+ghost use Rattle.llb_board.specs.Caches.{work_with, ends_with};
+ghost use Rattle.llb_board.specs.Room.{mounts_in, shown_in};
 ghost use Rattle.llb_loader.specs.Graph.{IsVertexOf};
 
 use crate::build::Build;
 use crate::exec::view_of;
 use crate::fault::{ClaimFault, StepFault};
-use llb_applet::{Command, Setting, run_command};
+use crate::filling::run_filled;
+use llb_applet::{Command, Setting};
 use llb_loader::Vertex;
 use llb_merge::lay;
 use llb_mount::View as Mounts;
@@ -21,7 +26,7 @@ use std::alloc::Global;
 use std::marker::Model;
 
 /// What a program works on: of a source its local tree, of a file op the trees of its inputs and the results so far, of a
-/// merge the trees of its inputs and what is laid so far, of an exec its mounts.
+/// merge the trees of its inputs and what is laid so far, of an exec its mounts, of which those that show caches are empty.
 #[derive(Drop)]
 pub struct View {
     own: Own,
@@ -32,7 +37,7 @@ pub(crate) enum Own {
     Local(Tree),
     Files(Vec<Tree>, Vec<Tree>),
     Layers(Vec<Tree>, Tree),
-    Mounted(Mounts),
+    Mounted(Mounts, Vec<u32>),
 }
 
 impl Model for View {
@@ -49,14 +54,16 @@ impl Model for View {
 }
 
 impl View {
-    /// Before the first micro-step.
+    /// Before the first micro-step, with the numbers of the mounts that show caches.
     pub(crate) fn on(
         alloc: Global,
         build: &Build,
         vertex: &Vertex,
         inputs: Vec<Tree>,
+        caches: Vec<u32>,
     ) -> Result<View, ClaimFault>
-        requires { IsVertexOf vertex.now vertex.now.op.kind }
+        requires kind { IsVertexOf vertex.now vertex.now.op.kind }
+        requires caches { caches.items ≡ map mount_of (needs_of vertex.now) }
         ensures { GivesClaim (λ v. v) result (Ok (view_on build.now.locals vertex.now vertex.now.op.kind inputs.items)) }
     {
         match &vertex.op.kind {
@@ -70,7 +77,7 @@ impl View {
             }
             Some(Kind::Exec(exec)) => {
                 let mounts = view_of(alloc, inputs.as_slice(), exec.mounts.as_slice())?;
-                let own = Own::Mounted(mounts);
+                let own = Own::Mounted(mounts, caches);
                 Ok(View { own })
             }
             _ => {
@@ -90,7 +97,7 @@ impl View {
         let at = number as usize;
         match &self.own {
             Own::Local(_) => None,
-            Own::Mounted(_) => None,
+            Own::Mounted(_, _) => None,
             Own::Layers(inputs, _) => inputs.get(at),
             Own::Files(inputs, results) => {
                 if at < inputs.len() {
@@ -131,22 +138,30 @@ impl View {
         }
     }
 
-    /// A command runs on an exec's mounts: its status, and where that is not 0 the view is as it was.
+    /// A command runs on an exec's mounts, of which those that show caches have these trees meanwhile: its status, and where that
+    /// is not 0 the view and the trees are as they were.
     pub(crate) fn run(
         &mut self,
         alloc: Global,
         command: &Command,
         setting: &Setting,
+        trees: &mut Vec<Tree>,
     ) -> Result<u32, StepFault>
-        ensures ran { IfOk result (λ status. (c : ℕ) → ends_as c status self.new ≡ run_on c setting.now command.now self.old []) }
-        ensures kept { IfOk result (λ status. status ≢ 0 → self.new ≡ self.old) }
+        requires apart { Distinct (shown_in self.old) }
+        requires within { All (λ n. n < mounts_in self.old) (shown_in self.old) }
+        requires count { length trees.old.items ≡ length (shown_in self.old) }
+        ensures ran { IfOk result (λ status. (c : ℕ) → ends_with c status (work_with self.new trees.new.items)
+            ≡ run_on c setting.now command.now self.old trees.old.items) }
+        ensures kept { IfOk result (λ status. status ≢ 0 → (self.new ≡ self.old) × (trees.new.items ≡ trees.old.items)) }
+        ensures mounts { mounts_in self.new ≡ mounts_in self.old }
+        ensures trees { length trees.new.items ≡ length trees.old.items }
+        ensures shown { shown_in self.new ≡ shown_in self.old }
         ensures err { OnErr result (self.new ≡ self.old) }
         ensures memory { IfErr result (λ e. step_memory e ≡ true) }
     {
         match &mut self.own {
-            Own::Mounted(mounts) => {
-                let status = run_command(alloc, command, setting, mounts)?;
-                Ok(u32::from(status))
+            Own::Mounted(mounts, caches) => {
+                run_filled(alloc, command, setting, mounts, caches, trees)
             }
             _ => Ok(0),
         }

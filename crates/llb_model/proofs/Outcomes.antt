@@ -15,12 +15,12 @@ use Rattle.llb_loader.specs.declared.graph.Edge.{Edge}
 use Rattle.llb_loader.specs.declared.graph.Vertex.{Vertex}
 use Rattle.llb_tree.specs.Tree.{TreeMap}
 use Rattle.llb_model.specs.declared.fault.VertexFault.{VertexFault}
-use Rattle.llb_model.specs.Program.{Build, Program, View, program_of, start_with, needs_from, needs_of, with_need, has_cache, begin, whole, outputs_of, output_from}
-use Rattle.llb_model.specs.Outcome.{Ending, Done, Failed, Ended, ended, ending, output_in, both, all_there, inputs_from, outcome_on, ending_in, next_outcome, outcomes, outcome, next_plain, is_plain}
+use Rattle.llb_model.specs.Program.{Build, Program, View, needs_from, needs_of, with_need, has_cache, outputs_of, output_from}
+use Rattle.llb_model.specs.Outcome.{Ending, Done, Failed, ended, output_in, both, all_there, inputs_from, outcome_on, ending_in, next_outcome, outcomes, outcome, next_plain, is_plain}
 use Rattle.llb_model.specs.Laws.{HasNoCaches}
 use Rattle.llb_model.specs.ByNumber.{by_number}
 use Rattle.llb_model.specs.State.{is_done}
-use Rattle.llb_model.proofs.Lists.{some_of, inside, get_take, Each_of, Some_of, some_with, get_within, got_within}
+use Rattle.llb_model.proofs.Lists.{some_of, get_take, Each_of, Some_of, get_within, got_within}
 use Rattle.llb_model.proofs.ByNumber.{by_number_is}
 
 -- ---- inputs
@@ -216,56 +216,3 @@ outputs_count p view = length-map-range_with_len (output_from p view) 0 p.output
 pub ended_count : (p : Program) (view : View) (fault : Option VertexFault) (trees : List TreeMap) → ended p view fault ≡ Done trees → length trees ≡ p.outputs
 ended_count p view None trees e = let same : outputs_of p view ≡ trees = cc in ap length (sym same) ∙ outputs_count p view
 ended_count p view (Some f) trees e = absurd cc
-
-outcome_count : (b : Build) (v : Vertex) (o : Option (List TreeMap)) (trees : List TreeMap) → ending_in (Some (outcome_on b v o)) ≡ Some (Done trees) → length trees ≡ v.outputs
-outcome_count b v None trees e = absurd cc
-outcome_count b v (Some ts) trees e =
-    let left = whole (program_of v).steps (begin b (start_with v ts) []) in
-    ended_count (program_of v) left.work.own left.fault trees (inside e)
-
-pub plain_count : (b : Build) → IsGraph b.graph → HasOutputs b.graph (plain b)
-plain_count b graph k v trees there is = outcome_count b v (inputs_from (plain b) v.inputs) trees (sym (ap ending_in (outcome_is b graph k v there)) ∙ is)
-
--- ---- where a vertex is not done, one has failed
-
--- a vertex at or before one fails
-pub record FailsBy (b : Build) (k : ℕ) : Type 0 where
-  pub vertex : ℕ
-  pub before : vertex ≤ k
-  pub fault : VertexFault
-  pub failed : outcome b vertex ≡ Some (Ended (Failed fault))
-
-module _ (b : Build) (graph : IsGraph b.graph) where
-  FailsBelow : ℕ → Type 0
-  FailsBelow n = (k : ℕ) → k < n → k < length b.graph.vertices → is_done (plain b k) ≡ false → FailsBy b k
-
-  fails_below : (n : ℕ) → FailsBelow n
-  unfolding FailsBelow
-  fails_below zero k lt fits undone = absurd (omega arith)
-  fails_below (suc n) k lt fits undone =
-      let v = get_within b.graph.vertices k fits in
-      by_inputs v.0 v.1 (inputs_from (plain b) v.0.inputs) refl (λ j low. fails_below n j (omega arith) (omega arith))
-    where
-      by_ending : (e : Ending) → outcome b k ≡ Some (Ended e) → FailsBy b k
-      by_ending (Failed f) is = record { vertex = k; before = omega arith; fault = f; failed = is }
-      by_ending (Done trees) is = let done : is_done (plain b k) ≡ true = ap (λ o. is_done (ending_in o)) is in absurd cc
-
-      by_inputs : (v : Vertex) → slice_get b.graph.vertices k ≡ Some v → (o : Option (List TreeMap)) → inputs_from (plain b) v.inputs ≡ o
-          → ((j : ℕ) → j < k → is_done (plain b j) ≡ false → FailsBy b j) → FailsBy b k
-      by_inputs v there (Some ts) is below =
-          by_ending (ending (program_of v) (whole (program_of v).steps (begin b (start_with v ts) []))) (outcome_is b graph k v there ∙ ap (λ o. some_of (outcome_on b v o)) is)
-      by_inputs v there None is below =
-          some_with (λ (e : Edge). output_in (plain b e.vertex) e.index ≡ None) (LeadsBelow b.graph.vertices k) (FailsBy b k) v.inputs
-          (none_in_inputs (plain b) v.inputs is) (each_below b.graph graph k v there) (λ e none leads.
-          let f = below e.vertex leads.lower (sym (edge_there b.graph (plain b) (plain_count b graph) k (omega (arith, fits)) e leads) ∙ ap is_some none) in
-          record { vertex = f.vertex; before = omega (arith, f.before, leads.lower); fault = f.fault; failed = f.failed })
-
-  pub some_failed : (k : ℕ) → k < length b.graph.vertices → is_done (plain b k) ≡ false → FailsBy b k
-  unfolding FailsBelow
-  some_failed k fits undone = fails_below (suc k) k (omega arith) fits undone
-
-  -- the output that the graph names as its result is no tree only where a vertex fails
-  pub result_failed : output_in (plain b b.graph.result.vertex) b.graph.result.index ≡ None → FailsBy b b.graph.result.vertex
-  result_failed none =
-      some_failed b.graph.result.vertex graph.result.lower
-      (sym (edge_there b.graph (plain b) (plain_count b graph) (length b.graph.vertices) (omega arith) b.graph.result graph.result) ∙ ap is_some none)

@@ -11,14 +11,12 @@ use Rattle.llb_model.specs.Outcome.{Ending, Ended, ending, ending_in, outcome_on
 use Rattle.llb_model.specs.State.{Status, Waiting, Running, Settled, Execution, Idle, Runs, State, Opening, opening, ending_of, ending_at, program_in, work_of, is_finished, ending_from, held, places_for, begin_at}
 use Rattle.llb_model.specs.Table.{Event, Claim, Step, Settle, Reply, execution_on, with_step, table}
 use Rattle.llb_model.specs.Run.{run}
-use Rattle.llb_model.specs.Consistent.{IsConsistent}
-use Rattle.llb_model.specs.Laws.{HasNoCaches}
 use Rattle.llb_model.specs.Plain.{left_of, IsUnderWay, StandsByOutcomes}
-use Rattle.llb_model.proofs.Lists.{some_of, inside, got_set, got_replicate, got_within}
+use Rattle.llb_model.proofs.Lists.{some_of, inside, got_set, got_replicate}
 use Rattle.llb_model.proofs.Parts.{is_over_at, finished_whole, IsNextStep, next_step_is, step_keeps}
 use Rattle.llb_model.proofs.Events.{Answer, IsReady, IsStep, IsSettle, claim_places, claim_is, step_is, settle_is}
 use Rattle.llb_model.proofs.Runs.{run_keeps}
-use Rattle.llb_model.proofs.Outcomes.{inputs_mono, plain, outcome_is, plain_needs, plain_inputs, all_plain}
+use Rattle.llb_model.proofs.Outcomes.{inputs_mono, plain, outcome_is, plain_needs, plain_inputs}
 
 pub opening_plain : (b : Build) (o : Opening) → StandsByOutcomes b (opening b o)
 opening_plain b o = record {
@@ -142,8 +140,3 @@ event_plain b graph s (Settle w) a stands given =
 
 pub run_plain : (b : Build) → IsGraph b.graph → (s t : State) (es : List Event) (rs : List Reply) → StandsByOutcomes b s → run b s es ≡ Some (t, rs) → StandsByOutcomes b t
 run_plain b graph = run_keeps b (StandsByOutcomes b) (event_plain b graph)
-
--- where no vertex shows a cache, each that is settled has its plain outcome
-pub settled_plain : (b : Build) → IsGraph b.graph → HasNoCaches b → (s : State) → IsConsistent b s → StandsByOutcomes b s → (v : ℕ) (e : Ending) → slice_get s.statuses v ≡ Some (Settled e)
-    → outcome b v ≡ Some (Ended e)
-settled_plain b graph none s here stands v e is = stands.settled v e (all_plain b graph none v (omega (arith, got_within s.statuses v (Settled e) is, here.count))) is

@@ -33,6 +33,6 @@ pub returns : goal.returns
 returns c =
     let o = option_map (λ v. v.now) c.args.vertex in
     let mounts : c.into_vec.result.items ≡ c.in-Mounted.view = search rules in
-    outputs_of_mounts o c.in-Mounted.view (mount_outputs c.mounts_at.result.now) c.place_shown.result.items (length c.args.outputs.items) c.mounts_at.ensures
+    outputs_of_mounts o c.in-Mounted.view c.in-Mounted.field-1.items (mount_outputs c.mounts_at.result.now) c.place_shown.result.items (length c.args.outputs.items) c.mounts_at.ensures
     (c.place_shown.ensures ∙ ap (λ (m : List Shown). map (λ i. tree_for i (mount_outputs c.mounts_at.result.now) m) (range_with_len 0 (length c.args.outputs.items))) mounts)
     ∙ ap (λ w. outputs_of (program_with o (length c.args.outputs.items)) (own_of w)) (sym c.in-Mounted.is)

@@ -15,7 +15,12 @@ returns-clause-gives c =
     let l = c.in-Some.ensures.lookup in
     let at : slice_get c.args.inputs.now x.done ≡ Some c.in-Some.input.now
     = slice_get_read c.args.inputs.now (length c.args.inputs.now) x.done c.in-Some.input.now refl l.3.0 l.1 in
-    as_clean (map lays c.args.inputs.now) x.vertex x.done x.fault x.view c.requires.clean
-    ∙ worked_at (map lays c.args.inputs.now) x.vertex x.done x.view (LayInput c.in-Some.input.now.input) (get_map lays c.args.inputs.now x.done c.in-Some.input.now at)
-    ∙ merged x.vertex x.done x.view c.in-Some.input.now.input
-    ∙ (λ i. Ok (record { vertex = x.vertex; done = x.done + 1; fault = sym c.requires.clean i; own = sym c.in_ok-lay.ensures.ok i; places = [] }, HasMerged x.done))
+    as_clean (map lays c.args.inputs.now) x.vertex x.done x.fault x.view x.places.items [] c.requires.clean
+    ∙ worked_at (map lays c.args.inputs.now) x.vertex x.done x.view x.places.items [] (LayInput c.in-Some.input.now.input)
+    (get_map lays c.args.inputs.now x.done c.in-Some.input.now at)
+    ∙ merged x.vertex x.done x.view x.places.items c.in-Some.input.now.input
+    ∙ (λ i. Ok (record {
+      execution = record { vertex = x.vertex; done = x.done + 1; fault = sym c.requires.clean i; own = sym c.in_ok-lay.ensures.ok i; places = x.places.items };
+      trees = [];
+      reply = HasMerged x.done;
+    }))

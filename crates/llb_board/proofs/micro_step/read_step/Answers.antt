@@ -10,6 +10,11 @@ pub returns-clause-gives : goal.returns-clause-gives
 returns-clause-gives c =
     let x = c.args.execution.now in
     let none : x.done ≡ 0 = omega (arith, c.if-execution-gt0.false) in
-    as_clean (ReadLocal ∷ []) x.vertex x.done x.fault x.view c.requires
-    ∙ (λ i. worked (ReadLocal ∷ []) (clean x.vertex (none i) x.view)) ∙ worked_at (ReadLocal ∷ []) x.vertex 0 x.view ReadLocal refl ∙ read x.vertex 0 x.view
-    ∙ (λ i. Ok (record { vertex = x.vertex; done = 1; fault = sym c.requires i; own = x.view; places = [] }, HasRead))
+    as_clean (ReadLocal ∷ []) x.vertex x.done x.fault x.view x.places.items [] c.requires
+    ∙ (λ i. worked (ReadLocal ∷ []) (clean x.vertex (none i) x.view x.places.items) []) ∙ worked_at (ReadLocal ∷ []) x.vertex 0 x.view x.places.items [] ReadLocal refl
+    ∙ read x.vertex 0 x.view x.places.items
+    ∙ (λ i. Ok (record {
+      execution = record { vertex = x.vertex; done = 1; fault = sym c.requires i; own = x.view; places = x.places.items };
+      trees = [];
+      reply = HasRead;
+    }))

@@ -1,97 +1,162 @@
-use Rattle.std.proofs.Common.{◌≡◌, ◌∙◌, map, length, refl, sym, ap, arith, rules, vec_len}
-use Rattle.std.specs.Prelude.{Ok, is_ok, true, slice_set}
-use Rattle.std.proofs.lemmas.Option.{slice_get_within}
-use Rattle.llb_model.specs.State.{Waiting, Idle}
+use Rattle.std.proofs.Common.{◌≡◌, ◌∙◌, length, refl, sym, ap, arith, rules, vec_len}
+use Rattle.std.specs.Prelude.{Ok, Err, true, false}
 use Rattle.llb_model.specs.Table.{Claim}
 use Rattle.llb_model.proofs.Lists.{length_set}
-use Rattle.llb_board.specs.Views.{status_of, at_of, execution_of, state_of, claim_reply}
-use Rattle.llb_board.specs.Board.{Seen, recorded}
-use Rattle.llb_board.specs.Rules.{claim_fault, claim_of}
+use Rattle.llb_board.specs.Begun.{begun_as}
+use Rattle.llb_board.specs.Views.{state_of, claim_reply}
+use Rattle.llb_board.specs.Board.{Seen}
+use Rattle.llb_board.specs.Rules.{claim_fault, claim_of, claim_memory, claim_may_want}
 use Rattle.llb_board.specs.Room.{seen}
-use Rattle.llb_board.specs.declared.stand.Stand.TheVariants as stand
 use Rattle.llb_board.specs.declared.stand.Desk.TheVariants as desk
-use Rattle.llb_board.proofs.Lists.{length_map}
-use Rattle.llb_board.proofs.Bare.{needs_nothing}
-use Rattle.llb_board.proofs.Calls.{can_claim, begins_at, claim_done}
-use Rattle.llb_board.proofs.Kept.{has_room, kept_after, recorded_as, claim_does, made_for, supplies_claimed, marks_kept}
+use Rattle.llb_board.proofs.Wanting.{graph_edges}
+use Rattle.llb_board.proofs.Calls.{can_claim, claim_held, claim_wants, claim_done}
+use Rattle.llb_board.proofs.Claiming.{MayClaim, data_of, same_held, few_out, differ, did}
+use Rattle.llb_board.proofs.Kept.{has_room, claimed, recorded_as}
 use Rattle.llb_board.proofs.board.Board.claim.Goals as goal
+
+pub wanted_by-requires-clause-seeds : goal.wanted_by-requires-clause-seeds
+wanted_by-requires-clause-seeds c = graph_edges c.self.inside.build.graph c.args.v c.in_ok-vertex.vertex.now c.in_ok-vertex.ensures.graph c.in_ok-vertex.ensures.there
+
+pub returns-in_err-wanted-clause-gives : goal.returns-in_err-wanted-clause-gives
+returns-in_err-wanted-clause-gives c =
+    let b = c.self.inside in
+    let ss = b.stands.items in
+    let ds = b.desks.items in
+    let x = c.in_ok-vertex.vertex.now in
+    let can = can_claim b.build (state_of ss ds b.caches.rows) c.args.w c.args.v x
+    (rw (c.deref.ensures.value, c.deref-2.ensures.value) at c.in_ok-vertex.ensures.first) c.in_ok-vertex.ensures.there in
+    let e = c.in_err-wanted.field-0.0 in
+    let same = same_held b.build b.start.rows ss ds b.caches b.halted.items b.events.list b.events.room c.self.invariant in
+    let refused : claim_memory e ≡ false → claim_of c.args.self.now c.args.w c.args.v ≡ Err e
+    = λ known. ap (λ (n : Seen). claim_of n c.args.w c.args.v) (sym c.self.view_is)
+    ∙ claim_held (seen b.build b.start.rows ss ds b.caches.rows b.events.list) c.args.w c.args.v x b.caches e can same (c.in_err-wanted.ensures.gives known) in
+    search (rules, refused)
+
+pub lease-requires-clause-differ : goal.lease-requires-clause-differ
+lease-requires-clause-differ c =
+    let b = c.self.inside in
+    let ss = b.stands.items in
+    let ds = b.desks.items in
+    let x = c.in_ok-vertex.vertex.now in
+    let can = can_claim b.build (state_of ss ds b.caches.rows) c.args.w c.args.v x
+    (rw (c.deref.ensures.value, c.deref-2.ensures.value) at c.in_ok-vertex.ensures.first) c.in_ok-vertex.ensures.there in
+    let may : MayClaim b.build b.start.rows ss ds b.caches b.halted.items b.events.list b.events.room c.args.w c.args.v x
+    = record { kept = c.self.invariant; can = can; graph = c.in_ok-vertex.ensures.graph; apart = c.is_exclusive.ensures.apart; there = c.is_exclusive.ensures.there } in
+    let begins = rw c.deref-3.ensures.value at c.in_ok-begun.ensures.gives in
+    rw c.new.ensures
+    (differ b.build b.start.rows ss ds b.caches b.halted.items b.events.list b.events.room c.args.w c.args.v x may (begun_as c.in_ok-begun.begun) begins)
+
+pub lease-requires-clause-few : goal.lease-requires-clause-few
+lease-requires-clause-few c =
+    let b = c.self.inside in
+    few_out b.build b.start.rows b.stands.items b.desks.items b.caches b.halted.items b.events.list b.events.room c.self.invariant
+
+pub returns-in_err-lease-clause-last : goal.returns-in_err-lease-clause-last
+returns-in_err-lease-clause-last c =
+    let b = c.self.inside in
+    let ss = b.stands.items in
+    let ds = b.desks.items in
+    let x = c.in_ok-vertex.vertex.now in
+    let can = can_claim b.build (state_of ss ds b.caches.rows) c.args.w c.args.v x
+    (rw (c.deref.ensures.value, c.deref-2.ensures.value) at c.in_ok-vertex.ensures.first) c.in_ok-vertex.ensures.there in
+    let wants : claim_may_want (claim_of c.args.self.now c.args.w c.args.v) ≡ true
+    = ap (λ (n : Seen). claim_may_want (claim_of n c.args.w c.args.v)) (sym c.self.view_is)
+    ∙ claim_wants (seen b.build b.start.rows ss ds b.caches.rows b.events.list) c.args.w c.args.v x can in
+    search (rules, wants)
 
 pub push_reserved-requires : goal.push_reserved-requires
 push_reserved-requires c =
     let b = c.self.inside in
-    let s = state_of b.stands.items b.desks.items in
+    let ss = b.stands.items in
+    let ds = b.desks.items in
     let x = c.in_ok-vertex.vertex.now in
-    let can = can_claim b.build s c.args.w c.args.v x
-    (rw (c.deref.ensures.value, c.deref-2.ensures.value) at c.in_ok-vertex.ensures.first) c.in_ok-vertex.ensures.there (needs_nothing c.in_ok-vertex.vertex.now c.in_ok-vertex.ensures.kind) in
-    let does = claim_does b.build b.stands.items b.desks.items c.args.w c.args.v x c.in_ok-job.field-0.execution
-    (claim_reply c.in_ok-job.field-0.job) can (rw c.deref-3.ensures.value at c.in_ok-job.ensures.gives) in
-    has_room (seen b.build b.stands.items b.desks.items b.events.list) b.desks.items b.halted.items b.events.room (Claim c.args.w c.args.v) _
-    c.self.invariant (claim_done b.build s c.args.w c.args.v _ does)
+    let can = can_claim b.build (state_of ss ds b.caches.rows) c.args.w c.args.v x
+    (rw (c.deref.ensures.value, c.deref-2.ensures.value) at c.in_ok-vertex.ensures.first) c.in_ok-vertex.ensures.there in
+    let may : MayClaim b.build b.start.rows ss ds b.caches b.halted.items b.events.list b.events.room c.args.w c.args.v x
+    = record { kept = c.self.invariant; can = can; graph = c.in_ok-vertex.ensures.graph; apart = c.is_exclusive.ensures.apart; there = c.is_exclusive.ensures.there } in
+    let begins = rw c.deref-3.ensures.value at c.in_ok-begun.ensures.gives in
+    let own = c.in_ok-begun.begun.execution in
+    let r = claim_reply c.in_ok-begun.begun.job in
+    let new = c.lease.new.self in
+    let d = did b.build b.start.rows ss ds b.caches b.halted.items b.events.list b.events.room c.args.w c.args.v x may (begun_as c.in_ok-begun.begun) begins
+    c.in_ok-lease.lease own new _ c.in_ok-wanted.ensures.gives refl (rw c.new.ensures at c.in_ok-lease.ensures.gives) c.in_ok-begun.ensures.supplies in
+    has_room (seen b.build b.start.rows ss ds b.caches.rows b.events.list) ds b.caches.out b.halted.items b.events.room (Claim c.args.w c.args.v) _ c.self.invariant
+    (claim_done b.build (state_of ss ds b.caches.rows) c.args.w c.args.v _ d.grants)
 
 pub index_mut-requires : goal.index_mut-requires
 index_mut-requires c =
     let b = c.self.inside in
-    let can = can_claim b.build (state_of b.stands.items b.desks.items) c.args.w c.args.v c.in_ok-vertex.vertex.now
-    (rw (c.deref.ensures.value, c.deref-2.ensures.value) at c.in_ok-vertex.ensures.first) c.in_ok-vertex.ensures.there (needs_nothing c.in_ok-vertex.vertex.now c.in_ok-vertex.ensures.kind) in
+    let ss = b.stands.items in
+    let ds = b.desks.items in
+    let x = c.in_ok-vertex.vertex.now in
+    let can = can_claim b.build (state_of ss ds b.caches.rows) c.args.w c.args.v x
+    (rw (c.deref.ensures.value, c.deref-2.ensures.value) at c.in_ok-vertex.ensures.first) c.in_ok-vertex.ensures.there in
+    let may : MayClaim b.build b.start.rows ss ds b.caches b.halted.items b.events.list b.events.room c.args.w c.args.v x
+    = record { kept = c.self.invariant; can = can; graph = c.in_ok-vertex.ensures.graph; apart = c.is_exclusive.ensures.apart; there = c.is_exclusive.ensures.there } in
+    let begins = rw c.deref-3.ensures.value at c.in_ok-begun.ensures.gives in
+    let own = c.in_ok-begun.begun.execution in
+    let r = claim_reply c.in_ok-begun.begun.job in
+    let new = c.lease.new.self in
+    let d = did b.build b.start.rows ss ds b.caches b.halted.items b.events.list b.events.room c.args.w c.args.v x may (begun_as c.in_ok-begun.begun) begins
+    c.in_ok-lease.lease own new _ c.in_ok-wanted.ensures.gives refl (rw c.new.ensures at c.in_ok-lease.ensures.gives) c.in_ok-begun.ensures.supplies in
     let len : vec_len b.stands ≡ length b.stands.items = search rules in
-    omega (arith, slice_get_within (map status_of b.stands.items) c.args.v Waiting can.waits, length_map status_of b.stands.items, len)
+    omega (arith, d.low_v, len)
 
 pub index_mut-requires-2 : goal.index_mut-requires-2
 index_mut-requires-2 c =
     let b = c.self.inside in
-    let can = can_claim b.build (state_of b.stands.items b.desks.items) c.args.w c.args.v c.in_ok-vertex.vertex.now
-    (rw (c.deref.ensures.value, c.deref-2.ensures.value) at c.in_ok-vertex.ensures.first) c.in_ok-vertex.ensures.there (needs_nothing c.in_ok-vertex.vertex.now c.in_ok-vertex.ensures.kind) in
-    let len : vec_len b.desks ≡ length b.desks.items = search rules in
-    omega (arith, slice_get_within (map at_of b.desks.items) c.args.w Idle can.idle, length_map at_of b.desks.items, len)
-
-pub invariant_of-self : goal.invariant_of-self
-invariant_of-self c =
-    let b = c.self.inside in
-    let build = b.build in
     let ss = b.stands.items in
     let ds = b.desks.items in
     let x = c.in_ok-vertex.vertex.now in
-    let own = c.in_ok-job.field-0.execution in
-    let r = claim_reply c.in_ok-job.field-0.job in
-    let begins = rw c.deref-3.ensures.value at c.in_ok-job.ensures.gives in
-    let can = can_claim build (state_of ss ds) c.args.w c.args.v x
-    (rw (c.deref.ensures.value, c.deref-2.ensures.value) at c.in_ok-vertex.ensures.first) c.in_ok-vertex.ensures.there (needs_nothing c.in_ok-vertex.vertex.now c.in_ok-vertex.ensures.kind) in
-    let granted = claim_done build (state_of ss ds) c.args.w c.args.v _ (claim_does b.build ss ds c.args.w c.args.v x own r can begins) in
-    let made = made_for b.build x c.args.v own.vertex c.in_ok-vertex.ensures.there
-    (begins_at build (state_of ss ds) c.args.w c.args.v x (execution_of own, r) can begins) in
-    let stays = marks_kept build ss c.args.v (stand.Running c.args.w) Waiting can.waits refl refl in
-    rw (c.push_reserved.ensures.list, c.push_reserved.ensures.room)
-    (kept_after b.build ss (slice_set ss c.args.v (stand.Running c.args.w)) ds (slice_set ds c.args.w (desk.Runs own)) b.events.list b.halted.items
-    b.halted.items b.events.room (Claim c.args.w c.args.v) r c.self.invariant granted
-    (length_set ds c.args.w (desk.Runs own))
-    (supplies_claimed build ds c.args.w own c.self.invariant.supplies (c.in_ok-job.ensures.supplies ∙ made))
-    (c.self.invariant.halted_are ∙ sym stays))
+    let can = can_claim b.build (state_of ss ds b.caches.rows) c.args.w c.args.v x
+    (rw (c.deref.ensures.value, c.deref-2.ensures.value) at c.in_ok-vertex.ensures.first) c.in_ok-vertex.ensures.there in
+    let may : MayClaim b.build b.start.rows ss ds b.caches b.halted.items b.events.list b.events.room c.args.w c.args.v x
+    = record { kept = c.self.invariant; can = can; graph = c.in_ok-vertex.ensures.graph; apart = c.is_exclusive.ensures.apart; there = c.is_exclusive.ensures.there } in
+    let begins = rw c.deref-3.ensures.value at c.in_ok-begun.ensures.gives in
+    let own = c.in_ok-begun.begun.execution in
+    let r = claim_reply c.in_ok-begun.begun.job in
+    let new = c.lease.new.self in
+    let d = did b.build b.start.rows ss ds b.caches b.halted.items b.events.list b.events.room c.args.w c.args.v x may (begun_as c.in_ok-begun.begun) begins
+    c.in_ok-lease.lease own new _ c.in_ok-wanted.ensures.gives refl (rw c.new.ensures at c.in_ok-lease.ensures.gives) c.in_ok-begun.ensures.supplies in
+    let len : vec_len b.desks ≡ length b.desks.items = search rules in
+    omega (arith, d.low_w, len)
 
-pub returns-in_err-job-clause-last : goal.returns-in_err-job-clause-last
-returns-in_err-job-clause-last c =
+pub invariant_of-self-2 : goal.invariant_of-self-2
+invariant_of-self-2 c =
     let b = c.self.inside in
+    let ss = b.stands.items in
+    let ds = b.desks.items in
     let x = c.in_ok-vertex.vertex.now in
-    let can = can_claim b.build (state_of b.stands.items b.desks.items) c.args.w c.args.v x
-    (rw (c.deref.ensures.value, c.deref-2.ensures.value) at c.in_ok-vertex.ensures.first) c.in_ok-vertex.ensures.there
-    (needs_nothing x c.in_ok-vertex.ensures.kind) in
-    let grants : is_ok (claim_of c.args.self.now c.args.w c.args.v) ≡ true
-    = ap (λ (s : Seen). is_ok (claim_of s c.args.w c.args.v)) (sym c.self.view_is)
-    ∙ ap (λ r. is_ok (recorded (seen b.build b.stands.items b.desks.items b.events.list) (Claim c.args.w c.args.v) claim_fault r)) can.grants in
-    search (rules, grants)
+    let can = can_claim b.build (state_of ss ds b.caches.rows) c.args.w c.args.v x
+    (rw (c.deref.ensures.value, c.deref-2.ensures.value) at c.in_ok-vertex.ensures.first) c.in_ok-vertex.ensures.there in
+    let may : MayClaim b.build b.start.rows ss ds b.caches b.halted.items b.events.list b.events.room c.args.w c.args.v x
+    = record { kept = c.self.invariant; can = can; graph = c.in_ok-vertex.ensures.graph; apart = c.is_exclusive.ensures.apart; there = c.is_exclusive.ensures.there } in
+    let begins = rw c.deref-3.ensures.value at c.in_ok-begun.ensures.gives in
+    let own = c.in_ok-begun.begun.execution in
+    let r = claim_reply c.in_ok-begun.begun.job in
+    let new = c.lease.new.self in
+    let d = did b.build b.start.rows ss ds b.caches b.halted.items b.events.list b.events.room c.args.w c.args.v x may (begun_as c.in_ok-begun.begun) begins
+    c.in_ok-lease.lease own new _ c.in_ok-wanted.ensures.gives refl (rw c.new.ensures at c.in_ok-lease.ensures.gives) c.in_ok-begun.ensures.supplies in
+    rw (c.push_reserved.ensures.list, c.push_reserved.ensures.room) d.keeps
 
 pub returns-clause-gives : goal.returns-clause-gives
 returns-clause-gives c =
     let b = c.self.inside in
-    let build = b.build in
     let ss = b.stands.items in
     let ds = b.desks.items in
     let x = c.in_ok-vertex.vertex.now in
-    let own = c.in_ok-job.field-0.execution in
-    let r = claim_reply c.in_ok-job.field-0.job in
-    let can = can_claim build (state_of ss ds) c.args.w c.args.v x
-    (rw (c.deref.ensures.value, c.deref-2.ensures.value) at c.in_ok-vertex.ensures.first) c.in_ok-vertex.ensures.there (needs_nothing c.in_ok-vertex.vertex.now c.in_ok-vertex.ensures.kind) in
-    let does = claim_does b.build ss ds c.args.w c.args.v x own r can (rw c.deref-3.ensures.value at c.in_ok-job.ensures.gives) in
-    ap (λ (s : Seen). claim_of s c.args.w c.args.v) (sym c.self.view_is)
-    ∙ recorded_as b.build ss (slice_set ss c.args.v (stand.Running c.args.w)) ds (slice_set ds c.args.w (desk.Runs own)) b.events.list
-    (Claim c.args.w c.args.v) claim_fault _ r does (length_set ds c.args.w (desk.Runs own))
-    ∙ (λ i. Ok (seen b.build (slice_set ss c.args.v (stand.Running c.args.w)) (slice_set ds c.args.w (desk.Runs own)) (sym c.push_reserved.ensures.list i), r))
+    let can = can_claim b.build (state_of ss ds b.caches.rows) c.args.w c.args.v x
+    (rw (c.deref.ensures.value, c.deref-2.ensures.value) at c.in_ok-vertex.ensures.first) c.in_ok-vertex.ensures.there in
+    let may : MayClaim b.build b.start.rows ss ds b.caches b.halted.items b.events.list b.events.room c.args.w c.args.v x
+    = record { kept = c.self.invariant; can = can; graph = c.in_ok-vertex.ensures.graph; apart = c.is_exclusive.ensures.apart; there = c.is_exclusive.ensures.there } in
+    let begins = rw c.deref-3.ensures.value at c.in_ok-begun.ensures.gives in
+    let own = c.in_ok-begun.begun.execution in
+    let r = claim_reply c.in_ok-begun.begun.job in
+    let new = c.lease.new.self in
+    let d = did b.build b.start.rows ss ds b.caches b.halted.items b.events.list b.events.room c.args.w c.args.v x may (begun_as c.in_ok-begun.begun) begins
+    c.in_ok-lease.lease own new _ c.in_ok-wanted.ensures.gives refl (rw c.new.ensures at c.in_ok-lease.ensures.gives) c.in_ok-begun.ensures.supplies in
+    let before = data_of ss ds b.caches b.halted.items in
+    let after = claimed before c.args.w c.args.v c.in_ok-lease.lease own new in
+    ap (λ (n : Seen). claim_of n c.args.w c.args.v) (sym c.self.view_is)
+    ∙ recorded_as b.build b.start.rows before after b.events.list (Claim c.args.w c.args.v) claim_fault _ r d.grants (length_set ds c.args.w (desk.Runs c.in_ok-lease.lease own)) d.rows
+    ∙ (λ i. Ok (seen b.build b.start.rows after.stands after.desks after.rows (sym c.push_reserved.ensures.list i), r))

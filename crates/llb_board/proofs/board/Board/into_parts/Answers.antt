@@ -1,9 +1,21 @@
-use Rattle.std.proofs.Common.{◌∙◌, ap}
+use Rattle.std.proofs.Common.{List, map, sym, ap, subst, ◌∙◌}
+use Rattle.llb_cache.specs.Caches.{Row}
+use Rattle.llb_model.specs.Kept.{store_of}
+use Rattle.llb_model.specs.Leases.{AreLeased}
 use Rattle.llb_board.specs.Board.{Seen}
+use Rattle.llb_board.specs.Views.{at_of, leased_by}
+use Rattle.llb_board.specs.declared.stand.Desk.{Desk}
 use Rattle.llb_board.proofs.board.Board.into_parts.Goals as goal
+
+pub give_all_back-requires : goal.give_all_back-requires
+give_all_back-requires c =
+    subst (λ (ds : List Desk). AreLeased c.self.inside.caches.out (map at_of ds) (map leased_by ds)) (sym c.deref.ensures.value) c.self.invariant.leased
 
 pub returns : goal.returns
 returns c = record {
-  graph = c.into_parts.ensures.graph ∙ ap (λ (b : Seen). b.build.graph) c.self.view_is;
-  locals = c.into_parts.ensures.locals ∙ ap (λ (b : Seen). b.build.locals) c.self.view_is;
+  graph = c.into_parts-graph.ensures.graph ∙ ap (λ (b : Seen). b.build.graph) c.self.view_is;
+  locals = c.into_parts-graph.ensures.locals ∙ ap (λ (b : Seen). b.build.locals) c.self.view_is;
+  rows = c.give_all_back.ensures.rows ∙ ap (λ (b : Seen). b.rows) c.self.view_is;
+  contents = ap (λ (rows : List Row). store_of rows) c.give_all_back.ensures.rows ∙ ap (λ (b : Seen). b.state.store) c.self.view_is;
+  free = c.give_all_back.ensures.none;
 }

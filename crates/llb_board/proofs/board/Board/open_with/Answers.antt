@@ -1,6 +1,6 @@
 use Rattle.std.proofs.Common.{◌≡◌, ◌∙◌, true, ap, sym}
 use Rattle.std.specs.Prelude.{Bool, Ok, Err, Result, if◌then◌else◌}
-use Rattle.llb_model.specs.Caches.{no_instances}
+use Rattle.llb_cache.specs.Caches.{CachesValue}
 use Rattle.llb_board.specs.Board.{Seen, opened}
 use Rattle.llb_board.specs.Rules.{may_work}
 use Rattle.llb_board.specs.declared.fault.OpenFault.{OpenFault}
@@ -12,12 +12,15 @@ pub invariant_of-result : goal.invariant_of-result
 invariant_of-result c =
     let e = c.in-Ok.ensures in
     let may : may_work c.args.workers ≡ true = sym c.may_work.ensures ∙ c.if-not-may_work.false in
-    kept_open c.args.build c.args.workers _ _ _ _ _ e.stands e.desks e.events e.halted e.room (some_work c.args.workers may) (few_work c.args.workers may)
+    kept_open c.args.build _ c.args.workers _ _ _ c.args.caches.rows c.args.caches.out _ _
+    (record { stands = e.stands; desks = e.desks; events = e.events; marks = e.halted; room = e.room })
+    (ap (λ (c : CachesValue). c.rows) e.start) c.requires (some_work c.args.workers may) (few_work c.args.workers may)
 
 pub returns-in-Ok-clause-gives : goal.returns-in-Ok-clause-gives
 returns-in-Ok-clause-gives c =
     let e = c.in-Ok.ensures in
     let may : may_work c.args.workers ≡ true = sym c.may_work.ensures ∙ c.if-not-may_work.false in
     let open_is : (b : Bool) → Result Seen OpenFault
-    = λ b. if b then Ok (opened c.args.build (record { workers = c.args.workers; store = no_instances })) else Err (Workers c.args.build.graph c.args.build.locals) in
-    ap open_is may ∙ ap (λ (s : Seen). Ok s) (sym (seen_open c.args.build c.args.workers _ _ _ e.stands e.desks e.events))
+    = λ b. if b then Ok (opened c.args.build c.args.workers c.args.caches.rows) else Err (Workers c.args.build.graph c.args.build.locals c.args.caches) in
+    ap open_is may
+    ∙ ap (λ (s : Seen). Ok s) (sym (seen_open c.args.build _ c.args.workers _ _ c.args.caches.rows _ e.stands e.desks e.events (ap (λ (c : CachesValue). c.rows) e.start)))

@@ -4,30 +4,38 @@ use Rattle.llb_board.specs.Views.{state_of, step_reply}
 use Rattle.llb_board.specs.Room.{IsKept, seen}
 use Rattle.llb_board.specs.declared.stand.Desk.{Desk}
 use Rattle.llb_board.proofs.Calls.{step_done}
-use Rattle.llb_board.proofs.Kept.{has_room, kept_after, step_does, supplies_stepped, same_length, whole_written}
+use Rattle.llb_board.proofs.Kept.{Data, has_room, kept_after, step_does, supplies_stepped, same_length, whole_written}
 use Rattle.llb_board.proofs.board.Board.step.Goals as goal
 
 pub push_reserved-requires : goal.push_reserved-requires
 push_reserved-requires c =
     let b = c.self.inside in
-    let does = step_does b.build b.stands.items b.desks.items c.step_at.new.desks c.args.w (step_reply c.in_ok-stepped.stepped)
+    let does = step_does b.build b.stands.items b.desks.items c.step_at.new.desks b.caches.rows c.step_at.new.caches.rows c.args.w (step_reply c.in_ok-stepped.stepped)
     (rw c.deref_mut.ensures.value at c.in_ok-stepped.ensures.gives) in
-    has_room (seen b.build b.stands.items b.desks.items b.events.list) b.desks.items b.halted.items b.events.room (Step c.args.w) _ c.self.invariant
-    (step_done _ _ c.args.w _ does)
+    has_room (seen b.build b.start.rows b.stands.items b.desks.items b.caches.rows b.events.list) b.desks.items b.caches.out b.halted.items b.events.room (Step c.args.w) _
+    c.self.invariant (step_done _ _ c.args.w _ does)
 
 pub invariant_of-self-2 : goal.invariant_of-self-2
 invariant_of-self-2 c =
     let b = c.self.inside in
     let ds = b.desks.items in
     let new = c.step_at.new.desks in
+    let rows = c.step_at.new.caches.rows in
     let r = step_reply c.in_ok-stepped.stepped in
-    let granted = step_done b.build (state_of b.stands.items ds) c.args.w (state_of b.stands.items new, r)
-    (step_does b.build b.stands.items ds new c.args.w r (rw c.deref_mut.ensures.value at c.in_ok-stepped.ensures.gives)) in
+    let granted = step_done b.build (state_of b.stands.items ds b.caches.rows) c.args.w (state_of b.stands.items new rows, r)
+    (step_does b.build b.stands.items ds new b.caches.rows rows c.args.w r (rw c.deref_mut.ensures.value at c.in_ok-stepped.ensures.gives)) in
     let supplies = rw c.deref_mut.ensures.value at c.in_ok-stepped.ensures.supplies in
     let same = same_length ds new supplies in
-    let kept = kept_after b.build b.stands.items b.stands.items ds new b.events.list b.halted.items b.halted.items b.events.room (Step c.args.w) r
-    c.self.invariant granted same
-    (supplies_stepped b.build b.stands.items ds new c.args.w r c.self.invariant.supplies granted supplies) c.self.invariant.halted_are in
+    let before : Data = record { stands = b.stands.items; desks = ds; rows = b.caches.rows; out = b.caches.out; halted = b.halted.items } in
+    let after : Data = record { stands = b.stands.items; desks = new; rows = rows; out = c.step_at.new.caches.out; halted = b.halted.items } in
+    let kept = kept_after b.build b.start.rows before after b.events.list b.events.room (Step c.args.w) r c.self.invariant granted
+    (record {
+      same = same;
+      leased = c.in_ok-stepped.ensures.leased;
+      supplies = supplies_stepped b.build b.stands.items ds new b.caches.rows rows c.args.w r c.self.invariant.supplies granted supplies;
+      marks = c.self.invariant.halted_are;
+    }) in
     let written : take b.desks.len (new ++ drop (length new) ds) ≡ new = whole_written b.desks.len new ds same (search rules) in
     rw (c.push_reserved.ensures.list, c.push_reserved.ensures.room)
-    (subst (λ (l : List Desk). IsKept (seen b.build b.stands.items l (b.events.list ++ Step c.args.w ∷ [])) l b.halted.items b.events.room) (sym written) kept)
+    (subst (λ (l : List Desk). IsKept (seen b.build b.start.rows b.stands.items l rows (b.events.list ++ Step c.args.w ∷ [])) l c.step_at.new.caches.out b.halted.items b.events.room)
+    (sym written) kept)

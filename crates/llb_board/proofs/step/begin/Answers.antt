@@ -1,0 +1,52 @@
+use Rattle.std.proofs.Common.{◌≡◌, List, map, sym, ap, ◌∙◌}
+use Rattle.std.specs.Prelude.{Result, Ok}
+use Rattle.llb_loader.specs.declared.graph.Edge.{Edge}
+use Rattle.llb_model.specs.Outcome.{inputs_from}
+use Rattle.llb_model.specs.State.{ending_at}
+use Rattle.llb_board.specs.Caches.{taken_with}
+use Rattle.llb_board.specs.Begun.{outfit_as}
+use Rattle.llb_board.specs.Rules.{or_not_ready}
+use Rattle.llb_board.specs.Views.{status_of}
+use Rattle.llb_board.specs.declared.fault.ClaimFault.{ClaimFault}
+use Rattle.llb_board.proofs.Begins.{Parts, AreParts, begun_of, supplied}
+use Rattle.llb_board.proofs.step.begin.Goals as goal
+
+inside_ok : {A : Type 0} {x y : A} → ◌≡◌ {A = Result A ClaimFault} (Ok x) (Ok y) → x ≡ y
+inside_ok e = cc
+
+parts : goal.After-new-2 → Parts
+parts c =
+    let t = c.in_ok-taking.taking in
+    record {
+      view = c.in_ok-view.view;
+      own = c.in_ok-view.own;
+      places = t.places.items;
+      instances = c.new-2.result;
+      trees = c.new.result;
+      needs = t.needs.items;
+      outfit = outfit_as c.in_ok-outfit.outfit;
+    }
+
+are_parts : (c : goal.After-new-2) → AreParts c.args.build.now c.args.caches.now c.args.vertex.now c.in_ok-shown.shown.items (parts c)
+unfolding parts
+are_parts c =
+    let views = inside_ok c.in_ok-view.ensures in
+    record {
+      view = ap (λ p. p.0) views;
+      own = ap (λ p. p.1) views;
+      taking = (λ i. taken_with c.args.caches.now (sym c.deref-2.ensures.value i) (sym c.requires.wanted i)) ∙ inside_ok c.in_ok-taking.ensures
+          ∙ (λ i. (c.in_ok-taking.taking.places.items, sym c.new-2.ensures i, sym c.new.ensures i, c.in_ok-taking.taking.needs.items));
+      outfit = inside_ok c.in_ok-outfit.ensures;
+    }
+
+pub returns-clause-gives : goal.returns-clause-gives
+unfolding parts
+returns-clause-gives c =
+    let there : or_not_ready (inputs_from (ending_at (map status_of c.args.stands.now)) c.args.vertex.now.inputs) ≡ Ok c.in_ok-shown.shown.items
+    = ap (λ (es : List Edge). or_not_ready (inputs_from (ending_at (map status_of c.args.stands.now)) es)) (sym c.as_slice.ensures) ∙ c.in_ok-shown.ensures in
+    begun_of c.args.build.now c.args.caches.now c.args.at.0 c.args.at.1 c.args.vertex.now
+    (inputs_from (ending_at (map status_of c.args.stands.now)) c.args.vertex.now.inputs) c.in_ok-shown.shown.items (parts c) there (are_parts c)
+
+pub returns-clause-supplies : goal.returns-clause-supplies
+unfolding parts
+returns-clause-supplies c = supplied c.args.build.now c.args.caches.now c.args.vertex.now c.in_ok-shown.shown.items (parts c) (are_parts c)
