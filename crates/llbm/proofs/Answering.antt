@@ -1,6 +1,6 @@
 -- What a run tells of the bytes that it read.
 use Rattle.std.proofs.Common.{◌≡◌, ℕ, ◌<◌, Bool, true, false, cond, ltb, List, [], length, ◌⊎◌, Option, Some, None, Result, Ok, Err, inl, inr, refl, sym, ap, subst, ◌∙◌}
-use Rattle.std.specs.Prelude.{IfSome, slice_get}
+use Rattle.std.specs.Prelude.{IfSome}
 use Rattle.std.proofs.lemmas.Bool.{lt-ltb}
 use Rattle.std.specs.Io.KnownBytes.{Appends}
 use Rattle.llb_wire.specs.Sink.{PartOut}
@@ -14,17 +14,14 @@ use Rattle.llb_loader.specs.Faults.{is_memory}
 use Rattle.llb_loader.specs.Graph.{Numbered, IsGraph}
 use Rattle.llb_loader.specs.Locals.{Local}
 use Rattle.llb_loader.specs.Load.{IsGraphIn, IsRefusalIn}
-use Rattle.llb_model.specs.Outcome.{Outcome, outcome, ending_in, output_in}
-use Rattle.llb_model.specs.State.{Status, Waiting, Running, Settled, ending_of, ending_at}
-use Rattle.llb_model.specs.Run.{StandsPlainly}
 use Rattle.llb_board.specs.Board.{Seen}
 use Rattle.llbm.specs.declared.fault.ProgramFault.{ProgramFault}
 use Rattle.llbm.specs.declared.fault.ProgramFault.TheVariants.{Refused, Loading, Print}
 use Rattle.llb_treetext.specs.TreeText.{tree_text}
 use Rattle.llbm.specs.GraphText.{graph_text}
-use Rattle.llbm.specs.Answer.{build_of, result_of, FailsBy, Yields, YieldsNone, IsRefused, Lacks, IsNotRun, YieldsPart, DrawsPart}
+use Rattle.llbm.specs.Answer.{build_of, result_in, Yields, YieldsNone, IsRefused, Lacks, IsNotRun, YieldsPart, DrawsPart}
 use Rattle.llbm.specs.Answer.{Runs}
-use Rattle.llb_model.proofs.Outcomes.{result_failed}
+use Rattle.llbm.proofs.Ending.{result_fails}
 use Rattle.llbm.specs.Running.{passed_on, unread_as, IsRefusal, TellsRefusal, IsFinished, Shows, Answers}
 use Rattle.llbm.specs.Bounded.{ReadsAll}
 use Rattle.llbm.specs.declared.bounded.ReadFault.{ReadFault}
@@ -61,35 +58,20 @@ tells left e bytes read refused h =
 pub reads_graph : (left : Option (List ℕ)) (g : Numbered) (bytes : List ℕ) → IfSome left (λ xs. bytes ≡ xs) → IsGraphIn bytes g → IfSome left (λ xs. IsGraphIn xs g)
 reads_graph left g bytes read loaded = some_map (λ xs. bytes ≡ xs) (λ xs. IsGraphIn xs g) left (λ xs same. subst (λ ys. IsGraphIn ys g) same loaded) read
 
-by_stand : (o : Option Status) (p : Option Outcome) (i : ℕ) → StandsPlainly o p → output_in (ending_of o) i ≡ output_in (ending_in p) i
-by_stand (Some (Settled e)) p i h = ap (λ q. output_in (ending_in q) i) (sym h)
-by_stand (Some Waiting) p i h = ap (λ q. output_in (ending_in q) i) (sym h)
-by_stand (Some (Running w)) p i h = absurd h
-by_stand None p i h = absurd h
-
--- on a finished board the result's output is the graph's result
-pub result_is : (ls : List Local) (g : Numbered) → IsGraph g → (b : Seen) → IsFinished ls g b → output_in (ending_at b.state.statuses g.result.vertex) g.result.index ≡ result_of ls g
-result_is ls g graph b fin = by_stand (slice_get b.state.statuses g.result.vertex) (outcome (build_of ls g) g.result.vertex) g.result.index (fin.plain g.result.vertex graph.result.lower)
-
 module _ (ls : List Local) (left : Option (List ℕ)) (g : Numbered) (graph : IsGraph g) (b : Seen) (fin : IsFinished ls g b) (loads : IfSome left (λ bytes. IsGraphIn bytes g)) where
-  yields : (bytes : List ℕ) → IsGraphIn bytes g → (t : TreeMap) → output_in (ending_at b.state.statuses g.result.vertex) g.result.index ≡ Some t → Yields ls bytes (tree_text t)
-  yields bytes loaded t is = record { graph = g; loaded = loaded; tree = t; result = sym (result_is ls g graph b fin) ∙ is; printed = refl }
+  yields : (bytes : List ℕ) → IsGraphIn bytes g → (t : TreeMap) → result_in b.state g ≡ Some t → Yields ls bytes (tree_text t)
+  yields bytes loaded t is = record { graph = g; loaded = loaded; state = b.state; ended = fin.ended; tree = t; result = is; printed = refl }
 
-  pub answers_text : (out out' : Option (List ℕ)) (t : TreeMap) → output_in (ending_at b.state.statuses g.result.vertex) g.result.index ≡ Some t → Appends out out' (tree_text t)
-      → IfSome left (λ bytes. (text : List ℕ) × Yields ls bytes text × Appends out out' text)
+  pub answers_text : (out out' : Option (List ℕ)) (t : TreeMap) → result_in b.state g ≡ Some t → Appends out out' (tree_text t) → IfSome left (λ bytes. (text : List ℕ) × Yields ls bytes text × Appends out out' text)
   answers_text out out' t is app = some_map (λ bytes. IsGraphIn bytes g) (λ bytes. (text : List ℕ) × Yields ls bytes text × Appends out out' text) left (λ bytes loaded. (tree_text t, yields bytes loaded t is, app)) loads
 
-  pub answers_part : (out out' : Option (List ℕ)) (t : TreeMap) → output_in (ending_at b.state.statuses g.result.vertex) g.result.index ≡ Some t → PartOut out out' (tree_text t) → IfSome left (YieldsPart ls out out')
+  pub answers_part : (out out' : Option (List ℕ)) (t : TreeMap) → result_in b.state g ≡ Some t → PartOut out out' (tree_text t) → IfSome left (YieldsPart ls out out')
   answers_part out out' t is part = some_map (λ bytes. IsGraphIn bytes g) (YieldsPart ls out out') left (λ bytes loaded. (tree_text t, yields bytes loaded t is, part)) loads
 
-  pub answers_none : output_in (ending_at b.state.statuses g.result.vertex) g.result.index ≡ None → IfSome left (YieldsNone ls)
-  answers_none none = some_map (λ bytes. IsGraphIn bytes g) (YieldsNone ls) left (λ bytes loaded. record { graph = g; loaded = loaded; result = no_tree; fails = fails }) loads
-    where
-      no_tree : result_of ls g ≡ None
-      no_tree = sym (result_is ls g graph b fin) ∙ none
-
-      fails : FailsBy ls g g.result.vertex
-      fails = let f = result_failed (build_of ls g) graph no_tree in record { vertex = f.vertex; before = f.before; fault = f.fault; failed = f.failed }
+  pub answers_none : result_in b.state g ≡ None → IfSome left (YieldsNone ls)
+  answers_none none =
+      let fails = result_fails (build_of ls g) graph b.state fin.ended none in
+      some_map (λ bytes. IsGraphIn bytes g) (YieldsNone ls) left (λ bytes loaded. record { graph = g; loaded = loaded; state = b.state; ended = fin.ended; result = none; fails = fails }) loads
 
 -- ---- what the parts answered, where the answer is known
 

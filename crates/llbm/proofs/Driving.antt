@@ -10,11 +10,14 @@ use Rattle.std.specs.List.{count_by}
 use Rattle.std.specs.Result.{result_ok}
 use Rattle.llb_loader.specs.Graph.{IsGraph}
 use Rattle.llb_model.specs.Consistent.{IsConsistent}
+use Rattle.llb_model.specs.Program.{Build}
 use Rattle.llb_model.specs.SettleCause.{SettleCause}
 use Rattle.llb_model.specs.State.{State}
 use Rattle.llb_model.specs.Table.{Event, Claim, Step, Settle, Reply, worker_of, claim_grant, step_grant, settle_grant, table}
 use Rattle.llb_model.specs.Run.{run, events_by, chosen}
-use Rattle.llb_model.proofs.Runs.{run_more}
+use Rattle.llb_model.specs.Laws.{AreChosen}
+use Rattle.llb_model.proofs.Lists.{inside as some_inside}
+use Rattle.llb_model.proofs.Runs.{run_none, run_first, run_more}
 use Rattle.llb_model.proofs.Alone.{Ascends, alone_step}
 use Rattle.llb_board.specs.Board.{Seen, ChosenIsGranted, after_event, recorded}
 use Rattle.llb_board.specs.Rules.{GivesClaim, claim_of, claim_fault, GivesStep, step_of, step_fault, GivesSettle, settle_of, settle_fault}
@@ -39,19 +42,32 @@ pub takes_of : {C F : Type 0} (b : Seen) (e : Event) (fault : C → F) (o : Resu
 takes_of {C} {F} b e fault (Err cause) n r is given = absurd cc
 takes_of {C} {F} b e fault (Ok (s, q)) n r is given =
     let same : after_event b e s ≡ n = ap (λ (x : Seen × Reply). x.0) (inside {F = F} given) in
-    subst (Takes b e) same (record { build = refl; opening = refl; reply = q; given = is; events = refl })
+    subst (Takes b e) same (record { build = refl; opening = refl; first = refl; reply = q; given = is; events = refl })
 
 pub goes_nil : (b : Seen) → Goes b b
 unfolding run
-goes_nil b = record { build = refl; opening = refl; more = []; replies = []; leads = refl; events = sym (append-nil b.events) }
+goes_nil b = record { build = refl; opening = refl; first = refl; more = []; replies = []; leads = refl; chosen = tt; events = sym (append-nil b.events) }
 
-pub goes_on : (a b c : Seen) (e : Event) → Goes a b → Takes b e c → Goes a c
-goes_on a b c e goes takes = record {
+-- a chosen event more
+chosen_more : (b : Build) (s t : State) (es : List Event) (rs : List Reply) (e : Event) → run b s es ≡ Some (t, rs) → AreChosen b s es → chosen b t ≡ Some e → AreChosen b s (es ++ e ∷ [])
+chosen_more b s t [] rs e leads all next = (ap (chosen b) (run_none b s t rs leads).0 ∙ next, λ a given. tt)
+chosen_more b s t (x ∷ es) rs e leads all next =
+    let first = run_first b s x es t rs leads in (
+      all.0,
+      λ a given.
+          let same : first.a ≡ a = some_inside (sym first.given ∙ given) in
+          chosen_more b a.0 t es first.rest e (ap (λ (y : State × Reply). run b y.0 es) (sym same) ∙ first.goes_on) (all.1 a given) next,
+    )
+
+pub goes_on : (a b c : Seen) (e : Event) → Goes a b → chosen b.build b.state ≡ Some e → Takes b e c → Goes a c
+goes_on a b c e goes next takes = record {
   build = takes.build ∙ goes.build;
   opening = takes.opening ∙ goes.opening;
+  first = takes.first ∙ goes.first;
   more = goes.more ++ e ∷ [];
   replies = goes.replies ++ takes.reply ∷ [];
   leads = run_more a.build a.state b.state c.state goes.more goes.replies e takes.reply goes.leads given;
+  chosen = chosen_more a.build a.state b.state goes.more goes.replies e goes.leads goes.chosen (ap (λ x. chosen x b.state) (sym goes.build) ∙ next);
   events = takes.events ∙ ap (λ es. es ++ e ∷ []) goes.events ∙ append_assoc a.events goes.more (e ∷ []);
 }
   where
@@ -111,6 +127,10 @@ on_true false P f = tt
 pub on_false : (b : Bool) (P : Type 0) → (b ≡ false → P) → OnFalse b P
 on_false true P f = tt
 on_false false P f = f refl
+
+pub when_true : (b : Bool) (P : Type 0) → OnTrue b P → b ≡ true → P
+when_true true P h is = h
+when_true false P h is = absurd cc
 
 -- a front of a longer record
 pub goes_longer : (a b : Seen) → Goes a b → length a.events ≤ length b.events

@@ -1,25 +1,42 @@
--- What a driver does to a board.
-use Rattle.std.specs.Prelude.{◌≡◌, ℕ, ◌<◌, List, [], ◌∷◌, ◌++◌, length, drop, slice_index, Option, Some, None, ⊤}
+-- What a driver does to a board, and how it leaves a build where it goes on to the end.
+use Rattle.std.specs.Prelude.{◌≡◌, ℕ, ◌<◌, true, List, [], ◌∷◌, ◌++◌, length, drop, slice_index, Option, Some, None, ⊤}
+use Rattle.llb_model.specs.Program.{Build}
+use Rattle.llb_model.specs.State.{State, Opening, opening}
 use Rattle.llb_model.specs.Table.{Event, Claim, Step, Settle, Reply, table}
-use Rattle.llb_model.specs.Run.{run, events_by}
+use Rattle.llb_model.specs.Run.{run, events_by, is_complete}
+use Rattle.llb_model.specs.Order.{at_first, order, claims_in}
+use Rattle.llb_model.specs.Laws.{AreChosen}
 use Rattle.llb_board.specs.Board.{Seen}
 
 -- one event that the table grants, at the end of the record
 pub record Takes (old : Seen) (e : Event) (new : Seen) : Type 0 where
   pub build : new.build ≡ old.build
   pub opening : new.opening ≡ old.opening
+  pub first : new.first ≡ old.first
   pub reply : Reply
   pub given : table old.build old.state e ≡ Some (new.state, reply)
   pub events : new.events ≡ old.events ++ e ∷ []
 
--- events that are granted one after another, at the end of the record
+-- events that are chosen and granted one after another, at the end of the record
 pub record Goes (old new : Seen) : Type 0 where
   pub build : new.build ≡ old.build
   pub opening : new.opening ≡ old.opening
+  pub first : new.first ≡ old.first
   pub more : List Event
   pub replies : List Reply
   pub leads : run old.build old.state more ≡ Some (new.state, replies)
+  pub chosen : AreChosen old.build old.state more
   pub events : new.events ≡ old.events ++ more
+
+-- The chosen events lead from an opening to a state in which all is done. Each vertex and each instance of a cache stands there as if each
+-- claimed vertex had been run whole at its claim, one behind the other.
+pub record EndsInClaimOrder (b : Build) (o : Opening) (es : List Event) (s : State) : Type 0 where
+  pub replies : List Reply
+  pub leads : run b (opening b o) es ≡ Some (s, replies)
+  pub chosen : AreChosen b (opening b o) es
+  pub complete : is_complete b s ≡ true
+  pub statuses : s.statuses ≡ (order b (at_first b o.store) (claims_in replies)).statuses
+  pub store : s.store ≡ (order b (at_first b o.store) (claims_in replies)).store
 
 -- of each worker, how many of the events that were added are its own
 abbrev pub MadeBy : Seen → Seen → List ℕ → Type 0

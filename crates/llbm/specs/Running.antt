@@ -1,16 +1,14 @@
 -- The parts of a run, each with what it tells of the bytes.
-use Rattle.std.specs.Prelude.{◌≡◌, ◌⊎◌, ℕ, ◌<◌, Bool, true, false, List, length, Option, Some, None, Result, Ok, Err, IfSome, slice_get, ⊤, if◌then◌else◌}
+use Rattle.std.specs.Prelude.{◌≡◌, ◌⊎◌, ℕ, Bool, true, false, List, Option, Some, None, Result, Ok, Err, IfSome, ⊤, if◌then◌else◌}
 use Rattle.std.specs.Io.KnownBytes.{Appends, Keeps}
 use Rattle.llb_wire.specs.Sink.{PartOut}
 use Rattle.llb_tree.specs.Tree.{TreeMap}
 use Rattle.llb_loader.specs.Graph.{Numbered}
 use Rattle.llb_loader.specs.Load.{IsGraphIn}
 use Rattle.llb_loader.specs.Locals.{Local}
-use Rattle.llb_model.specs.Outcome.{outcome}
-use Rattle.llb_model.specs.Run.{StandsPlainly}
 use Rattle.llb_board.specs.Board.{Seen}
 use Rattle.llb_treetext.specs.TreeText.{tree_text}
-use Rattle.llbm.specs.Answer.{build_of, Yields, YieldsNone, IsRefused, IsNotRun, YieldsPart, DrawsAll, DrawsPart}
+use Rattle.llbm.specs.Answer.{build_of, IsEnd, Yields, YieldsNone, IsRefused, IsNotRun, YieldsPart, DrawsAll, DrawsPart}
 use Rattle.llbm.specs.declared.fault.ProgramFault.{ProgramFault}
 use Rattle.llbm.specs.declared.fault.ProgramFault.TheVariants.{Refused, MissingLocal, Loading, Read, Memory}
 use Rattle.llbm.specs.declared.bounded.ReadFault.{ReadFault}
@@ -46,10 +44,10 @@ abbrev pub Loads : Option (List ℕ) → Result Numbered ProgramFault → Type 0
 Loads input (Ok g) = IfSome input (λ bytes. IsGraphIn bytes g)
 Loads input (Err e) = TellsRefusal IsRefused input e
 
--- a board on which every vertex of the graph stands as its plain outcome
+-- a board on which a run of the graph has ended
 pub record IsFinished (locals : List Local) (g : Numbered) (b : Seen) : Type 0 where
   pub build : b.build ≡ build_of locals g
-  pub plain : (v : ℕ) → v < length g.vertices → StandsPlainly (slice_get b.state.statuses v) (outcome (build_of locals g) v)
+  pub ended : IsEnd (build_of locals g) b.state
 
 -- a tree is out where there is one
 abbrev pub Shows : Option (List ℕ) → Option (List ℕ) → Option TreeMap → Result Bool ProgramFault → Type 0

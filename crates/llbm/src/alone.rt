@@ -7,9 +7,13 @@ ghost use Rattle.llb_board.specs.Views.{event_of};
 ghost use Rattle.llb_model.specs.Outcome.{outcome};
 ghost use Rattle.llb_model.specs.Run.{chosen, is_complete, claims_of, AreAscending, StandsPlainly};
 ghost use Rattle.std.specs.List.{count_by};
-ghost use Rattle.llbm.specs.Alone.{Takes, IsLeft, Goes, TakesMemory, MadeBy};
+ghost use Rattle.llb_model.specs.Laws.{HasNoCaches};
+ghost use Rattle.llbm.specs.Alone.{Takes, IsLeft, Goes, EndsInClaimOrder, TakesMemory, MadeBy};
 
-use llb_board::laws::{chosen_is_granted, chosen_until_complete, complete_is_plain, is_consistent};
+use llb_board::laws::{
+    alone_in_claim_order, chosen_is_granted, chosen_until_complete, complete_is_plain,
+    is_consistent,
+};
 use llb_board::{Board, Event};
 use thiserror::Error;
 
@@ -107,22 +111,29 @@ fn made_by(events: &[Event]) -> [u64; 64]
     made
 }
 
-/// Does the chosen events until the board is complete; 151 where memory is refused to a claim or a step. On a complete board
-/// every vertex stands as its plain outcome.
+/// Does the chosen events until the board is complete; 151 where memory is refused to a claim or a step. A board that was just
+/// opened ends as the order of its claims tells, shared caches included; and where the graph has no caches, every vertex
+/// of a complete board stands as its plain outcome.
 pub fn run_alone(board: Board) -> RunEnd
     ensures goes { Goes board result.board }
     ensures ends { (result.fault ≡ None) ↔ (is_complete result.board.build result.board.state ≡ true) }
     ensures stops { IfSome result.fault (λ _. TakesMemory (chosen result.board.build result.board.state)) }
     ensures claims { board.events ≡ [] → AreAscending (claims_of result.board.events) }
-    ensures plain { result.fault ≡ None → (v : ℕ) → v < length result.board.build.graph.vertices
+    ensures order { board.events ≡ [] → result.fault ≡ None
+        → EndsInClaimOrder result.board.build result.board.opening result.board.events result.board.state }
+    ensures plain { result.fault ≡ None → HasNoCaches result.board.build → (v : ℕ) → v < length result.board.build.graph.vertices
         → StandsPlainly (slice_get result.board.state.statuses v) (outcome result.board.build v) }
     ensures made { MadeBy board result.board result.made }
 {
+    board.replays();
     let mut board = board;
     let before = board.events().len();
     let whole = go_alone(&mut board);
     let (_, added) = board.events().as_slice().split_at(before);
     let made = made_by(added);
+    board.is_graph();
+    is_consistent(&board);
+    alone_in_claim_order(&board);
     chosen_until_complete(&board);
     complete_is_plain(&board);
     let fault = if whole { None } else { Some(RunFault::Memory) };

@@ -1,7 +1,6 @@
 //! From the bytes of a definition to the text of its result: read, load, open a board, do the chosen events, print.
 
-ghost use Rattle.std.specs.Prelude.{◌≡◌, IfOk, IfErr};
-ghost use Rattle.llb_model.specs.Caches.{no_instances};
+ghost use Rattle.std.specs.Prelude.{◌≡◌, [], IfOk, IfErr};
 ghost use Rattle.llb_model.specs.Outcome.{output_in};
 ghost use Rattle.llb_model.specs.State.{ending_at};
 ghost use Rattle.llb_board.specs.Board.{opened};
@@ -14,6 +13,7 @@ use crate::alone::{RunEnd, run_alone};
 use crate::fault::{ProgramFault, refusal};
 use crate::input::loaded;
 use llb_board::{Board, OpenFault, Status};
+use llb_cache::Caches;
 use llb_loader::{Edge, Graph, Locals};
 use llb_tree::Tree;
 use llb_treetext::{PrintFault, print_tree};
@@ -22,14 +22,14 @@ use std::alloc::Global;
 use std::io;
 use std::io::{Read, Write};
 
-// A board with one worker, or why there is none.
+// A board with one worker and no caches, or why there is none.
 fn opened(alloc: Global, graph: Graph, locals: Locals) -> Result<Board, ProgramFault>
-    ensures board { IfOk result (λ b. b ≡ opened (build_of locals graph) (record { workers = 1; store = no_instances })) }
+    ensures board { IfOk result (λ b. b ≡ opened (build_of locals graph) 1 []) }
     ensures fault { IfErr result (λ e. IsRefusal e → Lacks locals graph) }
 {
-    match Board::open(alloc, graph, locals, 1) {
+    match Board::open(alloc, graph, locals, Caches::new(alloc), 1) {
         Ok(board) => Ok(board),
-        Err(OpenFault::MissingLocal(name, _, _)) => Err(ProgramFault::MissingLocal(name)),
+        Err(OpenFault::MissingLocal(name, _, _, _)) => Err(ProgramFault::MissingLocal(name)),
         Err(_) => Err(ProgramFault::Opening),
     }
 }
@@ -39,6 +39,7 @@ fn finished(alloc: Global, graph: Graph, locals: Locals) -> Result<Board, Progra
     ensures board { IfOk result (IsFinished locals graph) }
     ensures fault { IfErr result (λ e. IsRefusal e → Lacks locals graph) }
 {
+    graph.is_graph();
     let board = opened(alloc, graph, locals)?;
     let RunEnd { board, fault, .. } = run_alone(board);
     match fault {
@@ -105,11 +106,11 @@ fn failures<E: Write>(board: &Board, err: &mut E) -> io::Result<()> {
     Ok(())
 }
 
-/// Reads a definition from `input`, runs it on the local trees with one worker, and writes the text of its result to `out`;
-/// refusals and failures go to `err`, a line each. Answers the exit status: 0 where the whole text is out; 1 where a vertex
-/// failed; 2 where the definition is refused, or a local source has no tree (`fault 121` and its name); 3 where a read, a
-/// write or memory failed. But for 0, nothing is written to `out`,
-/// or, for 3, a front of the text. Reading ends past 67,108,864 bytes (`fault 81 13`) or after 2^27 reads (`fault 181`).
+/// Reads a definition from `input`, runs it on the local trees with one worker and caches that are empty at first, and writes
+/// the text of its result to `out`; refusals and failures go to `err`, a line each. Answers the exit status: 0 where the whole
+/// text is out; 1 where a vertex failed; 2 where the definition is refused, or a local source has no tree (`fault 121` and its
+/// name); 3 where a read, a write or memory failed. But for 0, nothing is written to `out`, or, for 3, a front of the text.
+/// Reading ends past 67,108,864 bytes (`fault 81 13`) or after 2^27 reads (`fault 181`).
 pub fn run_over<R: Read, W: Write, E: Write>(
     alloc: Global,
     input: &mut R,

@@ -1,4 +1,4 @@
-//! Executions: what is printed of their outputs, and of commands and scripts that fail.
+//! Executions: what is printed of their outputs, and of commands and scripts that fail; and caches that they share.
 
 use super::definitions::*;
 use super::run::answers_on;
@@ -47,5 +47,21 @@ fn words_that_are_no_script_are_refused(rt: HostRuntime) -> Result<(), Fail> {
             "{fault}"
         );
     }
+    Ok(())
+}
+
+#[test]
+fn a_vertex_with_a_cache_fails_and_the_one_behind_it_is_blocked(
+    rt: HostRuntime,
+) -> Result<(), Fail> {
+    let failed = "failed 0 command 1 status 1\n";
+    assert!(rt; answers_on(rt.alloc(), &[], FAILING_WITH_CACHE, 1, "", failed)?);
+    Ok(())
+}
+
+#[test]
+fn a_cache_keeps_what_an_earlier_vertex_wrote(rt: HostRuntime) -> Result<(), Fail> {
+    let tree = "d 0755 0 0 /\nf 0644 0 0 780a /b\n";
+    assert!(rt; answers_on(rt.alloc(), &[], READ_FROM_CACHE, 0, tree, "")?);
     Ok(())
 }

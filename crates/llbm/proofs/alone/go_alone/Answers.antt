@@ -17,7 +17,7 @@ loop-event-preserved c =
     let b = c.loop-event.board in
     let e = event_of c.in-Some.event in
     let taken = c.if-not-do_event.ensures.taken in (
-      goes_on c.args.board.now b c.do_event.new.board e c.loop-event.invariant.0 taken,
+      goes_on c.args.board.now b c.do_event.new.board e c.loop-event.invariant.0 (sym c.in-Some.ensures) taken,
       λ none. ascends_on b c.do_event.new.board e c.is_graph.ensures c.is_consistent.ensures (sym c.in-Some.ensures) taken (c.loop-event.invariant.1 none),
     )
 

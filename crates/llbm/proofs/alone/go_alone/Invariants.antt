@@ -1,4 +1,4 @@
--- The events so far are granted ones, and their claims ascend; fewer can come with each.
+-- The events so far are chosen and granted ones, and their claims ascend; fewer can come with each.
 use Rattle.std.proofs.Common.{◌≡◌, ◌-◌, [], length}
 use Rattle.llb_model.specs.Room.{most_events}
 use Rattle.llb_model.proofs.Alone.{Ascends}
