@@ -1,6 +1,8 @@
 //! The board. A story is a list of calls with their answers, printed: a fault by its number.
 
+use super::cache::{Row as CacheRow, key_of};
 use llb_board::{At, Board, Event, OpenFault, Settled, Status, Stepped};
+use llb_cache::Caches;
 use llb_loader::{Graph, Locals, Row, link};
 use llb_tree::{Meta, Path, Tree};
 use llb_treetext::print_tree;
@@ -21,7 +23,7 @@ pub const MAKES_B: &[u8] =
     b"\x22\x1A\x12\x18\x08\xFF\xFF\xFF\xFF\xFF\xFF\xFF\xFF\xFF\x01\x2A\x0B\x0A\x02/b\x10\xA4\x03\x1A\x02ho";
 
 // A directory `/d` on what A is.
-const D_ON_A: &[u8] = b"\x0A\x03\x0A\x01A\x22\x0B\x12\x09\x32\x07\x0A\x02/d\x10\xED\x03";
+pub const D_ON_A: &[u8] = b"\x0A\x03\x0A\x01A\x22\x0B\x12\x09\x32\x07\x0A\x02/d\x10\xED\x03";
 
 // A directory `/d` on what B is, with A and B as inputs.
 const D_ON_A_AND_B: &[u8] =
@@ -115,9 +117,23 @@ pub enum Call {
     Worker(u32),
     Output(u32, u32),
     Tree(u32, u32),
+    // A claim that answers what it takes of caches.
+    Begin(u32, u32),
+    Instance(CacheRow, u32),
+    Leases,
+    // Takes the chosen events up to the end.
+    Finish,
     Chosen,
     Complete,
     Events,
+}
+
+pub fn is_done(board: &mut Board, event: Event) -> bool {
+    match event {
+        Event::Claim(w, v) => board.claim(w, v).is_ok(),
+        Event::Step(w) => board.step(w).is_ok(),
+        Event::Settle(w) => board.settle(w).is_ok(),
+    }
 }
 
 fn event_text(alloc: Global, event: Event) -> Result<String, AllocError> {
@@ -159,6 +175,23 @@ fn claim(alloc: Global, board: &mut Board, w: u32, v: u32) -> Result<String, All
     }
 }
 
+// The numbers of instances, each with its tree.
+fn taken(alloc: Global, instances: &[u32], trees: &[Tree]) -> Result<String, AllocError> {
+    let mut text = String::new(alloc);
+    for (number, tree) in instances.iter().zip(trees) {
+        write!(text, "instance {number}\n")?;
+        text.push_str(tree_text(alloc, tree)?.as_str())?;
+    }
+    Ok(text)
+}
+
+fn begin(alloc: Global, board: &mut Board, w: u32, v: u32) -> Result<String, AllocError> {
+    match board.claim(w, v) {
+        Ok(job) => taken(alloc, job.instances.as_slice(), job.trees.as_slice()),
+        Err(fault) => fault.to_string(alloc),
+    }
+}
+
 fn step(alloc: Global, board: &mut Board, w: u32) -> Result<String, AllocError> {
     match board.step(w) {
         Ok(Stepped::Read) => String::from_str(alloc, "read"),
@@ -192,11 +225,7 @@ fn output(alloc: Global, board: &Board, v: u32, i: u32) -> Result<String, AllocE
     }
 }
 
-// The text of an output's tree.
-fn tree(alloc: Global, board: &Board, v: u32, i: u32) -> Result<String, AllocError> {
-    let Some(tree) = board.output(v, i) else {
-        return String::from_str(alloc, "none");
-    };
+fn tree_text(alloc: Global, tree: &Tree) -> Result<String, AllocError> {
     let mut text: Vec<u8> = Vec::new(alloc);
     let mut out = Over::new(&mut text);
     if print_tree(alloc, tree, &mut out).is_err() {
@@ -206,6 +235,39 @@ fn tree(alloc: Global, board: &Board, v: u32, i: u32) -> Result<String, AllocErr
         Ok(text) => Ok(text),
         Err(_) => String::from_str(alloc, "no text"),
     }
+}
+
+// The text of an output's tree.
+fn tree(alloc: Global, board: &Board, v: u32, i: u32) -> Result<String, AllocError> {
+    match board.output(v, i) {
+        Some(tree) => tree_text(alloc, tree),
+        None => String::from_str(alloc, "none"),
+    }
+}
+
+// The text of the tree that an instance of a cache has.
+fn instance(
+    alloc: Global,
+    board: &Board,
+    cache: CacheRow,
+    number: u32,
+) -> Result<String, AllocError> {
+    let Ok(key) = key_of(alloc, &cache) else {
+        return Err(AllocError);
+    };
+    match board.caches().instance(&key, number) {
+        Some(tree) => tree_text(alloc, tree),
+        None => String::from_str(alloc, "none"),
+    }
+}
+
+fn finish(alloc: Global, board: &mut Board) -> Result<String, AllocError> {
+    for _i in 0..50 {
+        if let Some(event) = board.chosen() {
+            let _ = is_done(board, event);
+        }
+    }
+    board.is_complete().to_string(alloc)
 }
 
 fn push_event(alloc: Global, text: &mut String, event: Event) -> Result<(), AllocError> {
@@ -231,6 +293,10 @@ fn answer(alloc: Global, board: &mut Board, call: Call) -> Result<String, AllocE
         Call::Worker(w) => worker_text(alloc, board.worker(w)),
         Call::Output(v, i) => output(alloc, board, v, i),
         Call::Tree(v, i) => tree(alloc, board, v, i),
+        Call::Begin(w, v) => begin(alloc, board, w, v),
+        Call::Instance(cache, number) => instance(alloc, board, cache, number),
+        Call::Leases => board.caches().leases().to_string(alloc),
+        Call::Finish => finish(alloc, board),
         Call::Chosen => chosen(alloc, board),
         Call::Complete => board.is_complete().to_string(alloc),
         Call::Events => events(alloc, board),
@@ -255,7 +321,7 @@ fn both_locals(alloc: Global) -> Locals {
 
 fn opened(alloc: Global, graph: Option<Graph>) -> Option<Board> {
     match graph {
-        Some(graph) => Board::open(alloc, graph, both_locals(alloc), 1).ok(),
+        Some(graph) => Board::open(alloc, graph, both_locals(alloc), Caches::new(alloc), 1).ok(),
         None => None,
     }
 }
@@ -268,7 +334,7 @@ fn is_answered(alloc: Global, board: &mut Board, call: Call, wanted: &str) -> bo
 }
 
 // How many calls of a story have their answers on a board, up to the first that has another one.
-fn answered(alloc: Global, board: &mut Board, story: &[(Call, &str)]) -> usize {
+pub fn answered(alloc: Global, board: &mut Board, story: &[(Call, &str)]) -> usize {
     for (k, (call, wanted)) in story.iter().enumerate() {
         if !is_answered(alloc, board, *call, wanted) {
             return k;
@@ -411,7 +477,7 @@ fn with_sub(alloc: Global) -> Option<Locals> {
 // A board on which both sources are done, and D is an exec.
 fn with_sources_done(alloc: Global, exec: &[u8]) -> Option<Board> {
     let graph = sources_and(alloc, exec)?;
-    let mut board = Board::open(alloc, graph, with_sub(alloc)?, 1).ok()?;
+    let mut board = Board::open(alloc, graph, with_sub(alloc)?, Caches::new(alloc), 1).ok()?;
     for v in 0..2 {
         let _ = board.claim(0, v).ok()?;
         let _ = board.step(0).ok()?;
@@ -482,8 +548,15 @@ fn a_command_that_ends_with_another_status_is_the_last(rt: HostRuntime) {
 
 // How many vertices the graph has that comes back where the number of workers is refused.
 fn given_back(alloc: Global, workers: u32) -> Option<usize> {
-    match Board::open(alloc, three_vertices(alloc)?, Locals::new(alloc), workers) {
-        Err(OpenFault::Workers(back, _)) => Some(back.vertices().len()),
+    let graph = three_vertices(alloc)?;
+    match Board::open(
+        alloc,
+        graph,
+        Locals::new(alloc),
+        Caches::new(alloc),
+        workers,
+    ) {
+        Err(OpenFault::Workers(back, _, _)) => Some(back.vertices().len()),
         _ => None,
     }
 }
@@ -505,7 +578,7 @@ fn a_number_of_workers_other_than_1_to_64_gives_the_graph_back(rt: HostRuntime) 
 }
 
 fn parts(board: Board) -> (usize, bool) {
-    let (graph, locals) = board.into_parts();
+    let (graph, locals, _) = board.into_parts();
     (graph.vertices().len(), locals.get("q").is_some())
 }
 
@@ -577,8 +650,9 @@ fn missing(alloc: Global, names: &[&str]) -> Option<Text> {
     for name in names {
         put_local(&mut locals, alloc, name, "/f")?;
     }
-    match Board::open(alloc, sources_and(alloc, P_THEN_Q)?, locals, 0) {
-        Err(OpenFault::MissingLocal(name, _, _)) => Some(name),
+    let graph = sources_and(alloc, P_THEN_Q)?;
+    match Board::open(alloc, graph, locals, Caches::new(alloc), 0) {
+        Err(OpenFault::MissingLocal(name, _, _, _)) => Some(name),
         _ => None,
     }
 }
@@ -624,7 +698,12 @@ fn prints(alloc: Global, fault: &OpenFault, number: &str) -> bool {
 // The number and the name of a local tree that is missing.
 fn is_missing_printed(alloc: Global) -> Option<bool> {
     let name = Text::from_str(alloc, "src").ok()?;
-    let fault = OpenFault::MissingLocal(name, in_a_row(alloc)?, Locals::new(alloc));
+    let fault = OpenFault::MissingLocal(
+        name,
+        in_a_row(alloc)?,
+        Locals::new(alloc),
+        Caches::new(alloc),
+    );
     Some(prints(alloc, &fault, "121 src"))
 }
 
@@ -632,11 +711,19 @@ fn is_missing_printed(alloc: Global) -> Option<bool> {
 fn a_refused_opening_prints_its_number(rt: HostRuntime) {
     let alloc = rt.alloc();
     let workers = match in_a_row(alloc) {
-        Some(graph) => prints(alloc, &OpenFault::Workers(graph, Locals::new(alloc)), "122"),
+        Some(graph) => prints(
+            alloc,
+            &OpenFault::Workers(graph, Locals::new(alloc), Caches::new(alloc)),
+            "122",
+        ),
         None => false,
     };
     let memory = match in_a_row(alloc) {
-        Some(graph) => prints(alloc, &OpenFault::Memory(graph, Locals::new(alloc)), "123"),
+        Some(graph) => prints(
+            alloc,
+            &OpenFault::Memory(graph, Locals::new(alloc), Caches::new(alloc)),
+            "123",
+        ),
         None => false,
     };
     assert!(rt; workers && memory);

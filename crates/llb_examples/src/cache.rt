@@ -6,7 +6,7 @@ use llb_tree::{Meta, Path, Text, Tree};
 use llb_wire::Bytes;
 use std::alloc::Global;
 
-type Row = (&'static str, Mode, Option<u32>, &'static str);
+pub(crate) type Row = (&'static str, Mode, Option<u32>, &'static str);
 
 // A step of a story. A lease is named by its place among those that were granted.
 #[derive(Clone, Copy)]
@@ -16,6 +16,7 @@ enum Step {
     See(usize, u32),
     Back(usize),
     Count(Row),
+    Next(Row),
 }
 
 // The tree with an empty file of that name, or with none.
@@ -40,14 +41,14 @@ fn seed_of(alloc: Global, index: Option<u32>) -> Result<Option<Seed>, Memory> {
     }
 }
 
-fn key_of(alloc: Global, row: &Row) -> Result<Key, Memory> {
+pub(crate) fn key_of(alloc: Global, row: &Row) -> Result<Key, Memory> {
     let (id, mode, index, _) = *row;
     let id = Text::from_str(alloc, id)?;
     let seed = seed_of(alloc, index)?;
     Ok(Key { id, seed, mode })
 }
 
-fn needs_of(alloc: Global, rows: &[Row]) -> Result<Vec<Need>, Memory> {
+pub(crate) fn needs_of(alloc: Global, rows: &[Row]) -> Result<Vec<Need>, Memory> {
     let mut needs = Vec::new(alloc);
     for row in rows {
         let key = key_of(alloc, row)?;
@@ -122,6 +123,18 @@ fn push_count(alloc: Global, text: &mut String, caches: &Caches, row: &Row) -> R
     Ok(())
 }
 
+// The instance that a lease of the key would have now, or that it would be refused.
+fn push_next(alloc: Global, text: &mut String, caches: &Caches, row: &Row) -> Result<(), Memory> {
+    let key = key_of(alloc, row)?;
+    if caches.is_shut(&key) {
+        text.push_str("shut")?;
+        return Ok(());
+    }
+    let number = caches.next_instance(&key);
+    text.push_str(format!(in alloc; "{number}")?.as_str())?;
+    Ok(())
+}
+
 fn see(
     alloc: Global,
     text: &mut String,
@@ -172,6 +185,7 @@ fn tell(
             Ok(())
         }
         Step::Count(row) => push_count(alloc, text, caches, &row),
+        Step::Next(row) => push_next(alloc, text, caches, &row),
         _ => Ok(()),
     }
 }
@@ -212,6 +226,18 @@ fn a_held_key_refuses_all_needs(rt: HostRuntime) {
         Step::Count(A),
     ];
     assert!(rt; goes(rt.alloc(), &steps, "0:0;111 b;0/1;1:0;1/2 ;"));
+}
+
+#[test]
+fn the_first_held_key_in_the_order_of_the_needs_is_named(rt: HostRuntime) {
+    let steps = [
+        Step::Lease(&[B]),
+        Step::Lease(&[A]),
+        Step::Lease(&[P, A, B]),
+        Step::Lease(&[B, S, A]),
+        Step::Count(P),
+    ];
+    assert!(rt; goes(rt.alloc(), &steps, "0:0;1:0;111 a;111 b;0/2;"));
 }
 
 #[test]
@@ -297,6 +323,23 @@ fn a_lease_takes_the_least_free_number(rt: HostRuntime) {
             "0:0;1:10;2:;;2/2 f f;1:0;;;0:0;2:1;1/3 ;"
         )
     );
+}
+
+#[test]
+fn what_a_lease_would_have_is_told_before(rt: HostRuntime) {
+    let steps = [
+        Step::Next(A),
+        Step::Lease(&[A, P, S]),
+        Step::Next(A),
+        Step::Next(P),
+        Step::Next(S),
+        Step::Next(("a", Mode::Locked, Some(0), "")),
+        Step::Lease(&[P]),
+        Step::Back(0),
+        Step::Next(A),
+        Step::Next(P),
+    ];
+    assert!(rt; goes(rt.alloc(), &steps, "0;0:000;shut;1;0;0;1:1;;0;0;"));
 }
 
 // A copy that is the same until one of both goes on.

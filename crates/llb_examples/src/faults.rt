@@ -124,35 +124,34 @@ fn refusals_of_a_definition(rt: HostRuntime) {
         LoadFault::NoResult,
         LoadFault::UnknownDigest(1, 0),
         LoadFault::Cycle,
-        LoadFault::Unsupported(0, Feature::NotYet),
+        LoadFault::Unsupported(0, Feature::SshMount),
         LoadFault::Invalid(0, Rule::NoActions),
         LoadFault::BadIndex(1, 0),
         LoadFault::Memory,
     ];
     let wanted =
-        "81 13\n82 4 12\n83\n84 1\n85\n86 1 0\n87\n88 0 NotYet\n89 0 NoActions\n90 1 0\n91\n";
+        "81 13\n82 4 12\n83\n84 1\n85\n86 1 0\n87\n88 0 SshMount\n89 0 NoActions\n90 1 0\n91\n";
     assert!(rt; print(rt.alloc(), &faults, wanted));
 }
 
 #[test]
 fn features_by_their_names(rt: HostRuntime) {
     let features = [
-        LoadFault::Unsupported(0, Feature::NotYet),
-        LoadFault::Unsupported(1, Feature::DiffOp),
-        LoadFault::Unsupported(2, Feature::BuildOp),
-        LoadFault::Unsupported(3, Feature::Source),
-        LoadFault::Unsupported(4, Feature::SecretMount),
-        LoadFault::Unsupported(5, Feature::SshMount),
-        LoadFault::Unsupported(6, Feature::SecretEnv),
-        LoadFault::Unsupported(7, Feature::Action),
-        LoadFault::Unsupported(8, Feature::Unpack),
-        LoadFault::Unsupported(9, Feature::Patterns),
-        LoadFault::Unsupported(10, Feature::OwnerByName),
-        LoadFault::Unsupported(11, Feature::CopyField),
+        LoadFault::Unsupported(0, Feature::DiffOp),
+        LoadFault::Unsupported(1, Feature::BuildOp),
+        LoadFault::Unsupported(2, Feature::Source),
+        LoadFault::Unsupported(3, Feature::SecretMount),
+        LoadFault::Unsupported(4, Feature::SshMount),
+        LoadFault::Unsupported(5, Feature::SecretEnv),
+        LoadFault::Unsupported(6, Feature::Action),
+        LoadFault::Unsupported(7, Feature::Unpack),
+        LoadFault::Unsupported(8, Feature::Patterns),
+        LoadFault::Unsupported(9, Feature::OwnerByName),
+        LoadFault::Unsupported(10, Feature::CopyField),
     ];
-    let wanted = "88 0 NotYet\n88 1 DiffOp\n88 2 BuildOp\n88 3 Source\n88 4 SecretMount\n\
-        88 5 SshMount\n88 6 SecretEnv\n88 7 Action\n88 8 Unpack\n88 9 Patterns\n\
-        88 10 OwnerByName\n88 11 CopyField\n";
+    let wanted = "88 0 DiffOp\n88 1 BuildOp\n88 2 Source\n88 3 SecretMount\n\
+        88 4 SshMount\n88 5 SecretEnv\n88 6 Action\n88 7 Unpack\n\
+        88 8 Patterns\n88 9 OwnerByName\n88 10 CopyField\n";
     assert!(rt; print(rt.alloc(), &features, wanted));
 }
 
@@ -186,5 +185,4 @@ fn rules_by_their_names(rt: HostRuntime) {
         89 15 Sharing\n89 16 CacheTwice\n89 17 Script 72 2\n\
         89 18 Script 73 5\n89 19 MergeInput\n";
     assert!(rt; print(rt.alloc(), &rules, wanted));
-    use llb_cache::{Key, Mode};
 }

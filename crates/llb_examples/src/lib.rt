@@ -7,7 +7,11 @@ mod applet;
 #[cfg(test)]
 mod board;
 #[cfg(test)]
+mod board_caches;
+#[cfg(test)]
 mod cache;
+#[cfg(test)]
+mod cache_mounts;
 #[cfg(test)]
 mod faults;
 #[cfg(test)]

@@ -8,28 +8,28 @@ use std::test::Fail;
 
 // An entry: the digest text of its row, its inputs, and what stands behind them.
 #[derive(Clone, Copy)]
-struct Given<'a> {
+pub(crate) struct Given<'a> {
     digest: &'a str,
     inputs: &'a [Input<'a>],
     rest: &'a [u8],
 }
 
 // The digest text of an input, and what stands behind it: the index.
-type Input<'a> = (&'a str, &'a [u8]);
+pub(crate) type Input<'a> = (&'a str, &'a [u8]);
 
 // A mount: where it is, and its fields. It shows nothing and gives output 0 where they say nothing else.
-type Shown<'a> = (&'a str, &'a [u8]);
+pub(crate) type Shown<'a> = (&'a str, &'a [u8]);
 
 // An execution: its words, the fields of its meta behind them, its mounts, and its fields behind those.
 #[derive(Clone, Copy)]
-struct Run<'a> {
-    words: &'a [&'a str],
-    meta: &'a [u8],
-    mounts: &'a [Shown<'a>],
-    rest: &'a [u8],
+pub(crate) struct Run<'a> {
+    pub(crate) words: &'a [&'a str],
+    pub(crate) meta: &'a [u8],
+    pub(crate) mounts: &'a [Shown<'a>],
+    pub(crate) rest: &'a [u8],
 }
 
-const INDEX_ONE: &[u8] = b"\x10\x01";
+pub(crate) const INDEX_ONE: &[u8] = b"\x10\x01";
 
 const INDEX_BELOW: &[u8] = b"\x10\xFF\xFF\xFF\xFF\xFF\xFF\xFF\xFF\xFF\x01";
 
@@ -57,15 +57,15 @@ const DIFF: &[u8] = b"\x3A\x00";
 const DIFF_DIGEST: &str = "sha256:7648eb81c4e9fef7b51879c6fcd6fb4b8863eea0cb2a978c508711dc52c80041";
 
 // What a mount shows or gives where it is said: input 0 or 5, output 1, 2 or -1.
-const SHOWS_ZERO: &[u8] = b"\x08\x00";
+pub(crate) const SHOWS_ZERO: &[u8] = b"\x08\x00";
 
 const SHOWS_FIVE: &[u8] = b"\x08\x05";
 
-const GIVES_ONE: &[u8] = b"\x20\x01";
+pub(crate) const GIVES_ONE: &[u8] = b"\x20\x01";
 
 const GIVES_TWO: &[u8] = b"\x20\x02";
 
-const GIVES_NOTHING: &[u8] = b"\x20\xFF\xFF\xFF\xFF\xFF\xFF\xFF\xFF\xFF\x01";
+pub(crate) const GIVES_NOTHING: &[u8] = b"\x20\xFF\xFF\xFF\xFF\xFF\xFF\xFF\xFF\xFF\x01";
 
 // A tmpfs without an output, and one with output 0.
 const TMPFS: &[u8] = b"\x30\x04\x20\xFF\xFF\xFF\xFF\xFF\xFF\xFF\xFF\xFF\x01";
@@ -73,9 +73,9 @@ const TMPFS: &[u8] = b"\x30\x04\x20\xFF\xFF\xFF\xFF\xFF\xFF\xFF\xFF\xFF\x01";
 const TMPFS_GIVES: &[u8] = b"\x30\x04";
 
 // A mount without a selector at the root; an exec that runs `true` on it gives its output 0.
-const ROOT: Shown<'_> = ("/", b"");
+pub(crate) const ROOT: Shown<'_> = ("/", b"");
 
-const RUNS_TRUE: &str = "A runs 1 1 1, 0.0";
+pub(crate) const RUNS_TRUE: &str = "A runs 1 1 1, 0.0";
 
 // A merge of input 0.
 const MERGE: &[u8] = b"\x32\x02\x0A\x00";
@@ -138,7 +138,7 @@ fn meta_of(alloc: Global, run: &Run<'_>) -> Result<Vec<u8>, Memory> {
     Ok(meta)
 }
 
-fn exec_op(alloc: Global, run: &Run<'_>) -> Result<Vec<u8>, Memory> {
+pub(crate) fn exec_op(alloc: Global, run: &Run<'_>) -> Result<Vec<u8>, Memory> {
     let mut exec = message(alloc, 0x0A, &meta_of(alloc, run)?)?;
     for mount in run.mounts {
         let mount = mount_of(alloc, mount)?;
@@ -236,7 +236,7 @@ fn loaded(alloc: Global, given: &[Given<'_>]) -> Result<String, Memory> {
     loaded_bytes(alloc, &definition)
 }
 
-fn linked(alloc: Global, given: &[Given<'_>]) -> Result<String, Memory> {
+pub(crate) fn linked(alloc: Global, given: &[Given<'_>]) -> Result<String, Memory> {
     let rows = rows_of(alloc, given)?;
     if rows.len() > 65_536 {
         return Err(Memory);
@@ -244,7 +244,7 @@ fn linked(alloc: Global, given: &[Given<'_>]) -> Result<String, Memory> {
     Ok(told(alloc, link(alloc, &rows))?)
 }
 
-fn is(answer: Result<String, Memory>, wanted: &str) -> bool {
+pub(crate) fn is(answer: Result<String, Memory>, wanted: &str) -> bool {
     match answer {
         Ok(text) => text.as_str() == wanted,
         Err(_) => false,
@@ -256,7 +256,7 @@ fn entry<'a>(inputs: &'a [Input<'a>], rest: &'a [u8]) -> Given<'a> {
     row("", inputs, rest)
 }
 
-fn row<'a>(digest: &'a str, inputs: &'a [Input<'a>], rest: &'a [u8]) -> Given<'a> {
+pub(crate) fn row<'a>(digest: &'a str, inputs: &'a [Input<'a>], rest: &'a [u8]) -> Given<'a> {
     Given {
         digest,
         inputs,
@@ -414,7 +414,11 @@ fn said_of_run(alloc: Global, run: &Run<'_>) -> Result<String, Memory> {
 }
 
 // What is said of some words on some mounts.
-fn said_of_words(alloc: Global, words: &[&str], mounts: &[Shown<'_>]) -> Result<String, Memory> {
+pub(crate) fn said_of_words(
+    alloc: Global,
+    words: &[&str],
+    mounts: &[Shown<'_>],
+) -> Result<String, Memory> {
     said_of_run(
         alloc,
         &Run {
@@ -428,18 +432,17 @@ fn said_of_words(alloc: Global, words: &[&str], mounts: &[Shown<'_>]) -> Result<
 
 #[test]
 fn an_exec_is_refused_by_its_feature(rt: HostRuntime) {
-    let cases: [(&[Shown<'_>], &[u8], &str); 6] = [
+    let cases: [(&[Shown<'_>], &[u8], &str); 5] = [
         (&[ROOT, ("/s", b"\x30\x01")], b"", "88 0 SecretMount"),
         (&[ROOT, ("/s", b"\x30\x02")], b"", "88 0 SshMount"),
         (&[ROOT], b"\x2A\x00", "88 0 SecretEnv"),
-        (&[ROOT, ("/c", b"\x30\x03")], b"", "88 0 NotYet"),
-        (
-            &[("/c", b"\x30\x03"), ("/s", b"\x30\x01")],
-            b"\x2A\x00",
-            "88 0 NotYet",
-        ),
         // A feature comes before a rule.
         (&[("/s", b"\x30\x01")], b"", "88 0 SecretMount"),
+        (
+            &[("/c", b"\x30\x03"), ("/s", b"\x30\x02")],
+            b"\x2A\x00",
+            "88 0 SshMount",
+        ),
     ];
     for (mounts, rest, wanted) in cases {
         let run = Run {

@@ -59,6 +59,18 @@ const REMOVES_NONE: &[u8] = b"\x0A\x03\x0A\x01P\x12\x31\
     \x0A\x2A\x0A\x07/bin/sh\x0A\x02-c\x0A\x18true && rm /none && true\x1A\x01/\
     \x12\x03\x1A\x01/";
 
+// On P at `/`, with a shared cache at `/c`: `true`.
+const SHOWS_CACHE: &[u8] =
+    b"\x0A\x03\x0A\x01P\x12\x34\x0A\x09\x0A\x04true\x1A\x01/\x12\x03\x1A\x01/\
+    \x12\x22\x08\xFF\xFF\xFF\xFF\xFF\xFF\xFF\xFF\xFF\x01\x1A\x02/c\
+    \x20\xFF\xFF\xFF\xFF\xFF\xFF\xFF\xFF\xFF\x01\x30\x03\xA2\x01\x03\x0A\x01k";
+
+// The same on C, with Q as an input that it doesn't show.
+const SHOWS_CACHE_AGAIN: &[u8] =
+    b"\x0A\x03\x0A\x01C\x0A\x03\x0A\x01Q\x12\x34\x0A\x09\x0A\x04true\x1A\x01/\x12\x03\x1A\x01/\
+    \x12\x22\x08\xFF\xFF\xFF\xFF\xFF\xFF\xFF\xFF\xFF\x01\x1A\x02/c\
+    \x20\xFF\xFF\xFF\xFF\xFF\xFF\xFF\xFF\xFF\x01\x30\x03\xA2\x01\x03\x0A\x01k";
+
 // The result is what D is.
 const NAMES_D: &[u8] = b"\x0A\x03\x0A\x01D";
 
@@ -233,7 +245,12 @@ fn refusal(alloc: Global, graph: Option<Graph>, locals: &Locals) -> Option<Strin
     }
 }
 
-fn is_refused(alloc: Global, graph: Option<Graph>, locals: &Locals, wanted: &str) -> bool {
+pub(crate) fn is_refused(
+    alloc: Global,
+    graph: Option<Graph>,
+    locals: &Locals,
+    wanted: &str,
+) -> bool {
     match refusal(alloc, graph, locals) {
         Some(said) => said.as_str() == wanted,
         None => false,
@@ -337,6 +354,25 @@ fn a_fault_prints_its_number_and_its_argument(rt: HostRuntime) {
     let alloc = rt.alloc();
     assert!(rt; is_printed(alloc, &PlainFault::HasCache(7), "102 7"));
     assert!(rt; is_printed(alloc, &PlainFault::Memory, "103"));
+}
+
+// P, an exec with a cache on it, and Q; then an exec with a cache on both.
+fn two_with_caches(alloc: Global) -> Option<Graph> {
+    let rows = [
+        ("P", SOURCE_P),
+        ("C", SHOWS_CACHE),
+        ("Q", SOURCE_Q),
+        ("D", SHOWS_CACHE_AGAIN),
+        ("T", NAMES_D),
+    ];
+    graph_of(alloc, &rows)
+}
+
+#[test]
+fn the_least_vertex_that_mounts_a_cache_is_named_behind_missing_trees(rt: HostRuntime) {
+    let alloc = rt.alloc();
+    assert!(rt; is_refused(alloc, two_with_caches(alloc), &both_locals(alloc), "102 1"));
+    assert!(rt; is_refused(alloc, two_with_caches(alloc), &only_p(alloc), "101 q"));
 }
 
 // Whether the vertex of that number is there, with output 0 and no output 1.

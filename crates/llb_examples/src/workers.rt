@@ -1,13 +1,14 @@
 //! Boards of two workers: refusals, and all orders of their events.
 
-use super::board::{Call, MAKES_A, MAKES_B, NAMES_D, are_all_answered, graph_of};
+use super::board::{Call, MAKES_A, MAKES_B, NAMES_D, are_all_answered, graph_of, is_done};
 use llb_board::{At, Board, Event, Status};
+use llb_cache::Caches;
 use llb_loader::{Graph, Locals};
 use std::alloc::Global;
 use std::test::Fail;
 
 // B's file laid over A's.
-const A_AND_B: &[u8] = b"\x0A\x03\x0A\x01A\x0A\x03\x0A\x01B2\x06\x0A\x00\x0A\x02\x08\x01";
+pub const A_AND_B: &[u8] = b"\x0A\x03\x0A\x01A\x0A\x03\x0A\x01B2\x06\x0A\x00\x0A\x02\x08\x01";
 
 fn two_and_their_merge(alloc: Global) -> Option<Graph> {
     let rows = [
@@ -21,7 +22,7 @@ fn two_and_their_merge(alloc: Global) -> Option<Graph> {
 
 fn for_two(alloc: Global) -> Option<Board> {
     let graph = two_and_their_merge(alloc)?;
-    Board::open(alloc, graph, Locals::new(alloc), 2).ok()
+    Board::open(alloc, graph, Locals::new(alloc), Caches::new(alloc), 2).ok()
 }
 
 #[test]
@@ -79,14 +80,6 @@ fn granted(alloc: Global, board: &Board) -> Result<Vec<Event>, Fail> {
         }
     }
     Ok(events)
-}
-
-fn is_done(board: &mut Board, event: Event) -> bool {
-    match event {
-        Event::Claim(w, v) => board.claim(w, v).is_ok(),
-        Event::Step(w) => board.step(w).is_ok(),
-        Event::Settle(w) => board.settle(w).is_ok(),
-    }
 }
 
 // The number of the event of a turn; the first, where the schedule has no such turn yet.
