@@ -1,5 +1,4 @@
 pub mod Looking
 pub mod Gathering
 pub mod Exchanged
-pub mod Undone
 pub mod Again

@@ -1,5 +1,5 @@
-//! The changes of a view at a spot. A change puts the mount's tree aside, changes it in place and puts it back, so that no
-//! tree is copied; one that is refused, or lacks memory, leaves the view as it was.
+//! The changes of a view at a spot. A change puts the mount's tree aside, changes it and puts it back; one that is refused,
+//! or lacks memory, leaves the view as it was.
 
 ghost use Rattle.std.specs.Prelude.{◌≡◌, ◌+◌, ◌<◌, ◌≤◌, length, OnErr};
 ghost use Rattle.std.specs.FinMap as finite;
@@ -152,26 +152,32 @@ pub fn make_dirs(alloc: Global, view: &mut View, spot: &Spot) -> Result<bool, Me
     }
 }
 
-// Makes a directory for each of the names, one below the other, where none is there. A refusal takes away what was made.
+// Makes a directory for each of the names, one below the other, where none is there. After a refusal the tree is unchanged.
 fn dirs_below(tree: &mut Tree, at: &Path, names: &[Name]) -> Result<(), TreeFault>
     requires { length at.now + length names.now ≤ 128 }
     ensures gives { Gives (λ _. tree.new) result (dirs_below tree.old at.now names.now) }
     ensures err { OnErr result (tree.new ≡ tree.old) }
+{
+    let mut made = tree.copy()?;
+    make_below(&mut made, at, names)?;
+    *tree = made;
+    Ok(())
+}
+
+// The same, where a refusal may leave some of the directories.
+fn make_below(tree: &mut Tree, at: &Path, names: &[Name]) -> Result<(), TreeFault>
+    requires { length at.now + length names.now ≤ 128 }
+    ensures { Gives (λ _. tree.new) result (dirs_below tree.old at.now names.now) }
 {
     match names.split_first() {
         None => Ok(()),
         Some((name, more)) => {
             let mut next = at.copy()?;
             next.push(name.copy()?)?;
-            if is_dir(tree, &next) {
-                return dirs_below(tree, &next, more);
+            if !is_dir(tree, &next) {
+                tree.put_dir(&next, new_dir_meta())?;
             }
-            tree.put_dir(&next, new_dir_meta())?;
-            let made = dirs_below(tree, &next, more);
-            if made.is_err() {
-                let _taken = tree.remove(&next);
-            }
-            made
+            make_below(tree, &next, more)
         }
     }
 }

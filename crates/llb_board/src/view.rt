@@ -18,7 +18,7 @@ use crate::fault::{ClaimFault, StepFault};
 use crate::filling::run_filled;
 use llb_applet::{Command, Setting};
 use llb_loader::Vertex;
-use llb_merge::lay;
+use llb_merge::lay_over;
 use llb_mount::View as Mounts;
 use llb_ops::{Kind, MergeInput};
 use llb_tree::Tree;
@@ -130,10 +130,7 @@ impl View {
         ensures memory { IfErr result (λ e. step_memory e ≡ true) }
     {
         match &mut self.own {
-            Own::Layers(inputs, laid) => {
-                *laid = laid_over(alloc, laid, inputs, input)?;
-                Ok(())
-            }
+            Own::Layers(inputs, laid) => lay_input(alloc, laid, inputs, input),
             _ => Ok(()),
         }
     }
@@ -175,20 +172,22 @@ impl View {
     }
 }
 
-// One of the inputs laid over a tree; -1 is the empty tree.
-fn laid_over(
+// Lays one of the inputs over a tree; -1 is the empty tree.
+fn lay_input(
     alloc: Global,
-    lower: &Tree,
+    laid: &mut Tree,
     inputs: &[Tree],
     input: &MergeInput,
-) -> Result<Tree, StepFault>
-    ensures ok { IfOk result (λ t. t ≡ lay lower.now (base_in input.now.input inputs.now)) }
+) -> Result<(), StepFault>
+    ensures ok { OnOk result (laid.new ≡ lay laid.old (base_in input.now.input inputs.now)) }
+    ensures err { OnErr result (laid.new ≡ laid.old) }
     ensures memory { IfErr result (λ e. step_memory e ≡ true) }
 {
     match input_tree(inputs, input.input) {
-        Some(upper) => Ok(lay(alloc, lower, upper)?),
-        None => Ok(lay(alloc, lower, &Tree::empty(alloc)?)?),
+        Some(upper) => lay_over(laid, upper)?,
+        None => lay_over(laid, &Tree::empty(alloc)?)?,
     }
+    Ok(())
 }
 
 /// The tree of an input; `None` stands for the empty tree.

@@ -332,12 +332,15 @@ fn push_entry(
     }
 }
 
-fn push_tree(alloc: Global, text: &mut String, tree: &Tree) -> Result<(), AllocError> {
+fn push_tree(alloc: Global, text: &mut String, tree: &Tree) -> Result<(), TreeFault> {
     text.push_str("|")?;
-    for at in 0..tree.len() {
-        if let Some((path, entry)) = tree.entry(at) {
-            push_entry(alloc, text, path, &entry)?;
-        }
+    let mut walk = tree.walk();
+    for _ in 0..u64::MAX {
+        let Some((path, entry)) = walk.at() else {
+            return Ok(());
+        };
+        push_entry(alloc, text, path, &entry)?;
+        walk.advance()?;
     }
     Ok(())
 }

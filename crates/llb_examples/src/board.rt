@@ -1,6 +1,7 @@
 //! The board. A story is a list of calls with their answers, printed: a fault by its number.
 
 use super::cache::{Row as CacheRow, key_of};
+use super::told::count;
 use llb_board::{At, Board, Event, OpenFault, Settled, Status, Stepped};
 use llb_cache::Caches;
 use llb_loader::{Graph, Locals, Row, link};
@@ -220,7 +221,10 @@ fn chosen(alloc: Global, board: &Board) -> Result<String, AllocError> {
 
 fn output(alloc: Global, board: &Board, v: u32, i: u32) -> Result<String, AllocError> {
     match board.output(v, i) {
-        Some(tree) => tree.len().to_string(alloc),
+        Some(tree) => match count(tree) {
+            Ok(count) => count.to_string(alloc),
+            Err(_) => Err(AllocError),
+        },
         None => String::from_str(alloc, "none"),
     }
 }

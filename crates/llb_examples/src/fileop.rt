@@ -1,11 +1,12 @@
 //! File actions. A story is a base, a second tree and actions on the base, one after another; it is told by the answer to
 //! each action and then the entries that are left.
 
+use super::told::{count, push_path, push_tree};
 use llb_fileop::{ActFault, act, resolve};
 use llb_ops::{Action, ActionKind, ChownOpt, CopyFile, MkDir, MkFile, Rm, User, UserOpt};
-use llb_tree::{Entry, Meta, Path, Tree};
+use llb_tree::{Meta, Path, Tree};
 use llb_wire::{Bytes, Many, Text};
-use std::alloc::{AllocError, Global};
+use std::alloc::Global;
 
 // An entry of a tree: its path, mode, owner, and the content of a file.
 #[derive(Clone, Copy)]
@@ -193,40 +194,6 @@ fn tree_of(alloc: Global, rows: &[Row]) -> Result<Tree, ActFault> {
         put(alloc, &mut tree, row)?;
     }
     Ok(tree)
-}
-
-fn meta_text(alloc: Global, kind: &str, meta: Meta, content: &[u8]) -> Result<String, AllocError> {
-    let (mode, uid, gid) = (meta.mode(), meta.uid(), meta.gid());
-    match str::from_utf8(content) {
-        Ok(text) => format!(in alloc; " {kind} {mode:o} {uid}:{gid} {text}|"),
-        Err(_) => String::from_str(alloc, "not UTF-8"),
-    }
-}
-
-fn entry_text(alloc: Global, entry: &Entry<'_>) -> Result<String, AllocError> {
-    match entry {
-        Entry::Dir(meta) => meta_text(alloc, "d", *meta, &[]),
-        Entry::File(meta, content) => meta_text(alloc, "f", *meta, content.as_slice()),
-    }
-}
-
-fn push_path(text: &mut String, path: &Path) -> Result<(), AllocError> {
-    for name in path.names() {
-        text.push_str("/")?;
-        text.push_str(name.as_str())?;
-    }
-    Ok(())
-}
-
-fn push_tree(alloc: Global, text: &mut String, tree: &Tree) -> Result<(), AllocError> {
-    for at in 0..tree.len() {
-        if let Some((path, entry)) = tree.entry(at) {
-            push_path(text, path)?;
-            let told = entry_text(alloc, &entry)?;
-            text.push_str(told.as_str())?;
-        }
-    }
-    Ok(())
 }
 
 // The deeds one after another: a refused one leaves what was there.
@@ -477,7 +444,7 @@ fn entries_of_depth(alloc: Global, names: usize) -> Result<usize, ActFault> {
     };
     let base = Tree::empty(alloc)?;
     let tree = act(alloc, &action, &base, None)?;
-    Ok(tree.len())
+    Ok(count(&tree)?)
 }
 
 #[test]

@@ -23,15 +23,25 @@ mod loader;
 #[cfg(test)]
 mod locals;
 #[cfg(test)]
+mod many_files;
+#[cfg(test)]
 mod merge;
 #[cfg(test)]
 mod mount;
 #[cfg(test)]
+mod nodes;
+#[cfg(test)]
 mod ops;
+#[cfg(test)]
+mod overlay;
 #[cfg(test)]
 mod plain;
 #[cfg(test)]
+mod sharing;
+#[cfg(test)]
 mod subtrees;
+#[cfg(test)]
+mod told;
 #[cfg(test)]
 mod tree;
 #[cfg(test)]

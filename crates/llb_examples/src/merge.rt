@@ -96,11 +96,14 @@ fn push_entry(
     text.push_str(told.as_str())
 }
 
-fn push_tree(alloc: Global, text: &mut String, tree: &Tree) -> Result<(), AllocError> {
-    for at in 0..tree.len() {
-        if let Some((path, entry)) = tree.entry(at) {
-            push_entry(alloc, text, path, &entry)?;
-        }
+fn push_tree(alloc: Global, text: &mut String, tree: &Tree) -> Result<(), TreeFault> {
+    let mut walk = tree.walk();
+    for _ in 0..u64::MAX {
+        let Some((path, entry)) = walk.at() else {
+            return Ok(());
+        };
+        push_entry(alloc, text, path, &entry)?;
+        walk.advance()?;
     }
     Ok(())
 }

@@ -3,7 +3,7 @@
 
 use llb_loader::{Graph, Locals, Row, link};
 use llb_plain::{Outcome, Outcomes, PlainFault, evaluate};
-use llb_tree::{Entry, Meta, Path, Tree};
+use llb_tree::{Entry, Meta, Path, Tree, TreeFault};
 use llb_wire::{Bytes, Memory, Text};
 use std::alloc::{AllocError, Global};
 
@@ -178,17 +178,20 @@ fn push_entry(text: &mut String, path: &Path, entry: &Entry<'_>) -> Result<(), A
     text.push_str("|")
 }
 
-fn push_tree(text: &mut String, tree: &Tree) -> Result<(), AllocError> {
+fn push_tree(text: &mut String, tree: &Tree) -> Result<(), TreeFault> {
     text.push_str("|")?;
-    for at in 0..tree.len() {
-        if let Some((path, entry)) = tree.entry(at) {
-            push_entry(text, path, &entry)?;
-        }
+    let mut walk = tree.walk();
+    for _ in 0..u64::MAX {
+        let Some((path, entry)) = walk.at() else {
+            return Ok(());
+        };
+        push_entry(text, path, &entry)?;
+        walk.advance()?;
     }
     Ok(())
 }
 
-fn trees_text(alloc: Global, trees: &[Tree]) -> Result<String, AllocError> {
+fn trees_text(alloc: Global, trees: &[Tree]) -> Result<String, TreeFault> {
     let mut text = String::new(alloc);
     for tree in trees {
         push_tree(&mut text, tree)?;
@@ -196,11 +199,11 @@ fn trees_text(alloc: Global, trees: &[Tree]) -> Result<String, AllocError> {
     Ok(text)
 }
 
-fn outcome_text(alloc: Global, outcome: &Outcome) -> Result<String, AllocError> {
+fn outcome_text(alloc: Global, outcome: &Outcome) -> Result<String, TreeFault> {
     match outcome {
         Outcome::Done(outputs) => trees_text(alloc, outputs.as_slice()),
-        Outcome::Failed(fault) => format!(in alloc; "failed {fault}"),
-        Outcome::Blocked => String::from_str(alloc, "blocked"),
+        Outcome::Failed(fault) => Ok(format!(in alloc; "failed {fault}")?),
+        Outcome::Blocked => Ok(String::from_str(alloc, "blocked")?),
     }
 }
 

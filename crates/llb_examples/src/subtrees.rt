@@ -1,18 +1,10 @@
 //! The rest of the tree's calls, and a path read from another one. A story is told in a line of text, as in `tree`: the
 //! answer to each step, and then the entries.
 
+use super::told::push_path;
 use llb_tree::{Entry, Meta, Path, Tree, TreeFault};
 use llb_wire::Bytes;
 use std::alloc::{AllocError, Global};
-
-// A path by its names.
-fn push_path(text: &mut String, path: &Path) -> Result<(), AllocError> {
-    for name in path.names() {
-        text.push_str("/")?;
-        text.push_str(name.as_str())?;
-    }
-    Ok(())
-}
 
 // The path of a text from another one, printed.
 fn read_from(alloc: Global, start: &str, text: &str) -> Result<String, TreeFault> {
@@ -123,18 +115,25 @@ fn done(alloc: Global, tree: &mut Tree, step: Step) -> Result<String, AllocError
     }
 }
 
-// The kind and the path of the entry at a place.
-fn push_line(text: &mut String, tree: &Tree, at: usize) -> Result<(), AllocError> {
-    match tree.entry(at) {
-        None => text.push_str("none"),
-        Some((path, entry)) => {
-            match entry {
-                Entry::Dir(_) => text.push_str(" d")?,
-                Entry::File(..) => text.push_str(" f")?,
-            }
-            push_path(text, path)
-        }
+// The kind of an entry, and its path.
+fn push_entry(text: &mut String, path: &Path, entry: &Entry<'_>) -> Result<(), AllocError> {
+    match entry {
+        Entry::Dir(_) => text.push_str(" d")?,
+        Entry::File(..) => text.push_str(" f")?,
     }
+    push_path(text, path)
+}
+
+fn push_tree(text: &mut String, tree: &Tree) -> Result<(), TreeFault> {
+    let mut walk = tree.walk();
+    for _ in 0..u64::MAX {
+        let Some((path, entry)) = walk.at() else {
+            return Ok(());
+        };
+        push_entry(text, path, &entry)?;
+        walk.advance()?;
+    }
+    Ok(())
 }
 
 fn told(alloc: Global, steps: &[Step]) -> Result<String, TreeFault> {
@@ -145,9 +144,7 @@ fn told(alloc: Global, steps: &[Step]) -> Result<String, TreeFault> {
         text.push_str(answer.as_str())?;
         text.push_str("|")?;
     }
-    for at in 0..tree.len() {
-        push_line(&mut text, &tree, at)?;
-    }
+    push_tree(&mut text, &tree)?;
     Ok(text)
 }
 

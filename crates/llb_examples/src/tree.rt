@@ -1,17 +1,9 @@
 //! Names, paths and trees. A story is told in a line of text: the answer to each step, and then the entries.
 
-use llb_tree::{Entry, Meta, Name, Path, Tree, TreeFault};
+use super::told::{entry_text, push_path, push_tree};
+use llb_tree::{Meta, Name, Path, Tree, TreeFault};
 use llb_wire::Bytes;
 use std::alloc::{AllocError, Global};
-
-// A path by its names.
-fn push_path(text: &mut String, path: &Path) -> Result<(), AllocError> {
-    for name in path.names() {
-        text.push_str("/")?;
-        text.push_str(name.as_str())?;
-    }
-    Ok(())
-}
 
 // The path of a text, printed.
 fn read(alloc: Global, text: &str) -> Result<String, TreeFault> {
@@ -191,21 +183,6 @@ enum Step {
     Look(&'static str),
 }
 
-fn meta_text(alloc: Global, kind: &str, meta: Meta, content: &[u8]) -> Result<String, AllocError> {
-    let (mode, uid, gid) = (meta.mode(), meta.uid(), meta.gid());
-    match str::from_utf8(content) {
-        Ok(text) => format!(in alloc; "{kind} {mode:o} {uid}:{gid} {text}"),
-        Err(_) => String::from_str(alloc, "not UTF-8"),
-    }
-}
-
-fn entry_text(alloc: Global, entry: &Entry<'_>) -> Result<String, AllocError> {
-    match entry {
-        Entry::Dir(meta) => meta_text(alloc, "d", *meta, &[]),
-        Entry::File(meta, content) => meta_text(alloc, "f", *meta, content.as_slice()),
-    }
-}
-
 // What stands at a path.
 fn look(alloc: Global, tree: &Tree, path: &Path) -> Result<String, AllocError> {
     match tree.get(path) {
@@ -256,25 +233,6 @@ fn done(alloc: Global, tree: &mut Tree, step: Step) -> Result<String, TreeFault>
     Ok(told)
 }
 
-// The entry at a place behind its path.
-fn push_line(alloc: Global, text: &mut String, tree: &Tree, at: usize) -> Result<(), AllocError> {
-    if let Some((path, entry)) = tree.entry(at) {
-        push_path(text, path)?;
-        let told = entry_text(alloc, &entry)?;
-        text.push_str(" ")?;
-        text.push_str(told.as_str())?;
-    }
-    text.push_str("|")
-}
-
-// The entries in their order, and what stands past the last one.
-fn push_tree(alloc: Global, text: &mut String, tree: &Tree) -> Result<(), AllocError> {
-    for at in 0..=tree.len() {
-        push_line(alloc, text, tree, at)?;
-    }
-    Ok(())
-}
-
 fn told(alloc: Global, steps: &[Step]) -> Result<String, TreeFault> {
     let mut text = String::new(alloc);
     let mut tree = Tree::empty(alloc)?;
@@ -309,7 +267,7 @@ fn is_told(alloc: Global, steps: &[Step], wanted: &str) -> bool {
 
 #[test]
 fn an_empty_tree_is_its_root_alone(rt: HostRuntime) {
-    assert!(rt; is_told(rt.alloc(), &[Step::Look("/")], "d 755 0:0 | d 755 0:0 ||"));
+    assert!(rt; is_told(rt.alloc(), &[Step::Look("/")], "d 755 0:0 | d 755 0:0 |"));
 }
 
 #[test]
@@ -323,7 +281,7 @@ fn a_parent_is_made_before_its_file(rt: HostRuntime) {
         Step::Look("/a/b/c"),
     ];
     let wanted = "21|ok|ok|d 700 7:8 |f 644 7:8 x|none|\
-        \x20d 755 0:0 |/a d 700 7:8 |/a/b f 644 7:8 x||";
+        \x20d 755 0:0 |/a d 700 7:8 |/a/b f 644 7:8 x|";
     assert!(rt; is_told(rt.alloc(), &steps, wanted));
 }
 
@@ -338,7 +296,7 @@ fn an_edit_in_the_way_of_another_is_refused(rt: HostRuntime) {
         Step::File("/", 0o600, "y"),
         Step::Look("/a/b/c"),
     ];
-    let wanted = "ok|ok|23|24|22|25|none| d 755 0:0 |/a d 700 7:8 |/a/b f 644 7:8 x||";
+    let wanted = "ok|ok|23|24|22|25|none| d 755 0:0 |/a d 700 7:8 |/a/b f 644 7:8 x|";
     assert!(rt; is_told(rt.alloc(), &steps, wanted));
 }
 
@@ -355,13 +313,13 @@ fn a_file_is_replaced_and_a_directory_takes_the_new_mode(rt: HostRuntime) {
         Step::Look("/a/b"),
     ];
     let wanted = "ok|ok|ok|ok|ok|d 4755 7:8 |d 0 7:8 |f 600 7:8 new|\
-        \x20d 4755 7:8 |/a d 0 7:8 |/a/b f 600 7:8 new||";
+        \x20d 4755 7:8 |/a d 0 7:8 |/a/b f 600 7:8 new|";
     assert!(rt; is_told(rt.alloc(), &steps, wanted));
 }
 
 #[test]
 fn a_copy_keeps_what_was_there(rt: HostRuntime) {
-    let wanted = " d 755 0:0 |/a d 700 7:8 |/a/b f 644 7:8 x||";
+    let wanted = " d 755 0:0 |/a d 700 7:8 |/a/b f 644 7:8 x|";
     let kept = match copy_told(rt.alloc()) {
         Ok(text) => text.as_str() == wanted,
         Err(_) => false,
@@ -376,6 +334,6 @@ fn entries_stand_in_path_order(rt: HostRuntime) {
         Step::File("/a/b", 0o644, "x"),
         Step::Dir("/a-", 0o755),
     ];
-    let wanted = "ok|ok|ok| d 755 0:0 |/a d 700 7:8 |/a/b f 644 7:8 x|/a- d 755 7:8 ||";
+    let wanted = "ok|ok|ok| d 755 0:0 |/a d 700 7:8 |/a/b f 644 7:8 x|/a- d 755 7:8 |";
     assert!(rt; is_told(rt.alloc(), &steps, wanted));
 }

@@ -1,6 +1,6 @@
 -- Answers that are the same, and faults that never come.
-use Rattle.std.proofs.Common.{◌≡◌, Result, Ok, Err, Option, Some, None, is_some, Bool, false, true, true≢false, refl, sym, ◌∙◌}
-use Rattle.llb_tree.specs.Faults.{is_memory}
+use Rattle.std.proofs.Common.{◌≡◌, Result, Ok, Err, Option, Some, None, is_some, false, true, true≢false, refl, sym}
+use Rattle.std.specs.Prelude.{is_ok}
 use Rattle.llb_tree.specs.declared.fault.TreeFault.{TreeFault}
 
 pub same_Ok : {X : Type 0} {x y : X} → ◌≡◌ {A = Result X TreeFault} (Ok x) (Ok y) → x ≡ y
@@ -9,13 +9,9 @@ same_Ok e = cc
 pub never : {X : Type 0} {C : Type 0} {x : X} {f : TreeFault} → ◌≡◌ {A = Result X TreeFault} (Ok x) (Err f) → C
 never e = absurd cc
 
--- where a rule grants, only want of memory refuses
-pub only_memory : {X : Type 0} {r : Result X TreeFault} {x : X} (e : TreeFault) → r ≡ Ok x → (is_memory e ≡ false → r ≡ Err e) → is_memory e ≡ true
-only_memory {X = X} {r = r} {x = x} e is fails = by_kind (is_memory e) refl
-  where
-    by_kind : (b : Bool) → is_memory e ≡ b → b ≡ true
-    by_kind true m = refl
-    by_kind false m = let no : ◌≡◌ {A = Result X TreeFault} (Ok x) (Err e) = sym is ∙ fails m in absurd cc
+pub granted : (r : Result (Unit {0}) TreeFault) → is_ok r ≡ true → r ≡ Ok tt
+granted (Ok x) is = refl
+granted (Err e) is = absurd (true≢false (sym is))
 
 pub none_there : {A : Type 0} (o : Option A) → is_some o ≡ false → o ≡ None
 none_there None is = refl

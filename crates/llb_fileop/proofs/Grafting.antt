@@ -13,6 +13,7 @@ use Rattle.llb_tree.specs.Meta.{MetaValue, root_meta}
 use Rattle.llb_tree.specs.Tree.{TreeMap, Entry, Dir, File, moved, with_tree, graft, subtree, tree_at, dir_there, places_fit, parents, all_dirs, walk, dir_fits, file_fits, not_root, put_dir, IsDirAt, IsTree}
 use Rattle.llb_tree.specs.declared.fault.TreeFault.{TreeFault}
 use Rattle.llb_tree.specs.declared.fault.TreeFault.TheVariants.{BadName, Conflict}
+use Rattle.llb_tree.proofs.Inside.{IsTree-tree_at}
 use Rattle.llb_fileop.specs.Copying.{fits, meets, is_dir, landed, all_land, land, laid_on, at_target, parents_for, copy_to}
 use Rattle.llb_fileop.specs.Making.{kept_or_made, make_all}
 use Rattle.llb_ops.specs.declared.file.CopyFile.{CopyFile}
@@ -86,7 +87,7 @@ module _ (given : MetaValue → MetaValue) (here source t : TreeMap) (goal : Lis
       by_side : (o : Option Entry) → finite.get here q ≡ o → (s : Option Entry) → finite.get source q ≡ s → length goal + length q ≤ 128
       by_side (Some d) is s own = let can = tree.stands (goal ++ q) d (sym (same q) ∙ is) in omega (arith, can.path.short, length-append goal q)
       by_side None is (Some e) own = omega (arith, fits_short (goal ++ q) (lands q e own).fits, length-append goal q)
-      by_side None is None own = absurd (true≢false (sym there ∙ ap is_some (get-whole given here source agrees q ∙ (λ i. laid given (is i) (own i)))))
+      by_side None is None own = absurd (true≢false (sym there ∙ ap is_some (get-whole given here source q ∙ (λ i. laid given (is i) (own i)))))
 
   fit : places_fit goal (finite.keys both) ≡ Ok tt
   fit = places-Ok goal (finite.keys both) (λ i q is.
@@ -368,6 +369,9 @@ walk_after m p t u is = all_made m (parents p) t u is
 pub subtree_is : (t : TreeMap) (p : List (List ℕ)) (u : TreeMap) → subtree t p ≡ Ok u → u ≡ tree_at t p
 subtree_is t p u is = sym (same_Ok (bind_ok (dir_there t p) (λ _. Ok (tree_at t p)) u is).2)
 
+pub IsTree-subtree : (t : TreeMap) (p : List (List ℕ)) (u : TreeMap) → IsTree t → subtree t p ≡ Ok u → IsTree u
+IsTree-subtree t p u tree is = subst IsTree (sym (subtree_is t p u is)) (IsTree-tree_at t p tree (bind_ok (dir_there t p) (λ _. Ok (tree_at t p)) u is).1)
+
 pub dir_is : (o : Option Entry) → is_dir o ≡ true → (m : MetaValue) × (o ≡ Some (Dir m))
 dir_is None is = absurd (true≢false (sym is))
 dir_is (Some (File m b)) is = absurd (true≢false (sym is))
@@ -403,9 +407,3 @@ module _ (c : CopyFile) (second : TreeMap) (s place goal : List (List ℕ)) (t :
       by_walk : (r : Result (Unit {0}) TreeFault) → ((r >>= λ _. Ok t) >>= land given (at_target second s goal)) ≡ (r >>= λ _. land given (at_target second s goal) t)
       by_walk (Ok x) = refl
       by_walk (Err e) = refl
-
-  pub copy_refused : (e : TreeFault) → c.create_dest_path ≡ true → make_all root_meta (parents goal) t ≡ Err e → copy_to c second s place t ≡ Err e
-  copy_refused e create made =
-      fits_place
-      ∙ ap (λ b. parents_for b goal t >>= land given (at_target second s goal)) create
-      ∙ ap (λ r. r >>= land given (at_target second s goal)) made

@@ -1,23 +1,23 @@
 -- Entries that land at their places, one after another.
-use Rattle.std.proofs.Common.{◌≡◌, ℕ, zero, suc, ◌+◌, ◌<◌, ◌≤◌, Bool, true, false, cond, List, [], ◌∷◌, ◌++◌, map, length, drop, Some, None, Result, Ok, Err, refl, sym, ap, ◌∙◌, add-one, arith, length-append}
-use Rattle.std.proofs.lemmas.List.{drop_all}
+use Rattle.std.proofs.Common.{◌≡◌, ℕ, ◌+◌, ◌<◌, ◌≤◌, Bool, true, false, cond, not, List, [], ◌∷◌, ◌++◌, map, length, drop, Option, Some, None, is_some, Result, Ok, Err, refl, sym, ap, ◌∙◌, arith, length-append}
 use Rattle.std.proofs.lemmas.Bool.{lt-ltb, le-ltb, ltb-false}
+use Rattle.std.proofs.lemmas.List.{append-nil}
 use Rattle.std.specs.Prelude.{slice_get, nat_lt}
 use Rattle.std.specs.FinMap as finite
 use Rattle.llb_wire.specs.Answer.{◌>>=◌}
-use Rattle.llb_tree.specs.Tree.{TreeMap, Entry, moved}
+use Rattle.llb_tree.specs.Path.{is_within}
+use Rattle.llb_tree.specs.Tree.{TreeMap, Entry, Dir, moved, places_fit, walk, IsTree}
 use Rattle.llb_tree.specs.declared.fault.TreeFault.{TreeFault}
 use Rattle.llb_tree.specs.declared.fault.TreeFault.TheVariants.{BadName}
 use Rattle.llb_fileop.specs.Copying.{fits, meets, all_land}
-use Rattle.llb_fileop.specs.Parts.{meets_at}
-use Rattle.llb_fileop.proofs.Passing.{Pair, found_at}
+use Rattle.llb_fileop.specs.Parts.{all_below, all_meet}
+use Rattle.llb_fileop.proofs.Passing.{Pair, walk_first, beside}
+use Rattle.llb_fileop.proofs.Made.{walk_passes}
+use Rattle.llb_fileop.proofs.Moved.{within_split}
 
--- a path of 128 names fits, and a longer one does not
+-- a path of 128 names fits
 pub fits-Ok : (p : List (List ℕ)) → length p ≤ 128 → fits p ≡ Ok tt
 fits-Ok p short = ap (λ b. cond {A = Result (Unit {0}) TreeFault} b (Err BadName) (Ok tt)) (le-ltb 128 (length p) short)
-
-pub fits-Err : (p : List (List ℕ)) → 128 < length p → fits p ≡ Err BadName
-fits-Err p long = ap (λ b. cond {A = Result (Unit {0}) TreeFault} b (Err BadName) (Ok tt)) (lt-ltb 128 (length p) long)
 
 pub fits_short : (p : List (List ℕ)) → fits p ≡ Ok tt → length p ≤ 128
 fits_short p is = by_test (nat_lt 128 (length p)) refl is
@@ -26,45 +26,74 @@ fits_short p is = by_test (nat_lt 128 (length p)) refl is
     by_test true t is = absurd cc
     by_test false t is = omega (arith, ltb-false 128 (length p) t)
 
--- from an entry on
-pub land_from : (t : TreeMap) (goal : List (List ℕ)) (es : List Pair) (i : ℕ) (k : List (List ℕ)) (e : Entry) → slice_get es i ≡ Some (k, e)
-    → all_land t (map (moved 0 goal) (drop i es)) ≡ (fits (goal ++ k) >>= λ _. meets (finite.get t (goal ++ k)) e >>= λ _. all_land t (map (moved 0 goal) (drop (i + 1) es)))
-land_from t goal es i k e is = go es i is ∙ ap (λ n. fits (goal ++ k) >>= λ _. meets (finite.get t (goal ++ k)) e >>= λ _. all_land t (map (moved 0 goal) (drop n es))) (sym (add-one i))
+-- what lands below a path
+pub lands_below : (here t : TreeMap) (goal : List (List ℕ)) → ((q : List (List ℕ)) → finite.get here q ≡ finite.get t (goal ++ q)) → (es : List Pair)
+    → all_below here (length goal) es ≡ all_land t (map (moved 0 goal) es)
+lands_below here t goal same [] = refl
+lands_below here t goal same (e ∷ es) =
+    by_test (nat_lt 128 (length goal + length e.0)) (lands_below here t goal same es)
+    ∙ ap (λ n. cond {A = Result (Unit {0}) TreeFault} (nat_lt 128 n) (Err BadName) (Ok tt) >>= λ _. later)
+    (sym (length-append goal e.0))
   where
-    go : (es : List Pair) (i : ℕ) → slice_get es i ≡ Some (k, e)
-        → all_land t (map (moved 0 goal) (drop i es)) ≡ (fits (goal ++ k) >>= λ _. meets (finite.get t (goal ++ k)) e >>= λ _. all_land t (map (moved 0 goal) (drop (suc i) es)))
-    go [] i is = absurd cc
-    go (f ∷ es) zero is = let same : f ≡ (k, e) = cc in ap (λ x. fits (goal ++ x.0) >>= λ _. meets (finite.get t (goal ++ x.0)) x.1 >>= λ _. all_land t (map (moved 0 goal) es)) same
-    go (f ∷ es) (suc i) is = go es i is
+    later : Result (Unit {0}) TreeFault
+    later = meets (finite.get t (goal ++ e.0)) e.1 >>= λ _. all_land t (map (moved 0 goal) es)
 
-pub land_past : (t : TreeMap) (goal : List (List ℕ)) (es : List Pair) (i : ℕ) → slice_get es i ≡ None → all_land t (map (moved 0 goal) (drop (i + 1) es)) ≡ all_land t (map (moved 0 goal) (drop i es))
-land_past t goal es i is = ap (λ n. all_land t (map (moved 0 goal) (drop n es))) (add-one i) ∙ go es i is
+    by_test : (b : Bool) → all_below here (length goal) es ≡ all_land t (map (moved 0 goal) es)
+        → cond b (Err BadName) (meets (finite.get here e.0) e.1 >>= λ _. all_below here (length goal) es)
+        ≡ (cond {A = Result (Unit {0}) TreeFault} b (Err BadName) (Ok tt) >>= λ _. later)
+    by_test true rest = refl
+    by_test false rest = λ i. meets (same e.0 i) e.1 >>= λ _. rest i
+
+-- where all fit, what is there decides alone
+pub meet_where_fit : (here : TreeMap) (goal : List (List ℕ)) (es : List Pair)
+    → places_fit goal (map (λ e. e.0) es) ≡ Ok tt → all_below here (length goal) es ≡ all_meet here es
+meet_where_fit here goal [] fit = refl
+meet_where_fit here goal (e ∷ es) fit = by_test (nat_lt 128 (length goal + length e.0)) fit (meet_where_fit here goal es)
   where
-    go : (es : List Pair) (i : ℕ) → slice_get es i ≡ None → all_land t (map (moved 0 goal) (drop (suc i) es)) ≡ all_land t (map (moved 0 goal) (drop i es))
-    go [] zero is = refl
-    go [] (suc i) is = refl
-    go (f ∷ es) zero is = absurd cc
-    go (f ∷ es) (suc i) is = go es i is
+    by_test : (b : Bool) → cond b (Err BadName) (places_fit goal (map (λ x. x.0) es)) ≡ Ok tt
+        → (places_fit goal (map (λ x. x.0) es) ≡ Ok tt → all_below here (length goal) es ≡ all_meet here es)
+        → cond b (Err BadName) (meets (finite.get here e.0) e.1 >>= λ _. all_below here (length goal) es)
+        ≡ (meets (finite.get here e.0) e.1 >>= λ _. all_meet here es)
+    by_test true fit rest = absurd cc
+    by_test false fit rest = ap (λ r. meets (finite.get here e.0) e.1 >>= λ _. r) (rest fit)
 
-pub land_end : (t : TreeMap) (goal : List (List ℕ)) (es : List Pair) (i : ℕ) → length es ≤ i → all_land t (map (moved 0 goal) (drop i es)) ≡ Ok tt
-land_end t goal es i past = ap (λ l. all_land t (map (moved 0 goal) l)) (drop_all i es past)
+-- ---- a step of a walk
 
-module _ (here source t : TreeMap) (goal : List (List ℕ)) (same : (q : List (List ℕ)) → finite.get here q ≡ finite.get t (goal ++ q)) (i : ℕ) (k : List (List ℕ)) (e : Entry)
-    (is : slice_get (finite.entries source) i ≡ Some (k, e)) where
-  there : finite.get source k ≡ Some e
-  there = finite.get-entries source k ∙ found_at (finite.entries source) i k e (finite.entries_sorted source) is
+module _ (here : TreeMap) (es : List Pair) (k : List (List ℕ)) (e : Entry) (is : slice_get es 0 ≡ Some (k, e)) where
+  pub meet_next : all_meet here es ≡ (meets (finite.get here k) e >>= λ _. all_meet here (drop 1 es))
+  meet_next = ap (all_meet here) (walk_first es k e is)
 
-  abbrev from_here : ℕ → Result (Unit {0}) TreeFault
-  from_here n = all_land t (map (moved 0 goal) (drop n (finite.entries source)))
+  abbrev on : ℕ → Result (Unit {0}) TreeFault
+  on depth = meets (finite.get here k) e >>= λ _. all_below here depth (drop 1 es)
 
-  pub land_too_deep : 128 < length goal + length k → from_here i ≡ Err BadName
-  land_too_deep deep =
-      land_from t goal (finite.entries source) i k e is
-      ∙ ap (λ r. r >>= λ _. meets (finite.get t (goal ++ k)) e >>= λ _. from_here (i + 1)) (fits-Err (goal ++ k) (omega (arith, length-append goal k)))
+  pub below_deep : (depth : ℕ) → 128 < depth + length k → all_below here depth es ≡ Err BadName
+  below_deep depth deep = ap (all_below here depth) (walk_first es k e is) ∙ ap (λ b. cond b (Err BadName) (on depth)) (lt-ltb 128 (depth + length k) deep)
 
-  pub land_next : length goal + length k ≤ 128 → (r : Result (Unit {0}) TreeFault) → r ≡ meets_at (finite.get here k) (finite.get source k)
-      → from_here i ≡ (r >>= λ _. from_here (i + 1))
-  land_next short r meet =
-      land_from t goal (finite.entries source) i k e is
-      ∙ ap (λ r. r >>= λ _. meets (finite.get t (goal ++ k)) e >>= λ _. from_here (i + 1)) (fits-Ok (goal ++ k) (omega (arith, length-append goal k)))
-      ∙ ap (λ r. r >>= λ _. from_here (i + 1)) ((λ j. meets_at (sym (same k) j) (sym there j)) ∙ sym meet)
+  pub below_next : (depth : ℕ) → depth + length k ≤ 128 → all_below here depth es ≡ on depth
+  below_next depth short = ap (all_below here depth) (walk_first es k e is) ∙ ap (λ b. cond b (Err BadName) (on depth)) (le-ltb 128 (depth + length k) short)
+
+-- below a path where nothing stands, nothing does
+none_below : (t : TreeMap) → IsTree t → (k q : List (List ℕ)) → finite.get t k ≡ None → is_within k q ≡ true → finite.get t q ≡ None
+none_below t tree k q none inside = by_there (drop (length k) q) (within_split k q inside) (finite.get t q) refl
+  where
+    by_there : (r : List (List ℕ)) → q ≡ k ++ r → (o : Option Entry) → finite.get t q ≡ o → o ≡ None
+    by_there r split None there = refl
+    by_there [] split (Some e) there = let no : Some e ≡ None = sym there ∙ ap (finite.get t) (split ∙ append-nil k) ∙ none in absurd cc
+    by_there (n ∷ r) split (Some e) there =
+        let dir = walk_passes (finite.get t) k n r (ap (walk (finite.get t)) (sym split) ∙ tree.closed q (ap is_some there)) in
+        let no : None ≡ Some (Dir dir.0) = sym none ∙ dir.1 in
+        absurd cc
+
+meet_beside : (here : TreeMap) → IsTree here → (k : List (List ℕ)) (es : List Pair) → finite.get here k ≡ None → all_meet here es ≡ all_meet here (beside k es)
+meet_beside here tree k [] none = refl
+meet_beside here tree k (e ∷ es) none = by_place (is_within k e.0) refl (meet_beside here tree k es none)
+  where
+    by_place : (w : Bool) → is_within k e.0 ≡ w → all_meet here es ≡ all_meet here (beside k es)
+        → (meets (finite.get here e.0) e.1 >>= λ _. all_meet here es) ≡ all_meet here (cond (not w) (e ∷ beside k es) (beside k es))
+    by_place true inside rest = ap (λ o. meets o e.1 >>= λ _. all_meet here es) (none_below here tree k e.0 none inside) ∙ rest
+    by_place false inside rest = ap (λ r. meets (finite.get here e.0) e.1 >>= λ _. r) rest
+
+pub meet_skip : (here : TreeMap) → IsTree here → (es : List Pair) (k : List (List ℕ)) (e : Entry) → slice_get es 0 ≡ Some (k, e) → finite.get here k ≡ None
+    → all_meet here es ≡ all_meet here (beside k (drop 1 es))
+meet_skip here tree es k e is none =
+    meet_next here es k e is ∙ ap (λ o. meets o e >>= λ _. all_meet here (drop 1 es)) none ∙ meet_beside here tree k (drop 1 es) none

@@ -7,5 +7,4 @@ pub mod Laid
 pub mod Landing
 pub mod Moved
 pub mod Grafting
-pub mod Sources
 pub mod Copied

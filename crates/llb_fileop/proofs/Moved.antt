@@ -69,7 +69,7 @@ find_over q (e ∷ es) fs = by_tie (eq_by_cmp path_cmp q e.0) (find_over q es fs
     by_tie true rest = refl
     by_tie false rest = rest
 
-get-without : (t : TreeMap) (p q : List (List ℕ)) → finite.get (without t p) q ≡ cond (not (is_within p q)) (finite.get t q) None
+pub get-without : (t : TreeMap) (p q : List (List ℕ)) → finite.get (without t p) q ≡ cond (not (is_within p q)) (finite.get t q) None
 get-without t p q = finite.get-retain_keys t (λ x. not (is_within p x)) q (λ x tie. ap (λ y. not (is_within p y)) (sym (path_cmp-IsAntisymmetric q x tie)))
 
 get-with_tree : (t other : TreeMap) (p q : List (List ℕ)) → finite.get (with_tree t p other) q ≡ or_else (finite.find path_cmp q (map (moved 0 p) (finite.entries other))) (finite.get (without t p) q)

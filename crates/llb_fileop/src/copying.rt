@@ -68,16 +68,16 @@ fn copy_matches(
 ) -> Result<Tree, TreeFault>
     ensures { trees.Gives (λ t. t) result (copy_chosen action.now (dest.now, inside) base.now second.now (EachMatch pattern.now)) }
 {
-    if !action.allow_empty_wildcard && !any_matches(pattern, second) {
+    if !action.allow_empty_wildcard && !any_matches(pattern, second)? {
         return Err(TreeFault::NotFound);
     }
     let mut tree = base.copy()?;
-    for at in 0..second.len() {
-        if let Some((path, _)) = second.entry(at) {
-            if pattern.matches(path) {
-                copy_one(alloc, action, dest, inside, second, path, &mut tree)?;
-            }
+    let mut walk = second.walk();
+    while let Some((path, _)) = walk.at() {
+        if pattern.matches(path) {
+            copy_one(alloc, action, dest, inside, second, path, &mut tree)?;
         }
+        walk.advance()?;
     }
     Ok(tree)
 }

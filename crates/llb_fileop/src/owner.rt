@@ -1,10 +1,12 @@
 //! The mode and the owner of what an action makes or copies.
 
-ghost use Rattle.std.specs.Prelude.{◌≡◌, ◌≤◌, option_map, unwrap_or};
+ghost use Rattle.std.specs.Prelude.{◌≡◌, ◌≤◌, ℕ, true, unwrap_or};
+ghost use Rattle.llb_tree.specs.Meta.{MetaValue};
+ghost use Rattle.llb_tree.specs.Overlay.{is_mode, given};
 ghost use Rattle.llb_fileop.specs.Owners.{mode_of, mode_from, number_in, id_in, user_in, group_in, made, copied};
 
 use llb_ops::{ChownOpt, CopyFile, User, UserOpt};
-use llb_tree::Meta;
+use llb_tree::{Meta, Way};
 
 /// The mode and the owner of what an action makes.
 pub fn made(mode: i32, owner: &Option<ChownOpt>) -> Meta
@@ -25,13 +27,35 @@ pub fn copied(action: &CopyFile, own: Meta) -> Meta
     Meta::new(mode_from(action.mode, own.mode()), uid, gid).unwrap()
 }
 
+/// How what is copied is laid over a tree: a directory that is there stays as it is.
+pub fn way(action: &CopyFile) -> Way
+    ensures given { (m : MetaValue) → given result m ≡ copied action.now.mode action.now.owner m }
+    ensures keeps { result.keeps ≡ true }
+{
+    let uid = user_in(&action.owner);
+    let gid = group_in(&action.owner);
+    Way::new(mode_given(action.mode), uid, gid, true).unwrap()
+}
+
 // The mode that is given, or its own where that is -1.
 fn mode_from(mode: i32, own: u16) -> u16
     requires { own ≤ 4095 }
     ensures value { result ≡ mode_from mode own }
     ensures small { result ≤ 4095 }
 {
-    if mode == -1 { own } else { low_bits(mode) }
+    mode_given(mode).unwrap_or(own)
+}
+
+// The mode that is given: none where it is -1.
+fn mode_given(mode: i32) -> Option<u16>
+    ensures value { (own : ℕ) → unwrap_or result own ≡ mode_from mode own }
+    ensures small { is_mode result ≡ true }
+{
+    if mode == -1 {
+        None
+    } else {
+        Some(low_bits(mode))
+    }
 }
 
 // The low 12 bits.

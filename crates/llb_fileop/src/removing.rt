@@ -1,5 +1,4 @@
-//! A path, or all that match a pattern, go from a copy of a tree. For a pattern the tree is made anew in one pass, of
-//! what stays, so that a removal of many costs as much as one.
+//! A path, or all that match a pattern, go from a copy of a tree. For a pattern the tree is walked once, past what goes.
 
 ghost use Rattle.std.specs.Prelude.{◌≢◌, [], Ok};
 ghost use Rattle.llb_tree.specs.Tree as tree;
@@ -7,7 +6,7 @@ ghost use Rattle.llb_fileop.specs.Faults.{Gives};
 ghost use Rattle.llb_fileop.specs.Removing.{rm, rm_path, rm_pattern, left, absent};
 
 use crate::fault::ActFault;
-use crate::parts::{any_matches, put, root_alone};
+use crate::parts::any_matches;
 use llb_glob::Pattern;
 use llb_ops::Rm;
 use llb_tree::{Path, Tree, TreeFault};
@@ -19,7 +18,7 @@ pub fn rm(alloc: Global, remove: &Rm, base: &Tree) -> Result<Tree, ActFault>
 {
     if remove.allow_wildcard {
         let pattern = Pattern::read(alloc, remove.path.as_str())?;
-        let tree = rm_pattern(alloc, &pattern, remove.allow_not_found, base)?;
+        let tree = rm_pattern(&pattern, remove.allow_not_found, base)?;
         return Ok(tree);
     }
     let path = Path::read(alloc, remove.path.as_str())?;
@@ -43,34 +42,31 @@ fn rm_path(path: &Path, allowed: bool, base: &Tree) -> Result<Tree, TreeFault>
 }
 
 // The tree without all that match a pattern.
-fn rm_pattern(
-    alloc: Global,
-    pattern: &Pattern,
-    allowed: bool,
-    base: &Tree,
-) -> Result<Tree, TreeFault>
+fn rm_pattern(pattern: &Pattern, allowed: bool, base: &Tree) -> Result<Tree, TreeFault>
     ensures { tree.Gives (λ t. t) result (rm_pattern allowed base.now pattern.now) }
 {
     if pattern.has_no_parts() {
         return Err(TreeFault::Root);
     }
-    if !any_matches(pattern, base) {
+    if !any_matches(pattern, base)? {
         return absent(allowed, base);
     }
-    kept(alloc, pattern, base)
+    kept(pattern, base)
 }
 
 // What stays where all that match a pattern go, with what is below them.
-fn kept(alloc: Global, pattern: &Pattern, base: &Tree) -> Result<Tree, TreeFault>
+fn kept(pattern: &Pattern, base: &Tree) -> Result<Tree, TreeFault>
     requires { pattern.now ≢ [] }
     ensures { tree.Gives (λ t. t) result (Ok (left pattern.now base.now)) }
 {
-    let mut tree = root_alone(alloc, base)?;
-    for at in 0..base.len() {
-        if let Some((path, held)) = base.entry(at) {
-            if !pattern.matches_at_or_above(path) {
-                put(&mut tree, path, held)?;
-            }
+    let mut tree = base.copy()?;
+    let mut walk = base.walk();
+    while let Some((path, _)) = walk.at() {
+        if pattern.matches(path) {
+            tree.remove(path)?;
+            walk.skip()?;
+        } else {
+            walk.advance()?;
         }
     }
     Ok(tree)

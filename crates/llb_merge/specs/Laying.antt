@@ -1,19 +1,10 @@
--- One tree laid over another, as a map and path by path. Nothing here knows in which order the entries are met.
-use Rattle.std.specs.Prelude.{ℕ, Bool, true, false, not, List, ◌++◌, map, Option, Some, None, if◌then◌else◌}
-use Rattle.std.specs.List.{list_any}
+-- One tree laid over another, as a map and path by path.
+use Rattle.std.specs.Prelude.{not, ◌++◌, Option, Some, None, if◌then◌else◌}
 use Rattle.std.specs.FinMap as finite
 use Rattle.std.specs.FinMap.Entries.{where_key}
 use Rattle.llb_tree.specs.Path.{path_cmp}
-use Rattle.llb_tree.specs.Tree.{Entry, Dir, File, TreeMap, Look, parents}
-
-abbrev pub is_file : Option Entry → Bool
-is_file None = false
-is_file (Some (Dir m)) = false
-is_file (Some (File m b)) = true
-
--- whether a proper prefix of the path is a file
-abbrev pub below_file : Look → List (List ℕ) → Bool
-below_file look p = list_any is_file (map look (parents p))
+use Rattle.llb_tree.specs.Tree.{Entry, TreeMap, Look}
+pub use Rattle.llb_tree.specs.Overlay.{is_file, below_file}
 
 -- the first where there is one, else the second
 abbrev pub or_else : Option Entry → Option Entry → Option Entry

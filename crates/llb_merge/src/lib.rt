@@ -1,5 +1,5 @@
 //! A tree is laid over another: what the upper one has stands, and of the lower one what no file of the upper one hides.
-//! It is a function on tree maps, and one pass over the entries of both in path order. Nothing here knows an operation.
+//! It is a function on tree maps. Nothing here knows an operation.
 #![tactic(auto)]
 
 mod fault;
@@ -8,4 +8,4 @@ mod laying;
 
 pub use fault::Memory;
 pub use laws::{at_each_path, over_itself, over_the_empty_tree, under_the_empty_tree};
-pub use laying::lay;
+pub use laying::{lay, lay_onto, lay_over};

@@ -9,7 +9,7 @@ ghost use Rattle.llb_plain.specs.Faults.{Gives};
 
 use crate::fault::PlainFault;
 use crate::gathering::input_tree;
-use llb_merge::lay;
+use llb_merge::lay_onto;
 use llb_ops::MergeInput;
 use llb_tree::Tree;
 use std::alloc::Global;
@@ -25,17 +25,17 @@ pub(crate) fn lay_all(
 {
     let mut laid = Tree::empty(alloc)?;
     for layer in layers {
-        laid = lay_over(alloc, &laid, input_tree(inputs, layer.input))?;
+        laid = lay_over(alloc, laid, input_tree(inputs, layer.input))?;
     }
     Ok(laid)
 }
 
 // A tree laid over another; `None` stands for the empty tree.
-fn lay_over(alloc: Global, lower: &Tree, upper: Option<&Tree>) -> Result<Tree, PlainFault>
-    ensures { Gives (λ t. t) result (Ok (lay lower.now (unwrap_or (option_map (λ t. t.now) upper.entry) empty_tree))) }
+fn lay_over(alloc: Global, lower: Tree, upper: Option<&Tree>) -> Result<Tree, PlainFault>
+    ensures { Gives (λ t. t) result (Ok (lay lower (unwrap_or (option_map (λ t. t.now) upper.entry) empty_tree))) }
 {
     match upper {
-        Some(upper) => Ok(lay(alloc, lower, upper)?),
-        None => Ok(lay(alloc, lower, &Tree::empty(alloc)?)?),
+        Some(upper) => Ok(lay_onto(lower, upper)?),
+        None => Ok(lay_onto(lower, &Tree::empty(alloc)?)?),
     }
 }

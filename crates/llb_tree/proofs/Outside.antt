@@ -1,14 +1,11 @@
 -- A tree without what is at or below a path.
-use Rattle.std.proofs.Common.{◌≡◌, ◌≢◌, ℕ, Bool, true, false, not, cond, nat_eq, ◌&&◌, List, [], ◌∷◌, map, Option, Some, None, IsSome, is_some, Ok, T, refl, sym, ap, subst, ◌∙◌, true≢false}
+use Rattle.std.proofs.Common.{◌≡◌, ◌≢◌, ℕ, Bool, true, false, not, cond, nat_eq, ◌&&◌, List, [], ◌∷◌, map, Option, Some, None, IsSome, is_some, Ok, refl, sym, ap, subst, ◌∙◌, true≢false}
 use Rattle.std.specs.declared.cmp.Ordering.TheVariants.{Equal}
 use Rattle.std.specs.Cmp.Lexicographic.{pointwise}
 use Rattle.std.specs.FinMap as finite
-use Rattle.std.specs.FinMap.Entries.{where_key, is_sorted-where_key, find-where_key}
 use Rattle.llb_tree.specs.Path.{path_cmp, is_within}
-use Rattle.llb_tree.specs.PathOrder.{path_cmp-IsTotalOrder, path_cmp-IsAntisymmetric}
-use Rattle.llb_tree.specs.Rows.{pair_of, map_of, AreSorted}
+use Rattle.llb_tree.specs.PathOrder.{path_cmp-IsAntisymmetric}
 use Rattle.llb_tree.specs.Tree.{Entry, Dir, File, Look, TreeMap, parents, all_dirs, walk, without, remove, found, IsTree}
-use Rattle.llb_tree.specs.declared.tree.Row.{Row}
 use Rattle.llb_wire.specs.Answer.{◌>>=◌}
 use Rattle.llb_tree.proofs.Walks.{walk-cons}
 
@@ -51,15 +48,6 @@ module _ (t : TreeMap) (tree : IsTree t) (n : List ℕ) (p : List (List ℕ)) wh
         ∙ tree.closed q (subst IsSome (sym is) there));
     stands = λ q e is. left_there q (Some e) is refl (λ out same. tree.stands q e same);
   }
-
-module _ (rows new : List Row) (p : List (List ℕ)) (sorted : AreSorted rows) (is : map pair_of new ≡ where_key path_cmp (λ q. not (is_within p q)) (map pair_of rows)) where
-  pub AreSorted-without : AreSorted new
-  AreSorted-without = subst (λ es. T (finite.is_sorted path_cmp es)) (sym is) (is_sorted-where_key path_cmp (λ q. not (is_within p q)) (map pair_of rows) sorted)
-
-  pub map_of-without : map_of new ≡ without (map_of rows) p
-  map_of-without = finite.same_map path_cmp-IsTotalOrder path_cmp-IsAntisymmetric (map_of new) (without (map_of rows) p) (λ q.
-      finite.get-from_sorted path_cmp (map pair_of new) q AreSorted-without ∙ ap (finite.find path_cmp q) is ∙ find-where_key path_cmp (λ x. not (is_within p x)) q (alike p q) (map pair_of rows)
-      ∙ sym (get-without (map_of rows) p q ∙ ap (λ o. cond (not (is_within p q)) o None) (finite.get-from_sorted path_cmp (map pair_of rows) q sorted)))
 
 -- a removal that is not refused
 pub remove-Ok : (t : TreeMap) (p : List (List ℕ)) → p ≢ [] → found (finite.get t p) ≡ Ok tt → remove t p ≡ Ok (without t p)

@@ -1,7 +1,6 @@
 -- A walk, a name at a time.
-use Rattle.std.proofs.Common.{◌≡◌, ◌≢◌, ℕ, zero, suc, ◌+◌, ◌<◌, List, [], ◌∷◌, ◌++◌, length, take, drop, map, Option, Some, None, Result, Ok, Err, refl, sym, ap, ◌∙◌, arith, add-one}
+use Rattle.std.proofs.Common.{◌≡◌, ◌≢◌, ℕ, zero, suc, ◌+◌, ◌<◌, List, [], ◌∷◌, ◌++◌, length, take, drop, map, Option, Some, Result, Ok, refl, sym, ap, ◌∙◌, arith, add-one}
 use Rattle.llb_tree.specs.declared.fault.TreeFault.{TreeFault}
-use Rattle.llb_tree.specs.declared.fault.TreeFault.TheVariants.{NotFound, NotDir}
 use Rattle.llb_tree.specs.Meta.{MetaValue}
 use Rattle.llb_tree.specs.Tree.{Entry, Dir, File, Look, TreeMap, parents, all_dirs, walk, file_fits, dir_fits, put_file, put_dir}
 use Rattle.llb_wire.specs.Answer.{◌>>=◌}
@@ -28,21 +27,8 @@ module _ (look : Look) (p : List (List ℕ)) (i : ℕ) (lt : i < length p) (so_f
   after : (e : Option Entry) → look (take i p) ≡ e → walk look p ≡ all_dirs (e ∷ map (λ q. look (take (suc i) p ++ q)) (parents (drop (suc i) p)))
   after e is = sym so_far ∙ walk_split look p i lt ∙ ap (λ x. all_dirs (x ∷ map (λ q. look (take (suc i) p ++ q)) (parents (drop (suc i) p)))) is
 
-  pub walk_missing : look (take i p) ≡ None → walk look p ≡ Err NotFound
-  walk_missing is = after None is
-
-  pub walk_file : (m : MetaValue) (b : List ℕ) → look (take i p) ≡ Some (File m b) → walk look p ≡ Err NotDir
-  walk_file m b is = after (Some (File m b)) is
-
   pub walk_dir : (m : MetaValue) → look (take i p) ≡ Some (Dir m) → walk_from look p (i + 1) ≡ walk look p
   walk_dir m is = ap (walk_from look p) (add-one i) ∙ sym (after (Some (Dir m)) is)
-
-drop_all : (p : List (List ℕ)) → drop (length p) p ≡ []
-drop_all [] = refl
-drop_all (n ∷ p) = drop_all p
-
-pub walk_whole : (look : Look) (p : List (List ℕ)) (i : ℕ) → i ≡ length p → walk_from look p i ≡ walk look p → walk look p ≡ Ok tt
-walk_whole look p i e so_far = sym so_far ∙ ap (walk (λ q. look (take i p ++ q))) (ap (λ j. drop j p) e ∙ drop_all p)
 
 -- an edit that is not refused
 pub put_dir-Ok : (t : TreeMap) (p : List (List ℕ)) (m : MetaValue) → walk (finite.get t) p ≡ Ok tt → dir_fits (finite.get t p) ≡ Ok tt → put_dir t p m ≡ Ok (finite.insert t p (Dir m))

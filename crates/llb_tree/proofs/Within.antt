@@ -1,5 +1,5 @@
 -- Paths at or below a path.
-use Rattle.std.proofs.Common.{◌≡◌, ℕ, nat_eq, ◌&&◌, Bool, true, false, List, [], ◌∷◌, ◌++◌, length, take, drop, refl, sym, ap, ◌∙◌, true≢false, take-append-drop}
+use Rattle.std.proofs.Common.{◌≡◌, ℕ, nat_eq, ◌&&◌, true, false, List, [], ◌∷◌, ◌++◌, length, take, drop, refl, sym, ap, ◌∙◌, true≢false, take-append-drop}
 use Rattle.std.proofs.lemmas.List.{take_at, append-nil}
 use Rattle.std.specs.declared.cmp.Ordering.{Ordering}
 use Rattle.std.specs.declared.cmp.Ordering.TheVariants.{Less, Equal, Greater}
@@ -7,7 +7,7 @@ use Rattle.std.specs.Ordering.{is_lt, ordering_then, ordering_reverse}
 use Rattle.std.specs.Cmp.{tied_itself}
 use Rattle.std.specs.Cmp.Lexicographic.{pointwise, pointwise_decides, bytes_decides, nat_list_cmp_total}
 use Rattle.llb_tree.specs.Path.{name_cmp, path_cmp, is_within}
-use Rattle.llb_tree.specs.PathOrder.{path_cmp-IsTotalOrder, path_cmp-IsAntisymmetric, name_cmp-IsAntisymmetric}
+use Rattle.llb_tree.specs.PathOrder.{path_cmp-IsTotalOrder, name_cmp-IsAntisymmetric}
 
 -- the other way round
 pub turned : (p q : List (List ℕ)) (o : Ordering) → path_cmp p q ≡ o → path_cmp q p ≡ ordering_reverse o
@@ -36,17 +36,6 @@ not_before p q = ap (λ x. is_lt (path_cmp (p ++ q) x)) (sym (append-nil p)) ∙
     by_rest [] = refl
     by_rest (n ∷ q) = refl
 
-pub within_not_before : (p q : List (List ℕ)) → is_within p q ≡ true → is_lt (path_cmp q p) ≡ false
-within_not_before p q is = ap (λ x. is_lt (path_cmp x p)) (within_split p q is) ∙ not_before p (drop (length p) q)
-
--- what is before a path is not below it
-pub before_outside : (p q : List (List ℕ)) → is_lt (path_cmp q p) ≡ true → is_within p q ≡ false
-before_outside p q before = go (is_within p q) refl
-  where
-    go : (b : Bool) → is_within p q ≡ b → b ≡ false
-    go true is = absurd (true≢false (sym before ∙ within_not_before p q is))
-    go false is = refl
-
 -- what is between a path and one below it is below it
 pub between : (p a q : List (List ℕ)) → is_lt (path_cmp a p) ≡ false → path_cmp a (p ++ q) ≡ Less → is_within p a ≡ true
 between [] a q from lt = refl
@@ -57,15 +46,3 @@ between (n ∷ p) (m ∷ a) q from lt = go (name_cmp m n) refl (between p a q) f
     go Less is rest from lt = absurd (true≢false from)
     go Equal is rest from lt = ap (λ b. b && is_within p a) ((bytes_decides n m).1 (sym (name_cmp-IsAntisymmetric m n is))) ∙ rest from lt
     go Greater is rest from lt = absurd cc
-
-pub within_between : (p a b : List (List ℕ)) → is_lt (path_cmp a p) ≡ false → path_cmp a b ≡ Less → is_within p b ≡ true → is_within p a ≡ true
-within_between p a b from lt is = between p a (drop (length p) b) from (ap (path_cmp a) (sym (within_split p b is)) ∙ lt)
-
--- what is neither before a path nor below it is above it
-pub outside_above : (p q : List (List ℕ)) → is_lt (path_cmp q p) ≡ false → is_within p q ≡ false → path_cmp p q ≡ Less
-outside_above p q from outside = go (path_cmp q p) refl from
-  where
-    go : (o : Ordering) → path_cmp q p ≡ o → is_lt o ≡ false → path_cmp p q ≡ Less
-    go Less is from = absurd (true≢false from)
-    go Equal is from = absurd (true≢false (sym (ap (is_within p) (path_cmp-IsAntisymmetric q p is) ∙ within_itself p) ∙ outside))
-    go Greater is from = turned q p Greater is

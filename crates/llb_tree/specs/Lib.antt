@@ -3,4 +3,10 @@ pub mod Path
 pub mod PathOrder
 pub mod Meta
 pub mod Tree
+pub mod Nodes
+pub mod Looks
+pub mod Falls
 pub mod Rows
+pub mod Overlay
+pub mod Laying
+pub mod Walks

@@ -1,5 +1,6 @@
 -- A tree as a map from paths to entries: what makes it a tree, the walk over the parents of a path, and the edits, each
 -- the map after it or the first fault. Nothing here knows how a tree is kept.
+use denote.Param.Weighed.{most}
 use Rattle.std.specs.Prelude.{◌≡◌, ℕ, List, [], ◌∷◌, ◌++◌, ◌==◌, ◌+◌, ◌&&◌, nat_lt, if◌then◌else◌, length, drop, map, Option, Some, None, IsSome, not, Result, Ok, Err, refl}
 use Rattle.std.specs.List.{flat_map}
 use Rattle.std.specs.FinMap as finite
@@ -45,6 +46,10 @@ TreeMap = FinMap path_cmp Entry
 
 abbrev pub coded_tree : Coded TreeMap
 coded_tree = finite.code (coded_list (coded_list coded_ℕ)) coded_entry
+
+-- one more than the names of the longest path
+abbrev pub height : TreeMap → ℕ
+height t = most (λ (e : List (List ℕ) × Entry). length e.0 + 1) (finite.entries t)
 
 -- what a tree has at each path
 abbrev pub Look : Type 0

@@ -3,13 +3,25 @@
 //! operation or a file system.
 #![tactic(auto)]
 
+mod compare;
+mod edit;
 mod fault;
+mod fits;
+mod listing;
 mod meta;
+mod node;
+mod overlay;
+mod overlay_in_place;
 mod path;
 mod tree;
+mod walk;
+mod way;
 
 pub use fault::TreeFault;
 pub use llb_wire::{Bytes, Text};
 pub use meta::Meta;
+pub use node::{Child, Entry, Node};
 pub use path::{Name, Names, Path};
-pub use tree::{Entry, Tree};
+pub use tree::Tree;
+pub use walk::Walk;
+pub use way::Way;

@@ -1,7 +1,7 @@
 //! Names and paths. Contracts see a name as the list of its bytes and a path as the list of its names, from the
 //! root down. A text is read by the rule `path_of`: parts between `/`, where `.` stays and `..` goes up.
 
-ghost use Rattle.std.specs.Prelude.{◌≡◌, ◌↔◌, ℕ, ◌+◌, List, [], ◌++◌, length, ◌≤◌, IsTrue, IfErr, OnErr, Ok, false};
+ghost use Rattle.std.specs.Prelude.{◌≡◌, ◌↔◌, ℕ, ◌+◌, ◌-◌, List, [], ◌++◌, length, take, ◌≤◌, IsTrue, IfErr, OnErr, Ok, false};
 ghost use Rattle.std.specs.List.{All, list_all};
 ghost use Rattle.std.specs.Str.{IsUtf8};
 ghost use Rattle.llb_tree.specs.Faults.{is_memory, Gives, MemoryLast};
@@ -264,6 +264,13 @@ impl Path {
         }
         self.names.push(name)?;
         Ok(())
+    }
+
+    // Goes up; the root is its own parent.
+    pub(crate) fn pop(&mut self)
+        ensures { self.new ≡ take (length self.old - 1) self.old }
+    {
+        self.names.pop();
     }
 
     /// An equal second owner; 27 `Memory`.

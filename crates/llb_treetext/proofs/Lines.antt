@@ -1,71 +1,52 @@
--- A text of lines, one after another, each the line of an item of a list.
-use Rattle.std.proofs.Common.{◌≡◌, ℕ, zero, suc, ◌+◌, ◌≤◌, Bool, List, [], ◌∷◌, ◌++◌, length, take, drop, refl, sym, ap, subst, ◌∙◌, add-one, arith}
-use Rattle.std.specs.Prelude.{Option, Some, None, Err, slice_get}
+-- A text of lines, one after another, each the line of an item of a list: those of some items are done, and others are left.
+use Rattle.std.proofs.Common.{◌≡◌, ℕ, Bool, true, false, List, [], ◌∷◌, ◌++◌, drop, refl, sym, ap, subst, ◌∙◌, true≢false, append_assoc}
+use Rattle.std.specs.Prelude.{Option, Some, None, Result, Ok, Err, is_err, slice_get}
+use Rattle.std.specs.Result.{IsErrAnd}
 use Rattle.std.specs.List.{flat_map}
 use Rattle.std.specs.Io.KnownBytes.{Appends}
-use Rattle.std.proofs.lemmas.Grind.{flat_map-append}
 use Rattle.std.proofs.lemmas.List.{append-nil}
-use Rattle.std.proofs.KnownBytes.{Appends-trans}
 use Rattle.llb_wire.specs.Sink.{part_then, part_after}
+use Rattle.llb_tree.specs.Tree.{Gives}
+use Rattle.llb_tree.specs.declared.fault.TreeFault.{TreeFault}
 use Rattle.llb_treetext.specs.Output.{Writes}
 
-module _ {A : Type 0} where
-  -- the item at a place stands between those before it and those after
-  split_here : (es : List A) (at : ℕ) (e : A) → slice_get es at ≡ Some e → es ≡ take at es ++ (e ∷ drop (suc at) es)
-  split_here [] zero e there = absurd cc
-  split_here [] (suc at) e there = absurd cc
-  split_here (x ∷ es) zero e there = let same : x ≡ e = cc in ap (λ y. y ∷ es) same
-  split_here (x ∷ es) (suc at) e there = ap (λ ys. x ∷ ys) (split_here es at e there)
+-- a step that lacked no memory
+pub advanced : {A : Type 0} (r : Result (Unit {0}) TreeFault) (next new : A) → Gives (λ _. new) r (Ok next) → is_err r ≡ false → new ≡ next
+advanced (Ok u) next new gives fine = let same : new ≡ next = cc in same
+advanced (Err e) next new gives fine = absurd (true≢false fine)
 
-  take_more : (es : List A) (at : ℕ) (e : A) → slice_get es at ≡ Some e → take (suc at) es ≡ take at es ++ (e ∷ [])
-  take_more [] zero e there = absurd cc
-  take_more [] (suc at) e there = absurd cc
-  take_more (x ∷ es) zero e there = let same : x ≡ e = cc in ap (λ y. y ∷ []) same
-  take_more (x ∷ es) (suc at) e there = ap (λ ys. x ∷ ys) (take_more es at e there)
-
-  -- where nothing is, nothing more is
-  pub no_more : (es : List A) (at : ℕ) → slice_get es at ≡ None → take (at + 1) es ≡ take at es
-  no_more es at none = ap (λ k. take k es) (add-one at) ∙ go es at none
+module _ {A : Type 0} (line : A → List ℕ) (text done : List ℕ) (es : List A) (parts : text ≡ done ++ flat_map line es) where
+  first_left : (e : A) → Some e ≡ slice_get es 0 → text ≡ done ++ (line e ++ flat_map line (drop 1 es))
+  first_left e is = parts ∙ ap (λ l. done ++ l) (by_items es is)
     where
-      go : (es : List A) (at : ℕ) → slice_get es at ≡ None → take (suc at) es ≡ take at es
-      go [] zero none = refl
-      go [] (suc at) none = refl
-      go (x ∷ es) zero none = absurd cc
-      go (x ∷ es) (suc at) none = ap (λ ys. x ∷ ys) (go es at none)
+      by_items : (es : List A) → Some e ≡ slice_get es 0 → flat_map line es ≡ line e ++ flat_map line (drop 1 es)
+      by_items [] is = absurd cc
+      by_items (x ∷ es) is = let same : e ≡ x = cc in ap (λ y. line y ++ flat_map line es) (sym same)
 
-  pub all_taken : (es : List A) (at : ℕ) → length es ≤ at → take at es ≡ es
-  all_taken [] zero le = refl
-  all_taken [] (suc at) le = refl
-  all_taken (x ∷ es) zero le = absurd (omega arith)
-  all_taken (x ∷ es) (suc at) le = ap (λ ys. x ∷ ys) (all_taken es at (omega arith))
+  -- a line more is done
+  pub line_done : (e : A) → Some e ≡ slice_get es 0 → text ≡ (done ++ line e) ++ flat_map line (drop 1 es)
+  line_done e is = first_left e is ∙ sym (append_assoc done (line e) (flat_map line (drop 1 es)))
 
--- a front is out, and a part of what comes next
-pub stops_inside : {F : Type 0} (is_memory : F → Bool) (a b c : Option (List ℕ)) (failed : Bool) (front line rest : List ℕ) (e : F) → Appends a b front → Writes is_memory b c failed line (Err e) → Writes is_memory a c failed (front ++ (line ++ rest)) (Err e)
-stops_inside is_memory a b c failed front line rest e before part = (part.0, part_after a b c front (line ++ rest) before (part_then b c line rest part.1))
+  -- where no item is left, all is done
+  pub all_done : None ≡ slice_get es 0 → text ≡ done
+  all_done is = parts ∙ ap (λ xs. done ++ flat_map line xs) (by_items es is) ∙ append-nil done
+    where
+      by_items : (es : List A) → None ≡ slice_get es 0 → es ≡ []
+      by_items [] is = refl
+      by_items (x ∷ es) is = absurd cc
 
-module _ {A : Type 0} (line : A → List ℕ) where
-  lines_split : (es : List A) (at : ℕ) (e : A) → slice_get es at ≡ Some e → flat_map line es ≡ flat_map line (take at es) ++ (line e ++ flat_map line (drop (suc at) es))
-  lines_split es at e there = ap (flat_map line) (split_here es at e there) ∙ flat_map-append line (take at es) (e ∷ drop (suc at) es)
+  module _ {F : Type 0} (is_memory : F → Bool) (a b : Option (List ℕ)) (before : Appends a b done) (failed : Bool) (fault : F) where
+    -- what is out where the next line is not
+    pub stops_inside : (c : Option (List ℕ)) (e : A) → Some e ≡ slice_get es 0 → Writes is_memory b c failed (line e) (Err fault)
+        → (r : Result (Unit {0}) F) → IsErrAnd r (λ f. f ≡ fault) → Writes is_memory a c failed text r
+    stops_inside c e is part (Ok u) same = absurd same
+    stops_inside c e is part (Err f) same =
+        let rest = flat_map line (drop 1 es) in
+        subst (λ xs. Writes is_memory a c failed xs (Err f)) (sym (first_left e is)) (
+          (λ other. part.0 (ap is_memory (sym same) ∙ other)),
+          part_after a b c done (line e ++ rest) before (part_then b c (line e) rest part.1),
+        )
 
-  pub lines_more : (es : List A) (at : ℕ) (e : A) → slice_get es at ≡ Some e → flat_map line (take (at + 1) es) ≡ flat_map line (take at es) ++ line e
-  lines_more es at e there =
-      ap (λ k. flat_map line (take k es)) (add-one at) ∙ ap (flat_map line) (take_more es at e there) ∙ flat_map-append line (take at es) (e ∷ [])
-      ∙ ap (λ ys. flat_map line (take at es) ++ ys) (append-nil (line e))
-
-  -- what is out where the line at a place is not
-  pub prints_err : {F : Type 0} (is_memory : F → Bool) (es : List A) (at : ℕ) (e : A) (a b c : Option (List ℕ)) (failed : Bool) (fault : F) → Some e ≡ slice_get es at → Appends a b (flat_map line (take at es))
-      → Writes is_memory b c failed (line e) (Err fault) → Writes is_memory a c failed (flat_map line es) (Err fault)
-  prints_err is_memory es at e a b c failed fault there before part =
-      subst (λ xs. Writes is_memory a c failed xs (Err fault)) (sym (lines_split es at e (sym there)))
-      (stops_inside is_memory a b c failed (flat_map line (take at es)) (line e) (flat_map line (drop (suc at) es)) fault before part)
-
-  -- and where it is
-  pub prints_more : (es : List A) (at : ℕ) (e : A) (a b c : Option (List ℕ)) → Some e ≡ slice_get es at → Appends a b (flat_map line (take at es)) → Appends b c (line e) → Appends a c (flat_map line (take (at + 1) es))
-  prints_more es at e a b c there before more =
-      subst (Appends a c) (sym (lines_more es at e (sym there))) (Appends-trans a b c (flat_map line (take at es)) (line e) before more)
-
-  pub prints_none : (es : List A) (at : ℕ) (a b : Option (List ℕ)) → None ≡ slice_get es at → Appends a b (flat_map line (take at es)) → Appends a b (flat_map line (take (at + 1) es))
-  prints_none es at a b none before = subst (λ xs. Appends a b (flat_map line xs)) (sym (no_more es at (sym none))) before
-
-  pub prints_all : (es : List A) (at : ℕ) (a b : Option (List ℕ)) → length es ≤ at → Appends a b (flat_map line (take at es)) → Appends a b (flat_map line es)
-  prints_all es at a b all before = subst (λ xs. Appends a b (flat_map line xs)) (all_taken es at all) before
+    -- and where memory is refused behind a line
+    pub stops_between : is_memory fault ≡ true → Writes is_memory a b failed text (Err fault)
+    stops_between memory = ((λ other. absurd (true≢false (sym memory ∙ other))), (done, flat_map line es, parts, before))

@@ -1,7 +1,5 @@
--- A row behind all rows of a tree goes to the end of it, where its directories are there.
-use Rattle.std.proofs.Common.{◌≡◌, ◌≢◌, ℕ, zero, suc, ◌+◌, ◌-◌, ◌<◌, ◌≤◌, ◌==◌, Bool, true, false, cond, ◌&&◌, List, [], ◌∷◌, ◌++◌, length, map, Option, Some, None, IsSome, Result, Ok, Err, T, refl, sym, ap, subst, ◌∙◌, true≢false, arith, append_assoc, length-append, IsTrue, ◌↔◌, inr}
-use Rattle.std.specs.Prelude.{slice_get}
-use Rattle.std.specs.Result.{IsErrAnd}
+-- A row behind all rows of a tree goes to the end of it, where its directories are there; and each row of a tree's text does.
+use Rattle.std.proofs.Common.{◌≡◌, ◌≢◌, ℕ, zero, suc, ◌+◌, ◌<◌, ◌≤◌, ◌==◌, Bool, true, false, cond, ◌&&◌, List, [], ◌∷◌, ◌++◌, length, map, Option, Some, None, IsSome, Result, Ok, Err, T, refl, sym, ap, subst, ◌∙◌, true≢false, arith, append_assoc, length-append, inl, inr}
 use Rattle.std.proofs.lemmas.Bool.{eqb-true}
 use Rattle.std.proofs.lemmas.Grind.{flat_map-append}
 use Rattle.std.proofs.lemmas.List.{append-nil}
@@ -16,40 +14,16 @@ use Rattle.llb_tree.specs.Meta.{MetaValue, root_meta}
 use Rattle.llb_tree.specs.Tree.{Entry, Dir, File, Look, TreeMap, parents, all_dirs, walk, dir_fits, file_fits, IsDirAt, CanStand, IsTree, empty_tree}
 use Rattle.llb_tree.specs.Faults as base
 use Rattle.llb_tree.specs.declared.fault.TreeFault.{TreeFault}
+use Rattle.llb_tree.specs.declared.fault.TreeFault.TheVariants as fault
 use Rattle.llb_wire.specs.Answer.{◌>>=◌}
 use Rattle.llb_treetext.specs.TreeText.{row_text, line_of, lines_of, tree_text}
-use Rattle.llb_treetext.specs.Faults.{is_memory}
-use Rattle.llb_treetext.specs.Reading.{HasBytes, HaveBytes, IsRow, IsText, IsFault, Stops, Answers, comes_next}
-use Rattle.llb_treetext.specs.Placing.{put_row, refused, GoesOn, IsFront}
+use Rattle.llb_treetext.specs.Reading.{HasBytes, HaveBytes, IsRow, IsText, Begins, IsFault, Stops, comes_next}
+use Rattle.llb_treetext.specs.Placing.{put_row, HasNoFault, GoesOn, IsFront}
 use Rattle.llb_treetext.specs.Fields.{entry_of}
 use Rattle.llb_treetext.specs.declared.fault.TextFault.{TextFault}
-use Rattle.llb_treetext.specs.declared.fault.TextFault.TheVariants.{NoParent, Memory}
+use Rattle.llb_treetext.specs.declared.fault.TextFault.TheVariants.{BadLine, Order, NoParent}
 use Rattle.llb_treetext.proofs.Rows.{Pair}
-
--- ---- the last row
-
-pub last_row : (rows : List Pair) (n : ℕ) (x : Pair) (p : List (List ℕ)) → n ≡ length rows - 1 → slice_get rows n ≡ Some x → comes_next rows p ≡ is_lt (path_cmp x.0 p)
-last_row [] zero x p at is = absurd cc
-last_row [] (suc n) x p at is = absurd cc
-last_row (r ∷ []) zero x p at is = let same : r ≡ x = cc in ap (λ (y : Pair). is_lt (path_cmp y.0 p)) same
-last_row (r ∷ []) (suc n) x p at is = absurd (omega arith)
-last_row (r ∷ s ∷ rows) zero x p at is = absurd (omega arith)
-last_row (r ∷ s ∷ rows) (suc n) x p at is = last_row (s ∷ rows) n x p (omega arith) is
-
-pub no_rows : (rows : List Pair) (n : ℕ) (b : Bool) (p : List (List ℕ)) → n ≡ length rows - 1 → slice_get rows n ≡ None → (IsTrue b ↔ (p ≡ [])) → b ≡ comes_next rows p
-no_rows [] n b p at is root = by_path p root
-  where
-    by_path : (p : List (List ℕ)) → (IsTrue b ↔ (p ≡ [])) → b ≡ comes_next [] p
-    by_path [] root = root.1 refl
-    by_path (n ∷ p) root = go b root.0
-      where
-        go : (b : Bool) → (b ≡ true → n ∷ p ≡ []) → b ≡ false
-        go true at = let e = at refl in absurd cc
-        go false at = refl
-no_rows (r ∷ []) zero b p at is root = absurd cc
-no_rows (r ∷ []) (suc n) b p at is root = absurd (omega arith)
-no_rows (r ∷ s ∷ rows) zero b p at is root = absurd (omega arith)
-no_rows (r ∷ s ∷ rows) (suc n) b p at is root = let rest = no_rows (s ∷ rows) n b p (omega arith) is root in rest
+use Rattle.llb_treetext.proofs.Unique.{one_answer}
 
 -- ---- behind all rows
 
@@ -106,7 +80,7 @@ map-map : {A B C : Type 0} (g : B → C) (f : A → B) (xs : List A) → map g (
 map-map g f [] = refl
 map-map g f (x ∷ xs) = ap (λ ys. g (f x) ∷ ys) (map-map g f xs)
 
-walk-cons : (look : Look) (n : List ℕ) (p : List (List ℕ)) → walk look (n ∷ p) ≡ all_dirs (look [] ∷ map (λ q. look (n ∷ q)) (parents p))
+pub walk-cons : (look : Look) (n : List ℕ) (p : List (List ℕ)) → walk look (n ∷ p) ≡ all_dirs (look [] ∷ map (λ q. look (n ∷ q)) (parents p))
 walk-cons look n p = ap (λ ys. all_dirs (look [] ∷ ys)) (map-map look (λ q. n ∷ q) (parents p))
 
 -- more directories let a walk through
@@ -190,17 +164,34 @@ module _ (t : TreeMap) (tree : IsTree t) (contents : HaveBytes t) (row : Pair) (
             shorter = omega (arith, ap length begins, length-append (line_of row) later, length-append (row_text row) (10 ∷ []));
           }
 
-  pub no_parent : (f : TreeFault) → put_row t row ≡ Err f → walk (λ q. finite.find path_cmp q (finite.entries t)) row.0 ≢ Ok tt
+  no_parent : (f : TreeFault) → put_row t row ≡ Err f → walk (λ q. finite.find path_cmp q (finite.entries t)) row.0 ≢ Ok tt
   no_parent f put walks =
-      let e : ◌≡◌ {A = Result TreeMap TreeFault} (Ok (finite.insert t row.0 row.1)) (Err f) = sym (put_ok row.0 row.1 not_root not_there (ap (λ look. walk look row.0) (λ i q. finite.get-entries t q i) ∙ walks)) ∙ put in absurd cc
+      let own = ap (λ look. walk look row.0) (λ i q. finite.get-entries t q i) ∙ walks in
+      let e : ◌≡◌ {A = Result TreeMap TreeFault} (Ok (finite.insert t row.0 row.1)) (Err f) = sym (put_ok row.0 row.1 not_root not_there own) ∙ put in absurd cc
 
-  -- what the refusal of a row says
-  pub refused_is : (rest later : List ℕ) (n : ℕ) (f : TreeFault) → n ≡ length (finite.entries t) + 1 → rest ≡ line_of row ++ later → (base.is_memory f ≡ false → put_row t row ≡ Err f) → is_memory (refused f n) ≡ false → IsFault (finite.entries t) rest (refused f n)
-  refused_is rest later n f number begins put = go (base.is_memory f) refl
+  -- it is put there, or memory is refused
+  pub put_there : (rest later : List ℕ) → HasNoFault (finite.entries t) rest → rest ≡ line_of row ++ later
+      → (f : TreeFault) → (base.is_memory f ≡ false → put_row t row ≡ Err f) → f ≡ fault.Memory
+  put_there rest later sound begins fault.Memory put = refl
+  put_there rest later sound begins f put =
+      absurd (sound (NoParent (length (finite.entries t) + 1)) (refl, (row, (is, (later, begins)), next, no_parent f (put refl))))
+
+-- ---- a line that is not faulty
+
+module _ (rows : List Pair) (rest : List ℕ) (sound : HasNoFault rows rest) where
+  pub is_line : ((row : Pair) → ¬ Begins rest row) → ⊥
+  is_line none = sound (BadLine (length rows + 1)) (refl, none)
+
+  pub is_next : (row : Pair) → Begins rest row → comes_next rows row.0 ≡ true
+  is_next row begins = go (comes_next rows row.0) refl
     where
-      go : (b : Bool) → base.is_memory f ≡ b → is_memory (cond b Memory (NoParent n)) ≡ false → IsFault (finite.entries t) rest (cond b Memory (NoParent n))
-      go true m no_memory = absurd (true≢false no_memory)
-      go false m no_memory = (number, (row, (is, (later, begins)), next, no_parent f (put m)))
+      go : (b : Bool) → comes_next rows row.0 ≡ b → b ≡ true
+      go true next = refl
+      go false next = absurd (sound (Order (length rows + 1)) (refl, (row, begins, next)))
+
+pub is_first : (p : List (List ℕ)) → comes_next [] p ≡ true → p ≡ []
+is_first [] next = refl
+is_first (n ∷ p) next = absurd (true≢false (sym next))
 
 -- ---- the first line
 
@@ -243,6 +234,10 @@ pub few_rows : (rows : List Pair) → length rows ≤ length (lines_of rows)
 few_rows [] = omega arith
 few_rows (r ∷ rows) = omega (arith, few_rows rows, length-append (line_of r) (lines_of rows), length-append (row_text r) (10 ∷ []))
 
+pub no_fault_first : (bytes : List ℕ) (t : TreeMap) → IsText bytes t → HasNoFault [] bytes
+no_fault_first bytes t is = λ e fault.
+    (one_answer bytes).apart t e is (record { rows = []; rest = bytes; before = inl refl; split = refl; more = λ _. refl; fault = fault })
+
 module _ (bytes : List ℕ) (t : TreeMap) (rest : List ℕ) (front : IsFront bytes t rest) where
   pub some_left : (b : Bool) → b ≡ (length rest == 0) → b ≡ false → 0 < length rest
   some_left b is no_b = by_length (length rest) (sym is ∙ no_b)
@@ -264,9 +259,8 @@ module _ (bytes : List ℕ) (t : TreeMap) (rest : List ℕ) (front : IsFront byt
     fault = fault;
   }
 
-  pub stops_later : (r : Result TreeMap TextFault) (e : TextFault) → IsErrAnd r (λ x. x ≡ e) → 0 < length rest → (is_memory e ≡ false → IsFault (finite.entries t) rest e) → Answers bytes r
-  stops_later (Ok u) e is some fault = absurd is
-  stops_later (Err d) e is some fault = λ no_memory. stops d some (subst (IsFault (finite.entries t) rest) (sym is) (fault (ap is_memory (sym is) ∙ no_memory)))
+  pub no_fault_left : (u : TreeMap) → IsText bytes u → 0 < length rest → HasNoFault (finite.entries t) rest
+  no_fault_left u is some = λ e fault. (one_answer bytes).apart u e is (stops e some fault)
 
   pub front_more : (new : TreeMap) (later : List ℕ) → GoesOn t new rest later → IsFront bytes new later
   front_more new later goes = record { tree = goes.tree; contents = goes.contents; text = front.text ∙ goes.text }

@@ -7,9 +7,7 @@ use Rattle.std.specs.Ordering.{nat_cmp}
 use Rattle.std.specs.Cmp.Lexicographic.{slice_cmp}
 use Rattle.llb_tree.specs.Tree.{Entry, Dir, File, TreeMap, IsTree, put_dir, put_file}
 use Rattle.llb_tree.specs.declared.fault.TreeFault.{TreeFault}
-use Rattle.llb_tree.specs.Faults as base
 use Rattle.llb_treetext.specs.declared.fault.TextFault.{TextFault}
-use Rattle.llb_treetext.specs.declared.fault.TextFault.TheVariants.{NoParent, Memory}
 use Rattle.llb_treetext.specs.TreeText.{names_text, tree_text}
 use Rattle.llb_treetext.specs.Reading.{HaveBytes, IsText, IsFault, Stops}
 use Rattle.llb_treetext.specs.Faults.{is_memory}
@@ -20,9 +18,9 @@ abbrev pub put_row : TreeMap → List (List ℕ) × Entry → Result TreeMap Tre
 put_row t (p, Dir m) = put_dir t p m
 put_row t (p, File m content) = put_file t p m content
 
--- a refusal of a row that lies behind all others
-abbrev pub refused : TreeFault → ℕ → TextFault
-refused e n = if base.is_memory e then Memory else NoParent n
+-- the line behind some rows is not faulty
+abbrev pub HasNoFault : List (List (List ℕ) × Entry) → List ℕ → Type 0
+HasNoFault rows rest = (e : TextFault) → ¬ IsFault rows rest e
 
 -- a line more is in the tree: what is before and what is left is the same text, and less is left
 pub record GoesOn (old new : TreeMap) (rest later : List ℕ) : Type 0 where

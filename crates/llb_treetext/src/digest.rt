@@ -9,19 +9,21 @@ ghost use Rattle.llb_treetext.specs.Faults.{Gives};
 use crate::fault::TextFault;
 use crate::line::entry_line;
 use llb_tree::Tree;
-use llb_wire::Text;
+use llb_wire::{Memory, Text};
 use sha2::{Digest, Sha256};
-use std::alloc::{AllocError, Global};
+use std::alloc::Global;
 
 // SHA-256 of the text of a tree.
-fn hash(alloc: Global, tree: &Tree) -> Result<[u8; 32], AllocError>
+fn hash(alloc: Global, tree: &Tree) -> Result<[u8; 32], Memory>
     ensures { IfOk result (λ d. d ≡ sha256 (tree_text tree.now)) }
 {
     let mut hasher = Sha256::new();
-    for at in 0..tree.len() {
-        if let Some((path, entry)) = tree.entry(at) {
-            let line = entry_line(alloc, path, &entry)?;
-            hasher.update(line.as_bytes());
+    let mut walk = tree.walk();
+    while let Some((path, entry)) = walk.at() {
+        let line = entry_line(alloc, path, &entry)?;
+        hasher.update(line.as_bytes());
+        if walk.advance().is_err() {
+            return Err(Memory);
         }
     }
     Ok(hasher.finalize())

@@ -37,13 +37,11 @@ pub fn print_tree<W: Sink>(alloc: Global, tree: &Tree, out: &mut W) -> Result<()
     ensures prints { Prints (W.taken out.old) (W.taken out.new) (W.failed out.new) (tree_text tree.now) result }
     ensures same { W.lender out.new ≡ W.lender out.old }
 {
-    for at in 0..tree.len() {
-        match tree.entry(at) {
-            None => {}
-            Some((path, entry)) => match print_line(alloc, path, &entry, out) {
-                Ok(()) => {}
-                Err(fault) => return Err(fault),
-            },
+    let mut walk = tree.walk();
+    while let Some((path, entry)) = walk.at() {
+        print_line(alloc, path, &entry, out)?;
+        if walk.advance().is_err() {
+            return Err(PrintFault::Memory);
         }
     }
     Ok(())

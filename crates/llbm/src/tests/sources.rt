@@ -39,8 +39,8 @@ const FILES: [(&str, &[u8]); 5] = [
     ("loose", b"d 0755 0 0 /\nf 0644 0 0 - /a/b\n"),
 ];
 
-// How many paths the trees of `a` and `b` have, or the fault.
-fn paths(alloc: Global, locals: &[(&str, &str)]) -> Result<String, Fail> {
+// How many children the roots of the trees of `a` and `b` have, or the fault.
+fn children(alloc: Global, locals: &[(&str, &str)]) -> Result<String, Fail> {
     let mut words = Vec::new(alloc);
     for (name, file) in locals {
         words.push(Local { name, file })?;
@@ -48,8 +48,8 @@ fn paths(alloc: Global, locals: &[(&str, &str)]) -> Result<String, Fail> {
     let shelf = Shelf { files: &FILES };
     match locals_of(alloc, &shelf, words.as_slice()) {
         Ok(trees) => {
-            let a = trees.get("a").map(|t| t.len());
-            let b = trees.get("b").map(|t| t.len());
+            let a = trees.get("a").map(|t| t.root().children().len());
+            let b = trees.get("b").map(|t| t.root().children().len());
             Ok(format!(in alloc; "{a:?} {b:?}")?)
         }
         Err(fault) => Ok(format!(in alloc; "{fault}")?),
@@ -60,10 +60,10 @@ fn paths(alloc: Global, locals: &[(&str, &str)]) -> Result<String, Fail> {
 fn each_name_has_the_tree_of_its_file(rt: HostRuntime) -> Result<(), Fail> {
     let rows: [(&[(&str, &str)], &str); 8] = [
         (&[], "None None"),
-        (&[("a", "one"), ("b", "two")], "Some(1) Some(2)"),
+        (&[("a", "one"), ("b", "two")], "Some(0) Some(1)"),
         (
             &[("a", "one"), ("b", "one"), ("a", "two")],
-            "Some(2) Some(1)",
+            "Some(1) Some(0)",
         ),
         (&[("a", "nosuch")], "181"),
         (&[("a", "none"), ("b", "nosuch")], "31 1"),
@@ -72,7 +72,7 @@ fn each_name_has_the_tree_of_its_file(rt: HostRuntime) -> Result<(), Fail> {
         (&[("a", "loose"), ("a", "one")], "33 2"),
     ];
     for (locals, wanted) in rows {
-        let text = paths(rt.alloc(), locals)?;
+        let text = children(rt.alloc(), locals)?;
         assert_eq!(rt; text.as_str(), wanted);
     }
     Ok(())

@@ -1,61 +1,61 @@
-use Rattle.std.proofs.Common.{rules, ◌≡◌, ◌≤◌, ◌+◌, IsSome, length, take, sym, ap, subst, ◌∙◌, arith, Some, None, Ok, Err, false, true, []}
+use Rattle.std.proofs.Common.{rules, ◌≡◌, sym, ap, subst, ◌∙◌, drop, Some, Ok, Err, true, false}
 use Rattle.std.specs.Prelude.{slice_get}
 use Rattle.std.specs.FinMap as finite
-use Rattle.llb_tree.specs.Tree.{is_memory}
-use Rattle.llb_tree.specs.Rows.{seen}
 use Rattle.llb_glob.specs.Matching.{path_matches}
-use Rattle.llb_fileop.specs.Parts.{IsMade, is_root}
-use Rattle.llb_fileop.specs.Removing.{left}
+use Rattle.llb_tree.specs.Rows.{seen}
+use Rattle.llb_tree.specs.Tree.{is_memory, without}
+use Rattle.llb_fileop.specs.Removing.{left, matching}
 use Rattle.llb_fileop.proofs.Answering.{same_Ok, never}
-use Rattle.llb_fileop.proofs.Made.{made_put, made_skip, made_past, made_whole}
-use Rattle.llb_fileop.proofs.Below.{left_there, root_left, made_root, next_put, next_stays, next_goes}
+use Rattle.llb_fileop.proofs.Passing.{Stand, hits, beside, past_is, skip_short, stand_all, stand_first, stand_rest, hits_next, hits_end}
+use Rattle.llb_fileop.proofs.Below.{rid_of, rid_of_none, rid_of_first, stand_beside, removes}
 use Rattle.llb_fileop.proofs.removing.kept.Goals as goal
-use Rattle.llb_fileop.proofs.removing.kept.Goals.{in-Some+then-not-matches_at_or_above+in_ok-put, in-Some+else-not-matches_at_or_above, in_default}
 
-pub loop-at-init : goal.loop-at-init
-loop-at-init c =
-    let tree = c.in_ok-tree.ensures.tree in
-    let same : finite.retain_keys c.args.base.now is_root ≡ c.in_ok-tree.tree = same_Ok c.in_ok-tree.ensures.gives in
-    subst (λ t. IsMade (left c.args.pattern.now c.args.base.now) t []) same
-    (made_root c.args.base.now (left c.args.pattern.now c.args.base.now) (tree.root.1 ∙ sym (root_left c.args.pattern.now c.args.base.now tree c.requires)))
+pub loop-path-init : goal.loop-path-init
+loop-path-init c =
+    let pattern = c.args.pattern.now in
+    let base = c.args.base.now in
+    let same : base ≡ c.in_ok-tree.tree = same_Ok c.in_ok-tree.ensures in
+    record {
+      left = ap (λ es. rid_of (hits pattern es) c.in_ok-tree.tree) c.walk-walk.ensures ∙ ap (rid_of (matching pattern base)) (sym same);
+      there = subst (Stand c.in_ok-tree.tree) (sym c.walk-walk.ensures) (subst (λ t. Stand t (finite.entries base)) same (stand_all base));
+    }
 
-pub returns-in_err-put : goal.returns-in_err-put
-returns-in_err-put c =
-    let outside : path_matches c.args.pattern.now (take (length c.args.pattern.now) c.in-Some.path.now) ≡ false = sym c.matches_at_or_above.ensures ∙ c.if-not-matches_at_or_above.true in
-    let done = next_put c.args.pattern.now c.args.base.now c.in_ok-tree.ensures.tree c.loop-at.at c.in-Some.path.now (seen c.in-Some.held) (sym c.in-Some.ensures) c.requires
-    outside c.loop-at.tree c.loop-at.invariant in
-    let f : is_memory c.in_err-put.field-0.0 ≡ false → Ok (left c.args.pattern.now c.args.base.now) ≡ Err c.in_err-put.field-0.0
-    = λ m. never (sym done ∙ c.in_err-put.ensures m) in
+pub returns-in_err-remove : goal.returns-in_err-remove
+returns-in_err-remove c =
+    let hit : path_matches c.args.pattern.now c.in-Some.path.now ≡ true = sym c.matches.ensures.test ∙ c.if-matches.true in
+    let there = stand_first c.loop-path.tree c.loop-path.walk c.in-Some.path.now (seen c.in-Some.field-0-1) (sym c.in-Some.ensures)
+    c.loop-path.invariant.there in
+    let done = removes c.args.pattern.now c.loop-path.tree c.in-Some.path.now c.requires hit there in
+    let f : is_memory c.in_err-remove.field-0.0 ≡ false → Ok (left c.args.pattern.now c.args.base.now) ≡ Err c.in_err-remove.field-0.0
+    = λ m. never (sym done ∙ c.in_err-remove.ensures.gives m) in
     search rules
 
-pub loop-at-preserved : goal.loop-at-preserved
-loop-at-preserved c =
-    let es = finite.entries c.args.base.now in
-    let whole = left c.args.pattern.now c.args.base.now in
-    elim c.match-entry.branch [
-      | in-Some+then-not-matches_at_or_above+in_ok-put w ↦
-          let is : slice_get es c.loop-at.at ≡ Some (w.in-Some.path.now, seen w.in-Some.held) = sym w.in-Some.ensures in
-          let outside : path_matches c.args.pattern.now (take (length c.args.pattern.now) w.in-Some.path.now) ≡ false = sym w.matches_at_or_above.ensures ∙ w.if-not-matches_at_or_above.true in
-          let done = next_put c.args.pattern.now c.args.base.now c.in_ok-tree.ensures.tree c.loop-at.at w.in-Some.path.now (seen w.in-Some.held) is c.requires
-          outside c.loop-at.tree c.loop-at.invariant in
-          let own = next_stays c.args.pattern.now c.args.base.now c.in_ok-tree.ensures.tree c.loop-at.at w.in-Some.path.now (seen w.in-Some.held) is outside in
-          let same : finite.insert c.loop-at.tree w.in-Some.path.now (seen w.in-Some.held) ≡ c.match-entry.tree = same_Ok (sym done ∙ w.in_ok-put.ensures) ∙ sym w.tree-is in
-          subst (λ t. IsMade whole t (take (c.loop-at.at + 1) es)) same
-          (made_put whole c.loop-at.tree w.in-Some.path.now (seen w.in-Some.held) own es c.loop-at.at (seen w.in-Some.held) c.loop-at.invariant is)
-      | in-Some+else-not-matches_at_or_above w ↦
-          let is : slice_get es c.loop-at.at ≡ Some (w.in-Some.path.now, seen w.in-Some.held) = sym w.in-Some.ensures in
-          let inside : path_matches c.args.pattern.now (take (length c.args.pattern.now) w.in-Some.path.now) ≡ true = sym w.matches_at_or_above.ensures ∙ w.if-not-matches_at_or_above.false in
-          let none = next_goes c.args.pattern.now c.args.base.now c.in_ok-tree.ensures.tree c.loop-at.at w.in-Some.path.now (seen w.in-Some.held) is inside in
-          subst (λ t. IsMade whole t (take (c.loop-at.at + 1) es)) (sym w.tree-is)
-          (made_skip whole c.loop-at.tree es c.loop-at.at w.in-Some.path.now (seen w.in-Some.held) none c.loop-at.invariant is)
-      | in_default w ↦
-          let past : slice_get es c.loop-at.at ≡ None = sym w.in_default.ensures in
-          subst (λ t. IsMade whole t (take (c.loop-at.at + 1) es)) (sym w.tree-is) (made_past whole c.loop-at.tree es c.loop-at.at past c.loop-at.invariant)
-    ]
+pub loop-path-smaller-in-Continue-branch-3 : goal.loop-path-smaller-in-Continue-branch-3
+loop-path-smaller-in-Continue-branch-3 c =
+    skip_short c.loop-path.walk c.skip.new.self c.in-Some.path.now (seen c.in-Some.field-0-1) (sym c.in-Some.ensures) (same_Ok c.in_ok-skip.ensures.gives)
+
+pub loop-path-preserved-in-Continue-branch-3 : goal.loop-path-preserved-in-Continue-branch-3
+loop-path-preserved-in-Continue-branch-3 c =
+    let pattern = c.args.pattern.now in
+    let tree = c.loop-path.tree in
+    let walk = c.loop-path.walk in
+    let k = c.in-Some.path.now in
+    let is : slice_get walk 0 ≡ Some (c.in-Some.path.now, seen c.in-Some.field-0-1) = sym c.in-Some.ensures in
+    let hit : path_matches pattern k ≡ true = sym c.matches.ensures.test ∙ c.if-matches.true in
+    let there = stand_first tree walk k (seen c.in-Some.field-0-1) is c.loop-path.invariant.there in
+    let next : c.remove.new.self ≡ without tree k = same_Ok (sym c.in_ok-remove.ensures.gives ∙ removes pattern tree k c.requires hit there) in
+    let rest : c.skip.new.self ≡ beside k (drop 1 walk) = sym (same_Ok c.in_ok-skip.ensures.gives) ∙ past_is walk k (seen c.in-Some.field-0-1) is in
+    record {
+      left = (λ i. rid_of (hits pattern (rest i)) (next i))
+          ∙ rid_of_first pattern k (drop 1 walk) tree
+          ∙ ap (λ ps. rid_of ps tree) (sym (hits_next pattern walk k (seen c.in-Some.field-0-1) is hit))
+          ∙ c.loop-path.invariant.left;
+      there = subst (Stand c.remove.new.self) (sym rest)
+          (subst (λ t. Stand t (beside k (drop 1 walk))) (sym next) (stand_beside tree k (drop 1 walk) (stand_rest tree walk c.loop-path.invariant.there)));
+    }
 
 pub returns : goal.returns
 returns c =
-    let base = c.args.base.now in
-    let past : length (finite.entries base) ≤ c.loop-at.at = omega (arith, c.len-at-end.ensures, finite.len-entries base) in
-    sym (ap Ok (made_whole (left c.args.pattern.now base) c.loop-at.tree (finite.entries base) c.loop-at.at c.loop-at.invariant past
-    (λ q there. subst IsSome (finite.get-entries base q) (left_there c.args.pattern.now base c.in_ok-tree.ensures.tree q there))))
+    ap Ok (sym c.loop-path.invariant.left
+    ∙ ap (λ ps. rid_of ps c.loop-path.tree) (hits_end c.args.pattern.now c.loop-path.walk (sym c.in_default.ensures))
+    ∙ rid_of_none c.loop-path.tree)

@@ -1,8 +1,14 @@
-use Rattle.std.proofs.Common.{take}
-use Rattle.std.specs.FinMap as finite
-use Rattle.llb_fileop.specs.Parts.{IsMade}
+use Rattle.std.proofs.Common.{◌≡◌, length}
 use Rattle.llb_fileop.specs.Removing.{left}
+use Rattle.llb_fileop.proofs.Passing.{Stand, hits}
+use Rattle.llb_fileop.proofs.Below.{rid_of}
 use Rattle.llb_fileop.proofs.removing.kept.Given as goal
 
-abbrev pub invariant-loop-at : goal.invariant-loop-at
-invariant-loop-at l = IsMade (left l.pattern l.base) l.tree (take l.at (finite.entries l.base))
+abbrev pub invariant-loop-path : goal.invariant-loop-path
+invariant-loop-path l = record {
+  left : rid_of (hits l.pattern l.walk) l.tree ≡ left l.pattern l.base;
+  there : Stand l.tree l.walk;
+}
+
+abbrev pub decreases-loop-path : goal.decreases-loop-path
+decreases-loop-path l = length l.walk

@@ -1,9 +1,11 @@
 -- The lines of the entries so far are fed.
-use Rattle.std.proofs.Common.{take}
-use Rattle.std.specs.FinMap as finite
+use Rattle.std.proofs.Common.{◌≡◌, ◌++◌, ℕ, List, length}
 use Rattle.sha2.specs.Hashers.{Holds256}
-use Rattle.llb_treetext.specs.TreeText.{lines_of}
+use Rattle.llb_treetext.specs.TreeText.{lines_of, tree_text}
 use Rattle.llb_treetext.proofs.digest.hash.Given as goal
 
-abbrev pub invariant-loop-at : goal.invariant-loop-at
-invariant-loop-at l = Holds256 l.hasher (lines_of (take l.at (finite.entries l.tree)))
+abbrev pub invariant-loop-path : goal.invariant-loop-path
+invariant-loop-path l = (done : List ℕ) × Holds256 l.hasher done × (tree_text l.tree ≡ done ++ lines_of l.walk)
+
+abbrev pub decreases-loop-path : goal.decreases-loop-path
+decreases-loop-path l = length l.walk

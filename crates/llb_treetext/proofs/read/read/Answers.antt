@@ -1,15 +1,14 @@
--- Each row has a line, so there are fewer rows than bytes; and a faulty line stands behind a tree's.
-use Rattle.std.proofs.Common.{arith}
-use Rattle.llb_treetext.proofs.Placing.{few_lines, some_left, stops_later}
+-- A line behind those of a tree is not faulty, since the text is a tree's.
+use Rattle.llb_treetext.proofs.Placing.{no_fault_first, no_fault_left, some_left}
 use Rattle.llb_treetext.proofs.read.read.Goals as goal
 
-pub overflow_add-number : goal.overflow_add-number
-overflow_add-number c =
-    let some = some_left c.args.bytes.now c.loop-rest.tree c.loop-rest.rest.now c.loop-rest.invariant c.is_empty.result c.is_empty.ensures c.loop-rest-test.true in
-    let few = few_lines c.args.bytes.now c.loop-rest.tree c.loop-rest.rest.now c.loop-rest.invariant some in
-    omega (arith, few, c.len.ensures)
+pub read_root-requires : goal.read_root-requires
+read_root-requires c = record { sound = no_fault_first c.args.bytes.now c.requires.0 c.requires.1 }
 
-pub returns-in_err-rest : goal.returns-in_err-rest
-returns-in_err-rest c =
-    let some = some_left c.args.bytes.now c.loop-rest.tree c.loop-rest.rest.now c.loop-rest.invariant c.is_empty.result c.is_empty.ensures c.loop-rest-test.true in
-    stops_later c.args.bytes.now c.loop-rest.tree c.loop-rest.rest.now c.loop-rest.invariant c.from_residual-in_err-rest.result c.in_err-rest.field-0.0 c.from_residual-in_err-rest.ensures.1 some c.in_err-rest.ensures.fault
+pub read_next-requires-clause-sound : goal.read_next-requires-clause-sound
+read_next-requires-clause-sound c =
+    let tree = c.loop-rest.tree in
+    let rest = c.loop-rest.rest.now in
+    let front = c.loop-rest.invariant in
+    let some = some_left c.args.bytes.now tree rest front c.is_empty.result c.is_empty.ensures c.loop-rest-test.true in
+    no_fault_left c.args.bytes.now tree rest front c.requires.0 c.requires.1 some

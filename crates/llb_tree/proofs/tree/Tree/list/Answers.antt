@@ -1,13 +1,22 @@
-use Rattle.std.proofs.Common.{◌≡◌, sym, ap, ◌∙◌, Ok}
-use Rattle.llb_tree.specs.Rows.{map_of}
-use Rattle.llb_tree.specs.Tree.{dir_there, list}
-use Rattle.llb_tree.proofs.Listed.{listed_names, list-Ok}
+use Rattle.std.proofs.Common.{◌≡◌, ℕ, List, [], ◌∷◌, ◌++◌, Ok, sym, ap, ◌∙◌}
+use Rattle.std.proofs.lemmas.List.{append-nil}
+use Rattle.std.specs.FinMap as finite
+use Rattle.llb_tree.specs.Tree.{all_dirs, dir_there}
+use Rattle.llb_tree.specs.Nodes.{flat}
+use Rattle.llb_tree.proofs.Listed.{tops, listed, list-Ok, list-none}
 use Rattle.llb_tree.proofs.tree.Tree.list.Goals as goal
 
-pub returns-clause-gives : goal.returns-clause-gives
-returns-clause-gives c =
+pub returns-in_default-clause-gives : goal.returns-in_default-clause-gives
+returns-in_default-clause-gives c = λ _.
+    list-none c.args.self.now c.args.path.now (sym (c.in_default.ensures [] ∙ (λ i. finite.get (c.self.view_is i) (append-nil (c.names.ensures.all i) i))))
+
+pub returns-in_ok-names_of-in-Dir-clause-gives : goal.returns-in_ok-names_of-in-Dir-clause-gives
+returns-in_ok-names_of-in-Dir-clause-gives c =
+    let t = c.args.self.now in
     let p = c.args.path.now in
-    let rows = c.self.inside.rows.items in
-    let there : dir_there (map_of rows) p ≡ Ok tt = ap (λ r. dir_there (map_of r) p) (sym c.deref.ensures.value) ∙ ap (dir_there (map_of c.deref.result.now)) (sym c.names.ensures.all) ∙ sym c.in_ok-is_dir.ensures.there in
-    ap (λ t. list t p) (sym c.self.view_is) ∙ list-Ok (map_of rows) p there
-    ∙ ap Ok (listed_names p _ rows _ c.in_ok-listed.listed.items c.run_at-start.result.0 c.run_at-start.result.1 c.names-names.ensures.all c.as_slice-rows.ensures.value c.self.invariant.sorted c.run_at-start.ensures c.in_ok-listed.ensures ∙ sym c.new.ensures)
+    let below : (q : List (List ℕ)) → finite.get c.in-Some.node.now q ≡ finite.get t (p ++ q) = λ q. c.in-Some.ensures q
+    ∙ (λ i. finite.get (c.self.view_is i) (c.names.ensures.all i ++ q)) in
+    let there : dir_there t p ≡ Ok tt = ap (λ o. all_dirs (o ∷ [])) (ap (finite.get t) (sym (append-nil p)) ∙ sym (below []) ∙ sym c.in-Dir.ensures) in
+    let entries = c.children.ensures.entries _ (sym c.in-Dir.ensures) in
+    let names : tops (flat c.children.result.now) ≡ c.in_ok-names_of-in-Dir.field-0.items = cc (c.in_ok-names_of-in-Dir.ensures) in
+    list-Ok t p there ∙ ap Ok (listed t c.in-Some.node.now p _ c.children.result.now below entries ∙ names ∙ sym c.new.ensures)

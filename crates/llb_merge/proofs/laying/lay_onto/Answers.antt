@@ -1,0 +1,6 @@
+-- What stands over the lower tree in that way is laid.
+use Rattle.llb_merge.specs.Laws.{over_is_lay}
+use Rattle.llb_merge.proofs.laying.lay_onto.Goals as goal
+
+pub returns : goal.returns
+returns c = over_is_lay c.plain-way.result c.plain-way.ensures c.args.lower c.args.upper.now c.in_ok-overlaid.field-0 c.in_ok-overlaid.ensures.paths

@@ -1,0 +1,47 @@
+-- What the steps of laying one tree over another make of nodes and of their children.
+use Rattle.std.specs.Prelude.{◌≡◌, ◌<◌, ◌^◌, ℕ, true, List, [], ◌∷◌, map, Option, Some, None}
+use Rattle.std.specs.FinMap as finite
+use Rattle.llb_tree.specs.Path.{name_cmp}
+use Rattle.llb_tree.specs.Tree.{TreeMap, Entry}
+use Rattle.llb_tree.specs.Nodes.{AreSorted, Pairs, child, look_in, name_of}
+use Rattle.llb_tree.specs.Overlay.{WayValue, is_mode, over, over_at}
+use Rattle.llb_tree.specs.declared.node.Child.{Child}
+
+-- each entry in the mode and the owner that are given
+abbrev pub dress : WayValue → TreeMap → TreeMap
+dress w t = finite.from_entries (map (λ (e : List (List ℕ) × Entry). (e.0, over w None e.1)) (finite.entries t))
+
+abbrev pub dress_pair : WayValue → List ℕ × TreeMap → List ℕ × TreeMap
+dress_pair w k = (k.0, dress w k.1)
+
+-- the children after others are laid over them
+pub record Lays (w : WayValue) (upper old new : List Child) : Type 0 where
+  pub sorted : AreSorted new
+  pub children : (m : List ℕ) (q : List (List ℕ)) → look_in (child m new) q ≡ over_at w (look_in (child m old)) (look_in (child m upper)) q
+
+-- a child made of the upper one and of the lower one of its name, if there is one
+pub record IsLaid (w : WayValue) (old : List Child) (upper made : Child) : Type 0 where
+  pub named : name_of made ≡ name_of upper
+  pub laid : (q : List (List ℕ)) → finite.get made.node q ≡ over_at w (look_in (child (name_of upper) old)) (finite.get upper.node) q
+
+abbrev pub AreLaid : WayValue → List Child → List Child → List Child → Type 0
+AreLaid w old [] [] = Unit {0}
+AreLaid w old [] (k ∷ made) = ⊥
+AreLaid w old (u ∷ upper) [] = ⊥
+AreLaid w old (u ∷ upper) (k ∷ made) = IsLaid w old u k × AreLaid w old upper made
+
+-- children after others are put in one by one, each in the place of the one of its name
+abbrev pub puts : Pairs → Pairs → Pairs
+puts [] old = old
+puts (k ∷ ks) old = puts ks (finite.put name_cmp k.0 k.1 old)
+
+-- an owner that is given is a number of 32 bits
+abbrev pub owner_fits : Option ℕ → Type 0
+owner_fits None = Unit {0}
+owner_fits (Some owner) = owner < 2 ^ 32
+
+-- the mode is one, and so are the owners
+pub record IsWay (w : WayValue) : Type 0 where
+  pub mode : is_mode w.mode ≡ true
+  pub uid : owner_fits w.uid
+  pub gid : owner_fits w.gid

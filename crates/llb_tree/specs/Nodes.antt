@@ -1,0 +1,109 @@
+-- What the nodes of a tree stand for: a file alone, or a directory with its children in the order of their names. Only this
+-- file and the proofs know how a tree is kept; the clauses of the calls on a tree speak of its map.
+use Rattle.std.specs.Prelude.{cond, ◌≡◌, ℕ, ◌+◌, ◌≤◌, List, [], ◌∷◌, ◌++◌, map, T, Option, Some, None, Result, Ok, Err}
+use denote.Ref.{Bor}
+use Rattle.std.specs.Arc.{arc_value}
+use Rattle.std.specs.Ordering.{is_eq}
+use Rattle.std.specs.FinMap as finite
+use Rattle.std.specs.FinMap.Entries.{by_order}
+use Rattle.llb_tree.specs.Path.{name_cmp}
+use Rattle.llb_tree.specs.Tree as base
+use Rattle.llb_tree.specs.Tree.{TreeMap, Look}
+use Rattle.llb_tree.specs.declared.node.Entry.{Entry}
+use Rattle.llb_tree.specs.declared.node.Entry.TheVariants as entry
+use Rattle.llb_tree.specs.declared.node.Kind.{Kind}
+use Rattle.llb_tree.specs.declared.node.Kind.TheVariants as kind
+use Rattle.llb_tree.specs.declared.node.Child.{Child}
+
+abbrev pub Pair : Type 0
+Pair = List (List ℕ) × base.Entry
+
+-- an entry without where its content lies
+abbrev pub seen : Entry → base.Entry
+seen (entry.Dir m) = base.Dir m
+seen (entry.File m b) = base.File m b.now
+
+abbrev pub pair_seen : Bor (List (List ℕ)) × Entry → Pair
+pair_seen (p, e) = (p.now, seen e)
+
+abbrev pub name_of : Child → List ℕ
+name_of k = arc_value k.name
+
+-- the entries of a child, from its parent's place
+abbrev pub below : Child → List Pair
+below k = map (λ (e : Pair). (name_of k ∷ e.0, e.1)) (finite.entries k.node)
+
+abbrev pub flat : List Child → List Pair
+flat [] = []
+flat (k ∷ ks) = below k ++ flat ks
+
+abbrev pub kids_of : Kind → List Child
+kids_of (kind.File m c) = []
+kids_of (kind.Dir m kids) = (arc_value kids).items
+
+-- what stands at the node itself
+abbrev pub own_entry : Kind → base.Entry
+own_entry (kind.File m c) = base.File m (arc_value c)
+own_entry (kind.Dir m kids) = base.Dir m
+
+abbrev pub entries_of : Kind → List Pair
+entries_of k = ([], own_entry k) ∷ flat (kids_of k)
+
+abbrev pub map_of : Kind → TreeMap
+map_of k = finite.from_entries (entries_of k)
+
+abbrev pub pair_of : Child → List ℕ × TreeMap
+pair_of k = (name_of k, k.node)
+
+-- by name, each once
+abbrev pub AreSorted : List Child → Type 0
+AreSorted ks = T (finite.is_sorted name_cmp (map pair_of ks))
+
+-- the child of a name
+abbrev pub child : List ℕ → List Child → Option TreeMap
+child n ks = finite.find name_cmp n (map pair_of ks)
+
+-- what stands at a path in a tree, if there is one
+abbrev pub look_in : Option TreeMap → Look
+look_in None q = None
+look_in (Some t) q = finite.get t q
+
+-- one place further
+abbrev pub later : Result ℕ ℕ → Result ℕ ℕ
+later (Ok i) = Ok (i + 1)
+later (Err i) = Err (i + 1)
+
+-- where a name is among the children, or where it would go
+abbrev pub place : List ℕ → List Child → Result ℕ ℕ
+place p [] = Err 0
+place p (r ∷ rows) = by_order (name_cmp p (name_of r)) (Err 0) (Ok 0) (later (place p rows))
+
+-- what stands at a path after a tree, or nothing, is set at another
+abbrev pub set_look : List (List ℕ) → Option TreeMap → Look → Look
+set_look [] t old q = look_in t q
+set_look (n ∷ p) t old [] = old []
+set_look (n ∷ p) t old (m ∷ q) = cond (is_eq (name_cmp m n)) (set_look p t (λ r. old (n ∷ r)) q) (old (m ∷ q))
+
+-- a directory with what another has below it, and a file alone
+abbrev pub dir_look : base.MetaValue → Look → Look
+dir_look m old [] = Some (base.Dir m)
+dir_look m old (n ∷ q) = old (n ∷ q)
+
+abbrev pub file_look : base.MetaValue → List ℕ → Look
+file_look m b [] = Some (base.File m b)
+file_look m b (n ∷ q) = None
+
+-- children as their names and what they stand for
+abbrev pub Pairs : Type 0
+Pairs = List (List ℕ × TreeMap)
+
+-- the children after a tree, or nothing, is set at a path below one of them
+pub record Sets (n : List ℕ) (p : List (List ℕ)) (t : Option TreeMap) (old new : Pairs) : Type 0 where
+  pub sorted : T (finite.is_sorted name_cmp new)
+  pub children : (m : List ℕ) (q : List (List ℕ)) → look_in (finite.find name_cmp m new) q ≡ cond (is_eq (name_cmp m n)) (set_look p t (look_in (finite.find name_cmp n old)) q) (look_in (finite.find name_cmp m old) q)
+
+-- a node that is a tree, whose paths have at most so many names
+pub record IsWhole (root : TreeMap) (depth : ℕ) : Type 0 where
+  pub tree : base.IsTree root
+  pub deep : base.height root ≤ depth + 1
+  pub short : depth ≤ 128

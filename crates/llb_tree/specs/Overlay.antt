@@ -1,0 +1,48 @@
+-- One tree over another, path by path. What the upper tree has stands, in the mode and the owner that are given for it; of the
+-- lower one what no file of the upper one is above.
+use Rattle.std.specs.Prelude.{ℕ, Bool, true, false, List, map, Option, Some, None, unwrap_or, nat_lt, if◌then◌else◌}
+use Rattle.std.specs.List.{list_any}
+use Rattle.llb_tree.specs.Meta.{MetaValue}
+use Rattle.llb_tree.specs.Tree.{Entry, Dir, File, Look, parents}
+
+abbrev pub is_file : Option Entry → Bool
+is_file None = false
+is_file (Some (Dir m)) = false
+is_file (Some (File m b)) = true
+
+-- whether a proper prefix of the path is a file
+abbrev pub below_file : Look → List (List ℕ) → Bool
+below_file look p = list_any is_file (map look (parents p))
+
+-- the mode and the owners that are given to what is laid, and whether a directory that both have stays as the lower one has it
+pub record WayValue : Type 0 where
+  pub mode : Option ℕ
+  pub uid : Option ℕ
+  pub gid : Option ℕ
+  pub keeps : Bool
+
+abbrev pub is_mode : Option ℕ → Bool
+is_mode None = true
+is_mode (Some mode) = if nat_lt 4095 mode then false else true
+
+abbrev pub way_of : Option ℕ → Option ℕ → Option ℕ → Bool → Option WayValue
+way_of mode uid gid keeps = if is_mode mode then Some (record { mode = mode; uid = uid; gid = gid; keeps = keeps }) else None
+
+-- its own where none is given
+abbrev pub given : WayValue → MetaValue → MetaValue
+given w m = record { mode = unwrap_or w.mode m.mode; uid = unwrap_or w.uid m.uid; gid = unwrap_or w.gid m.gid }
+
+-- an entry of the upper tree, over what the lower one has there
+abbrev pub over : WayValue → Option Entry → Entry → Entry
+over w (Some (Dir m)) (Dir k) = Dir (if w.keeps then m else given w k)
+over w (Some (File m b)) (Dir k) = Dir (given w k)
+over w None (Dir k) = Dir (given w k)
+over w there (File k c) = File (given w k) c
+
+-- what stands where the lower tree has this, and the upper one that, or nothing, with a file above it or not
+abbrev pub laid_over : WayValue → Option Entry → Option Entry → Bool → Option Entry
+laid_over w there (Some e) hidden = Some (over w there e)
+laid_over w there None hidden = if hidden then None else there
+
+abbrev pub over_at : WayValue → Look → Look → Look
+over_at w lower upper p = laid_over w (lower p) (upper p) (below_file upper p)

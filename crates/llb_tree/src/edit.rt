@@ -1,0 +1,158 @@
+//! Edits of nodes that may be shared. A directory is made its own before it is changed: where it has other owners, a fresh
+//! vector of second owners of its children takes its place, which leaves what it stands for as it is. So an edit copies the
+//! width of the directories on its path, and nothing else.
+
+ghost use Rattle.std.specs.Prelude.{[], Ok, Err, ◌≡◌, ◌<◌, ◌≤◌, ℕ, List, length, map, option_map, IfOk, OnOk, OnErr};
+ghost use Rattle.std.specs.Arc.{arc_value};
+ghost use Rattle.std.specs.FinMap as finite;
+ghost use Rattle.llb_tree.specs.Nodes.{AreSorted, Sets, pair_of, place, set_look};
+
+use crate::node::{Child, Kind, Node, place_of};
+use crate::path::Name;
+use std::alloc::{AllocError, Global};
+use std::sync::Arc;
+
+// Second owners of the same children.
+fn copies(alloc: Global, kids: &[Child]) -> Result<Vec<Child>, AllocError>
+    ensures { IfOk result (λ v. map pair_of v.items ≡ map pair_of kids.now) }
+{
+    let mut copied = Vec::new(alloc);
+    copied.reserve(kids.len())?;
+    for kid in kids {
+        copied.push(kid.copy()?)?;
+    }
+    Ok(copied)
+}
+
+// Makes children that are shared its own; what they stand for stays.
+pub(crate) fn own(alloc: Global, kids: &mut Arc<Vec<Child>>) -> Result<(), AllocError>
+    ensures { map pair_of (arc_value kids.new).items ≡ map pair_of (arc_value kids.old).items }
+{
+    if Arc::strong_count(kids) == 1 {
+        return Ok(());
+    }
+    let copied = copies(alloc, kids.as_slice())?;
+    *kids = Arc::new(alloc, copied)?;
+    Ok(())
+}
+
+// Sets a node, or nothing, at the names below the child of a name, or as that child.
+#[cycle(set)]
+fn set_in(
+    list: &mut Vec<Child>,
+    alloc: Global,
+    name: &Name,
+    rest: &[Name],
+    branch: Option<Node>,
+) -> Result<(), AllocError>
+    requires { AreSorted list.old.items }
+    ensures ok { OnOk result (Sets name.now rest.now branch (map pair_of list.old.items) (map pair_of list.new.items)) }
+    ensures err { OnErr result (map pair_of list.new.items ≡ map pair_of list.old.items) }
+{
+    match place_of(list.as_slice(), name) {
+        Ok(i) => {
+            if rest.is_empty() {
+                set_child(list, i, branch);
+                return Ok(());
+            }
+            let kid = &mut list[i];
+            kid.node.set(alloc, rest, branch)
+        }
+        Err(i) => {
+            if !rest.is_empty() {
+                return Err(AllocError);
+            }
+            insert_child(list, alloc, i, name, branch)
+        }
+    }
+}
+
+// The same where the children may be shared: makes them its own first.
+#[cycle(set)]
+fn set_below(
+    kids: &mut Arc<Vec<Child>>,
+    alloc: Global,
+    name: &Name,
+    rest: &[Name],
+    branch: Option<Node>,
+) -> Result<(), AllocError>
+    requires { AreSorted (arc_value kids.old).items }
+    ensures ok { OnOk result (Sets name.now rest.now branch (map pair_of (arc_value kids.old).items) (map pair_of (arc_value kids.new).items)) }
+    ensures err { OnErr result (map pair_of (arc_value kids.new).items ≡ map pair_of (arc_value kids.old).items) }
+{
+    own(alloc, kids)?;
+    match Arc::get_mut(kids) {
+        None => Err(AllocError),
+        Some(list) => set_in(list, alloc, name, rest, branch),
+    }
+}
+
+// Sets a node, or nothing, as the child at a place.
+fn set_child(list: &mut Vec<Child>, i: usize, branch: Option<Node>)
+    requires within { i < length list.old.items }
+    requires sorted { AreSorted list.old.items }
+    ensures { (n : List ℕ) → Ok i ≡ place n list.old.items → Sets n [] branch (map pair_of list.old.items) (map pair_of list.new.items) }
+{
+    match branch {
+        Some(node) => list[i].node = node,
+        None => {
+            let _gone = list.remove(i);
+        }
+    }
+}
+
+// Puts a node in as the child of a name, where that goes; nothing where there is no node.
+fn insert_child(
+    list: &mut Vec<Child>,
+    alloc: Global,
+    i: usize,
+    name: &Name,
+    branch: Option<Node>,
+) -> Result<(), AllocError>
+    requires sorted { AreSorted list.old.items }
+    requires within { i ≤ length list.old.items }
+    requires gap { Err i ≡ place name.now list.old.items }
+    ensures ok { OnOk result (Sets name.now [] branch (map pair_of list.old.items) (map pair_of list.new.items)) }
+    ensures err { OnErr result (map pair_of list.new.items ≡ map pair_of list.old.items) }
+{
+    match branch {
+        None => Ok(()),
+        Some(node) => {
+            let Ok(name) = name.copy() else {
+                return Err(AllocError);
+            };
+            let name = Arc::new(alloc, name)?;
+            list.insert(i, Child { name, node })?;
+            Ok(())
+        }
+    }
+}
+
+impl Node {
+    // Sets a node, or nothing, at the names below this, in place of what is there; refused where the directories on the way
+    // are not there, and then this stays as it is.
+    #[cycle(set)]
+    pub(crate) fn set(
+        &mut self,
+        alloc: Global,
+        names: &[Name],
+        branch: Option<Node>,
+    ) -> Result<(), AllocError>
+        ensures ok { OnOk result ((q : List (List ℕ)) → finite.get self.new q ≡ set_look names.now branch (finite.get self.old) q) }
+        ensures err { OnErr result (self.new ≡ self.old) }
+    {
+        match names {
+            [] => match branch {
+                None => Err(AllocError),
+                Some(node) => {
+                    *self = node;
+                    Ok(())
+                }
+            },
+            [name, rest @ ..] => match &mut self.kind {
+                Kind::File(..) => Err(AllocError),
+                Kind::Dir(_, kids) => set_below(kids, alloc, name, rest, branch),
+            },
+        }
+    }
+}

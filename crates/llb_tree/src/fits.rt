@@ -1,0 +1,52 @@
+//! Whether the entries of a tree can stand at and below a path. The bound of the tree's depth says it of most trees; of the
+//! others the nodes do.
+
+ghost use Rattle.std.specs.Prelude.{◌≡◌, ◌↔◌, ◌≤◌, IsTrue, IfErr, false};
+ghost use Rattle.std.specs.FinMap as finite;
+ghost use Rattle.llb_tree.specs.Tree.{height, is_memory, places_fit};
+
+use crate::fault::TreeFault;
+use crate::node::{Kind, Node};
+use crate::path::Path;
+use crate::tree::Tree;
+
+impl Tree {
+    /// Whether the entries can stand at and below a path: 26 `BadName` where a path would have more than 128 names. Takes no
+    /// memory.
+    pub fn fits(&self, path: &Path) -> Result<(), TreeFault>
+        ensures fit { result ≡ places_fit path.now (finite.keys self.now) }
+        ensures known { IfErr result (λ e. is_memory e ≡ false) }
+    {
+        let room = 128 - path.names().len();
+        if self.depth <= room {
+            return Ok(());
+        }
+        if self.root.is_within(room + 1) {
+            return Ok(());
+        }
+        Err(TreeFault::BadName)
+    }
+}
+
+impl Node {
+    // Whether what is at and below this is on at most so many levels. A file and an empty directory are on one.
+    pub(crate) fn is_within(&self, levels: usize) -> bool
+        ensures { IsTrue result ↔ (height self.now ≤ levels) }
+    {
+        let kind = &self.kind;
+        if levels == 0 {
+            return false;
+        }
+        match kind {
+            Kind::File(..) => true,
+            Kind::Dir(_, kids) => {
+                for kid in kids.as_slice() {
+                    if !kid.node.is_within(levels - 1) {
+                        return false;
+                    }
+                }
+                true
+            }
+        }
+    }
+}

@@ -1,0 +1,73 @@
+//! What is in a directory: its children, and their names.
+
+ghost use Rattle.std.specs.Prelude.{◌≡◌, [], ◌∷◌, map, Some, Ok};
+ghost use Rattle.std.specs.List.{flat_map};
+ghost use Rattle.std.specs.FinMap as finite;
+ghost use Rattle.llb_tree.specs.Nodes.{AreSorted, name_of, flat};
+ghost use Rattle.llb_tree.specs.Tree as base;
+ghost use Rattle.llb_tree.specs.Tree.{Gives, MemoryLast, list, name_below};
+
+use crate::fault::TreeFault;
+use crate::node::{Child, Entry, Kind, Node};
+use crate::path::{Name, Names, Path};
+use crate::tree::Tree;
+use std::alloc::Global;
+
+impl Child {
+    /// The name. Takes no memory.
+    pub fn name(&self) -> &Name
+        ensures { result.now ≡ name_of self.now }
+    {
+        &self.name
+    }
+
+    /// What stands there, with what is below it. Takes no memory.
+    pub fn node(&self) -> &Node
+        ensures { result.now ≡ self.now.node }
+    {
+        &self.node
+    }
+}
+
+impl Node {
+    /// The children in the order of their names; a file has none. Behind a node's own entry come those of its children, child
+    /// by child, each with the child's name in front of its path. Takes no memory.
+    pub fn children(&self) -> &[Child]
+        ensures entries { (e : base.Entry) → finite.get self.now [] ≡ Some e → finite.entries self.now ≡ ([], e) ∷ flat result.now }
+        ensures order { AreSorted result.now }
+    {
+        match &self.kind {
+            Kind::File(..) => &[],
+            Kind::Dir(_, kids) => kids.as_slice(),
+        }
+    }
+}
+
+// Copies of the names of children.
+fn names_of(alloc: Global, kids: &[Child]) -> Result<Vec<Name>, TreeFault>
+    ensures { Gives (λ v. v.items) result (Ok (flat_map (name_below []) (map (λ e. e.0) (flat kids.now)))) }
+{
+    let mut names = Vec::new(alloc);
+    for kid in kids {
+        let _entry = kid.node.entry();
+        names.push(kid.name.copy()?)?;
+    }
+    Ok(names)
+}
+
+impl Tree {
+    /// The names one below a path, in order. 21 `NotFound` where nothing is there, also below a file, 22 `NotDir` where a
+    /// file is; 27 `Memory`.
+    pub fn list(&self, path: &Path) -> Result<Names, TreeFault>
+        ensures gives { Gives (λ n. n) result (list self.now path.now) }
+        ensures last { MemoryLast result (list self.now path.now) }
+    {
+        let Some(node) = self.root.at(path.names()) else {
+            return Err(TreeFault::NotFound);
+        };
+        match node.entry() {
+            Entry::File(..) => Err(TreeFault::NotDir),
+            Entry::Dir(_) => Ok(Names::new(names_of(self.alloc, node.children())?)),
+        }
+    }
+}

@@ -1,0 +1,214 @@
+//! The nodes of a tree: a file with its content, or a directory with its children in the order of their names. Nodes are
+//! shared: a second owner of a node costs no copy of what is below it. A path has at most 128 names, so what recurses over
+//! nodes, their drop too, goes at most that deep.
+
+ghost use Rattle.std.specs.Prelude.{◌≡◌, ℕ, [], ◌∷◌, ◌++◌, ◌<◌, ◌≤◌, List, length, IfOk, IfErr, Some, false, option_map};
+ghost use Rattle.std.specs.FinMap as finite;
+ghost use Rattle.llb_tree.specs.Tree.{is_memory, walk, Dir};
+ghost use Rattle.llb_tree.specs.Nodes.{AreSorted, dir_look, file_look, pair_of, place, look_in, seen};
+
+use crate::fault::TreeFault;
+use crate::meta::Meta;
+use crate::path::Name;
+use llb_wire::Bytes;
+use std::alloc::{AllocError, Global};
+use std::marker::Model;
+use std::sync::Arc;
+
+/// What stands at a path: a directory, or a file with its content.
+#[derive(Clone, Copy)]
+pub enum Entry<'a> {
+    Dir(Meta),
+    File(Meta, &'a Bytes),
+}
+
+/// A file, or a directory with what is below it. Contracts see the map of what is at and below it.
+#[cycle(node)]
+#[derive(Drop)]
+pub struct Node {
+    pub(crate) kind: Kind,
+}
+
+#[cycle(node)]
+#[derive(Drop)]
+pub(crate) enum Kind {
+    File(Meta, Arc<Bytes>),
+    Dir(Meta, Arc<Vec<Child>>),
+}
+
+/// A child of a directory: its name, and what stands there.
+#[cycle(node)]
+#[derive(Drop)]
+pub struct Child {
+    pub(crate) name: Arc<Name>,
+    pub(crate) node: Node,
+}
+
+impl Model for Node {
+    ghost use Rattle.llb_tree.specs.Tree.{TreeMap, coded_tree, height};
+
+    ghost Value = { TreeMap };
+
+    ghost coded = { coded_tree };
+
+    ghost use Rattle.llb_tree.specs.Nodes.{map_of, kids_of, AreSorted};
+
+    ghost view = { λ n. map_of n.kind };
+
+    ghost invariant = { λ n. AreSorted (kids_of n.kind) };
+
+    ghost size = { height };
+
+    ghost use Rattle.llb_tree.specs.Falls.{falls};
+
+    ghost size_decreases = { λ a h. falls a.kind };
+}
+
+// Where the name is, or where it would go.
+pub(crate) fn place_of(kids: &[Child], name: &Name) -> Result<usize, usize>
+    requires { AreSorted kids.now }
+    ensures place { result ≡ place name.now kids.now }
+    ensures row { IfOk result (λ i. i < length kids.now) }
+    ensures gap { IfErr result (λ i. i ≤ length kids.now) }
+{
+    kids.binary_search_by(|kid| (*kid.name).cmp(name))
+}
+
+impl Node {
+    /// What stands here. Takes no memory.
+    pub fn entry(&self) -> Entry<'_>
+        ensures { Some (seen result) ≡ finite.get self.now [] }
+    {
+        match &self.kind {
+            Kind::File(meta, content) => Entry::File(*meta, content),
+            Kind::Dir(meta, _) => Entry::Dir(*meta),
+        }
+    }
+
+    // The child of a name.
+    pub(crate) fn child(&self, name: &Name) -> Option<&Node>
+        ensures { (q : List (List ℕ)) → look_in (option_map (λ n. n.now) result) q ≡ finite.get self.now (name.now ∷ q) }
+    {
+        match &self.kind {
+            Kind::File(..) => None,
+            Kind::Dir(_, kids) => {
+                let list = kids.as_slice();
+                match place_of(list, name) {
+                    Ok(i) => Some(&list[i].node),
+                    Err(_) => None,
+                }
+            }
+        }
+    }
+
+    // What is at the names below this.
+    pub(crate) fn at(&self, names: &[Name]) -> Option<&Node>
+        ensures { (q : List (List ℕ)) → look_in (option_map (λ n. n.now) result) q ≡ finite.get self.now (names.now ++ q) }
+    {
+        let mut node = self;
+        for name in names {
+            node = node.child(name)?;
+        }
+        Some(node)
+    }
+
+    // What stands at the names below this.
+    pub(crate) fn get(&self, names: &[Name]) -> Option<Entry<'_>>
+        ensures { option_map seen result ≡ finite.get self.now names.now }
+    {
+        match self.at(names) {
+            None => None,
+            Some(node) => Some(node.entry()),
+        }
+    }
+
+    // A file alone.
+    pub(crate) fn file(alloc: Global, meta: Meta, content: Bytes) -> Result<Node, AllocError>
+        ensures { IfOk result (λ n. (q : List (List ℕ)) → finite.get n q ≡ file_look meta content q) }
+    {
+        let content = Arc::new(alloc, content)?;
+        Ok(Node {
+            kind: Kind::File(meta, content),
+        })
+    }
+
+    // A directory with nothing below it.
+    pub(crate) fn empty_dir(alloc: Global, meta: Meta) -> Result<Node, AllocError>
+        ensures { IfOk result (λ n. n ≡ finite.insert finite.empty [] (Dir meta)) }
+    {
+        let kids = Arc::new(alloc, Vec::new(alloc))?;
+        Ok(Node {
+            kind: Kind::Dir(meta, kids),
+        })
+    }
+
+    // A directory of another mode and owner with the same below it; an empty one in place of a file.
+    fn with_meta(&self, alloc: Global, meta: Meta) -> Result<Node, AllocError>
+        ensures { IfOk result (λ n. (q : List (List ℕ)) → finite.get n q ≡ dir_look meta (finite.get self.now) q) }
+    {
+        match &self.kind {
+            Kind::File(..) => Node::empty_dir(alloc, meta),
+            Kind::Dir(_, kids) => {
+                let kids = Arc::try_clone(kids)?;
+                Ok(Node {
+                    kind: Kind::Dir(meta, kids),
+                })
+            }
+        }
+    }
+
+    // The directory at the names with another mode and owner, an empty one where there is none.
+    pub(crate) fn dir_at(
+        &self,
+        alloc: Global,
+        names: &[Name],
+        meta: Meta,
+    ) -> Result<Node, AllocError>
+        ensures { IfOk result (λ n. (q : List (List ℕ)) → finite.get n q ≡ dir_look meta (λ r. finite.get self.now (names.now ++ r)) q) }
+    {
+        match self.at(names) {
+            None => Node::empty_dir(alloc, meta),
+            Some(node) => node.with_meta(alloc, meta),
+        }
+    }
+
+    // Whether each proper prefix of the names is a directory: 21 `NotFound` or 22 `NotDir` at the first that is none.
+    pub(crate) fn walked(&self, names: &[Name]) -> Result<(), TreeFault>
+        ensures walks { result ≡ walk (finite.get self.now) names.now }
+        ensures known { IfErr result (λ e. is_memory e ≡ false) }
+    {
+        let mut node = Some(self);
+        for name in names {
+            match node {
+                None => return Err(TreeFault::NotFound),
+                Some(here) => match here.entry() {
+                    Entry::File(..) => return Err(TreeFault::NotDir),
+                    Entry::Dir(_) => node = here.child(name),
+                },
+            }
+        }
+        Ok(())
+    }
+
+    // A second owner; refused only where there are too many.
+    pub(crate) fn copy(&self) -> Result<Node, AllocError>
+        ensures { IfOk result (λ n. n ≡ self.now) }
+    {
+        let kind = match &self.kind {
+            Kind::File(meta, content) => Kind::File(*meta, Arc::try_clone(content)?),
+            Kind::Dir(meta, kids) => Kind::Dir(*meta, Arc::try_clone(kids)?),
+        };
+        Ok(Node { kind })
+    }
+}
+
+impl Child {
+    // A second owner of the name and of the node.
+    pub(crate) fn copy(&self) -> Result<Child, AllocError>
+        ensures { IfOk result (λ k. pair_of k ≡ pair_of self.now) }
+    {
+        let name = Arc::try_clone(&self.name)?;
+        let node = self.node.copy()?;
+        Ok(Child { name, node })
+    }
+}

@@ -1,0 +1,97 @@
+//! How what is laid over a tree comes to stand.
+
+ghost use Rattle.std.specs.Prelude.{◌≡◌, IsTrue, Some};
+ghost use Rattle.llb_tree.specs.Tree.{Dir};
+ghost use Rattle.llb_tree.specs.Meta.{MetaValue};
+ghost use Rattle.llb_tree.specs.Overlay.{way_of, given, over};
+ghost use Rattle.llb_tree.specs.Laying.{IsWay, owner_fits};
+
+use crate::meta::Meta;
+use std::marker::Model;
+
+/// The mode and the owner that are given to what is laid over a tree, each its own where none is given; and whether a
+/// directory that both trees have stays as the lower one has it.
+#[derive(Clone, Copy)]
+pub struct Way {
+    mode: Option<u16>,
+    uid: Option<u32>,
+    gid: Option<u32>,
+    keeps: bool,
+}
+
+impl Model for Way {
+    ghost use Rattle.std.specs.Prelude.{◌≡◌, true};
+    ghost use Rattle.llb_tree.specs.Overlay.{WayValue, is_mode};
+
+    ghost Value = { WayValue };
+
+    ghost view = { λ w. record { mode = w.mode; uid = w.uid; gid = w.gid; keeps = w.keeps } };
+
+    ghost invariant = { λ w. is_mode w.mode ≡ true };
+
+    ghost inverse = { λ w. record { mode = w.mode; uid = w.uid; gid = w.gid; keeps = w.keeps } };
+}
+
+impl Way {
+    /// The way of a mode, a user, a group and what becomes of directories that both have; `None` exactly where the mode
+    /// is above 4095.
+    pub fn new(mode: Option<u16>, uid: Option<u32>, gid: Option<u32>, keeps: bool) -> Option<Way>
+        ensures { result ≡ way_of mode uid gid keeps }
+    {
+        if let Some(mode) = mode {
+            if mode > 4095 {
+                return None;
+            }
+        }
+        Some(Way {
+            mode,
+            uid,
+            gid,
+            keeps,
+        })
+    }
+
+    // The mode and the owner of what is laid, by its own.
+    pub(crate) fn given(&self, own: Meta) -> Meta
+        ensures { result ≡ given self.now own }
+    {
+        let mode = self.mode.unwrap_or(own.mode());
+        let uid = self.uid.unwrap_or(own.uid());
+        let gid = self.gid.unwrap_or(own.gid());
+        Meta::new(mode, uid, gid).unwrap_or(own)
+    }
+
+    // Whether each keeps its own mode and owner.
+    pub(crate) fn gives_nothing(&self) -> bool
+        ensures { IsTrue result → (own : MetaValue) → given self.now own ≡ own }
+    {
+        self.mode.is_none() && self.uid.is_none() && self.gid.is_none()
+    }
+
+    // The mode and the owner of a directory that both trees have.
+    pub(crate) fn met(&self, lower: Meta, upper: Meta) -> Meta
+        ensures { Dir result ≡ over self.now (Some (Dir lower)) (Dir upper) }
+    {
+        if self.keeps { lower } else { self.given(upper) }
+    }
+
+    // A law: the mode is at most 4095, and the owners are numbers of 32 bits.
+    pub(crate) fn is_way(&self)
+        ensures { IsWay self.now }
+    {
+        fits(self.uid);
+        fits(self.gid);
+    }
+}
+
+// A law: an owner is a number of 32 bits.
+fn fits(owner: Option<u32>)
+    ensures { owner_fits owner }
+{
+    match owner {
+        Some(owner) => {
+            let _owner = owner;
+        }
+        None => {}
+    }
+}
