@@ -5,6 +5,7 @@ use Rattle.std.proofs.lemmas.List.{length_push, length-replicate, drop_all, take
 use Rattle.llb_cache.specs.Caches.{CachesValue, Row, Leases, free_lease, with_lease, trimmed, IsOut}
 use Rattle.llb_tree.specs.Tree.{empty_tree}
 use Rattle.llb_loader.specs.declared.graph.Vertex.{Vertex}
+use Rattle.llb_loader.specs.Graph.{IsGraph}
 use Rattle.llb_model.specs.Program.{Build, program_at, step_on}
 use Rattle.llb_model.specs.State.{Status, Running, Settled, At, Idle, Runs, State, opening, program_in, work_of, is_finished, stopped}
 use Rattle.llb_model.specs.State.{is_failed, ending_of}
@@ -17,13 +18,14 @@ use Rattle.llb_model.proofs.Lists.{inside, get_set_same}
 use Rattle.llb_model.proofs.Events.{Answer, IsStep, step_is}
 use Rattle.llb_model.proofs.Runs.{run_more}
 use Rattle.llb_model.proofs.Rooms.{event_room}
+use Rattle.llb_model.proofs.Alone.{over_after}
 use Rattle.llb_model.proofs.Leasing.{claim_leases, settle_gives_back}
 use Rattle.llb_model.specs.Caches.{Place}
 use Rattle.llb_board.specs.Caches.{written, places_at, rows_after}
 use Rattle.llb_board.specs.Views.{status_of, at_of, leased_by, execution_of, state_of}
 use Rattle.llb_board.specs.Board.{Seen, Replays, opening_with, recorded}
 use Rattle.llb_board.specs.Rules.{faulted, step_fault, left_at}
-use Rattle.llb_board.specs.Room.{IsKept, Supplies, supplies_of, supplies_for, seen, ready_made, needed}
+use Rattle.llb_board.specs.Room.{IsKept, AreOver, Supplies, supplies_of, supplies_for, seen, ready_made, needed}
 use Rattle.llb_board.specs.declared.stand.Stand.{Stand}
 use Rattle.llb_board.specs.declared.stand.Stand.TheVariants as stand
 use Rattle.llb_board.specs.declared.stand.Desk.{Desk}
@@ -306,3 +308,9 @@ pub marks_kept : (b : Build) (ss : List Stand) (v : ℕ) (s : Stand) (old : Stat
     → is_failed (ending_of (Some old)) ≡ false → is_failed (ending_of (Some (status_of s))) ≡ false
     → stopped b (map status_of (slice_set ss v s)) ≡ stopped b (map status_of ss)
 marks_kept b ss v s old at was is = ap (stopped b) (map_set status_of ss v s) ∙ marks_stay b.graph.vertices (map status_of ss) v old (status_of s) at was is
+
+-- what is over stays so behind an event that is granted
+pub still_over : (b : Build) (first : List Row) (d d' : Data) (es : List Event) (capacity n : ℕ) (e : Event) (r : Reply) → IsGraph b.graph → Keeps b first d es capacity
+    → table b (state_as d) e ≡ Some (state_as d', r) → AreOver b (map status_of d.stands) n → AreOver b (map status_of d'.stands) n
+still_over b first d d' es capacity n e r graph kept given over v low =
+    over_after b graph (state_as d) (state_as d') e r (consistent (seen_as b first d es) kept.replays) given v (over v low)

@@ -3,11 +3,13 @@ use Rattle.std.proofs.Common.{◌≡◌, ℕ, ◌<◌, List, [], ◌∷◌, ◌+
 use Rattle.std.specs.Prelude.{Bool, None, Ok, slice_get, slice_set}
 use Rattle.std.proofs.lemmas.Option.{slice_get_within}
 use Rattle.llb_cache.specs.Caches.{CachesValue, Row, IsOut, trimmed}
+use Rattle.llb_loader.specs.Graph.{IsGraph}
 use Rattle.llb_model.specs.Program.{Build}
 use Rattle.llb_model.specs.State.{Running, Runs, stopped}
 use Rattle.llb_model.specs.Table.{Event, Settle, settle_reply, settle_grant}
 use Rattle.llb_model.proofs.Lists.{length_set}
 use Rattle.llb_board.specs.Caches.{rows_after}
+use Rattle.llb_board.specs.Room.{AreOver}
 use Rattle.llb_board.specs.Rules.{left_at}
 use Rattle.llb_board.specs.Views.{status_of, at_of, leased_by}
 use Rattle.llb_board.specs.declared.stand.Stand.{Stand}
@@ -16,7 +18,7 @@ use Rattle.llb_board.specs.declared.stand.Desk.TheVariants as desk
 use Rattle.llb_board.proofs.Lists.{length_map}
 use Rattle.llb_board.proofs.Calls.{CanSettle, can_settle, settle_done}
 use Rattle.llb_board.proofs.Claiming.{data_of}
-use Rattle.llb_board.proofs.Kept.{Data, state_as, seen_as, Keeps, kept_after, settled, settle_does, settle_rows, leased_settled, lease_out, leaves_running, supplies_settled}
+use Rattle.llb_board.proofs.Kept.{Data, state_as, seen_as, Keeps, kept_after, settled, settle_does, settle_rows, leased_settled, lease_out, leaves_running, supplies_settled, still_over}
 
 module _ (b : Build) (first : List Row) (ss : List Stand) (ds : List Desk) (c : CachesValue) (halted : List Bool) (es : List Event) (capacity w v l : ℕ) (s : Stand)
     (kept : Keeps b first (data_of ss ds c halted) es capacity) (left : left_at b (slice_get (map at_of ds) w) ≡ Ok (v, status_of s))
@@ -52,3 +54,8 @@ module _ (b : Build) (first : List Row) (ss : List Stand) (ds : List Desk) (c : 
         supplies = supplies_settled b ds w kept.supplies;
         marks = are;
       })
+
+  pub stay_over : (n : ℕ) → IsGraph b.graph → AreOver b (map status_of ss) n → AreOver b (map status_of (slice_set ss v s)) n
+  stay_over n graph over =
+      still_over b first (data_of ss ds c halted) (after halted) es capacity n (Settle w) (settle_reply v ends.ending) graph kept
+      (settle_done b (state_as (data_of ss ds c halted)) w _ (grants halted)) over

@@ -1,6 +1,6 @@
 -- What a board keeps so that no event to come needs memory for the record, nor a settle memory for its outputs, that commands run where their
--- exec says and see the caches that it shows, and that each running worker has a lease of its instances.
-use Rattle.std.specs.Prelude.{◌≡◌, ℕ, ◌+◌, ◌<◌, ◌≤◌, Bool, List, [], map, replicate, length, Option, Some, None, slice_get}
+-- exec says and see the caches that it shows, that each running worker has a lease of its instances, and that no search begins anew.
+use Rattle.std.specs.Prelude.{◌≡◌, ℕ, ◌+◌, ◌<◌, ◌≤◌, Bool, true, ◌||◌, List, [], map, replicate, length, Option, Some, None, slice_get}
 use Rattle.llb_tree.specs.Tree.{TreeMap, empty_tree}
 use Rattle.llb_applet.specs.declared.setting.Setting.{Setting}
 use Rattle.llb_loader.specs.declared.graph.Vertex.{Vertex}
@@ -11,7 +11,8 @@ use Rattle.llb_loader.specs.Rules.{kind_mounts}
 use Rattle.llb_model.specs.Caches.{Place}
 use Rattle.llb_model.specs.Program.{Build, View, LocalTree, Files, Layers, Mounted, Need, key_of, mount_of, needs_of, program_at}
 use Rattle.llb_model.specs.Leases.{AreLeased}
-use Rattle.llb_model.specs.State.{At, Idle, Runs, stopped}
+use Rattle.llb_model.specs.State.{Status, At, Idle, Runs, stopped, is_blocked}
+use Rattle.llb_model.specs.Run.{is_settled}
 use Rattle.llb_model.specs.Table.{Event}
 use Rattle.llb_model.specs.Room.{still_to_come}
 use Rattle.llb_board.specs.Board.{Seen, Replays, opening_with}
@@ -92,3 +93,12 @@ pub record IsKept (b : Seen) (desks : List Desk) (out : Leases) (halted : List B
   pub some : 0 < length b.state.workers
   pub few : length b.state.workers ≤ 64
   pub halted_are : halted ≡ stopped b.build b.state.statuses
+
+-- each vertex below a number has settled or is blocked, so that none of them will be Ready again
+abbrev pub AreOver : Build → List Status → ℕ → Type 0
+AreOver b statuses n = (v : ℕ) → v < n → (is_settled (slice_get statuses v) || is_blocked b statuses v) ≡ true
+
+-- and from where on a Ready vertex is looked for
+pub record IsTracked (b : Seen) (desks : List Desk) (out : Leases) (halted : List Bool) (capacity first_open : ℕ) : Type 0 where
+  pub kept : IsKept b desks out halted capacity
+  pub over : AreOver b.build b.state.statuses first_open

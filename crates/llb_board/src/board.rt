@@ -18,7 +18,7 @@ ghost use Rattle.llb_board.specs.Rules.{GivesClaim, claim_of, GivesStep, step_of
 ghost use Rattle.llb_board.specs.Views.{event_of, claim_reply, step_reply, settle_reply, status_of, look, look_at, worker_look};
 
 use crate::build::Build;
-use crate::choice::{all_settled, next_claim, next_event};
+use crate::choice::{all_settled, first_open, next_claim, next_event};
 use crate::event::{At, Event, Settled, Status, Stepped};
 use crate::events::Events;
 use crate::fault::{ClaimFault, OpenFault, SettleFault, StepFault};
@@ -46,6 +46,7 @@ pub struct Board {
     stands: Vec<Stand>,
     desks: Vec<Desk>,
     halted: Vec<bool>,
+    first_open: u32,
     events: Events,
 }
 
@@ -54,7 +55,7 @@ impl Model for Board {
     ghost use Rattle.llb_tree.specs.Tree.{coded_tree};
     ghost use Rattle.llb_board.specs.Store.{coded_store};
     ghost use Rattle.llb_board.specs.Board.{Seen};
-    ghost use Rattle.llb_board.specs.Room.{seen, IsKept};
+    ghost use Rattle.llb_board.specs.Room.{seen, IsTracked};
 
     ghost Value = { Seen };
 
@@ -62,7 +63,8 @@ impl Model for Board {
 
     ghost view = { λ b. seen b.build b.start.rows b.stands.items b.desks.items b.caches.rows b.events.list };
 
-    ghost invariant = { λ b. IsKept (seen b.build b.start.rows b.stands.items b.desks.items b.caches.rows b.events.list) b.desks.items b.caches.out b.halted.items b.events.room };
+    ghost invariant = { λ b. IsTracked (seen b.build b.start.rows b.stands.items b.desks.items b.caches.rows b.events.list) b.desks.items b.caches.out
+        b.halted.items b.events.room b.first_open };
 }
 
 impl Board {
@@ -120,6 +122,7 @@ impl Board {
                 stands: fresh.stands,
                 desks: fresh.desks,
                 halted: fresh.halted,
+                first_open: 0,
                 events: fresh.events,
             }),
             Err(_) => {
@@ -154,6 +157,7 @@ impl Board {
         } = begun;
         self.caches.is_exclusive();
         let lease = self.caches.lease(Many::new(needs))?;
+        self.first_open = first_open(&self.build, &self.stands, &self.halted, self.first_open);
         self.events.push_reserved(Event::Claim(w, v));
         self.stands[v as usize] = Stand::Running(w);
         self.desks[w as usize] = Desk::Runs(lease, execution);
@@ -183,13 +187,14 @@ impl Board {
         ensures gives { GivesSettle (λ r. (self.new, settle_reply r)) result (settle_of self.old w) }
         ensures err { OnErr result (self.new ≡ self.old) }
     {
+        let vertices = self.build.vertices();
         let (v, stand, lease) = leave(&self.build, &mut self.desks, w)?;
         self.caches.give_back(lease);
         let failed = stand.has_failed();
         self.stands[v as usize] = stand;
         self.events.push_reserved(Event::Settle(w));
         if failed {
-            mark_stopped(&mut self.halted, &self.stands, self.build.vertices());
+            mark_stopped(&mut self.halted, &self.stands, vertices);
             return Ok(Settled::Failed(v));
         }
         Ok(Settled::Done(v))
@@ -239,9 +244,10 @@ impl Board {
     pub fn chosen(&self) -> Option<Event>
         ensures { option_map event_of result ≡ chosen self.now.build self.now.state }
     {
+        let _ = self.build.vertices();
         match next_event(&self.build, &self.desks) {
             Some(event) => Some(event),
-            None => next_claim(&self.build, &self.stands),
+            None => next_claim(&self.build, &self.stands, self.first_open),
         }
     }
 
@@ -249,7 +255,7 @@ impl Board {
     pub fn is_complete(&self) -> bool
         ensures { result ≡ is_complete self.now.build self.now.state }
     {
-        all_settled(&self.build, &self.stands, &self.halted)
+        all_settled(&self.build, &self.stands, &self.halted, self.first_open)
     }
 
     /// The caches as they are now: each key in the order in which the first claim took it, behind those that were handed in, with its

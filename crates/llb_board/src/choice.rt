@@ -1,9 +1,10 @@
 //! The event that a driver chooses: the lowest running worker goes on, else worker 0 claims the least Ready vertex; and
 //! whether nothing is left to do.
 
-ghost use Rattle.std.specs.Prelude.{◌≡◌, ◌≤◌, map, length, option_map, slice_get, false, unwrap_or, ◌||◌, ◌&&◌, []};
-ghost use Rattle.llb_model.specs.State.{stopped, is_waiting};
+ghost use Rattle.std.specs.Prelude.{◌≡◌, ◌<◌, ◌≤◌, ℕ, map, length, option_map, slice_get, false, unwrap_or, ◌||◌, ◌&&◌, []};
+ghost use Rattle.llb_model.specs.State.{stopped, is_waiting, is_blocked, is_ready};
 ghost use Rattle.llb_model.specs.Run.{next_of, next_claim, is_settled, is_complete};
+ghost use Rattle.llb_board.specs.Room.{AreOver};
 ghost use Rattle.llb_board.specs.Views.{at_of, event_of, state_of, status_of};
 
 use crate::build::Build;
@@ -31,12 +32,13 @@ pub(crate) fn next_event(build: &Build, desks: &[Desk]) -> Option<Event>
     None
 }
 
-/// The claim of the least Ready vertex, by worker 0.
-pub(crate) fn next_claim(build: &Build, stands: &[Stand]) -> Option<Event>
+/// The claim of the least Ready vertex, by worker 0. None is Ready below the first open one.
+pub(crate) fn next_claim(build: &Build, stands: &[Stand], first_open: u32) -> Option<Event>
+    requires { (v : ℕ) → v < first_open → is_ready build.now (map status_of stands.now) v ≡ false }
     ensures { option_map event_of result ≡ next_claim build.now (state_of stands.now [] []) }
 {
     let vertices = build.vertices();
-    for v in 0..vertices.len() as u32 {
+    for v in first_open..vertices.len() as u32 {
         if is_ready(stands, v, &vertices[v as usize]) {
             return Some(Event::Claim(0, v));
         }
@@ -44,17 +46,36 @@ pub(crate) fn next_claim(build: &Build, stands: &[Stand]) -> Option<Event>
     None
 }
 
-/// Whether every vertex is done, failed or blocked.
-pub(crate) fn all_settled(build: &Build, stands: &[Stand], halted: &[bool]) -> bool
-    requires { halted.now ≡ stopped build.now (map status_of stands.now) }
+/// Whether every vertex is done, failed or blocked. All are below the first open one.
+pub(crate) fn all_settled(build: &Build, stands: &[Stand], halted: &[bool], first_open: u32) -> bool
+    requires marks { halted.now ≡ stopped build.now (map status_of stands.now) }
+    requires over { AreOver build.now (map status_of stands.now) first_open }
     ensures { result ≡ is_complete build.now (state_of stands.now [] []) }
 {
-    for v in 0..build.vertices().len() as u32 {
+    for v in first_open..build.vertices().len() as u32 {
         if !is_over(stands, halted, v) {
             return false;
         }
     }
     true
+}
+
+/// The first vertex from one on that is not done, failed or blocked; where there is none, the number behind the last. All are below
+/// the one that the search begins at.
+pub(crate) fn first_open(build: &Build, stands: &[Stand], halted: &[bool], from: u32) -> u32
+    requires marks { halted.now ≡ stopped build.now (map status_of stands.now) }
+    requires over { AreOver build.now (map status_of stands.now) from }
+    ensures over { AreOver build.now (map status_of stands.now) result }
+    ensures open { result < length build.now.graph.vertices → (is_settled (slice_get (map status_of stands.now) result)
+        || is_blocked build.now (map status_of stands.now) result) ≡ false }
+{
+    let count = build.vertices().len() as u32;
+    for v in from..count {
+        if !is_over(stands, halted, v) {
+            return v;
+        }
+    }
+    count
 }
 
 // Whether a vertex is done, failed or blocked.

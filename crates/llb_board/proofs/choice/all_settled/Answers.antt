@@ -3,8 +3,13 @@ use Rattle.std.specs.Prelude.{true, ◌||◌, ◌&&◌, unwrap_or, slice_get, fa
 use Rattle.llb_model.specs.State.{is_waiting}
 use Rattle.llb_model.specs.Run.{is_settled}
 use Rattle.llb_board.specs.Views.{status_of}
-use Rattle.llb_board.proofs.Choices.{is_over, each_later}
+use Rattle.llb_board.proofs.Choices.{is_over, each_later, each_from}
 use Rattle.llb_board.proofs.choice.all_settled.Goals as goal
+
+pub loop-v-init : goal.loop-v-init
+loop-v-init c =
+    let b = c.args.build.now in
+    each_from (is_over b (map status_of c.args.stands.now)) (length b.graph.vertices) c.args.first_open c.requires.over
 
 pub loop-v-preserved : goal.loop-v-preserved
 loop-v-preserved c =
@@ -15,5 +20,5 @@ loop-v-preserved c =
     let over_is : c.is_over.result ≡ true = search rules in
     let over : is_over b S c.loop-v.v ≡ true
     = ap (λ marks. is_settled (slice_get S c.loop-v.v) || (is_waiting (slice_get S c.loop-v.v) && unwrap_or (slice_get marks c.loop-v.v) false))
-    (sym c.requires) ∙ sym c.is_over.ensures ∙ over_is in
+    (sym c.requires.marks) ∙ sym c.is_over.ensures ∙ over_is in
     each_later (is_over b S) (length g.vertices) c.loop-v.v c.loop-v.invariant low over

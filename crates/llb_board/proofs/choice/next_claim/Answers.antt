@@ -4,8 +4,13 @@ use Rattle.std.proofs.lemmas.Option.{slice_get_read}
 use Rattle.llb_model.specs.State.{is_ready, start_from}
 use Rattle.llb_model.specs.Table.{Event, Claim}
 use Rattle.llb_board.specs.Views.{status_of}
-use Rattle.llb_board.proofs.Choices.{least_here, least_later}
+use Rattle.llb_board.proofs.Choices.{least_here, least_later, least_from}
 use Rattle.llb_board.proofs.choice.next_claim.Goals as goal
+
+pub loop-v-init : goal.loop-v-init
+loop-v-init c =
+    let b = c.args.build.now in
+    least_from (is_ready b (map status_of c.args.stands.now)) (length b.graph.vertices) c.args.first_open c.requires
 
 pub loop-v-preserved : goal.loop-v-preserved
 loop-v-preserved c =

@@ -11,7 +11,7 @@ use Rattle.llb_board.specs.declared.stand.Desk.TheVariants as desk
 use Rattle.llb_board.proofs.Wanting.{graph_edges}
 use Rattle.llb_board.proofs.Calls.{can_claim, claim_held, claim_wants, claim_done}
 use Rattle.llb_board.proofs.Claiming.{MayClaim, data_of, same_held, few_out, differ, did}
-use Rattle.llb_board.proofs.Kept.{has_room, claimed, recorded_as}
+use Rattle.llb_board.proofs.Kept.{has_room, claimed, recorded_as, still_over}
 use Rattle.llb_board.proofs.board.Board.claim.Goals as goal
 
 pub wanted_by-requires-clause-seeds : goal.wanted_by-requires-clause-seeds
@@ -26,7 +26,7 @@ returns-in_err-wanted-clause-gives c =
     let can = can_claim b.build (state_of ss ds b.caches.rows) c.args.w c.args.v x
     (rw (c.deref.ensures.value, c.deref-2.ensures.value) at c.in_ok-vertex.ensures.first) c.in_ok-vertex.ensures.there in
     let e = c.in_err-wanted.field-0.0 in
-    let same = same_held b.build b.start.rows ss ds b.caches b.halted.items b.events.list b.events.room c.self.invariant in
+    let same = same_held b.build b.start.rows ss ds b.caches b.halted.items b.events.list b.events.room c.self.invariant.kept in
     let refused : claim_memory e ≡ false → claim_of c.args.self.now c.args.w c.args.v ≡ Err e
     = λ known. ap (λ (n : Seen). claim_of n c.args.w c.args.v) (sym c.self.view_is)
     ∙ claim_held (seen b.build b.start.rows ss ds b.caches.rows b.events.list) c.args.w c.args.v x b.caches e can same (c.in_err-wanted.ensures.gives known) in
@@ -41,7 +41,7 @@ lease-requires-clause-differ c =
     let can = can_claim b.build (state_of ss ds b.caches.rows) c.args.w c.args.v x
     (rw (c.deref.ensures.value, c.deref-2.ensures.value) at c.in_ok-vertex.ensures.first) c.in_ok-vertex.ensures.there in
     let may : MayClaim b.build b.start.rows ss ds b.caches b.halted.items b.events.list b.events.room c.args.w c.args.v x
-    = record { kept = c.self.invariant; can = can; graph = c.in_ok-vertex.ensures.graph; apart = c.is_exclusive.ensures.apart; there = c.is_exclusive.ensures.there } in
+    = record { kept = c.self.invariant.kept; can = can; graph = c.in_ok-vertex.ensures.graph; apart = c.is_exclusive.ensures.apart; there = c.is_exclusive.ensures.there } in
     let begins = rw c.deref-3.ensures.value at c.in_ok-begun.ensures.gives in
     rw c.new.ensures
     (differ b.build b.start.rows ss ds b.caches b.halted.items b.events.list b.events.room c.args.w c.args.v x may (begun_as c.in_ok-begun.begun) begins)
@@ -49,7 +49,7 @@ lease-requires-clause-differ c =
 pub lease-requires-clause-few : goal.lease-requires-clause-few
 lease-requires-clause-few c =
     let b = c.self.inside in
-    few_out b.build b.start.rows b.stands.items b.desks.items b.caches b.halted.items b.events.list b.events.room c.self.invariant
+    few_out b.build b.start.rows b.stands.items b.desks.items b.caches b.halted.items b.events.list b.events.room c.self.invariant.kept
 
 pub returns-in_err-lease-clause-last : goal.returns-in_err-lease-clause-last
 returns-in_err-lease-clause-last c =
@@ -73,14 +73,14 @@ push_reserved-requires c =
     let can = can_claim b.build (state_of ss ds b.caches.rows) c.args.w c.args.v x
     (rw (c.deref.ensures.value, c.deref-2.ensures.value) at c.in_ok-vertex.ensures.first) c.in_ok-vertex.ensures.there in
     let may : MayClaim b.build b.start.rows ss ds b.caches b.halted.items b.events.list b.events.room c.args.w c.args.v x
-    = record { kept = c.self.invariant; can = can; graph = c.in_ok-vertex.ensures.graph; apart = c.is_exclusive.ensures.apart; there = c.is_exclusive.ensures.there } in
+    = record { kept = c.self.invariant.kept; can = can; graph = c.in_ok-vertex.ensures.graph; apart = c.is_exclusive.ensures.apart; there = c.is_exclusive.ensures.there } in
     let begins = rw c.deref-3.ensures.value at c.in_ok-begun.ensures.gives in
     let own = c.in_ok-begun.begun.execution in
     let r = claim_reply c.in_ok-begun.begun.job in
     let new = c.lease.new.self in
     let d = did b.build b.start.rows ss ds b.caches b.halted.items b.events.list b.events.room c.args.w c.args.v x may (begun_as c.in_ok-begun.begun) begins
     c.in_ok-lease.lease own new _ c.in_ok-wanted.ensures.gives refl (rw c.new.ensures at c.in_ok-lease.ensures.gives) c.in_ok-begun.ensures.supplies in
-    has_room (seen b.build b.start.rows ss ds b.caches.rows b.events.list) ds b.caches.out b.halted.items b.events.room (Claim c.args.w c.args.v) _ c.self.invariant
+    has_room (seen b.build b.start.rows ss ds b.caches.rows b.events.list) ds b.caches.out b.halted.items b.events.room (Claim c.args.w c.args.v) _ c.self.invariant.kept
     (claim_done b.build (state_of ss ds b.caches.rows) c.args.w c.args.v _ d.grants)
 
 pub index_mut-requires : goal.index_mut-requires
@@ -92,7 +92,7 @@ index_mut-requires c =
     let can = can_claim b.build (state_of ss ds b.caches.rows) c.args.w c.args.v x
     (rw (c.deref.ensures.value, c.deref-2.ensures.value) at c.in_ok-vertex.ensures.first) c.in_ok-vertex.ensures.there in
     let may : MayClaim b.build b.start.rows ss ds b.caches b.halted.items b.events.list b.events.room c.args.w c.args.v x
-    = record { kept = c.self.invariant; can = can; graph = c.in_ok-vertex.ensures.graph; apart = c.is_exclusive.ensures.apart; there = c.is_exclusive.ensures.there } in
+    = record { kept = c.self.invariant.kept; can = can; graph = c.in_ok-vertex.ensures.graph; apart = c.is_exclusive.ensures.apart; there = c.is_exclusive.ensures.there } in
     let begins = rw c.deref-3.ensures.value at c.in_ok-begun.ensures.gives in
     let own = c.in_ok-begun.begun.execution in
     let r = claim_reply c.in_ok-begun.begun.job in
@@ -111,7 +111,7 @@ index_mut-requires-2 c =
     let can = can_claim b.build (state_of ss ds b.caches.rows) c.args.w c.args.v x
     (rw (c.deref.ensures.value, c.deref-2.ensures.value) at c.in_ok-vertex.ensures.first) c.in_ok-vertex.ensures.there in
     let may : MayClaim b.build b.start.rows ss ds b.caches b.halted.items b.events.list b.events.room c.args.w c.args.v x
-    = record { kept = c.self.invariant; can = can; graph = c.in_ok-vertex.ensures.graph; apart = c.is_exclusive.ensures.apart; there = c.is_exclusive.ensures.there } in
+    = record { kept = c.self.invariant.kept; can = can; graph = c.in_ok-vertex.ensures.graph; apart = c.is_exclusive.ensures.apart; there = c.is_exclusive.ensures.there } in
     let begins = rw c.deref-3.ensures.value at c.in_ok-begun.ensures.gives in
     let own = c.in_ok-begun.begun.execution in
     let r = claim_reply c.in_ok-begun.begun.job in
@@ -130,14 +130,20 @@ invariant_of-self-2 c =
     let can = can_claim b.build (state_of ss ds b.caches.rows) c.args.w c.args.v x
     (rw (c.deref.ensures.value, c.deref-2.ensures.value) at c.in_ok-vertex.ensures.first) c.in_ok-vertex.ensures.there in
     let may : MayClaim b.build b.start.rows ss ds b.caches b.halted.items b.events.list b.events.room c.args.w c.args.v x
-    = record { kept = c.self.invariant; can = can; graph = c.in_ok-vertex.ensures.graph; apart = c.is_exclusive.ensures.apart; there = c.is_exclusive.ensures.there } in
+    = record { kept = c.self.invariant.kept; can = can; graph = c.in_ok-vertex.ensures.graph; apart = c.is_exclusive.ensures.apart; there = c.is_exclusive.ensures.there } in
     let begins = rw c.deref-3.ensures.value at c.in_ok-begun.ensures.gives in
     let own = c.in_ok-begun.begun.execution in
     let r = claim_reply c.in_ok-begun.begun.job in
     let new = c.lease.new.self in
     let d = did b.build b.start.rows ss ds b.caches b.halted.items b.events.list b.events.room c.args.w c.args.v x may (begun_as c.in_ok-begun.begun) begins
     c.in_ok-lease.lease own new _ c.in_ok-wanted.ensures.gives refl (rw c.new.ensures at c.in_ok-lease.ensures.gives) c.in_ok-begun.ensures.supplies in
-    rw (c.push_reserved.ensures.list, c.push_reserved.ensures.room) d.keeps
+    let before = data_of ss ds b.caches b.halted.items in
+    let after = claimed before c.args.w c.args.v c.in_ok-lease.lease own new in
+    record {
+      kept = rw (c.push_reserved.ensures.list, c.push_reserved.ensures.room) d.keeps;
+      over = still_over b.build b.start.rows before after b.events.list b.events.room c.first_open-self-inside.result (Claim c.args.w c.args.v) r c.in_ok-vertex.ensures.graph
+          c.self.invariant.kept (claim_done b.build (state_of ss ds b.caches.rows) c.args.w c.args.v _ d.grants) (rw c.deref-4.ensures.value at c.first_open-self-inside.ensures.over);
+    }
 
 pub returns-clause-gives : goal.returns-clause-gives
 returns-clause-gives c =
@@ -148,7 +154,7 @@ returns-clause-gives c =
     let can = can_claim b.build (state_of ss ds b.caches.rows) c.args.w c.args.v x
     (rw (c.deref.ensures.value, c.deref-2.ensures.value) at c.in_ok-vertex.ensures.first) c.in_ok-vertex.ensures.there in
     let may : MayClaim b.build b.start.rows ss ds b.caches b.halted.items b.events.list b.events.room c.args.w c.args.v x
-    = record { kept = c.self.invariant; can = can; graph = c.in_ok-vertex.ensures.graph; apart = c.is_exclusive.ensures.apart; there = c.is_exclusive.ensures.there } in
+    = record { kept = c.self.invariant.kept; can = can; graph = c.in_ok-vertex.ensures.graph; apart = c.is_exclusive.ensures.apart; there = c.is_exclusive.ensures.there } in
     let begins = rw c.deref-3.ensures.value at c.in_ok-begun.ensures.gives in
     let own = c.in_ok-begun.begun.execution in
     let r = claim_reply c.in_ok-begun.begun.job in

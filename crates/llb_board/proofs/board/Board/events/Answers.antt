@@ -9,5 +9,5 @@ pub returns-clause-bound : goal.returns-clause-bound
 returns-clause-bound c =
     let i = c.self.inside in
     let b = seen i.build i.start.rows i.stands.items i.desks.items i.caches.rows i.events.list in
-    let few = run_has_few b.build b.opening b.state b.events c.self.invariant.replays.replies c.self.invariant.replays.leads in
+    let few = run_has_few b.build b.opening b.state b.events c.self.invariant.kept.replays.replies c.self.invariant.kept.replays.leads in
     subst (λ (s : Seen). length i.events.list ≤ most_events s.build) c.self.view_is few

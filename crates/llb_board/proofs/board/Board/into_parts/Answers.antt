@@ -9,7 +9,7 @@ use Rattle.llb_board.proofs.board.Board.into_parts.Goals as goal
 
 pub give_all_back-requires : goal.give_all_back-requires
 give_all_back-requires c =
-    subst (λ (ds : List Desk). AreLeased c.self.inside.caches.out (map at_of ds) (map leased_by ds)) (sym c.deref.ensures.value) c.self.invariant.leased
+    subst (λ (ds : List Desk). AreLeased c.self.inside.caches.out (map at_of ds) (map leased_by ds)) (sym c.deref.ensures.value) c.self.invariant.kept.leased
 
 pub returns : goal.returns
 returns c = record {

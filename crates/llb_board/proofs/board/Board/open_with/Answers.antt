@@ -1,4 +1,4 @@
-use Rattle.std.proofs.Common.{◌≡◌, ◌∙◌, true, ap, sym}
+use Rattle.std.proofs.Common.{◌≡◌, ◌∙◌, true, ap, sym, arith}
 use Rattle.std.specs.Prelude.{Bool, Ok, Err, Result, if◌then◌else◌}
 use Rattle.llb_cache.specs.Caches.{CachesValue}
 use Rattle.llb_board.specs.Board.{Seen, opened}
@@ -12,9 +12,12 @@ pub invariant_of-result : goal.invariant_of-result
 invariant_of-result c =
     let e = c.in-Ok.ensures in
     let may : may_work c.args.workers ≡ true = sym c.may_work.ensures ∙ c.if-not-may_work.false in
-    kept_open c.args.build _ c.args.workers _ _ _ c.args.caches.rows c.args.caches.out _ _
-    (record { stands = e.stands; desks = e.desks; events = e.events; marks = e.halted; room = e.room })
-    (ap (λ (c : CachesValue). c.rows) e.start) c.requires (some_work c.args.workers may) (few_work c.args.workers may)
+    record {
+      kept = kept_open c.args.build _ c.args.workers _ _ _ c.args.caches.rows c.args.caches.out _ _
+          (record { stands = e.stands; desks = e.desks; events = e.events; marks = e.halted; room = e.room })
+          (ap (λ (c : CachesValue). c.rows) e.start) c.requires (some_work c.args.workers may) (few_work c.args.workers may);
+      over = λ v low. absurd (omega (arith, low));
+    }
 
 pub returns-in-Ok-clause-gives : goal.returns-in-Ok-clause-gives
 returns-in-Ok-clause-gives c =

@@ -13,7 +13,7 @@ push_reserved-requires c =
     let does = step_does b.build b.stands.items b.desks.items c.step_at.new.desks b.caches.rows c.step_at.new.caches.rows c.args.w (step_reply c.in_ok-stepped.stepped)
     (rw c.deref_mut.ensures.value at c.in_ok-stepped.ensures.gives) in
     has_room (seen b.build b.start.rows b.stands.items b.desks.items b.caches.rows b.events.list) b.desks.items b.caches.out b.halted.items b.events.room (Step c.args.w) _
-    c.self.invariant (step_done _ _ c.args.w _ does)
+    c.self.invariant.kept (step_done _ _ c.args.w _ does)
 
 pub invariant_of-self-2 : goal.invariant_of-self-2
 invariant_of-self-2 c =
@@ -28,14 +28,17 @@ invariant_of-self-2 c =
     let same = same_length ds new supplies in
     let before : Data = record { stands = b.stands.items; desks = ds; rows = b.caches.rows; out = b.caches.out; halted = b.halted.items } in
     let after : Data = record { stands = b.stands.items; desks = new; rows = rows; out = c.step_at.new.caches.out; halted = b.halted.items } in
-    let kept = kept_after b.build b.start.rows before after b.events.list b.events.room (Step c.args.w) r c.self.invariant granted
+    let kept = kept_after b.build b.start.rows before after b.events.list b.events.room (Step c.args.w) r c.self.invariant.kept granted
     (record {
       same = same;
       leased = c.in_ok-stepped.ensures.leased;
-      supplies = supplies_stepped b.build b.stands.items ds new b.caches.rows rows c.args.w r c.self.invariant.supplies granted supplies;
-      marks = c.self.invariant.halted_are;
+      supplies = supplies_stepped b.build b.stands.items ds new b.caches.rows rows c.args.w r c.self.invariant.kept.supplies granted supplies;
+      marks = c.self.invariant.kept.halted_are;
     }) in
     let written : take b.desks.len (new ++ drop (length new) ds) ≡ new = whole_written b.desks.len new ds same (search rules) in
-    rw (c.push_reserved.ensures.list, c.push_reserved.ensures.room)
-    (subst (λ (l : List Desk). IsKept (seen b.build b.start.rows b.stands.items l rows (b.events.list ++ Step c.args.w ∷ [])) l c.step_at.new.caches.out b.halted.items b.events.room)
-    (sym written) kept)
+    record {
+      kept = rw (c.push_reserved.ensures.list, c.push_reserved.ensures.room)
+          (subst (λ (l : List Desk). IsKept (seen b.build b.start.rows b.stands.items l rows (b.events.list ++ Step c.args.w ∷ [])) l c.step_at.new.caches.out b.halted.items b.events.room)
+          (sym written) kept);
+      over = c.self.invariant.over;
+    }

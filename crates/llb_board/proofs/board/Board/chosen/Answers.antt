@@ -1,0 +1,11 @@
+use Rattle.std.proofs.Common.{◌≡◌, ◌<◌, false, map}
+use Rattle.llb_model.proofs.Complete.{over_not_ready}
+use Rattle.llb_board.specs.Room.{seen}
+use Rattle.llb_board.proofs.Sound.{consistent}
+use Rattle.llb_board.proofs.board.Board.chosen.Goals as goal
+
+pub next_claim-requires : goal.next_claim-requires
+next_claim-requires c =
+    let b = c.self.inside in
+    let n = seen b.build b.start.rows b.stands.items b.desks.items b.caches.rows b.events.list in
+    rw c.deref-in-None.ensures.value (λ v low. over_not_ready b.build c.vertices.ensures.graph n.state (consistent n c.self.invariant.kept.replays) v (c.self.invariant.over v low))
