@@ -6,7 +6,7 @@ use llb_tree::{Meta, Path, Text, Tree};
 use llb_wire::Bytes;
 use std::alloc::Global;
 
-pub(crate) type Row = (&'static str, Mode, Option<u32>, &'static str);
+type Row = (&'static str, Mode, Option<u32>, &'static str);
 
 // A step of a story. A lease is named by its place among those that were granted.
 #[derive(Clone, Copy)]
@@ -41,14 +41,14 @@ fn seed_of(alloc: Global, index: Option<u32>) -> Result<Option<Seed>, Memory> {
     }
 }
 
-pub(crate) fn key_of(alloc: Global, row: &Row) -> Result<Key, Memory> {
+fn key_of(alloc: Global, row: &Row) -> Result<Key, Memory> {
     let (id, mode, index, _) = *row;
     let id = Text::from_str(alloc, id)?;
     let seed = seed_of(alloc, index)?;
     Ok(Key { id, seed, mode })
 }
 
-pub(crate) fn needs_of(alloc: Global, rows: &[Row]) -> Result<Vec<Need>, Memory> {
+fn needs_of(alloc: Global, rows: &[Row]) -> Result<Vec<Need>, Memory> {
     let mut needs = Vec::new(alloc);
     for row in rows {
         let key = key_of(alloc, row)?;

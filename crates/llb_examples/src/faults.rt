@@ -1,14 +1,12 @@
 //! What faults print: what stands behind the word `fault` in a refusal.
 
 use llb_applet::ScriptFault;
-use llb_board::{ClaimFault, SettleFault, StepFault};
-use llb_cache::{Key, Mode};
 use llb_glob::PatternFault;
 use llb_loader::{Feature, LoadFault, Rule};
 use llb_model::VertexFault;
 use llb_ops::OpFault;
 use llb_tree::TreeFault;
-use llb_wire::{Memory, Text, WireFault};
+use llb_wire::{Memory, WireFault};
 use std::alloc::{AllocError, Global};
 use std::fmt::Display;
 
@@ -67,51 +65,6 @@ fn faults_of_trees_patterns_and_vertices(rt: HostRuntime) {
     assert!(rt; print(alloc, &patterns, "41\n42\n"));
     let vertices = [VertexFault::Action(3, 21), VertexFault::Exit(0, 1)];
     assert!(rt; print(alloc, &vertices, "action 3 fault 21\ncommand 0 status 1\n"));
-}
-
-fn held(alloc: Global, id: &str) -> Option<ClaimFault> {
-    let id = Text::from_str(alloc, id).ok()?;
-    let key = Key {
-        id,
-        seed: None,
-        mode: Mode::Locked,
-    };
-    Some(ClaimFault::Held(key))
-}
-
-#[test]
-fn a_locked_cache_that_is_held(rt: HostRuntime) {
-    let alloc = rt.alloc();
-    match held(alloc, "go-mod") {
-        Some(fault) => assert!(rt; print(alloc, &[fault], "135 go-mod\n")),
-        None => panic!(rt; "no memory"),
-    }
-}
-
-#[test]
-fn faults_of_calls_on_a_board(rt: HostRuntime) {
-    let alloc = rt.alloc();
-    let claims = [
-        ClaimFault::NoWorker,
-        ClaimFault::Busy,
-        ClaimFault::NoVertex,
-        ClaimFault::NotReady,
-        ClaimFault::Memory,
-    ];
-    assert!(rt; print(alloc, &claims, "131\n132\n133\n134\n141\n"));
-    let steps = [
-        StepFault::NoWorker,
-        StepFault::NotRunning,
-        StepFault::NothingLeft,
-        StepFault::Memory,
-    ];
-    assert!(rt; print(alloc, &steps, "131\n136\n137\n141\n"));
-    let settles = [
-        SettleFault::NoWorker,
-        SettleFault::NotRunning,
-        SettleFault::NotFinished,
-    ];
-    assert!(rt; print(alloc, &settles, "131\n136\n138\n"));
 }
 
 #[test]

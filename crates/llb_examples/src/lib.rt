@@ -1,13 +1,9 @@
-//! Worked examples of each library, and each public call once: tests, and nothing else. The values are written out
-//! from the rules by hand.
+//! Worked examples of each library but `llb_board`, and each public call once: tests, and nothing else. The values are
+//! written out from the rules by hand.
 #![tactic(auto)]
 
 #[cfg(test)]
 mod applet;
-#[cfg(test)]
-mod board;
-#[cfg(test)]
-mod board_caches;
 #[cfg(test)]
 mod cache;
 #[cfg(test)]
@@ -48,5 +44,3 @@ mod tree;
 mod treetext;
 #[cfg(test)]
 mod wire;
-#[cfg(test)]
-mod workers;

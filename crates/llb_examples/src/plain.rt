@@ -71,6 +71,13 @@ const SHOWS_CACHE_AGAIN: &[u8] =
     \x12\x22\x08\xFF\xFF\xFF\xFF\xFF\xFF\xFF\xFF\xFF\x01\x1A\x02/c\
     \x20\xFF\xFF\xFF\xFF\xFF\xFF\xFF\xFF\xFF\x01\x30\x03\xA2\x01\x03\x0A\x01k";
 
+// On the empty tree at `/`, with a locked cache at `/c`: the script `write /c/a x && false`.
+const FAILS_ON_CACHE: &[u8] =
+    b"\x12\x5C\x0A\x24\x0A\x07/bin/sh\x0A\x02-c\x0A\x15write /c/a x && false\
+    \x12\x0E\x08\xFF\xFF\xFF\xFF\xFF\xFF\xFF\xFF\xFF\x01\x1A\x01/\
+    \x12\x24\x08\xFF\xFF\xFF\xFF\xFF\xFF\xFF\xFF\xFF\x01\x1A\x02/c\
+    \x20\xFF\xFF\xFF\xFF\xFF\xFF\xFF\xFF\xFF\x01\x30\x03\xA2\x01\x05\x0A\x01k\x10\x02";
+
 // The result is what D is.
 const NAMES_D: &[u8] = b"\x0A\x03\x0A\x01D";
 
@@ -248,12 +255,7 @@ fn refusal(alloc: Global, graph: Option<Graph>, locals: &Locals) -> Option<Strin
     }
 }
 
-pub(crate) fn is_refused(
-    alloc: Global,
-    graph: Option<Graph>,
-    locals: &Locals,
-    wanted: &str,
-) -> bool {
+fn is_refused(alloc: Global, graph: Option<Graph>, locals: &Locals, wanted: &str) -> bool {
     match refusal(alloc, graph, locals) {
         Some(said) => said.as_str() == wanted,
         None => false,
@@ -376,6 +378,14 @@ fn the_least_vertex_that_mounts_a_cache_is_named_behind_missing_trees(rt: HostRu
     let alloc = rt.alloc();
     assert!(rt; is_refused(alloc, two_with_caches(alloc), &both_locals(alloc), "102 1"));
     assert!(rt; is_refused(alloc, two_with_caches(alloc), &only_p(alloc), "101 q"));
+}
+
+#[test]
+fn a_graph_with_a_cache_has_no_plain_outcomes(rt: HostRuntime) {
+    let alloc = rt.alloc();
+    let rows = [("A", FAILS_ON_CACHE), ("D", D_ON_A), ("T", NAMES_D)];
+    let graph = graph_of(alloc, &rows);
+    assert!(rt; is_refused(alloc, graph, &Locals::new(alloc), "102 0"));
 }
 
 // Whether the vertex of that number is there, with output 0 and no output 1.

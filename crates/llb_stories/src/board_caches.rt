@@ -1,10 +1,9 @@
 //! Boards of graphs whose executions mount a cache `k` at `/c`: who has which instance at which time, and what is in it.
 
-use super::board::{Call, D_ON_A, MAKES_A, NAMES_D, answered, are_all_answered, graph_of};
-use super::cache::{Row, needs_of};
-use super::loader::{ROOT, Run, Shown, exec_op};
-use super::plain::is_refused;
-use super::workers::A_AND_B;
+use super::told::{Call, answered, are_all_answered};
+use super::written::{
+    A_AND_B, CacheRow, D_ON_A, MAKES_A, NAMES_D, ROOT, graph_of, needs_of, script_on,
+};
 use llb_board::{Board, OpenFault};
 use llb_cache::{Caches, Many, Mode};
 use llb_loader::{Graph, Locals};
@@ -19,11 +18,11 @@ const PRIVATE: &[u8] =
 const LOCKED: &[u8] =
     b"\x20\xFF\xFF\xFF\xFF\xFF\xFF\xFF\xFF\xFF\x01\x30\x03\xA2\x01\x05\x0A\x01k\x10\x02";
 
-const K_SHARED: Row = ("k", Mode::Shared, None, "");
+const K_SHARED: CacheRow = ("k", Mode::Shared, None);
 
-const K_PRIVATE: Row = ("k", Mode::Private, None, "");
+const K_PRIVATE: CacheRow = ("k", Mode::Private, None);
 
-const K_LOCKED: Row = ("k", Mode::Locked, None, "");
+const K_LOCKED: CacheRow = ("k", Mode::Locked, None);
 
 // The locked cache that begins with output 0 of the row `sha256:00`, which is input 0.
 const LOCKED_ON_ZERO: &[u8] =
@@ -31,7 +30,7 @@ const LOCKED_ON_ZERO: &[u8] =
 
 const SEED: &[u8] = b"\x0A\x0B\x0A\x09sha256:00";
 
-const K_SEEDED: Row = ("k", Mode::Locked, Some(0), "");
+const K_SEEDED: CacheRow = ("k", Mode::Locked, Some(0));
 
 // The private one.
 const PRIVATE_ON_ZERO: &[u8] =
@@ -54,24 +53,9 @@ const TAKES_A: &str = "instance 0\nd 0755 0 0 /\nf 0644 0 0 780a /a\n";
 // A script and the fields of the mount at `/c`.
 type Exec = (&'static str, &'static [u8]);
 
-// An op that runs a script on some mounts, behind its inputs.
-fn script_on(alloc: Global, inputs: &[u8], script: &str, mounts: &[Shown<'_>]) -> Option<Vec<u8>> {
-    let run = Run {
-        words: &["/bin/sh", "-c", script],
-        meta: b"",
-        mounts,
-        rest: b"",
-    };
-    let op = exec_op(alloc, &run).ok()?;
-    let mut entry = Vec::new(alloc);
-    entry.extend_from_slice(inputs).ok()?;
-    entry.extend_from_slice(&op).ok()?;
-    Some(entry)
-}
-
 // On the empty tree at `/`, with a cache at `/c`.
 fn entry_of(alloc: Global, inputs: &[u8], exec: Exec) -> Option<Vec<u8>> {
-    script_on(alloc, inputs, exec.0, &[ROOT, ("/c", exec.1)])
+    script_on(alloc, inputs, exec.0, &[ROOT, ("/c", exec.1)]).ok()
 }
 
 // A directory on what an execution leaves.
@@ -108,7 +92,7 @@ fn two_on_a_seed(alloc: Global, first: Exec, second: Exec) -> Option<Graph> {
 fn in_two_modes(alloc: Global) -> Option<Graph> {
     let script = "write /c/a x && write /e/b y";
     let mounts = [ROOT, ("/c", LOCKED), ("/e", SHARED)];
-    let a = script_on(alloc, b"", script, &mounts)?;
+    let a = script_on(alloc, b"", script, &mounts).ok()?;
     graph_of(alloc, &[("A", &a), ("T", b"\x0A\x03\x0A\x01A")])
 }
 
@@ -137,13 +121,6 @@ fn what_was_written_before_an_execution_fails_stays(rt: HostRuntime) {
     ];
     let fails = ("write /c/a x && false", LOCKED);
     assert!(rt; is_told(rt.alloc(), one(rt.alloc(), fails), &story));
-}
-
-#[test]
-fn a_graph_with_a_cache_has_no_plain_outcomes(rt: HostRuntime) {
-    let alloc = rt.alloc();
-    let graph = one(alloc, ("write /c/a x && false", LOCKED));
-    assert!(rt; is_refused(alloc, graph, &Locals::new(alloc), "102 0"));
 }
 
 #[test]
@@ -322,7 +299,7 @@ fn left(alloc: Global, graph: Option<Graph>, story: &[(Call, &str)]) -> Option<C
 }
 
 // An empty instance of each key, in that order.
-fn in_order(alloc: Global, rows: &[Row]) -> Option<Caches> {
+fn in_order(alloc: Global, rows: &[CacheRow]) -> Option<Caches> {
     let needs = needs_of(alloc, rows).ok()?;
     let mut caches = Caches::new(alloc);
     if !caches.can_lease(&needs) {
@@ -335,7 +312,7 @@ fn in_order(alloc: Global, rows: &[Row]) -> Option<Caches> {
     Some(caches)
 }
 
-fn are_in_order(alloc: Global, caches: &Option<Caches>, rows: &[Row]) -> bool {
+fn are_in_order(alloc: Global, caches: &Option<Caches>, rows: &[CacheRow]) -> bool {
     match (caches, in_order(alloc, rows)) {
         (Some(caches), Some(wanted)) => caches.same(&wanted),
         _ => false,

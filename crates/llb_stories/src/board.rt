@@ -1,30 +1,17 @@
-//! The board. A story is a list of calls with their answers, printed: a fault by its number.
+//! Boards of one worker: refusals, runs of each kind of op, and what opening takes and gives back.
 
-use super::cache::{Row as CacheRow, key_of};
-use super::told::count;
-use llb_board::{At, Board, Event, OpenFault, Settled, Status, Stepped};
+use super::told::{Call, are_all_answered};
+use super::written::{D_ON_A, MAKES_A, MAKES_B, NAMES_D, graph_of};
+use llb_board::{Board, OpenFault};
 use llb_cache::Caches;
-use llb_loader::{Graph, Locals, Row, link};
+use llb_loader::{Graph, Locals};
 use llb_tree::{Meta, Path, Tree};
-use llb_treetext::print_tree;
-use llb_wire::{Bytes, Memory, Over, Text};
-use std::alloc::{AllocError, Global};
-use std::test::Fail;
+use llb_wire::{Bytes, Text};
+use std::alloc::Global;
 
-// A file `/a` with the content `hi` on nothing.
-pub const MAKES_A: &[u8] =
-    b"\x22\x1A\x12\x18\x08\xFF\xFF\xFF\xFF\xFF\xFF\xFF\xFF\xFF\x01\x2A\x0B\x0A\x02/a\x10\xA4\x03\x1A\x02hi";
-
-// The same below a directory that is missing.
+// A file `/x/a`, whose directory is missing.
 const MAKES_XA: &[u8] =
     b"\x22\x1C\x12\x1A\x08\xFF\xFF\xFF\xFF\xFF\xFF\xFF\xFF\xFF\x01\x2A\x0D\x0A\x04/x/a\x10\xA4\x03\x1A\x02hi";
-
-// A file `/b` on nothing.
-pub const MAKES_B: &[u8] =
-    b"\x22\x1A\x12\x18\x08\xFF\xFF\xFF\xFF\xFF\xFF\xFF\xFF\xFF\x01\x2A\x0B\x0A\x02/b\x10\xA4\x03\x1A\x02ho";
-
-// A directory `/d` on what A is.
-pub const D_ON_A: &[u8] = b"\x0A\x03\x0A\x01A\x22\x0B\x12\x09\x32\x07\x0A\x02/d\x10\xED\x03";
 
 // A directory `/d` on what B is, with A and B as inputs.
 const D_ON_A_AND_B: &[u8] =
@@ -40,56 +27,28 @@ const P_THEN_Q: &[u8] =
     b"\x0A\x03\x0A\x01P\x0A\x03\x0A\x01Q2\x13\x0A\x00\x0A\x02\x08\x01\x0A\x0B\x08\xFF\xFF\xFF\xFF\xFF\xFF\xFF\xFF\xFF\x01";
 
 // On P: a directory `/d`, in it a copy of the file `/f` of Q, and `/old` goes.
-const CHANGES: &[u8] =
-    b"\x0A\x03\x0A\x01P\x0A\x03\x0A\x01Q\x22_\x12\x1F\x10\xFF\xFF\xFF\xFF\xFF\xFF\xFF\xFF\xFF\x01\x18\xFF\xFF\xFF\xFF\xFF\xFF\xFF\xFF\xFF\x012\x07\x0A\x02/d\x10\xED\x03\x12%\x08\x02\x10\x01\x18\xFF\xFF\xFF\xFF\xFF\xFF\xFF\xFF\xFF\x01\x22\x14\x0A\x02/f\x12\x03/d/ \xFF\xFF\xFF\xFF\xFF\xFF\xFF\xFF\xFF\x01\x12\x15\x08\x03\x10\xFF\xFF\xFF\xFF\xFF\xFF\xFF\xFF\xFF\x01:\x06\x0A\x04/old";
+const CHANGES: &[u8] = b"\x0A\x03\x0A\x01P\x0A\x03\x0A\x01Q\x22_\
+    \x12\x1F\x10\xFF\xFF\xFF\xFF\xFF\xFF\xFF\xFF\xFF\x01\x18\xFF\xFF\xFF\xFF\xFF\xFF\xFF\xFF\xFF\x012\x07\x0A\x02/d\x10\xED\x03\
+    \x12%\x08\x02\x10\x01\x18\xFF\xFF\xFF\xFF\xFF\xFF\xFF\xFF\xFF\x01\x22\x14\x0A\x02/f\x12\x03/d/ \xFF\xFF\xFF\xFF\xFF\xFF\xFF\xFF\xFF\x01\
+    \x12\x15\x08\x03\x10\xFF\xFF\xFF\xFF\xFF\xFF\xFF\xFF\xFF\x01:\x06\x0A\x04/old";
 
 // Three commands on P at `/`, a tmpfs at `/t`, and what is at `/sub` of Q at `/t/in`: outputs are the first and the last.
-const COPIES: &[u8] =
-    b"\x0A\x03\x0A\x01P\x0A\x03\x0A\x01Q\x12o\x0AB\x0A\x07/bin/sh\x0A\x02-c\x0A0cp /t/in/f /t/x && cp /t/x /y && write /t/in/g k\x1A\x01/\x12\x03\x1A\x01/\x12\x11\x1A\x02/t \xFF\xFF\xFF\xFF\xFF\xFF\xFF\xFF\xFF\x010\x04\x12\x11\x08\x01\x12\x04/sub\x1A\x05/t/in \x01";
+const COPIES: &[u8] = b"\x0A\x03\x0A\x01P\x0A\x03\x0A\x01Q\x12o\
+    \x0AB\x0A\x07/bin/sh\x0A\x02-c\x0A0cp /t/in/f /t/x && cp /t/x /y && write /t/in/g k\x1A\x01/\
+    \x12\x03\x1A\x01/\
+    \x12\x11\x1A\x02/t \xFF\xFF\xFF\xFF\xFF\xFF\xFF\xFF\xFF\x010\x04\
+    \x12\x11\x08\x01\x12\x04/sub\x1A\x05/t/in \x01";
 
 // A command on the empty tree at `/`, which is output 0, and on Q at `/in`, which is output 1 and is read only.
-const IN_ORDER_OF_NUMBERS: &[u8] =
-    b"\x0A\x03\x0A\x01P\x0A\x03\x0A\x01Q\x12;\x0A\x1C\x0A\x07/bin/sh\x0A\x02-c\x0A\x0Awrite /x k\x1A\x01/\x12\x0B\x08\x01\x1A\x03/in \x01(\x01\x12\x0E\x08\xFF\xFF\xFF\xFF\xFF\xFF\xFF\xFF\xFF\x01\x1A\x01/";
+const IN_ORDER_OF_NUMBERS: &[u8] = b"\x0A\x03\x0A\x01P\x0A\x03\x0A\x01Q\x12;\
+    \x0A\x1C\x0A\x07/bin/sh\x0A\x02-c\x0A\x0Awrite /x k\x1A\x01/\
+    \x12\x0B\x08\x01\x1A\x03/in \x01(\x01\
+    \x12\x0E\x08\xFF\xFF\xFF\xFF\xFF\xFF\xFF\xFF\xFF\x01\x1A\x01/";
 
 // A command on P that is done, one that ends with status 1, and one behind it.
-const FAILS_AT_1: &[u8] =
-    b"\x0A\x03\x0A\x01P\x0A\x03\x0A\x01Q\x12:\x0A3\x0A\x07/bin/sh\x0A\x02-c\x0A!write /x k && false && write /y k\x1A\x01/\x12\x03\x1A\x01/";
-
-// The result is what D is.
-pub const NAMES_D: &[u8] = b"\x0A\x03\x0A\x01D";
-
-fn push_row(rows: &mut Vec<Row>, digest: &str, entry: &[u8]) -> Result<(), Memory> {
-    let alloc = *rows.allocator();
-    let digest = Text::from_str(alloc, digest)?;
-    let bytes = Bytes::from_slice(alloc, entry)?;
-    rows.push(Row { digest, bytes })?;
-    Ok(())
-}
-
-fn rows_of(alloc: Global, given: &[(&str, &[u8])]) -> Result<Vec<Row>, Memory> {
-    let mut rows = Vec::new(alloc);
-    for (digest, entry) in given {
-        push_row(&mut rows, digest, entry)?;
-    }
-    Ok(rows)
-}
-
-fn linked(alloc: Global, rows: &[Row]) -> Option<Graph> {
-    if rows.len() > 65_536 {
-        return None;
-    }
-    match link(alloc, rows) {
-        Ok(graph) => Some(graph),
-        Err(_) => None,
-    }
-}
-
-pub fn graph_of(alloc: Global, given: &[(&str, &[u8])]) -> Option<Graph> {
-    match rows_of(alloc, given) {
-        Ok(rows) => linked(alloc, &rows),
-        Err(_) => None,
-    }
-}
+const FAILS_AT_1: &[u8] = b"\x0A\x03\x0A\x01P\x0A\x03\x0A\x01Q\x12:\
+    \x0A3\x0A\x07/bin/sh\x0A\x02-c\x0A!write /x k && false && write /y k\x1A\x01/\
+    \x12\x03\x1A\x01/";
 
 fn in_a_row(alloc: Global) -> Option<Graph> {
     graph_of(alloc, &[("A", MAKES_A), ("D", D_ON_A), ("T", NAMES_D)])
@@ -109,205 +68,7 @@ fn failed_input(alloc: Global) -> Option<Graph> {
     graph_of(alloc, &[("A", MAKES_XA), ("D", D_ON_A), ("T", NAMES_D)])
 }
 
-#[derive(Clone, Copy)]
-pub enum Call {
-    Claim(u32, u32),
-    Step(u32),
-    Settle(u32),
-    Vertex(u32),
-    Worker(u32),
-    Output(u32, u32),
-    Tree(u32, u32),
-    // A claim that answers what it takes of caches.
-    Begin(u32, u32),
-    Instance(CacheRow, u32),
-    Leases,
-    // Takes the chosen events up to the end.
-    Finish,
-    Chosen,
-    Complete,
-    Events,
-}
-
-pub fn is_done(board: &mut Board, event: Event) -> bool {
-    match event {
-        Event::Claim(w, v) => board.claim(w, v).is_ok(),
-        Event::Step(w) => board.step(w).is_ok(),
-        Event::Settle(w) => board.settle(w).is_ok(),
-    }
-}
-
-fn event_text(alloc: Global, event: Event) -> Result<String, AllocError> {
-    match event {
-        Event::Claim(w, v) => format!(in alloc; "claim {w} {v}"),
-        Event::Step(w) => format!(in alloc; "step {w}"),
-        Event::Settle(w) => format!(in alloc; "settle {w}"),
-    }
-}
-
-fn status_text(alloc: Global, status: Option<Status>) -> Result<String, AllocError> {
-    let word = match status {
-        None => "none",
-        Some(Status::Waiting) => "waiting",
-        Some(Status::Ready) => "ready",
-        Some(Status::Blocked) => "blocked",
-        Some(Status::Done) => "done",
-        Some(Status::Running(w)) => return format!(in alloc; "running {w}"),
-        Some(Status::Failed(fault)) => return format!(in alloc; "failed {fault}"),
-    };
-    String::from_str(alloc, word)
-}
-
-fn worker_text(alloc: Global, at: Option<At>) -> Result<String, AllocError> {
-    match at {
-        None => String::from_str(alloc, "none"),
-        Some(At::Idle) => String::from_str(alloc, "idle"),
-        Some(At::Runs(v, done, finished)) => format!(in alloc; "runs {v}, {done} done, {finished}"),
-    }
-}
-
-fn claim(alloc: Global, board: &mut Board, w: u32, v: u32) -> Result<String, AllocError> {
-    match board.claim(w, v) {
-        Ok(job) => {
-            let (worker, vertex, done) = (job.worker, job.vertex, job.done);
-            format!(in alloc; "worker {worker}, vertex {vertex}, {done} done")
-        }
-        Err(fault) => fault.to_string(alloc),
-    }
-}
-
-// The numbers of instances, each with its tree.
-fn taken(alloc: Global, instances: &[u32], trees: &[Tree]) -> Result<String, AllocError> {
-    let mut text = String::new(alloc);
-    for (number, tree) in instances.iter().zip(trees) {
-        write!(text, "instance {number}\n")?;
-        text.push_str(tree_text(alloc, tree)?.as_str())?;
-    }
-    Ok(text)
-}
-
-fn begin(alloc: Global, board: &mut Board, w: u32, v: u32) -> Result<String, AllocError> {
-    match board.claim(w, v) {
-        Ok(job) => taken(alloc, job.instances.as_slice(), job.trees.as_slice()),
-        Err(fault) => fault.to_string(alloc),
-    }
-}
-
-fn step(alloc: Global, board: &mut Board, w: u32) -> Result<String, AllocError> {
-    match board.step(w) {
-        Ok(Stepped::Read) => String::from_str(alloc, "read"),
-        Ok(Stepped::Acted(a)) => format!(in alloc; "acted {a}"),
-        Ok(Stepped::Merged(i)) => format!(in alloc; "merged {i}"),
-        Ok(Stepped::Ran(c, status)) => format!(in alloc; "ran {c} {status}"),
-        Ok(Stepped::Fault(fault)) => format!(in alloc; "fault: {fault}"),
-        Err(fault) => fault.to_string(alloc),
-    }
-}
-
-fn settle(alloc: Global, board: &mut Board, w: u32) -> Result<String, AllocError> {
-    match board.settle(w) {
-        Ok(Settled::Done(v)) => format!(in alloc; "{v} done"),
-        Ok(Settled::Failed(v)) => format!(in alloc; "{v} failed"),
-        Err(fault) => fault.to_string(alloc),
-    }
-}
-
-fn chosen(alloc: Global, board: &Board) -> Result<String, AllocError> {
-    match board.chosen() {
-        Some(event) => event_text(alloc, event),
-        None => String::from_str(alloc, "none"),
-    }
-}
-
-fn output(alloc: Global, board: &Board, v: u32, i: u32) -> Result<String, AllocError> {
-    match board.output(v, i) {
-        Some(tree) => match count(tree) {
-            Ok(count) => count.to_string(alloc),
-            Err(_) => Err(AllocError),
-        },
-        None => String::from_str(alloc, "none"),
-    }
-}
-
-fn tree_text(alloc: Global, tree: &Tree) -> Result<String, AllocError> {
-    let mut text: Vec<u8> = Vec::new(alloc);
-    let mut out = Over::new(&mut text);
-    if print_tree(alloc, tree, &mut out).is_err() {
-        return Err(AllocError);
-    }
-    match String::from_utf8(text) {
-        Ok(text) => Ok(text),
-        Err(_) => String::from_str(alloc, "no text"),
-    }
-}
-
-// The text of an output's tree.
-fn tree(alloc: Global, board: &Board, v: u32, i: u32) -> Result<String, AllocError> {
-    match board.output(v, i) {
-        Some(tree) => tree_text(alloc, tree),
-        None => String::from_str(alloc, "none"),
-    }
-}
-
-// The text of the tree that an instance of a cache has.
-fn instance(
-    alloc: Global,
-    board: &Board,
-    cache: CacheRow,
-    number: u32,
-) -> Result<String, AllocError> {
-    let Ok(key) = key_of(alloc, &cache) else {
-        return Err(AllocError);
-    };
-    match board.caches().instance(&key, number) {
-        Some(tree) => tree_text(alloc, tree),
-        None => String::from_str(alloc, "none"),
-    }
-}
-
-fn finish(alloc: Global, board: &mut Board) -> Result<String, AllocError> {
-    for _i in 0..50 {
-        if let Some(event) = board.chosen() {
-            let _ = is_done(board, event);
-        }
-    }
-    board.is_complete().to_string(alloc)
-}
-
-fn push_event(alloc: Global, text: &mut String, event: Event) -> Result<(), AllocError> {
-    let told = event_text(alloc, event)?;
-    text.push_str(told.as_str())?;
-    text.push_str("|")
-}
-
-fn events(alloc: Global, board: &Board) -> Result<String, AllocError> {
-    let mut text = String::new(alloc);
-    for event in board.events().as_slice() {
-        push_event(alloc, &mut text, *event)?;
-    }
-    Ok(text)
-}
-
-fn answer(alloc: Global, board: &mut Board, call: Call) -> Result<String, AllocError> {
-    match call {
-        Call::Claim(w, v) => claim(alloc, board, w, v),
-        Call::Step(w) => step(alloc, board, w),
-        Call::Settle(w) => settle(alloc, board, w),
-        Call::Vertex(v) => status_text(alloc, board.status(v)),
-        Call::Worker(w) => worker_text(alloc, board.worker(w)),
-        Call::Output(v, i) => output(alloc, board, v, i),
-        Call::Tree(v, i) => tree(alloc, board, v, i),
-        Call::Begin(w, v) => begin(alloc, board, w, v),
-        Call::Instance(cache, number) => instance(alloc, board, cache, number),
-        Call::Leases => board.caches().leases().to_string(alloc),
-        Call::Finish => finish(alloc, board),
-        Call::Chosen => chosen(alloc, board),
-        Call::Complete => board.is_complete().to_string(alloc),
-        Call::Events => events(alloc, board),
-    }
-}
-
-// The local trees: `p` has a file `/old`, and `q` a file `/f`.
+// Adds a local tree of one file with the content `hi`.
 fn put_local(locals: &mut Locals, alloc: Global, name: &str, file: &str) -> Option<()> {
     let mut tree = Tree::empty(alloc).ok()?;
     let path = Path::read(alloc, file).ok()?;
@@ -316,6 +77,7 @@ fn put_local(locals: &mut Locals, alloc: Global, name: &str, file: &str) -> Opti
     locals.add(Text::from_str(alloc, name).ok()?, tree).ok()
 }
 
+// The local trees: `p` has a file `/old`, and `q` a file `/f`.
 fn both_locals(alloc: Global) -> Locals {
     let mut locals = Locals::new(alloc);
     let _ = put_local(&mut locals, alloc, "p", "/old");
@@ -328,28 +90,6 @@ fn opened(alloc: Global, graph: Option<Graph>) -> Option<Board> {
         Some(graph) => Board::open(alloc, graph, both_locals(alloc), Caches::new(alloc), 1).ok(),
         None => None,
     }
-}
-
-fn is_answered(alloc: Global, board: &mut Board, call: Call, wanted: &str) -> bool {
-    match answer(alloc, board, call) {
-        Ok(told) => told.as_str() == wanted,
-        Err(_) => false,
-    }
-}
-
-// How many calls of a story have their answers on a board, up to the first that has another one.
-pub fn answered(alloc: Global, board: &mut Board, story: &[(Call, &str)]) -> usize {
-    for (k, (call, wanted)) in story.iter().enumerate() {
-        if !is_answered(alloc, board, *call, wanted) {
-            return k;
-        }
-    }
-    story.len()
-}
-
-pub fn are_all_answered(alloc: Global, board: Board, story: &[(Call, &str)]) -> bool {
-    let mut board = board;
-    answered(alloc, &mut board, story) == story.len()
 }
 
 // Whether all calls of a story have their answers on a new board.

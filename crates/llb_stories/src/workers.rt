@@ -1,14 +1,12 @@
 //! Boards of two workers: refusals, and all orders of their events.
 
-use super::board::{Call, MAKES_A, MAKES_B, NAMES_D, are_all_answered, graph_of, is_done};
+use super::told::{Call, are_all_answered, is_done};
+use super::written::{A_AND_B, MAKES_A, MAKES_B, NAMES_D, graph_of};
 use llb_board::{At, Board, Event, Status};
 use llb_cache::Caches;
 use llb_loader::{Graph, Locals};
 use std::alloc::Global;
 use std::test::Fail;
-
-// B's file laid over A's.
-pub const A_AND_B: &[u8] = b"\x0A\x03\x0A\x01A\x0A\x03\x0A\x01B2\x06\x0A\x00\x0A\x02\x08\x01";
 
 fn two_and_their_merge(alloc: Global) -> Option<Graph> {
     let rows = [

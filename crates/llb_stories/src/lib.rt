@@ -1,0 +1,16 @@
+//! Worked examples of whole runs: boards, and the workers on them: tests, and nothing else. The values are written out
+//! from the rules by hand.
+#![tactic(auto)]
+
+#[cfg(test)]
+mod board;
+#[cfg(test)]
+mod board_caches;
+#[cfg(test)]
+mod faults;
+#[cfg(test)]
+mod told;
+#[cfg(test)]
+mod workers;
+#[cfg(test)]
+mod written;
