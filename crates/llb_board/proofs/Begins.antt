@@ -9,7 +9,8 @@ use Rattle.llb_model.specs.Caches.{Place}
 use Rattle.llb_model.specs.Program.{Build, View, needs_of, view_on}
 use Rattle.llb_model.specs.Table.{Claimed}
 use Rattle.llb_board.specs.Caches.{Taking, taken_with}
-use Rattle.llb_board.specs.Room.{Supplies, mounts_in, shown_in, supplies_for}
+use Rattle.llb_execution.specs.Parts.{mounts_in, shown_in}
+use Rattle.llb_board.specs.Room.{Supplies, supplies_for}
 use Rattle.llb_board.specs.Rules.{or_not_ready, Begun, begun}
 use Rattle.llb_board.specs.Begun.{Outfitted, outfit_of}
 use Rattle.llb_board.specs.declared.fault.ClaimFault.{ClaimFault}

@@ -26,7 +26,8 @@ use Rattle.llb_model.specs.Table.{settle_with, settle_grant, settled, table}
 use Rattle.llb_model.proofs.Lists.{inside}
 use Rattle.llb_model.proofs.Events.{Answer, ready_is}
 use Rattle.llb_model.proofs.Leases.{refuses_alike, takes_alike, makes_alike, writes_alike}
-use Rattle.llb_board.specs.Caches.{shut_key, unless_shut, places_taken, work_with, written}
+use Rattle.llb_execution.specs.Parts.{work_with}
+use Rattle.llb_board.specs.Caches.{shut_key, unless_shut, places_taken, written}
 use Rattle.llb_board.specs.Board.{Seen, recorded}
 use Rattle.llb_board.specs.Rules.{faulted, claim_fault, claim_of, step_fault, claim_may_want, Begun, begun_at, begun, Written, written_by, worked_in, worked_by, left_at}
 use Rattle.llb_board.specs.Views.{at_of, state_of}

@@ -210,10 +210,8 @@ made_enough b ds w l x kept at =
     ∙ get_map (needed b) (map at_of ds) w (Runs (execution_of x)) (get_map at_of ds w (desk.Runs l x) at))
 
 pub all_empty : (b : Build) (ds : List Desk) (w l : ℕ) (x : own.Execution) → map ready_made ds ≡ map (needed b) (map at_of ds)
-    → slice_get ds w ≡ Some (desk.Runs l x) → x.outputs.items ≡ replicate (length x.outputs.items) empty_tree
-all_empty b ds w l x kept at =
-    let made = ap (λ (s : Supplies). s.outputs) (made_enough b ds w l x kept at) in
-    made ∙ ap (λ n. replicate n empty_tree) (sym (ap length made ∙ length-replicate (program_in b (execution_of x)).outputs empty_tree))
+    → slice_get ds w ≡ Some (desk.Runs l x) → x.outputs.items ≡ replicate (program_in b (execution_of x)).outputs empty_tree
+all_empty b ds w l x kept at = ap (λ (s : Supplies). s.outputs) (made_enough b ds w l x kept at)
 
 finished_at : Build → Desk → Bool
 finished_at b desk.Idle = false
@@ -221,19 +219,16 @@ finished_at b (desk.Runs l x) = is_finished (program_in b (execution_of x)).step
 
 -- how the worker's execution ends: x is what was looked at, and y what was taken
 pub leaves : (b : Build) (ds : List Desk) (w l k : ℕ) (x y : own.Execution) (o : Option Vertex) (stands : Status)
-    → map ready_made ds ≡ map (needed b) (map at_of ds)
     → slice_get ds w ≡ Some (desk.Runs l x) → slice_get ds w ≡ Some (desk.Runs k y)
     → is_finished (program_in b (execution_of x)).steps (execution_of x) ≡ true → o ≡ slice_get b.graph.vertices y.vertex
-    → stands ≡ Settled (ended (record (program_at o) { outputs = length y.outputs.items }) y.view y.fault)
+    → stands ≡ Settled (ended (program_at o) y.view y.fault)
     → left_at b (slice_get (map at_of ds) w) ≡ Ok (y.vertex, stands)
 unfolding finished_at
-leaves b ds w l k x y o stands kept looked taken finished same ends =
-    let count : length y.outputs.items ≡ (program_in b (execution_of y)).outputs
-    = ap (λ (s : Supplies). length s.outputs) (made_enough b ds w k y kept taken) ∙ length-replicate (program_in b (execution_of y)).outputs empty_tree in
+leaves b ds w l k x y o stands looked taken finished same ends =
     let is : finished_at b (desk.Runs k y) ≡ true = ap (finished_at b) (inside (sym taken ∙ looked)) ∙ finished in
     ap (left_at b) (get_map at_of ds w (desk.Runs k y) taken)
     ∙ ap (left_if b (execution_of y)) is
-    ∙ (λ i. Ok (y.vertex, Settled (ended (record (program_at (sym same i)) { outputs = sym count i }) y.view y.fault)))
+    ∙ (λ i. Ok (y.vertex, Settled (ended (program_at (sym same i)) y.view y.fault)))
     ∙ ap (λ s. Ok (y.vertex, s)) (sym ends)
 
 -- the board's data after a settle

@@ -1,16 +1,11 @@
 pub mod Lists
-pub mod Vertices
 pub mod Needed
 pub mod Inputs
 pub mod Stopped
 pub mod Counted
 pub mod Steps
-pub mod Outputs
-pub mod Shown
 pub mod Choices
 pub mod Wanting
-pub mod Exchanges
-pub mod Commands
 pub mod Written
 pub mod Returned
 pub mod Lent

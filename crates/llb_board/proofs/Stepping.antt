@@ -18,7 +18,8 @@ use Rattle.llb_model.proofs.Leases.{writes_alike}
 use Rattle.llb_model.proofs.Lists.{get_set_same}
 use Rattle.llb_model.proofs.Leasing.{step_keeps_lease}
 use Rattle.llb_model.proofs.Parts.{step_keeps}
-use Rattle.llb_board.specs.Caches.{work_with, written, places_at}
+use Rattle.llb_execution.specs.Parts.{work_with}
+use Rattle.llb_board.specs.Caches.{written, places_at}
 use Rattle.llb_board.specs.Rules.{step_memory, GivesStep, Written, worked_by, written_by, worked_in}
 use Rattle.llb_board.specs.Views.{at_of, leased_by, execution_of}
 use Rattle.llb_board.specs.declared.event.Stepped.{Stepped}
@@ -35,7 +36,7 @@ inside_ok e = cc
 
 -- ---- what is not finished has a micro-step
 
-last_of : {A B : Type 0} (r : Result A StepFault) (rule : Result B StepFault) → is_ok rule ≡ true → MemoryLast step_memory r rule
+pub last_of : {A B : Type 0} (r : Result A StepFault) (rule : Result B StepFault) → is_ok rule ≡ true → MemoryLast step_memory r rule
 last_of (Ok x) rule ok = tt
 last_of (Err e) rule ok = λ memory. ok
 

@@ -4,7 +4,7 @@ use Rattle.llb_applet.specs.declared.setting.Setting.{Setting}
 use Rattle.llb_loader.specs.declared.graph.Vertex.{Vertex}
 use Rattle.llb_tree.specs.Tree.{TreeMap, empty_tree}
 use Rattle.llb_model.specs.Program as model
-use Rattle.llb_board.specs.Jobs.{kind_setting}
+use Rattle.llb_execution.specs.Parts.{kind_setting}
 use Rattle.llb_board.specs.Views.{execution_of, claim_reply}
 use Rattle.llb_board.specs.Rules as rules
 use Rattle.llb_board.specs.declared.step.Begun.{Begun}

@@ -1,15 +1,12 @@
--- The caches of a board: what a claim takes, in words of leases; a command on mounts that show caches; and the lists of instances
--- behind an event.
+-- The caches of a board: what a claim takes, in words of leases, and the lists of instances behind an event.
 use Rattle.std.specs.Prelude.{◌≡◌, pos, ℕ, zero, suc, Bool, ◌&&◌, List, [], ◌∷◌, ◌++◌, length, map, Option, Some, None, unwrap_or, slice_get, slice_set, nat_lt, Result, Ok, Err, if◌then◌else◌}
 use Rattle.llb_cache.specs.declared.key.Key.{Key}
 use Rattle.llb_cache.specs.Caches as cache
 use Rattle.llb_cache.specs.Caches.{Row, Leases, trees_of, with_trees, is_held, is_locked}
 use Rattle.llb_tree.specs.Tree.{TreeMap, empty_tree}
 use Rattle.llb_model.specs.Caches.{Place, place, Store, content}
-use Rattle.llb_model.specs.Program.{View, Work, Need}
+use Rattle.llb_model.specs.Program.{Need}
 use Rattle.llb_model.specs.State.{At, Idle, Runs, State}
-use Rattle.llb_model.specs.declared.fault.VertexFault.{VertexFault}
-use Rattle.llb_model.specs.declared.fault.VertexFault.TheVariants as fault
 use Rattle.llb_ops.specs.declared.op.Input.{Input}
 use Rattle.llb_loader.specs.declared.graph.Edge.{Edge}
 use Rattle.llb_loader.specs.declared.graph.Vertex.{Vertex}
@@ -63,16 +60,6 @@ taken_with c inputs needs = (
   first_trees (store_of c.rows) inputs (places_taken c.out needs) needs,
   asked inputs needs,
 )
-
--- ---- commands
-
-abbrev pub work_with : View → List TreeMap → Work
-work_with view trees = record { own = view; trees = trees }
-
--- what a command leaves that ended with a status: a work, or that fault
-abbrev pub ends_with : ℕ → ℕ → Work → Result Work VertexFault
-ends_with c zero work = Ok work
-ends_with c (suc status) work = Err (fault.Exit c (suc status))
 
 -- the tree of an instance; the empty one where it is not there
 abbrev pub tree_of : Store → Place → TreeMap

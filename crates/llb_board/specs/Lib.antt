@@ -1,4 +1,3 @@
-pub mod Jobs
 pub mod Events
 pub mod Store
 pub mod Caches

@@ -9,14 +9,14 @@ use Rattle.llb_cache.specs.Caches.{Row, Leases}
 use Rattle.llb_ops.specs.declared.exec.Mount.{Mount}
 use Rattle.llb_loader.specs.Rules.{kind_mounts}
 use Rattle.llb_model.specs.Caches.{Place}
-use Rattle.llb_model.specs.Program.{Build, View, LocalTree, Files, Layers, Mounted, Need, key_of, mount_of, needs_of, program_at}
+use Rattle.llb_model.specs.Program.{Build, Need, key_of, mount_of, needs_of, program_at, setting_of}
 use Rattle.llb_model.specs.Leases.{AreLeased}
 use Rattle.llb_model.specs.State.{Status, At, Idle, Runs, stopped, is_blocked}
 use Rattle.llb_model.specs.Run.{is_settled}
 use Rattle.llb_model.specs.Table.{Event}
 use Rattle.llb_model.specs.Room.{still_to_come}
 use Rattle.llb_board.specs.Board.{Seen, Replays, opening_with}
-use Rattle.llb_board.specs.Jobs.{setting_at}
+use Rattle.llb_execution.specs.Parts.{kind_setting, mounts_in, shown_in}
 use Rattle.llb_board.specs.Views.{state_of, leased_by}
 use Rattle.llb_board.specs.declared.stand.Stand.{Stand}
 use Rattle.llb_board.specs.declared.stand.Desk.{Desk}
@@ -32,18 +32,6 @@ pub record Supplies : Type 0 where
   pub shown : List ℕ
   pub keys : List Key
 
-abbrev pub mounts_in : View → ℕ
-mounts_in (Mounted mounts caches) = length mounts
-mounts_in (LocalTree t) = 0
-mounts_in (Files inputs results) = 0
-mounts_in (Layers inputs t) = 0
-
-abbrev pub shown_in : View → List ℕ
-shown_in (Mounted mounts caches) = caches
-shown_in (LocalTree t) = []
-shown_in (Files inputs results) = []
-shown_in (Layers inputs t) = []
-
 abbrev pub supplies_of : own.Execution → Supplies
 supplies_of x = record { outputs = x.outputs.items; setting = x.setting; mounts = mounts_in x.view; shown = shown_in x.view; keys = map (λ (p : Place). p.key) x.places.items }
 
@@ -55,6 +43,11 @@ mounts_at None = []
 abbrev pub needs_at : Option Vertex → List Need
 needs_at (Some v) = needs_of v
 needs_at None = []
+
+-- where the commands of a vertex run
+abbrev pub setting_at : Option Vertex → Setting
+setting_at (Some v) = kind_setting v.op.kind
+setting_at None = setting_of None
 
 abbrev pub supplies_for : Option Vertex → Supplies
 supplies_for o = record {

@@ -18,7 +18,8 @@ use Rattle.llb_model.specs.SettleCause as no_settle
 use Rattle.llb_model.specs.SettleCause.{SettleCause}
 use Rattle.llb_model.specs.Table.{Claim, Step, Settle, Reply, Claimed, claim_grant, step_grant, settle_grant, execution_on, job_on, with_step, step_reply}
 use Rattle.llb_board.specs.Board.{Seen, opened, recorded}
-use Rattle.llb_board.specs.Caches.{places_taken, work_with}
+use Rattle.llb_execution.specs.Parts.{work_with}
+use Rattle.llb_board.specs.Caches.{places_taken}
 use Rattle.llb_board.specs.declared.fault.OpenFault.{OpenFault}
 use Rattle.llb_board.specs.declared.fault.OpenFault.TheVariants as opening
 use Rattle.llb_board.specs.declared.fault.ClaimFault.{ClaimFault}

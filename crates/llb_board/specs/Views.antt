@@ -4,6 +4,7 @@ use Rattle.llb_cache.specs.Caches.{Row}
 use Rattle.llb_model.specs.Kept.{store_of}
 use Rattle.llb_model.specs.Program.{Build}
 use Rattle.llb_model.specs.Outcome.{Done, Failed}
+use Rattle.llb_model.specs.declared.fault.VertexFault.{VertexFault}
 use Rattle.llb_model.specs.State as model
 use Rattle.llb_model.specs.Table as table
 use Rattle.llb_board.specs.declared.event.Event.{Event}
@@ -61,6 +62,11 @@ step_reply (Acted a) = table.Acted a
 step_reply (Merged i) = table.HasMerged i
 step_reply (Ran c status) = table.HasRun c status
 step_reply (Fault f) = table.Faulted f
+
+-- a fault, or where there is none what was done
+abbrev pub fault_or : Option VertexFault → Stepped → Stepped
+fault_or (Some f) done = Fault f
+fault_or None done = done
 
 abbrev pub settle_reply : Settled → table.Reply
 settle_reply (settled.Done v) = table.SettledDone v

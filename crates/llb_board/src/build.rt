@@ -1,15 +1,12 @@
 //! What a board is over: the graph, and the trees of local sources by name.
 
-ghost use Rattle.std.specs.Prelude.{◌≡◌, ◌<◌, ◌^◌, length, option_map, slice_get, OnOk, IfOk, Some, None};
+ghost use Rattle.std.specs.Prelude.{◌≡◌, ◌<◌, ◌^◌, length, option_map, slice_get};
 ghost use Rattle.llb_loader.specs.Graph.{IsGraph};
-ghost use Rattle.llb_model.specs.Program.{program_at, local_tree};
+ghost use Rattle.llb_model.specs.Program.{program_at};
 ghost use Rattle.llb_model.specs.State.{missing_local};
-ghost use Rattle.llb_board.specs.Rules.{GivesClaim};
 
-use crate::fault::ClaimFault;
+use llb_execution::missing_local;
 use llb_loader::{Graph, Locals, Vertex};
-use llb_tree::Tree;
-use std::alloc::Global;
 use std::marker::Model;
 
 /// A graph, and the trees of its local sources.
@@ -66,29 +63,18 @@ impl Build {
         }
     }
 
-    /// A copy of the local tree of a source.
-    pub(crate) fn local_tree(&self, alloc: Global, vertex: &Vertex) -> Result<Tree, ClaimFault>
-        ensures { GivesClaim (λ t. t) result (Ok (local_tree self.now.locals vertex.now)) }
+    /// The trees of local sources by name.
+    pub(crate) fn locals(&self) -> &Locals
+        ensures { result.now ≡ self.now.locals }
     {
-        let name = vertex.local_name().unwrap_or("");
-        match self.locals.get(name) {
-            Some(tree) => Ok(tree.copy()?),
-            None => Ok(Tree::empty(alloc)?),
-        }
+        &self.locals
     }
 
     /// The first name, by vertex, that no local tree is given for.
     pub(crate) fn missing(&self) -> Option<&str>
         ensures { option_map (λ t. t.now) result ≡ missing_local self.now.locals self.now.graph.vertices }
     {
-        for vertex in self.graph.vertices() {
-            if let Some(name) = vertex.local_name() {
-                if self.locals.get(name).is_none() {
-                    return Some(name);
-                }
-            }
-        }
-        None
+        missing_local(&self.graph, &self.locals)
     }
 
     /// The graph and the trees come back.

@@ -2,7 +2,6 @@
 
 use llb_cache::{Caches, Key};
 use llb_loader::{Graph, Locals};
-use llb_ops::OpFault;
 use llb_tree::TreeFault;
 use llb_wire::Text;
 use std::alloc::{AllocError, AllocFailed};
@@ -141,19 +140,7 @@ impl From<TreeFault> for ClaimFault {
     }
 }
 
-/// Of a copy of an op, which can only lack memory.
-impl From<OpFault> for ClaimFault {
-    ghost use Rattle.std.specs.Prelude.{◌≡◌};
-    ghost use Rattle.llb_board.specs.declared.fault.ClaimFault.TheVariants.{Memory};
-
-    ghost from_gives = { λ _ e. e ≡ Memory };
-
-    fn from(_: OpFault) -> ClaimFault {
-        ClaimFault::Memory
-    }
-}
-
-/// Of a copy of a text.
+/// Of a copy of a text, and of the parts of an execution.
 impl From<llb_wire::Memory> for ClaimFault {
     ghost use Rattle.std.specs.Prelude.{◌≡◌};
     ghost use Rattle.llb_board.specs.declared.fault.ClaimFault.TheVariants.{Memory};
@@ -161,30 +148,6 @@ impl From<llb_wire::Memory> for ClaimFault {
     ghost from_gives = { λ _ e. e ≡ Memory };
 
     fn from(_: llb_wire::Memory) -> ClaimFault {
-        ClaimFault::Memory
-    }
-}
-
-/// Of a view of mounts.
-impl From<llb_mount::Memory> for ClaimFault {
-    ghost use Rattle.std.specs.Prelude.{◌≡◌};
-    ghost use Rattle.llb_board.specs.declared.fault.ClaimFault.TheVariants.{Memory};
-
-    ghost from_gives = { λ _ e. e ≡ Memory };
-
-    fn from(_: llb_mount::Memory) -> ClaimFault {
-        ClaimFault::Memory
-    }
-}
-
-/// Of a copy of a script, which can only lack memory.
-impl From<llb_applet::ScriptFault> for ClaimFault {
-    ghost use Rattle.std.specs.Prelude.{◌≡◌};
-    ghost use Rattle.llb_board.specs.declared.fault.ClaimFault.TheVariants.{Memory};
-
-    ghost from_gives = { λ _ e. e ≡ Memory };
-
-    fn from(_: llb_applet::ScriptFault) -> ClaimFault {
         ClaimFault::Memory
     }
 }
@@ -213,17 +176,6 @@ impl From<llb_cache::LeaseFault> for ClaimFault {
     }
 }
 
-impl<T: Drop> From<AllocFailed<T>> for StepFault {
-    ghost use Rattle.std.specs.Prelude.{◌≡◌};
-    ghost use Rattle.llb_board.specs.declared.fault.StepFault.TheVariants.{Memory};
-
-    ghost from_gives = { λ _ e. e ≡ Memory };
-
-    fn from(_: AllocFailed<T>) -> StepFault {
-        StepFault::Memory
-    }
-}
-
 /// Of a call on a tree that can only lack memory.
 impl From<TreeFault> for StepFault {
     ghost use Rattle.std.specs.Prelude.{◌≡◌};
@@ -236,14 +188,14 @@ impl From<TreeFault> for StepFault {
     }
 }
 
-/// Of a laying, which can only lack memory.
-impl From<llb_merge::Memory> for StepFault {
+/// Of a micro-step on a view, which can only lack memory.
+impl From<llb_wire::Memory> for StepFault {
     ghost use Rattle.std.specs.Prelude.{◌≡◌};
     ghost use Rattle.llb_board.specs.declared.fault.StepFault.TheVariants.{Memory};
 
     ghost from_gives = { λ _ e. e ≡ Memory };
 
-    fn from(_: llb_merge::Memory) -> StepFault {
+    fn from(_: llb_wire::Memory) -> StepFault {
         StepFault::Memory
     }
 }
@@ -255,18 +207,6 @@ impl From<AllocError> for StepFault {
     ghost from_gives = { λ _ e. e ≡ Memory };
 
     fn from(_: AllocError) -> StepFault {
-        StepFault::Memory
-    }
-}
-
-/// Of a command.
-impl From<llb_applet::Memory> for StepFault {
-    ghost use Rattle.std.specs.Prelude.{◌≡◌};
-    ghost use Rattle.llb_board.specs.declared.fault.StepFault.TheVariants.{Memory};
-
-    ghost from_gives = { λ _ e. e ≡ Memory };
-
-    fn from(_: llb_applet::Memory) -> StepFault {
         StepFault::Memory
     }
 }

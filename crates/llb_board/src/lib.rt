@@ -1,5 +1,5 @@
 //! One state, changed by the transition table alone: claims, steps and settles of workers on the vertices of a graph with caches,
-//! and the record of them. Stands on the graph, on trees and on caches; it starts no thread and takes no lock.
+//! and the record of them. Stands on the execution of one vertex and on caches; it starts no thread and takes no lock.
 #![tactic(auto)]
 
 mod board;
@@ -8,9 +8,7 @@ mod choice;
 mod ending;
 mod event;
 mod events;
-mod exec;
 mod fault;
-mod filling;
 mod fresh;
 mod instances;
 mod job;
@@ -20,12 +18,11 @@ mod needs;
 mod ready;
 mod stand;
 mod step;
-mod view;
 
 pub use board::Board;
 pub use event::{At, Event, Settled, Status, Stepped};
 pub use events::Events;
 pub use fault::{ClaimFault, Memory, OpenFault, SettleFault, StepFault};
-pub use job::{Job, Program};
+pub use job::Job;
+pub use llb_execution::{Program, View};
 pub use llb_wire::{Bytes, Text};
-pub use view::View;

@@ -13,10 +13,9 @@ ghost use Rattle.llb_model.specs.State.{first_trees};
 ghost use Rattle.llb_board.specs.Caches.{need_of, shut_key, unless_shut, places_taken, number_of, taken_with, HasEdges};
 ghost use Rattle.llb_board.specs.Rules.{GivesClaim};
 
-use crate::exec::mounts_of;
 use crate::fault::ClaimFault;
-use crate::view::input_tree;
 use llb_cache::{Caches, Key, Mode, Need, Place, Seed};
+use llb_execution::{input_tree, mounts_of};
 use llb_loader::Vertex;
 use llb_ops::{CacheOpt, Mount};
 use llb_tree::Tree;

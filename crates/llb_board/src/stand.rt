@@ -5,9 +5,9 @@ ghost use Rattle.std.specs.Prelude.{◌≡◌, Some};
 ghost use Rattle.llb_model.specs.State.{ending_of, is_failed};
 ghost use Rattle.llb_board.specs.Views.{status_of};
 
-use crate::view::View;
 use llb_applet::Setting;
 use llb_cache::{Lease, Place};
+use llb_execution::View;
 use llb_model::VertexFault;
 use llb_tree::Tree;
 use llb_wire::Many;

@@ -21,17 +21,16 @@ ghost use Rattle.llb_board.specs.Rules.{faulted, claim_fault, step_fault, step_m
 use crate::build::Build;
 use crate::ending::end;
 use crate::event::Stepped;
-use crate::exec::setting_for;
 use crate::fault::{ClaimFault, SettleFault, StepFault};
 use crate::instances::{contents, write_back};
-use crate::job::{Job, Program};
+use crate::job::Job;
 use crate::micro_step::step;
 use crate::needs::{Wanted, mount_numbers, taking_for};
 use crate::ready::{gathered, is_ready};
 use crate::stand::{Desk, Execution, Stand};
-use crate::view::View;
 use llb_applet::Setting;
 use llb_cache::{Caches, Lease, Need};
+use llb_execution::{Program, View, empty_trees, setting_of};
 use llb_loader::Vertex;
 use llb_tree::Tree;
 use llb_wire::Many;
@@ -74,17 +73,6 @@ pub(crate) fn claimable<'a>(
     Ok(vertex)
 }
 
-/// As many empty trees.
-fn empty_trees(alloc: Global, count: u32) -> Result<Vec<Tree>, ClaimFault>
-    ensures { GivesClaim (λ trees. trees.items) result (Ok (replicate count empty_tree)) }
-{
-    let mut trees = Vec::with_capacity(alloc, count as usize)?;
-    for _i in 0..count {
-        trees.push_reserved(Tree::empty(alloc)?);
-    }
-    Ok(trees)
-}
-
 // What a vertex's execution has beside its view: the program, an empty tree for each output, and where its commands run.
 #[derive(Drop)]
 struct Outfit {
@@ -98,7 +86,7 @@ fn outfit_for(alloc: Global, vertex: &Vertex) -> Result<Outfit, ClaimFault>
 {
     let program = Program::of(alloc, vertex)?;
     let outputs = empty_trees(alloc, vertex.outputs)?;
-    let setting = setting_for(alloc, &vertex.op.kind)?;
+    let setting = setting_of(alloc, vertex)?;
     Ok(Outfit {
         program,
         outputs,
@@ -124,8 +112,8 @@ fn views(
 {
     let (shown, kept) = inputs;
     let again = caches.clone()?;
-    let view = View::on(alloc, build, vertex, shown, caches)?;
-    let own = View::on(alloc, build, vertex, kept, again)?;
+    let view = View::on(alloc, build.locals(), vertex, shown, caches)?;
+    let own = View::on(alloc, build.locals(), vertex, kept, again)?;
     Ok((view, own))
 }
 

@@ -25,3 +25,4 @@ pub mod Needs
 pub mod Kept
 pub mod Leases
 pub mod Leasing
+pub mod Vertices

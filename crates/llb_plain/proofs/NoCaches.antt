@@ -1,14 +1,14 @@
--- The least vertex that mounts a cache; and an exec of a graph where none does.
+-- The least vertex that mounts a cache; and a vertex of a graph where none does.
 use Rattle.std.proofs.Common.{◌≡◌, ℕ, zero, suc, ◌+◌, List, [], ◌∷◌, map, drop, refl, sym, ap, ◌∙◌}
-use Rattle.std.specs.Prelude.{Bool, Some, None, true, false, unwrap_or, slice_get, if◌then◌else◌}
+use Rattle.std.specs.Prelude.{Bool, Option, Some, None, true, false, slice_get, if◌then◌else◌}
+use Rattle.llb_ops.specs.declared.op.Kind.{Kind}
 use Rattle.llb_ops.specs.declared.op.Kind.TheVariants as kind
-use Rattle.llb_ops.specs.declared.exec.ExecOp.{ExecOp}
 use Rattle.llb_loader.specs.Locals.{Local}
 use Rattle.llb_loader.specs.declared.graph.Vertex.{Vertex}
 use Rattle.llb_tree.specs.Tree.{TreeMap}
-use Rattle.llb_model.specs.Program.{Mounted, has_cache, mount_of, setting_of, shown_of}
+use Rattle.llb_model.specs.Program.{has_cache, mount_of, view_on}
 use Rattle.llb_model.proofs.Outcomes.{no_needs}
-use Rattle.llb_plain.specs.Programs.{ended_from, ended_by, program_by, exec_program}
+use Rattle.llb_execution.specs.Parts.{shown_in}
 use Rattle.llb_plain.specs.Evaluation.{cache_from}
 
 -- none of the vertices so far mounts one
@@ -26,7 +26,12 @@ none_has k (u ∷ vs) i v none at = by_test (has_cache u) refl none i at (none_h
     by_test false is none zero at rest = let same : u ≡ v = cc in ap has_cache (sym same) ∙ is
     by_test false is none (suc j) at rest = rest j v none at
 
--- an exec without a cache works on its own mounts alone
-pub exec_plain : (locals : List Local) (v : Vertex) (inputs : List TreeMap) (x : ExecOp) → has_cache v ≡ false
-    → ended_by locals v inputs (Some (kind.Exec x)) ≡ ended_from (exec_program (setting_of x.meta) x (unwrap_or v.script []) v.outputs) (Mounted (map (shown_of inputs) x.mounts) [])
-exec_plain locals v inputs x none = ap (λ needs. ended_from (program_by v (Some (kind.Exec x))) (Mounted (map (shown_of inputs) x.mounts) (map mount_of needs))) (no_needs v none)
+-- the view of a vertex without one shows none
+pub bare_on : (locals : List Local) (v : Vertex) (k : Option Kind) (inputs : List TreeMap) → has_cache v ≡ false → shown_in (view_on locals v k inputs) ≡ []
+bare_on locals v (Some (kind.Source s)) inputs none = refl
+bare_on locals v (Some (kind.File f)) inputs none = refl
+bare_on locals v (Some (kind.Merge m)) inputs none = refl
+bare_on locals v (Some (kind.Exec x)) inputs none = ap (map mount_of) (no_needs v none)
+bare_on locals v (Some (kind.Build b)) inputs none = refl
+bare_on locals v (Some (kind.Diff d)) inputs none = refl
+bare_on locals v None inputs none = refl

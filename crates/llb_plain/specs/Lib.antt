@@ -1,4 +1,3 @@
 pub mod Faults
 pub mod Endings
-pub mod Programs
 pub mod Evaluation

@@ -1,28 +1,21 @@
 //! The plain outcome of every vertex of a graph, from the lowest on.
 
-ghost use Rattle.std.specs.Prelude.{◌≡◌, false, Ok, [], map, option_map, unwrap_or};
+ghost use Rattle.std.specs.Prelude.{◌≡◌, false, Ok, map};
 ghost use Rattle.llb_loader.specs.Graph.{IsVertexOf, Numbered};
-ghost use Rattle.llb_model.specs.Outcome.{Ended, next_outcome, outcomes};
+ghost use Rattle.llb_model.specs.Outcome.{next_outcome, outcomes};
 ghost use Rattle.llb_model.specs.Program.{has_cache};
-ghost use Rattle.llb_model.specs.State.{missing_local};
 ghost use Rattle.llb_model.specs.Laws.{HasNoCaches};
 ghost use Rattle.llb_plain.specs.Endings.{outcome_of};
-ghost use Rattle.llb_plain.specs.Programs.{ended_by};
 ghost use Rattle.llb_plain.specs.Faults.{Gives, MemoryLast};
 ghost use Rattle.llb_plain.specs.Evaluation.{evaluate_of};
 
 use crate::cache::first_with_cache;
-use crate::exec::run_all;
 use crate::fault::PlainFault;
-use crate::file_op::act_all;
 use crate::gathering::gathered;
-use crate::merge::lay_all;
 use crate::outcome::{Outcome, Outcomes};
-use crate::source::read;
-use llb_applet::{Command, Script};
+use crate::running::run;
+use llb_execution::missing_local;
 use llb_loader::{Graph, Locals, Vertex};
-use llb_ops::Kind;
-use llb_tree::Tree;
 use llb_wire::Text;
 use std::alloc::Global;
 
@@ -34,7 +27,7 @@ pub fn evaluate(alloc: Global, graph: &Graph, locals: &Locals) -> Result<Outcome
     ensures gives { Gives (λ o. o) result (evaluate_of (record { graph = graph.now; locals = locals.now })) }
     ensures last { MemoryLast result (evaluate_of (record { graph = graph.now; locals = locals.now })) }
 {
-    if let Some(name) = missing(graph, locals) {
+    if let Some(name) = missing_local(graph, locals) {
         let name = Text::from_str(alloc, name)?;
         return Err(PlainFault::MissingLocal(name));
     }
@@ -42,20 +35,6 @@ pub fn evaluate(alloc: Global, graph: &Graph, locals: &Locals) -> Result<Outcome
         return Err(PlainFault::HasCache(vertex));
     }
     evaluate_all(alloc, graph, locals)
-}
-
-// The first name, by vertex, that no local tree is given for.
-fn missing<'a>(graph: &'a Graph, locals: &Locals) -> Option<&'a str>
-    ensures { option_map (λ t. t.now) result ≡ missing_local locals.now graph.now.vertices }
-{
-    for vertex in graph.vertices() {
-        if let Some(name) = vertex.local_name() {
-            if locals.get(name).is_none() {
-                return Some(name);
-            }
-        }
-    }
-    None
 }
 
 // One vertex after another.
@@ -84,44 +63,7 @@ fn next(
     ensures { (graph : Numbered) → Gives outcome_of result (Ok (next_outcome (record { graph = graph; locals = locals.now }) (map outcome_of before.now) vertex.now)) }
 {
     match gathered(alloc, before, vertex.inputs.as_slice())? {
-        Some(inputs) => run(alloc, vertex, locals, &inputs),
+        Some(inputs) => run(alloc, vertex, locals, inputs),
         None => Ok(Outcome::Blocked),
-    }
-}
-
-// How a vertex ends on the trees of its inputs.
-fn run(
-    alloc: Global,
-    vertex: &Vertex,
-    locals: &Locals,
-    inputs: &[&Tree],
-) -> Result<Outcome, PlainFault>
-    requires kind { IsVertexOf vertex.now vertex.now.op.kind }
-    requires cacheless { has_cache vertex.now ≡ false }
-    ensures { Gives outcome_of result (Ok (Ended (ended_by locals.now vertex.now (map (λ t. t.now) inputs.now) vertex.now.op.kind))) }
-{
-    match &vertex.op.kind {
-        Some(Kind::Source(_)) => Outcome::done_with(alloc, read(alloc, vertex, locals)?),
-        Some(Kind::File(file)) => {
-            act_all(alloc, file.actions.as_slice(), inputs, vertex.outputs)
-        }
-        Some(Kind::Merge(merge)) => {
-            Outcome::done_with(alloc, lay_all(alloc, merge.inputs.as_slice(), inputs)?)
-        }
-        Some(Kind::Exec(exec)) => {
-            let commands = commands_of(vertex.script.as_ref());
-            run_all(alloc, exec, commands, inputs, vertex.outputs)
-        }
-        _ => unreachable!(),
-    }
-}
-
-// The commands of a script.
-fn commands_of(script: Option<&Script>) -> &[Command]
-    ensures { result.now ≡ unwrap_or (option_map (λ s. s.now) script.entry) [] }
-{
-    match script {
-        Some(script) => script.commands(),
-        None => &[],
     }
 }

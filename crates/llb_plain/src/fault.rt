@@ -64,39 +64,3 @@ impl From<TreeFault> for PlainFault {
         PlainFault::Memory
     }
 }
-
-/// Of a laying, which can only lack memory.
-impl From<llb_merge::Memory> for PlainFault {
-    ghost use Rattle.std.specs.Prelude.{◌≡◌};
-    ghost use Rattle.llb_plain.specs.declared.fault.PlainFault.TheVariants as plain;
-
-    ghost from_gives = { λ _ e. e ≡ plain.Memory };
-
-    fn from(_: llb_merge::Memory) -> PlainFault {
-        PlainFault::Memory
-    }
-}
-
-/// Of a view, which can only lack memory.
-impl From<llb_mount::Memory> for PlainFault {
-    ghost use Rattle.std.specs.Prelude.{◌≡◌};
-    ghost use Rattle.llb_plain.specs.declared.fault.PlainFault.TheVariants as plain;
-
-    ghost from_gives = { λ _ e. e ≡ plain.Memory };
-
-    fn from(_: llb_mount::Memory) -> PlainFault {
-        PlainFault::Memory
-    }
-}
-
-/// Of a command, which can only lack memory.
-impl From<llb_applet::Memory> for PlainFault {
-    ghost use Rattle.std.specs.Prelude.{◌≡◌};
-    ghost use Rattle.llb_plain.specs.declared.fault.PlainFault.TheVariants as plain;
-
-    ghost from_gives = { λ _ e. e ≡ plain.Memory };
-
-    fn from(_: llb_applet::Memory) -> PlainFault {
-        PlainFault::Memory
-    }
-}

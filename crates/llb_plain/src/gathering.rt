@@ -1,8 +1,6 @@
-//! The trees of a vertex's inputs, among the outcomes of the vertices below it. They are looked at where they stand.
+//! The trees of a vertex's inputs, among the outcomes of the vertices below it, as second owners.
 
-ghost use Rattle.std.specs.Prelude.{◌≡◌, Ok, map, option_map, unwrap_or};
-ghost use Rattle.llb_tree.specs.Tree.{empty_tree};
-ghost use Rattle.llb_model.specs.Program.{base_in};
+ghost use Rattle.std.specs.Prelude.{◌≡◌, Ok, map, option_map};
 ghost use Rattle.llb_model.specs.Outcome.{inputs_from, output_in};
 ghost use Rattle.llb_plain.specs.Endings.{outcome_of, ending_among};
 ghost use Rattle.llb_plain.specs.Faults.{Gives};
@@ -24,29 +22,19 @@ fn output_at<'a>(before: &'a [Outcome], edge: Edge) -> Option<&'a Tree>
 }
 
 /// The trees that the edges lead to, in their order; `None` where the vertex of one is not done.
-pub(crate) fn gathered<'a>(
+pub(crate) fn gathered(
     alloc: Global,
-    before: &'a [Outcome],
+    before: &[Outcome],
     edges: &[Edge],
-) -> Result<Option<Vec<&'a Tree>>, PlainFault>
-    ensures { Gives (option_map (λ v. map (λ t. t.now) v.items)) result (Ok (inputs_from (ending_among (map outcome_of before.now)) edges.now)) }
+) -> Result<Option<Vec<Tree>>, PlainFault>
+    ensures { Gives (option_map (λ v. v.items)) result (Ok (inputs_from (ending_among (map outcome_of before.now)) edges.now)) }
 {
     let mut trees = Vec::new(alloc);
     for edge in edges {
         match output_at(before, *edge) {
-            Some(tree) => trees.push(tree)?,
+            Some(tree) => trees.push(tree.copy()?)?,
             None => return Ok(None),
         }
     }
     Ok(Some(trees))
-}
-
-/// The tree of an input; `None` stands for the empty tree.
-pub(crate) fn input_tree<'a>(inputs: &[&'a Tree], number: i64) -> Option<&'a Tree>
-    ensures { unwrap_or (option_map (λ t. t.now) result) empty_tree ≡ base_in number (map (λ t. t.now) inputs.now) }
-{
-    if number < 0 {
-        return None;
-    }
-    inputs.get(number as usize).copied()
 }

@@ -1,9 +1,9 @@
 //! How the vertices of a graph end: each with its outputs, with its first fault, or not at all.
 
-ghost use Rattle.std.specs.Prelude.{◌≡◌, ◌==◌, ◌++◌, ◌∷◌, [], Ok, Some, length, map, option_map, slice_get, true, IfErr, OnOk, OnErr};
-ghost use Rattle.llb_model.specs.Outcome.{Ended, Done, ending_in, output_in};
+ghost use Rattle.std.specs.Prelude.{◌≡◌, ◌==◌, ◌++◌, ◌∷◌, [], Some, length, map, option_map, slice_get, true, IfErr, OnOk, OnErr};
+ghost use Rattle.llb_model.specs.Outcome.{ending_in, output_in};
 ghost use Rattle.llb_plain.specs.Endings.{outcome_of};
-ghost use Rattle.llb_plain.specs.Faults.{Gives, is_memory};
+ghost use Rattle.llb_plain.specs.Faults.{is_memory};
 
 use crate::fault::PlainFault;
 use llb_model::VertexFault;
@@ -24,15 +24,6 @@ pub enum Outcome {
 }
 
 impl Outcome {
-    /// Done, with one output.
-    pub(crate) fn done_with(alloc: Global, tree: Tree) -> Result<Outcome, PlainFault>
-        ensures { Gives outcome_of result (Ok (Ended (Done (tree ∷ [])))) }
-    {
-        let mut outputs = Vec::new(alloc);
-        outputs.push(tree)?;
-        Ok(Outcome::Done(Many::new(outputs)))
-    }
-
     /// The output of that number, where the vertex is done.
     pub fn output(&self, index: u32) -> Option<&Tree>
         ensures { option_map (λ t. t.now) result ≡ output_in (ending_in (Some (outcome_of self.now))) index }

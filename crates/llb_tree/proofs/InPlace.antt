@@ -41,7 +41,7 @@ below_made w old [] (k ∷ made) n laid = absurd laid
 below_made w old (u ∷ upper) [] n laid = absurd laid
 below_made w old (u ∷ upper) (k ∷ made) n laid = λ i. is_lt (name_cmp n (laid.0.named i)) && below_made w old upper made n laid.1 i
 
-sorted_made : (w : WayValue) (old upper made : List Child) → AreLaid w old upper made
+pub sorted_made : (w : WayValue) (old upper made : List Child) → AreLaid w old upper made
     → is_sorted name_cmp (map pair_of made) ≡ is_sorted name_cmp (map pair_of upper)
 sorted_made w old [] [] laid = refl
 sorted_made w old [] (k ∷ made) laid = absurd laid
@@ -96,10 +96,6 @@ lays_puts w old upper made new h above laid is = record {
       ∙ ap (λ o. look_in o q) (find_puts m (map pair_of made) (map pair_of old) (subst T (sym (sorted_made w old upper made laid)) above))
       ∙ found_made w old upper made m q laid;
 }
-
-pub puts_none : (ks : List Child) (es : Pairs) → length ks ≡ 0 → puts (map pair_of ks) es ≡ es
-puts_none [] es none = refl
-puts_none (k ∷ ks) es none = absurd (omega (arith, none))
 
 pub err_holds : {A E P : Type 0} (r : Result A E) → P → OnErr r P
 err_holds (Ok x) p = tt

@@ -21,6 +21,7 @@ pub mod Overlaid
 pub mod Dressing
 pub mod Laying
 pub mod InPlace
+pub mod Merging
 pub mod Compared
 pub mod Fitting
 pub mod Walked

@@ -1,9 +1,11 @@
 -- What the steps of laying one tree over another make of nodes and of their children.
-use Rattle.std.specs.Prelude.{◌≡◌, ◌<◌, ◌^◌, ℕ, true, List, [], ◌∷◌, map, Option, Some, None}
+use Rattle.std.specs.Prelude.{◌≡◌, ◌≢◌, ◌<◌, ◌^◌, ℕ, true, T, List, [], ◌∷◌, ◌++◌, map, Option, Some, None}
+use Rattle.std.specs.declared.cmp.Ordering.{Ordering}
 use Rattle.std.specs.FinMap as finite
+use Rattle.std.specs.FinMap.Entries.{below_all}
 use Rattle.llb_tree.specs.Path.{name_cmp}
 use Rattle.llb_tree.specs.Tree.{TreeMap, Entry}
-use Rattle.llb_tree.specs.Nodes.{AreSorted, Pairs, child, look_in, name_of}
+use Rattle.llb_tree.specs.Nodes.{AreSorted, Pairs, child, look_in, name_of, pair_of}
 use Rattle.llb_tree.specs.Overlay.{WayValue, is_mode, over, over_at}
 use Rattle.llb_tree.specs.declared.node.Child.{Child}
 
@@ -34,6 +36,22 @@ AreLaid w old (u ∷ upper) (k ∷ made) = IsLaid w old u k × AreLaid w old upp
 abbrev pub puts : Pairs → Pairs → Pairs
 puts [] old = old
 puts (k ∷ ks) old = puts ks (finite.put name_cmp k.0 k.1 old)
+
+-- there is no first child, or its name is not in that order to the name
+abbrev pub IsNotFirst : List ℕ → Ordering → List Child → Type 0
+IsNotFirst n o [] = Unit {0}
+IsNotFirst n o (k ∷ ks) = name_cmp (name_of k) n ≢ o
+
+-- the first child is taken if its name is in that order to the name, and else all stay
+abbrev pub TakesFirst : List ℕ → Ordering → List Child → Option Child → List Child → Type 0
+TakesFirst n o old None new = (new ≡ old) × IsNotFirst n o old
+TakesFirst n o old (Some k) new = (old ≡ k ∷ new) × (name_cmp (name_of k) n ≡ o)
+
+-- What a step of one pass keeps, which puts a child in and moves others from the rest to the list: whatever is put in after
+-- it, of names above the child's, the list and then the rest come to what they would if the child were put in with it.
+abbrev pub PutsNext : Child → List Child → List Child → List Child → List Child → Type 0
+PutsNext child list rest list_after rest_after = (ks : Pairs) → T (below_all name_cmp (name_of child) ks)
+    → map pair_of list_after ++ puts ks (map pair_of rest_after) ≡ map pair_of list ++ puts (pair_of child ∷ ks) (map pair_of rest)
 
 -- an owner that is given is a number of 32 bits
 abbrev pub owner_fits : Option ℕ → Type 0

@@ -1,7 +1,0 @@
-use Rattle.std.specs.Prelude.{vec_capacity}
-use Rattle.llb_ops.specs.declared.exec.Mount.{Mount}
-use Rattle.llb_board.proofs.Lists.{Copied}
-use Rattle.llb_board.proofs.job.given_by.Given as goal
-
-abbrev pub invariant-loop-mount : goal.invariant-loop-mount
-invariant-loop-mount l = Copied (λ (m : Mount). m.output) l.mounts l.mount-index l.numbers.items (vec_capacity l.numbers)

@@ -1,0 +1,87 @@
+//! A command on mounts of which some show caches, whose trees come in from outside for that one command. Stands on mounts and
+//! on commands; it knows neither keys nor instances.
+
+ghost use Rattle.std.specs.Prelude.{◌≡◌, ◌<◌, ℕ, length, replicate, IfOk, OnErr};
+ghost use Rattle.std.specs.List.{All};
+ghost use Rattle.llb_tree.specs.Tree.{empty_tree};
+ghost use Rattle.llb_applet.specs.Commands.{run};
+ghost use Rattle.llb_model.specs.Caches.{Distinct};
+ghost use Rattle.llb_model.specs.Program.{Mounted, filled, taken, ran, tried};
+ghost use Rattle.llb_execution.specs.Parts.{work_with, left_with, exit_of};
+
+use crate::refusal::NoMemory;
+use llb_applet::{Command, Setting, run_command};
+use llb_mount::View as Mounts;
+use llb_tree::Tree;
+use llb_wire::Memory;
+use std::alloc::Global;
+use std::mem;
+
+/// As many empty trees. `Memory` is the want of memory, and the one refusal.
+pub fn empty_trees(alloc: Global, count: u32) -> Result<Vec<Tree>, Memory>
+    ensures { IfOk result (λ v. v.items ≡ replicate count empty_tree) }
+{
+    Ok(blanks(alloc, count as usize)?)
+}
+
+// As many empty trees.
+fn blanks(alloc: Global, count: usize) -> Result<Vec<Tree>, NoMemory>
+    ensures { IfOk result (λ v. v.items ≡ replicate count empty_tree) }
+{
+    let mut trees = Vec::new(alloc);
+    for _i in 0..count {
+        trees.push(Tree::empty(alloc)?)?;
+    }
+    Ok(trees)
+}
+
+// Exchanges each tree with the one in the mount of its number. The spare tree stands where a tree is on its way.
+fn swap_all(mounts: &mut Mounts, numbers: &[u32], trees: &mut Vec<Tree>, spare: Tree) -> Tree
+    requires apart { Distinct numbers.now }
+    requires within { All (λ n. n < length mounts.old) numbers.now }
+    requires count { length trees.old.items ≡ length numbers.now }
+    ensures mounts { mounts.new ≡ filled mounts.old numbers.now trees.old.items }
+    ensures trees { trees.new.items ≡ taken mounts.old numbers.now trees.old.items }
+{
+    let mut spare = spare;
+    for i in 0..numbers.len() {
+        let tree = mem::replace(&mut trees[i], spare);
+        let shown = mounts.swap_tree(numbers[i], tree);
+        spare = mem::replace(&mut trees[i], shown);
+    }
+    spare
+}
+
+/// Runs a command on mounts of which those of these numbers show these trees meanwhile, and answers its status. Where that is 0,
+/// the trees are written back and these mounts are empty; else, and where memory is refused, mounts and trees are as they were.
+pub(crate) fn run_filled(
+    alloc: Global,
+    command: &Command,
+    setting: &Setting,
+    mounts: &mut Mounts,
+    numbers: &[u32],
+    trees: &mut Vec<Tree>,
+) -> Result<u32, NoMemory>
+    requires apart { Distinct numbers.now }
+    requires within { All (λ n. n < length mounts.old) numbers.now }
+    requires count { length trees.old.items ≡ length numbers.now }
+    ensures left { IfOk result (λ status. (k : ℕ) → left_with (Mounted mounts.new numbers.now) trees.new.items (exit_of k status)
+        ≡ tried (work_with (Mounted mounts.old numbers.now) trees.old.items)
+        (ran k numbers.now trees.old.items (run setting.now (filled mounts.old numbers.now trees.old.items) command.now))) }
+    ensures err { OnErr result ((mounts.new ≡ mounts.old) × (trees.new.items ≡ trees.old.items)) }
+{
+    if numbers.is_empty() {
+        return Ok(u32::from(run_command(alloc, command, setting, mounts)?));
+    }
+    let spare = Tree::empty(alloc)?;
+    let mut blanks = blanks(alloc, numbers.len())?;
+    let spare = swap_all(mounts, numbers, trees, spare);
+    let ran = run_command(alloc, command, setting, mounts);
+    let spare = swap_all(mounts, numbers, trees, spare);
+    let status = ran?;
+    if status != 0 {
+        return Ok(u32::from(status));
+    }
+    swap_all(mounts, numbers, &mut blanks, spare);
+    Ok(0)
+}

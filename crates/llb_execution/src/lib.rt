@@ -1,0 +1,20 @@
+//! One vertex's execution: its program of micro-steps, what they work on, and the outputs that they leave. Stands on what single
+//! operations do; it knows no other vertex, no state and no worker, and it keeps no caches.
+#![tactic(auto)]
+
+mod filling;
+mod micro_step;
+mod missing;
+mod mounting;
+mod outputs;
+mod program;
+mod refusal;
+mod view;
+
+pub use filling::empty_trees;
+pub use llb_wire::Memory;
+pub use micro_step::{MicroStep, step_count, step_of};
+pub use missing::missing_local;
+pub use mounting::{input_tree, mounts_of, setting_of};
+pub use program::Program;
+pub use view::View;

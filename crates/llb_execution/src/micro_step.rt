@@ -1,0 +1,99 @@
+//! The micro-steps of a vertex, one by one: each is a part of the vertex, or of a program of its own, that is looked at where it
+//! stands. Nothing here does one.
+
+ghost use Rattle.std.specs.Prelude.{◌≡◌, ◌∷◌, [], length, map, option_map, slice_get, unwrap_or};
+ghost use Rattle.llb_loader.specs.Graph.{IsVertexOf};
+ghost use Rattle.llb_model.specs.Program.{ReadLocal, Act, LayInput, Run, program_of};
+ghost use Rattle.llb_ops.specs.declared.merge.MergeInput as merge_input;
+ghost use Rattle.llb_execution.specs.Parts.{step_in, kind_setting};
+
+use llb_applet::{Command, Script, Setting};
+use llb_loader::Vertex;
+use llb_ops::{Action, Kind, MergeInput};
+
+/// One micro-step: the read of a source's local tree, an action of a file op, the laying of a merge's input, by number, over those
+/// before it, or a command of an exec where its commands run.
+#[derive(Clone, Copy)]
+pub enum MicroStep<'a> {
+    ReadLocal,
+    Act(&'a Action),
+    LayInput(i64),
+    Run(&'a Setting, &'a Command),
+}
+
+/// How many micro-steps a vertex has. Takes no memory.
+pub fn step_count(vertex: &Vertex) -> u32
+    requires { IsVertexOf vertex.now vertex.now.op.kind }
+    ensures { result ≡ length (program_of vertex.now).steps }
+{
+    vertex.steps
+}
+
+/// The micro-step of that number, from 0, of a vertex whose commands run in this setting (`setting_of`); `None` from the number of
+/// its micro-steps on. Takes no memory.
+pub fn step_of<'a>(vertex: &'a Vertex, setting: &'a Setting, k: u32) -> Option<MicroStep<'a>>
+    requires { setting.now ≡ kind_setting vertex.now.op.kind }
+    ensures { option_map step_in result ≡ slice_get (program_of vertex.now).steps k }
+{
+    match &vertex.op.kind {
+        Some(Kind::Source(_)) => read_at(k),
+        Some(Kind::File(file)) => act_at(file.actions.as_slice(), k),
+        Some(Kind::Merge(merge)) => lay_at(merge.inputs.as_slice(), k),
+        Some(Kind::Exec(_)) => run_at(setting, commands_of(&vertex.script), k),
+        _ => None,
+    }
+}
+
+/// The one micro-step of a source.
+pub(crate) fn read_at<'a>(k: u32) -> Option<MicroStep<'a>>
+    ensures { option_map step_in result ≡ slice_get (ReadLocal ∷ []) k }
+{
+    if k > 0 {
+        return None;
+    }
+    Some(MicroStep::ReadLocal)
+}
+
+/// The action of that number.
+pub(crate) fn act_at<'a>(actions: &'a [Action], k: u32) -> Option<MicroStep<'a>>
+    ensures { option_map step_in result ≡ slice_get (map Act actions.now) k }
+{
+    match actions.get(k as usize) {
+        Some(action) => Some(MicroStep::Act(action)),
+        None => None,
+    }
+}
+
+// The laying of the input of that number.
+fn lay_at<'a>(inputs: &'a [MergeInput], k: u32) -> Option<MicroStep<'a>>
+    ensures { option_map step_in result ≡ slice_get (map (λ (i : merge_input.MergeInput). LayInput i.input) inputs.now) k }
+{
+    match inputs.get(k as usize) {
+        Some(input) => Some(MicroStep::LayInput(input.input)),
+        None => None,
+    }
+}
+
+/// The command of that number.
+pub(crate) fn run_at<'a>(
+    setting: &'a Setting,
+    commands: &'a [Command],
+    k: u32,
+) -> Option<MicroStep<'a>>
+    ensures { option_map step_in result ≡ slice_get (map (Run setting.now) commands.now) k }
+{
+    match commands.get(k as usize) {
+        Some(command) => Some(MicroStep::Run(setting, command)),
+        None => None,
+    }
+}
+
+// The commands of a script, where there is one.
+fn commands_of(script: &Option<Script>) -> &[Command]
+    ensures { result.now ≡ unwrap_or script.now [] }
+{
+    match script {
+        Some(script) => script.commands(),
+        None => &[],
+    }
+}

@@ -1,0 +1,20 @@
+//! The local trees that a graph names and that are not given.
+
+ghost use Rattle.std.specs.Prelude.{◌≡◌, option_map};
+ghost use Rattle.llb_model.specs.State.{missing_local};
+
+use llb_loader::{Graph, Locals};
+
+/// The first name, by vertex, that no local tree is given for. Takes no memory.
+pub fn missing_local<'a>(graph: &'a Graph, locals: &Locals) -> Option<&'a str>
+    ensures { option_map (λ t. t.now) result ≡ missing_local locals.now graph.now.vertices }
+{
+    for vertex in graph.vertices() {
+        if let Some(name) = vertex.local_name() {
+            if locals.get(name).is_none() {
+                return Some(name);
+            }
+        }
+    }
+    None
+}

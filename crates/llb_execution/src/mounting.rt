@@ -1,0 +1,155 @@
+//! What the commands of an exec share: where they run, and the mounts as they show the trees of the inputs at first. Nothing here
+//! runs a command.
+
+ghost use Rattle.std.specs.Prelude.{◌≡◌, IfOk, map, option_map, unwrap_or};
+ghost use Rattle.llb_tree.specs.Tree.{empty_tree};
+ghost use Rattle.llb_mount.specs.View.{IsView};
+ghost use Rattle.llb_loader.specs.Rules.{kind_mounts};
+ghost use Rattle.llb_model.specs.Program.{path_in, setting_of, selector_of, tree_shown, shown_of, base_in};
+ghost use Rattle.llb_execution.specs.Parts.{kind_setting};
+
+use crate::refusal::NoMemory;
+use llb_applet::Setting;
+use llb_loader::Vertex;
+use llb_mount::{Shown, View};
+use llb_ops::{Kind, Meta, Mount};
+use llb_tree::{Path, Tree, TreeFault};
+use llb_wire::{Many, Memory, Text};
+use std::alloc::Global;
+
+/// A bind mount's type.
+const BIND: i32 = 0;
+
+/// A tmpfs mount's type.
+const TMPFS: i32 = 4;
+
+/// Where the commands of a vertex run: an exec's cwd and env, and of any other vertex, which has no commands, the root and no env.
+/// `Memory` is the want of memory, and the one refusal.
+pub fn setting_of(alloc: Global, vertex: &Vertex) -> Result<Setting, Memory>
+    ensures { IfOk result (λ s. s ≡ kind_setting vertex.now.op.kind) }
+{
+    match &vertex.op.kind {
+        Some(Kind::Exec(exec)) => Ok(setting_with(alloc, &exec.meta)?),
+        _ => Ok(setting_with(alloc, &None)?),
+    }
+}
+
+/// Where commands run that have this meta.
+pub(crate) fn setting_with(alloc: Global, meta: &Option<Meta>) -> Result<Setting, NoMemory>
+    ensures { IfOk result (λ s. s ≡ setting_of meta.now) }
+{
+    match meta {
+        Some(meta) => {
+            let cwd = path_in(alloc, &meta.cwd)?;
+            let env = copies(alloc, meta.env.as_slice())?;
+            Ok(Setting {
+                cwd,
+                env: Many::new(env),
+            })
+        }
+        None => Ok(Setting {
+            cwd: Path::root(alloc),
+            env: Many::new(Vec::new(alloc)),
+        }),
+    }
+}
+
+// The path that a text reads as; the root where it reads as none.
+fn path_in(alloc: Global, text: &Text) -> Result<Path, NoMemory>
+    ensures { IfOk result (λ p. p ≡ path_in text.now) }
+{
+    match Path::read(alloc, text.as_str()) {
+        Ok(path) => Ok(path),
+        Err(TreeFault::Memory) => Err(NoMemory),
+        Err(_) => Ok(Path::root(alloc)),
+    }
+}
+
+// Copies of texts.
+fn copies(alloc: Global, texts: &[Text]) -> Result<Vec<Text>, NoMemory>
+    ensures { IfOk result (λ v. v.items ≡ texts.now) }
+{
+    let mut copied = Vec::new(alloc);
+    for text in texts {
+        copied.push(text.copy()?)?;
+    }
+    Ok(copied)
+}
+
+/// The mounts of a kind: those of an exec. Takes no memory.
+pub fn mounts_of(kind: &Option<Kind>) -> &[Mount]
+    ensures { result.now ≡ kind_mounts kind.now }
+{
+    match kind {
+        Some(Kind::Exec(exec)) => exec.mounts.as_slice(),
+        _ => &[],
+    }
+}
+
+/// The view of mounts that show these inputs.
+pub(crate) fn view_of(alloc: Global, inputs: &[Tree], mounts: &[Mount]) -> Result<View, NoMemory>
+    requires { IsView (map (shown_of inputs.now) mounts.now) }
+    ensures { IfOk result (λ v. v ≡ map (shown_of inputs.now) mounts.now) }
+{
+    let shown = all_shown(alloc, inputs, mounts)?;
+    Ok(View::make(Many::new(shown))?)
+}
+
+// The mounts as they show these inputs.
+fn all_shown(alloc: Global, inputs: &[Tree], mounts: &[Mount]) -> Result<Vec<Shown>, NoMemory>
+    ensures { IfOk result (λ v. v.items ≡ map (shown_of inputs.now) mounts.now) }
+{
+    let mut shown = Vec::new(alloc);
+    for mount in mounts {
+        shown.push(shown_of(alloc, inputs, mount)?)?;
+    }
+    Ok(shown)
+}
+
+// A mount as it shows these inputs.
+fn shown_of(alloc: Global, inputs: &[Tree], mount: &Mount) -> Result<Shown, NoMemory>
+    ensures { IfOk result (λ m. m ≡ shown_of inputs.now mount.now) }
+{
+    let dest = path_in(alloc, &mount.dest)?;
+    let selector = selector_of(alloc, mount)?;
+    let tree = tree_shown(alloc, inputs, mount)?;
+    Ok(Shown {
+        dest,
+        selector,
+        readonly: mount.readonly,
+        tree,
+    })
+}
+
+// The path in its tree that a mount shows: of a tmpfs the root.
+fn selector_of(alloc: Global, mount: &Mount) -> Result<Path, NoMemory>
+    ensures { IfOk result (λ p. p ≡ selector_of mount.now) }
+{
+    if mount.mount_type == TMPFS {
+        return Ok(Path::root(alloc));
+    }
+    path_in(alloc, &mount.selector)
+}
+
+// The tree that a mount shows: a bind mount its input's, another one the empty tree.
+fn tree_shown(alloc: Global, inputs: &[Tree], mount: &Mount) -> Result<Tree, NoMemory>
+    ensures { IfOk result (λ t. t ≡ tree_shown inputs.now mount.now) }
+{
+    if mount.mount_type != BIND {
+        return Ok(Tree::empty(alloc)?);
+    }
+    match input_tree(inputs, mount.input) {
+        Some(tree) => Ok(tree.copy()?),
+        None => Ok(Tree::empty(alloc)?),
+    }
+}
+
+/// The tree of an input by its number; `None` stands for the empty tree. Takes no memory.
+pub fn input_tree(inputs: &[Tree], input: i64) -> Option<&Tree>
+    ensures { unwrap_or (option_map (λ t. t.now) result) empty_tree ≡ base_in input inputs.now }
+{
+    if input < 0 {
+        return None;
+    }
+    inputs.get(input as usize)
+}

@@ -1,0 +1,114 @@
+//! The outputs of a vertex, as they are taken from what all its micro-steps left, in the places of the empty trees that were made
+//! for them. Nothing here takes memory.
+
+ghost use Rattle.std.specs.Prelude.{◌≡◌, map, length, replicate, slice_get};
+ghost use Rattle.std.specs.List.{range_with_len};
+ghost use Rattle.llb_tree.specs.Tree.{empty_tree};
+ghost use Rattle.llb_loader.specs.Rules.{mount_outputs};
+ghost use Rattle.llb_model.specs.Program.{program_of, tree_for, outputs_of};
+ghost use Rattle.llb_execution.specs.Parts.{own_of};
+ghost use Rattle.llb_execution.specs.Outputs.{actions_in, numbers_of, tree_by, first_placed, placed, placed_by};
+
+use crate::mounting::mounts_of;
+use crate::view::Own;
+use llb_loader::Vertex;
+use llb_mount::Shown;
+use llb_ops::{Action, Kind, Mount};
+use llb_tree::Tree;
+
+/// The outputs of what all micro-steps of a vertex left.
+pub(crate) fn outputs_of(own: Own, outputs: Vec<Tree>, vertex: &Vertex) -> Vec<Tree>
+    requires { outputs.items ≡ replicate (length outputs.items) empty_tree }
+    ensures { result.items ≡ outputs_of (record (program_of vertex.now) { outputs = length outputs.items }) (own_of own) }
+{
+    match own {
+        Own::Local(tree) => place_first(outputs, tree),
+        Own::Layers(_, tree) => place_first(outputs, tree),
+        Own::Files(_, results) => place_all(outputs, results, actions_of(&vertex.op.kind)),
+        Own::Mounted(view, _) => {
+            let mounts = view.into_mounts().into_vec();
+            place_shown(outputs, mounts, mounts_of(&vertex.op.kind))
+        }
+    }
+}
+
+// The actions of a kind: those of a file op.
+fn actions_of(kind: &Option<Kind>) -> &[Action]
+    ensures { result.now ≡ actions_in kind.now }
+{
+    match kind {
+        Some(Kind::File(file)) => file.actions.as_slice(),
+        _ => &[],
+    }
+}
+
+// A tree takes the place of the first output, where there is one.
+fn place_first(mut outputs: Vec<Tree>, tree: Tree) -> Vec<Tree>
+    ensures { result.items ≡ first_placed tree outputs.items }
+{
+    if !outputs.is_empty() {
+        outputs[0] = tree;
+    }
+    outputs
+}
+
+// Each result takes the place of its action's output, from the last one on, so that of two the first one stays.
+fn place_all(mut outputs: Vec<Tree>, mut results: Vec<Tree>, actions: &[Action]) -> Vec<Tree>
+    requires { outputs.items ≡ replicate (length outputs.items) empty_tree }
+    ensures { result.items ≡ map (λ i. tree_by i (numbers_of actions.now) results.items) (range_with_len 0 (length outputs.items)) }
+{
+    while let Some(tree) = results.pop() {
+        place(&mut outputs, action_output(actions, results.len()), tree);
+    }
+    outputs
+}
+
+// Each mount's whole tree takes the place of the mount's output, from the last one on.
+fn place_shown(mut outputs: Vec<Tree>, mut mounts: Vec<Shown>, given: &[Mount]) -> Vec<Tree>
+    requires { outputs.items ≡ replicate (length outputs.items) empty_tree }
+    ensures { result.items ≡ map (λ i. tree_for i (mount_outputs given.now) mounts.items) (range_with_len 0 (length outputs.items)) }
+{
+    while let Some(shown) = mounts.pop() {
+        place(&mut outputs, mount_output(given, mounts.len()), shown.tree);
+    }
+    outputs
+}
+
+// The output of an action.
+fn action_output(actions: &[Action], a: usize) -> Option<i64>
+    ensures { result ≡ slice_get (numbers_of actions.now) a }
+{
+    match actions.get(a) {
+        Some(action) => Some(action.output),
+        None => None,
+    }
+}
+
+// The output of a mount.
+fn mount_output(mounts: &[Mount], m: usize) -> Option<i64>
+    ensures { result ≡ slice_get (mount_outputs mounts.now) m }
+{
+    match mounts.get(m) {
+        Some(mount) => Some(mount.output),
+        None => None,
+    }
+}
+
+// A tree takes the place of an output, where it has one.
+fn place(outputs: &mut Vec<Tree>, number: Option<i64>, tree: Tree)
+    ensures { outputs.new.items ≡ placed_by number tree outputs.old.items }
+{
+    match number {
+        None => {}
+        Some(output) => put(outputs, output, tree),
+    }
+}
+
+// A tree takes an output's place, where there is one.
+fn put(outputs: &mut Vec<Tree>, output: i64, tree: Tree)
+    ensures { outputs.new.items ≡ placed output tree outputs.old.items }
+{
+    if output >= 0 && (output as usize) < outputs.len() {
+        outputs[output as usize] = tree;
+    }
+}

@@ -1,0 +1,70 @@
+//! The want of memory, as all calls of lower crates that are made here can refuse it: each of their refusals is one.
+
+use llb_applet::ScriptFault;
+use llb_tree::TreeFault;
+use llb_wire::Memory;
+use std::alloc::{AllocError, AllocFailed};
+
+/// Memory was refused.
+#[derive(Clone, Copy)]
+pub(crate) struct NoMemory;
+
+impl From<NoMemory> for Memory {
+    fn from(_: NoMemory) -> Memory {
+        Memory
+    }
+}
+
+impl From<AllocError> for NoMemory {
+    fn from(_: AllocError) -> NoMemory {
+        NoMemory
+    }
+}
+
+impl<T: Drop> From<AllocFailed<T>> for NoMemory {
+    fn from(_: AllocFailed<T>) -> NoMemory {
+        NoMemory
+    }
+}
+
+/// Of a copy of a text or of actions.
+impl From<Memory> for NoMemory {
+    fn from(_: Memory) -> NoMemory {
+        NoMemory
+    }
+}
+
+/// Of a new tree or a copy of one, which can only lack memory.
+impl From<TreeFault> for NoMemory {
+    fn from(_: TreeFault) -> NoMemory {
+        NoMemory
+    }
+}
+
+/// Of a copy of a script, which can only lack memory.
+impl From<ScriptFault> for NoMemory {
+    fn from(_: ScriptFault) -> NoMemory {
+        NoMemory
+    }
+}
+
+/// Of a view of mounts.
+impl From<llb_mount::Memory> for NoMemory {
+    fn from(_: llb_mount::Memory) -> NoMemory {
+        NoMemory
+    }
+}
+
+/// Of a laying.
+impl From<llb_merge::Memory> for NoMemory {
+    fn from(_: llb_merge::Memory) -> NoMemory {
+        NoMemory
+    }
+}
+
+/// Of a command.
+impl From<llb_applet::Memory> for NoMemory {
+    fn from(_: llb_applet::Memory) -> NoMemory {
+        NoMemory
+    }
+}

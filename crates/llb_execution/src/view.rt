@@ -1,0 +1,321 @@
+//! What a program works on, which owns its data: it begins on the trees of the vertex's inputs, each micro-step changes it, and the
+//! outputs are taken from it at the end. Stands on what one action, one laying and one command do.
+
+ghost use Rattle.std.specs.Prelude.{◌≡◌, ◌<◌, ℕ, List, length, map, option_map, replicate, unwrap_or, Some, None, IfOk, OnOk, OnErr};
+ghost use Rattle.std.specs.List.{All};
+ghost use Rattle.llb_tree.specs.Tree.{TreeMap, empty_tree};
+ghost use Rattle.llb_merge.specs.Laying.{lay};
+ghost use Rattle.llb_fileop.specs.Faults.{Gives};
+ghost use Rattle.llb_loader.specs.Graph.{IsVertexOf};
+ghost use Rattle.llb_model.specs.Caches.{Distinct};
+ghost use Rattle.llb_model.specs.Program.{Act, program_of, view_on, local_tree, mount_of, needs_of, trees_in, base_in, with_tree, act_among};
+ghost use Rattle.llb_model.specs.Program.{tree_fault_number, fault_number, lay_on, run_on, step_on, tried, outputs_of};
+ghost use Rattle.llb_execution.specs.Parts.{step_in, own_of, work_with, left_with, exit_of, mounts_in, shown_in};
+
+use crate::filling::run_filled;
+use crate::micro_step::MicroStep;
+use crate::mounting::{input_tree, view_of};
+use crate::outputs::outputs_of;
+use crate::refusal::NoMemory;
+use llb_applet::{Command, Setting};
+use llb_fileop::{ActFault, act};
+use llb_loader::{Locals, Vertex};
+use llb_merge::lay_over;
+use llb_model::VertexFault;
+use llb_mount::View as Mounts;
+use llb_ops::{Action, Kind};
+use llb_tree::{Tree, TreeFault};
+use llb_wire::Memory;
+use std::alloc::Global;
+use std::marker::Model;
+
+/// What a program works on: of a source its local tree, of a file op the trees of its inputs and the results so far, of a
+/// merge the trees of its inputs and what is laid so far, of an exec its mounts, of which those that show caches are empty.
+#[derive(Drop)]
+pub struct View {
+    own: Own,
+}
+
+#[derive(Drop)]
+pub(crate) enum Own {
+    Local(Tree),
+    Files(Vec<Tree>, Vec<Tree>),
+    Layers(Vec<Tree>, Tree),
+    Mounted(Mounts, Vec<u32>),
+}
+
+impl Model for View {
+    ghost use Rattle.std.specs.Coded.{codes};
+    ghost use Rattle.llb_tree.specs.Tree.{coded_tree};
+    ghost use Rattle.llb_model.specs.Program as model;
+    ghost use Rattle.llb_execution.specs.Parts.{own_of};
+
+    ghost Value = { model.View };
+
+    ghost coded = { Prim.hlevel (codes, coded_tree) };
+
+    ghost view = { λ v. own_of v.own };
+}
+
+impl View {
+    /// Before the first micro-step of a vertex: on the trees of its inputs, with the numbers of the mounts that show caches, in the
+    /// order of the needs. `Memory` is the want of memory, and the one refusal.
+    pub fn on(
+        alloc: Global,
+        locals: &Locals,
+        vertex: &Vertex,
+        inputs: Vec<Tree>,
+        caches: Vec<u32>,
+    ) -> Result<View, Memory>
+        requires kind { IsVertexOf vertex.now vertex.now.op.kind }
+        requires caches { caches.items ≡ map mount_of (needs_of vertex.now) }
+        ensures { IfOk result (λ v. v ≡ view_on locals.now vertex.now vertex.now.op.kind inputs.items) }
+    {
+        let own = own_on(alloc, locals, vertex, inputs, caches)?;
+        Ok(View { own })
+    }
+
+    /// Does micro-step k; that number stands in its fault. The trees are those of the instances of the caches that the view shows,
+    /// in the order of the needs, and a command leaves them as it changes them. The answer is the fault, where there is one, and
+    /// then the view and the trees are as they were. `Memory` is the want of memory, and the one refusal; then they are so too.
+    pub fn step(
+        &mut self,
+        alloc: Global,
+        k: u32,
+        step: MicroStep<'_>,
+        trees: &mut Vec<Tree>,
+    ) -> Result<Option<VertexFault>, Memory>
+        requires apart { Distinct (shown_in self.old) }
+        requires within { All (λ n. n < mounts_in self.old) (shown_in self.old) }
+        requires count { length trees.old.items ≡ length (shown_in self.old) }
+        ensures left { IfOk result (λ fault. record { work = work_with self.new trees.new.items; fault = fault }
+            ≡ step_on k (Some (step_in step.entry)) (work_with self.old trees.old.items)) }
+        ensures mounts { mounts_in self.new ≡ mounts_in self.old }
+        ensures shown { shown_in self.new ≡ shown_in self.old }
+        ensures count { length trees.new.items ≡ length trees.old.items }
+        ensures err { OnErr result ((self.new ≡ self.old) × (trees.new.items ≡ trees.old.items)) }
+    {
+        Ok(self.do_step(alloc, k, step, trees)?)
+    }
+
+    /// The outputs of what all micro-steps of the vertex left, each in the place of an empty tree that was made for it
+    /// (`empty_trees`). Takes no memory.
+    pub fn into_outputs(self, outputs: Vec<Tree>, vertex: &Vertex) -> Vec<Tree>
+        requires { outputs.items ≡ replicate vertex.now.outputs empty_tree }
+        ensures { result.items ≡ outputs_of (program_of vertex.now) self }
+    {
+        outputs_of(self.own, outputs, vertex)
+    }
+
+    // Does micro-step k.
+    fn do_step(
+        &mut self,
+        alloc: Global,
+        k: u32,
+        step: MicroStep<'_>,
+        trees: &mut Vec<Tree>,
+    ) -> Result<Option<VertexFault>, NoMemory>
+        requires apart { Distinct (shown_in self.old) }
+        requires within { All (λ n. n < mounts_in self.old) (shown_in self.old) }
+        requires count { length trees.old.items ≡ length (shown_in self.old) }
+        ensures left { IfOk result (λ fault. left_with self.new trees.new.items fault
+            ≡ step_on k (Some (step_in step.entry)) (work_with self.old trees.old.items)) }
+        ensures err { OnErr result ((self.new ≡ self.old) × (trees.new.items ≡ trees.old.items)) }
+    {
+        match step {
+            MicroStep::ReadLocal => Ok(None),
+            MicroStep::Act(action) => self.act(alloc, k, action),
+            MicroStep::LayInput(input) => {
+                self.lay(alloc, input)?;
+                Ok(None)
+            }
+            MicroStep::Run(setting, command) => {
+                let status = self.run(alloc, setting, command, trees)?;
+                Ok(exit_of(k, status))
+            }
+        }
+    }
+
+    // Does action k on the trees so far.
+    fn act(
+        &mut self,
+        alloc: Global,
+        k: u32,
+        action: &Action,
+    ) -> Result<Option<VertexFault>, NoMemory>
+        ensures left { IfOk result (λ fault. (trees : List TreeMap) →
+            left_with self.new trees fault ≡ step_on k (Some (Act action.now)) (work_with self.old trees)) }
+        ensures err { OnErr result (self.new ≡ self.old) }
+    {
+        match act_in(alloc, action, self) {
+            Ok(tree) => {
+                self.push(tree)?;
+                Ok(None)
+            }
+            Err(ActFault::Memory) => Err(NoMemory),
+            Err(fault) => Ok(Some(VertexFault::Action(k, number(fault)))),
+        }
+    }
+
+    // The tree of that number that an action can begin with; `None` stands for the empty tree.
+    fn tree(&self, number: i64) -> Option<&Tree>
+        ensures { unwrap_or (option_map (λ t. t.now) result) empty_tree ≡ base_in number (trees_in self.now) }
+    {
+        if number < 0 {
+            return None;
+        }
+        let at = number as usize;
+        match &self.own {
+            Own::Local(_) => None,
+            Own::Mounted(_, _) => None,
+            Own::Layers(inputs, _) => inputs.get(at),
+            Own::Files(inputs, results) => {
+                if at < inputs.len() {
+                    return inputs.get(at);
+                }
+                results.get(at - inputs.len())
+            }
+        }
+    }
+
+    // One result more of a file op.
+    fn push(&mut self, tree: Tree) -> Result<(), NoMemory>
+        ensures ok { OnOk result (self.new ≡ with_tree self.old tree) }
+        ensures err { OnErr result (self.new ≡ self.old) }
+    {
+        match &mut self.own {
+            Own::Files(_, results) => {
+                results.push(tree)?;
+                Ok(())
+            }
+            _ => Ok(()),
+        }
+    }
+
+    // A merge's input is laid over those before it.
+    fn lay(&mut self, alloc: Global, input: i64) -> Result<(), NoMemory>
+        ensures ok { OnOk result (self.new ≡ lay_on input self.old) }
+        ensures err { OnErr result (self.new ≡ self.old) }
+    {
+        match &mut self.own {
+            Own::Layers(inputs, laid) => lay_input(alloc, laid, inputs, input),
+            _ => Ok(()),
+        }
+    }
+
+    // A command runs on an exec's mounts, of which those that show caches have these trees meanwhile: its status.
+    fn run(
+        &mut self,
+        alloc: Global,
+        setting: &Setting,
+        command: &Command,
+        trees: &mut Vec<Tree>,
+    ) -> Result<u32, NoMemory>
+        requires apart { Distinct (shown_in self.old) }
+        requires within { All (λ n. n < mounts_in self.old) (shown_in self.old) }
+        requires count { length trees.old.items ≡ length (shown_in self.old) }
+        ensures left { IfOk result (λ status. (k : ℕ) → left_with self.new trees.new.items (exit_of k status)
+            ≡ tried (work_with self.old trees.old.items) (run_on k setting.now command.now self.old trees.old.items)) }
+        ensures err { OnErr result ((self.new ≡ self.old) × (trees.new.items ≡ trees.old.items)) }
+    {
+        match &mut self.own {
+            Own::Mounted(mounts, caches) => {
+                run_filled(alloc, command, setting, mounts, caches, trees)
+            }
+            _ => Ok(0),
+        }
+    }
+}
+
+// What a vertex's program begins on.
+fn own_on(
+    alloc: Global,
+    locals: &Locals,
+    vertex: &Vertex,
+    inputs: Vec<Tree>,
+    caches: Vec<u32>,
+) -> Result<Own, NoMemory>
+    requires kind { IsVertexOf vertex.now vertex.now.op.kind }
+    requires caches { caches.items ≡ map mount_of (needs_of vertex.now) }
+    ensures { IfOk result (λ own. own_of own ≡ view_on locals.now vertex.now vertex.now.op.kind inputs.items) }
+{
+    match &vertex.op.kind {
+        Some(Kind::Source(_)) => Ok(Own::Local(local_tree(alloc, locals, vertex)?)),
+        Some(Kind::Merge(_)) => Ok(Own::Layers(inputs, Tree::empty(alloc)?)),
+        Some(Kind::Exec(exec)) => {
+            let mounts = view_of(alloc, inputs.as_slice(), exec.mounts.as_slice())?;
+            Ok(Own::Mounted(mounts, caches))
+        }
+        _ => Ok(Own::Files(inputs, Vec::new(alloc))),
+    }
+}
+
+// A copy of the local tree of a source.
+fn local_tree(alloc: Global, locals: &Locals, vertex: &Vertex) -> Result<Tree, NoMemory>
+    ensures { IfOk result (λ t. t ≡ local_tree locals.now vertex.now) }
+{
+    let name = vertex.local_name().unwrap_or("");
+    match locals.get(name) {
+        Some(tree) => Ok(tree.copy()?),
+        None => Ok(Tree::empty(alloc)?),
+    }
+}
+
+// The result of an action on a view's trees.
+fn act_in(alloc: Global, action: &Action, view: &View) -> Result<Tree, ActFault>
+    ensures { Gives (λ t. t) result (act_among action.now (trees_in view.now)) }
+{
+    let second = view.tree(action.secondary_input);
+    match view.tree(action.input) {
+        Some(base) => act(alloc, action, base, second),
+        None => act(alloc, action, &Tree::empty(alloc)?, second),
+    }
+}
+
+// The number of an action's fault.
+fn number(fault: ActFault) -> u32
+    ensures { result ≡ fault_number fault }
+{
+    match fault {
+        ActFault::File(fault) => tree_number(fault),
+        ActFault::BadPattern => 52,
+        ActFault::Memory => 53,
+    }
+}
+
+// The number of a tree's fault.
+fn tree_number(fault: TreeFault) -> u32
+    ensures { result ≡ tree_fault_number fault }
+{
+    match fault {
+        TreeFault::NotFound => 21,
+        TreeFault::NotDir => 22,
+        TreeFault::IsDir => 23,
+        TreeFault::Conflict => 24,
+        TreeFault::Root => 25,
+        TreeFault::BadName => 26,
+        TreeFault::Memory => 27,
+    }
+}
+
+// Lays one of the inputs over a tree; -1 is the empty tree.
+fn lay_input(alloc: Global, laid: &mut Tree, inputs: &[Tree], input: i64) -> Result<(), NoMemory>
+    ensures ok { OnOk result (laid.new ≡ lay laid.old (base_in input inputs.now)) }
+    ensures err { OnErr result (laid.new ≡ laid.old) }
+{
+    match input_tree(inputs, input) {
+        Some(upper) => lay_over(laid, upper)?,
+        None => lay_over(laid, &Tree::empty(alloc)?)?,
+    }
+    Ok(())
+}
+
+// The fault of a command that ended with a status, where that is not 0.
+fn exit_of(command: u32, status: u32) -> Option<VertexFault>
+    ensures { result ≡ exit_of command status }
+{
+    if status == 0 {
+        return None;
+    }
+    Some(VertexFault::Exit(command, status))
+}

@@ -1,0 +1,65 @@
+//! How a vertex ends whose whole program is run on the trees of its inputs: one micro-step after another, until one faults.
+
+ghost use Rattle.std.specs.Prelude.{◌≡◌, false, [], Ok, Some, length};
+ghost use Rattle.llb_loader.specs.Graph.{IsVertexOf, Numbered};
+ghost use Rattle.llb_execution.specs.Parts.{kind_setting, left_with, shown_in, work_with};
+ghost use Rattle.llb_model.specs.Outcome.{outcome_on};
+ghost use Rattle.llb_model.specs.Program.{has_cache, program_of, whole};
+ghost use Rattle.llb_plain.specs.Endings.{outcome_of};
+ghost use Rattle.llb_plain.specs.Faults.{Gives};
+
+use crate::fault::PlainFault;
+use crate::outcome::Outcome;
+use llb_applet::Setting;
+use llb_execution::{View, empty_trees, setting_of, step_count, step_of};
+use llb_loader::{Locals, Vertex};
+use llb_model::VertexFault;
+use llb_tree::Tree;
+use llb_wire::Many;
+use std::alloc::Global;
+
+/// How a vertex that mounts no cache ends on the trees of its inputs.
+pub(crate) fn run(
+    alloc: Global,
+    vertex: &Vertex,
+    locals: &Locals,
+    inputs: Vec<Tree>,
+) -> Result<Outcome, PlainFault>
+    requires kind { IsVertexOf vertex.now vertex.now.op.kind }
+    requires cacheless { has_cache vertex.now ≡ false }
+    ensures { (graph : Numbered) → Gives outcome_of result
+        (Ok (outcome_on (record { graph = graph; locals = locals.now }) vertex.now (Some inputs.items))) }
+{
+    let setting = setting_of(alloc, vertex)?;
+    let mut view = View::on(alloc, locals, vertex, inputs, Vec::new(alloc))?;
+    if let Some(fault) = run_all(alloc, vertex, &setting, &mut view)? {
+        return Ok(Outcome::Failed(fault));
+    }
+    let outputs = empty_trees(alloc, vertex.outputs)?;
+    let outputs = view.into_outputs(outputs, vertex);
+    Ok(Outcome::Done(Many::new(outputs)))
+}
+
+// All micro-steps of a vertex on a view that shows no cache: the fault of the first that has one.
+fn run_all(
+    alloc: Global,
+    vertex: &Vertex,
+    setting: &Setting,
+    view: &mut View,
+) -> Result<Option<VertexFault>, PlainFault>
+    requires kind { IsVertexOf vertex.now vertex.now.op.kind }
+    requires setting { setting.now ≡ kind_setting vertex.now.op.kind }
+    requires cacheless { shown_in view.old ≡ [] }
+    ensures { Gives (left_with view.new []) result (Ok (whole (program_of vertex.now).steps (work_with view.old []))) }
+{
+    let mut trees = Vec::new(alloc);
+    for k in 0..step_count(vertex) {
+        let Some(step) = step_of(vertex, setting, k) else {
+            return Ok(None);
+        };
+        if let Some(fault) = view.step(alloc, k, step, &mut trees)? {
+            return Ok(Some(fault));
+        }
+    }
+    Ok(None)
+}
