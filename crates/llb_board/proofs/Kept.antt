@@ -1,7 +1,7 @@
 -- What the board's type keeps, as an event is done.
 use Rattle.std.proofs.Common.{◌≡◌, ℕ, ◌<◌, List, [], ◌∷◌, ◌++◌, map, length, refl, sym, ap, subst, ◌∙◌, arith, take, drop}
 use Rattle.std.specs.Prelude.{Bool, true, false, Option, Some, None, Result, Ok, slice_get, slice_set, replicate}
-use Rattle.std.proofs.lemmas.List.{length_push, length-replicate, drop_all, take_all, append-nil}
+use Rattle.std.proofs.lemmas.List.{length_push, drop_all, take_all, append-nil}
 use Rattle.llb_cache.specs.Caches.{CachesValue, Row, Leases, free_lease, with_lease, trimmed, IsOut}
 use Rattle.llb_tree.specs.Tree.{empty_tree}
 use Rattle.llb_loader.specs.declared.graph.Vertex.{Vertex}

@@ -5,7 +5,7 @@ use thiserror::Error;
 /// Why a vertex fails: its first micro-step that could not be done.
 #[derive(Clone, Copy, Debug, PartialEq, Eq, Error)]
 pub enum VertexFault {
-    /// The number of the action, and that of its fault: 21 to 26.
+    /// The number of the action, and that of its fault: 21 to 26, or 52 for a text that is no pattern.
     #[error("action {0} fault {1}")]
     Action(u32, u32),
     /// The number of the command, and its status.

@@ -1,4 +1,4 @@
-use Rattle.std.proofs.Common.{◌≡◌, ◌<◌, map, length, sym, ◌∙◌, ap, arith, rules}
+use Rattle.std.proofs.Common.{◌≡◌, map, sym, ◌∙◌, ap, rules}
 use Rattle.std.specs.Prelude.{true, false, ◌||◌, ◌&&◌, unwrap_or, slice_get}
 use Rattle.llb_model.specs.State.{is_waiting}
 use Rattle.llb_model.specs.Run.{is_settled}

@@ -1,4 +1,4 @@
-use Rattle.std.proofs.Common.{◌≡◌, ◌<◌, ℕ, ◌+◌, List, Some, length, map, refl, sym, ap, subst, ◌∙◌, arith, rules}
+use Rattle.std.proofs.Common.{◌≡◌, ◌<◌, ℕ, ◌+◌, List, Some, length, sym, ap, subst, ◌∙◌, arith, rules}
 use Rattle.std.specs.Prelude.{Ok, is_ok, slice_get}
 use Rattle.std.specs.List.{All}
 use Rattle.std.proofs.lemmas.Option.{slice_get_within}
@@ -8,7 +8,7 @@ use Rattle.llb_model.specs.Program.{Left, program_of}
 use Rattle.llb_model.specs.Table.{Reply}
 use Rattle.llb_execution.specs.Parts.{shown_in, step_in}
 use Rattle.llb_board.specs.Room.{Supplies}
-use Rattle.llb_board.specs.Rules.{Worked, worked_to}
+use Rattle.llb_board.specs.Rules.{worked_to}
 use Rattle.llb_board.specs.Views.{execution_of}
 use Rattle.llb_board.proofs.Steps.{goes_to}
 use Rattle.llb_board.proofs.Stepping.{last_of}

@@ -1,4 +1,4 @@
-use Rattle.std.proofs.Common.{◌≡◌, Some, None, length, sym, ap, ◌∙◌, rules}
+use Rattle.std.proofs.Common.{◌≡◌, Some, None, sym, ap, ◌∙◌, rules}
 use Rattle.std.specs.Prelude.{Ok, slice_get}
 use Rattle.llb_execution.specs.Parts.{left_with, step_in}
 use Rattle.llb_model.specs.Program.{program_of}

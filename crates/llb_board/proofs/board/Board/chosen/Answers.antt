@@ -1,4 +1,3 @@
-use Rattle.std.proofs.Common.{◌≡◌, ◌<◌, false, map}
 use Rattle.llb_model.proofs.Complete.{over_not_ready}
 use Rattle.llb_board.specs.Room.{seen}
 use Rattle.llb_board.proofs.Sound.{consistent}
