@@ -6,6 +6,7 @@ pub mod Each
 pub mod Members
 pub mod Counts
 pub mod Pushed
+pub mod Joined
 pub mod Written
 pub mod Again
 pub mod Kept

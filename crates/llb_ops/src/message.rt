@@ -7,7 +7,7 @@ ghost use Rattle.llb_ops.specs.Faults.{Gives};
 ghost use Rattle.llb_ops.specs.Records.{Shape, views, all, texts_fit, message_of, joined as joined_of, one as one_rule, each as each_rule, one_of as one_of_rule};
 
 use crate::fault::OpFault;
-use crate::records::{Record, chosen, count, joined, parts, since};
+use crate::records::{Record, chosen, count, joined, lone_payload, parts, room_for, since};
 use crate::shape::Named;
 use llb_wire::{Many, Memory};
 use std::alloc::Global;
@@ -53,7 +53,7 @@ pub fn read_message<M: Message>(alloc: Global, bytes: &[u8]) -> Result<M, OpFaul
     M::read(alloc, &records)
 }
 
-/// A message of the payloads of its records, one behind the other.
+/// A message of the payloads of its records, one behind the other. That of a single record is read where it lies.
 pub fn joined_message<M: Message>(
     alloc: Global,
     records: &[Record<'_>],
@@ -61,6 +61,9 @@ pub fn joined_message<M: Message>(
 ) -> Result<M, OpFault>
     ensures { Gives (λ m. m) result (message_of M.shape M.reading (joined_of (all number (views records.now)))) }
 {
+    if let Some(payload) = lone_payload(records, number) {
+        return read_message(alloc, payload);
+    }
     let bytes = joined(alloc, records, number)?;
     read_message(alloc, &bytes)
 }
@@ -89,7 +92,7 @@ pub fn each<M: Message>(
 ) -> Result<Many<M>, OpFault>
     ensures { Gives (λ ms. ms) result (each_rule (message_of M.shape M.reading) (all number (views records.now))) }
 {
-    let mut messages = Vec::new(alloc);
+    let mut messages = room_for(alloc, records, number)?;
     for part in records {
         if part.number == number {
             let message = read_message::<M>(alloc, part.payload)?;

@@ -1,6 +1,7 @@
 //! The records of a message, and what each kind of field is of them. Nothing here knows a message.
 
-ghost use Rattle.std.specs.Prelude.{◌≡◌, ◌+◌, ◌≤◌, ◌<◌, ◌==◌, Option, Some, Ok, length, drop, take, map, IfOk, option_map, is_none, not, true};
+ghost use Rattle.std.specs.Prelude.{◌≡◌, ◌+◌, ◌≤◌, ◌<◌, ◌==◌, Option, Some, Ok, [], length, drop, take, map, IfOk, option_map, is_none, not, true};
+ghost use Rattle.std.specs.Option.{IfSome};
 ghost use Rattle.std.specs.Str.{IsUtf8, is_utf8};
 ghost use Rattle.llb_wire.specs.Records.{record_of};
 ghost use Rattle.llb_ops.specs.Faults.{Gives};
@@ -222,6 +223,26 @@ pub fn last_text(
     Text::from_str(alloc, unsafe { from_utf8_unchecked(payload) })
 }
 
+/// How many records a field has.
+pub fn count(records: &[Record<'_>], number: u32) -> usize
+    ensures { result ≡ length (all_of number (views records.now)) }
+{
+    records.iter().filter(|r| r.number == number).count()
+}
+
+/// A list with room for an item of each record of a field, up to as many as the limit lets it have.
+pub fn room_for<T: Drop>(
+    alloc: Global,
+    records: &[Record<'_>],
+    number: u32,
+) -> Result<Vec<T>, Memory>
+    ensures { IfOk result (λ v. v.items ≡ []) }
+{
+    let room = count(records, number).min(FIELD_LIMIT);
+    let items = Vec::with_capacity(alloc, room)?;
+    Ok(items)
+}
+
 /// The texts of a field that is repeated, in order.
 pub fn each_text(
     alloc: Global,
@@ -233,7 +254,7 @@ pub fn each_text(
     requires texts { texts_fit shape.now (views records.now) ≡ true }
     ensures { IfOk result (λ ts. ts ≡ payloads (all_of number (views records.now))) }
 {
-    let mut items = Vec::new(alloc);
+    let mut items = room_for(alloc, records, number)?;
     for record in records {
         if record.number == number {
             let text = Text::from_str(alloc, unsafe { from_utf8_unchecked(record.payload) })?;
@@ -241,6 +262,17 @@ pub fn each_text(
         }
     }
     Ok(Many::new(items))
+}
+
+/// The payload of a field that has one record.
+#[tactic(auto, using(crate::proofs::Joined::of_one))]
+pub fn lone_payload<'a>(records: &[Record<'a>], number: u32) -> Option<&'a [u8]>
+    ensures { IfSome result (λ payload. payload.now ≡ joined_of (all_of number (views records.now))) }
+{
+    if count(records, number) != 1 {
+        return None;
+    }
+    Some(last_payload(records, number))
 }
 
 /// The payloads of a field, one behind the other.
@@ -260,7 +292,7 @@ pub fn joined(alloc: Global, records: &[Record<'_>], number: u32) -> Result<Vec<
 pub fn each_bytes(alloc: Global, records: &[Record<'_>], number: u32) -> Result<Many<Bytes>, Memory>
     ensures { IfOk result (λ bs. bs ≡ payloads (all_of number (views records.now))) }
 {
-    let mut items = Vec::new(alloc);
+    let mut items = room_for(alloc, records, number)?;
     for record in records {
         if record.number == number {
             let bytes = Bytes::from_slice(alloc, record.payload)?;
@@ -268,13 +300,6 @@ pub fn each_bytes(alloc: Global, records: &[Record<'_>], number: u32) -> Result<
         }
     }
     Ok(Many::new(items))
-}
-
-/// How many records a field has.
-pub fn count(records: &[Record<'_>], number: u32) -> usize
-    ensures { result ≡ length (all_of number (views records.now)) }
-{
-    records.iter().filter(|r| r.number == number).count()
 }
 
 /// No repeated field has too many records.

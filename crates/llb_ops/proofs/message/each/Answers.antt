@@ -8,7 +8,7 @@ use Rattle.llb_ops.proofs.message.each.Goals.{then-part-number+in_ok-message+in_
 
 pub returns-in_err-message : goal.returns-in_err-message
 returns-in_err-message g c =
-    let p = err_from_is_err_and c.from_residual.result c.from_residual.ensures.1 in
+    let p = err_from_is_err_and c.from_residual-in_err-message.result c.from_residual-in_err-message.ensures.1 in
     rw (p.1, p.2) (ends (message_of g.M.Message.shape g.M.Message.reading) c.in_err-message.field-0.0 c.loop-part.messages.items c.args.number c.args.records.now c.loop-part.part-index _ (each (message_of g.M.Message.shape g.M.Message.reading) (all c.args.number (views c.args.records.now))) c.loop-part-test.true (eq-eqb _ _ c.if-part-number.true) c.in_err-message.ensures c.loop-part.invariant)
 
 pub loop-part-preserved : goal.loop-part-preserved
