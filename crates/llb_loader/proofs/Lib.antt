@@ -18,3 +18,4 @@ pub mod Whole
 pub mod Single
 pub mod Lengths
 pub mod Executions
+pub mod Unread

@@ -12,7 +12,7 @@ use Rattle.llb_loader.specs.Placing.{IsMarked}
 use Rattle.llb_loader.specs.Naming.{row_named, terminal_in}
 use Rattle.llb_loader.specs.Rules.{IsBelow, output_count}
 use Rattle.llb_loader.specs.Linking.{op_at, input_at, Plan, plan, links_in, input_row, ReachedRow, HasInput, outputs_there, IsBadIndex, Foremost, HasResult, IsStarted, IsNamed, IsOrdered, IsTaken, IsValid, start_in, IsPlanOf, Refuses, Refused}
-use Rattle.llb_loader.specs.Checks.{RefusesUnknown, RefusesFeature, RefusesRule, RefusesIndex, FitsAll, FirstBad, asked_of, count_there}
+use Rattle.llb_loader.specs.Checks.{NamesAll, RefusesUnknown, RefusesFeature, RefusesRule, RefusesIndex, FitsAll, FirstBad, asked_of, count_there}
 use Rattle.llb_loader.proofs.Plans.{named_below, in_range, graph_at, row_below, NamedAt, named_at}
 
 pub not_empty : (n : ℕ) → false ≡ eqb n 0 → 0 < n
@@ -76,6 +76,15 @@ refuses_unknown rows ops t s Marked started exact e (k, i, same, marked, first, 
         ];
       },
     ))
+
+-- where the inputs of each marked row name rows, those of each reached one do
+pub all_named : (rows : List Row) (ops : List Op) (t s : ℕ) (Marked : ℕ → Type 0) → IsStarted (plan rows ops t s)
+    → ((k : ℕ) → Marked k ↔ ReachedRow (plan rows ops t s) k) → ((k : ℕ) → Marked k → NamesAll rows t (op_at ops k) (length (op_at ops k).inputs))
+    → IsNamed (plan rows ops t s)
+all_named rows ops t s Marked started exact named = record {
+  started = started;
+  named = λ k i u. named k ((exact k).1 u.input.reached) i u.input.here u.unknown;
+}
 
 pub refuses_feature : (rows : List Row) (ops : List Op) (t s : ℕ) (order : List ℕ) (Marked : ℕ → Type 0) → IsOrdered (plan rows ops t s) order
     → ((k : ℕ) → Marked k ↔ ReachedRow (plan rows ops t s) k) → (e : LoadFault) → RefusesFeature ops Marked e → Refuses (plan rows ops t s) e

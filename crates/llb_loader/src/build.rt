@@ -36,7 +36,7 @@ pub(crate) fn vertices_of(
     ensures len { IfOk result (λ vertices. length vertices.items ≡ length order.now) }
     ensures built { IfOk result (λ vertices. AreBuilt rows.now ops.items (lists links.now) ranks.now order.now vertices.items (length order.now)) }
 {
-    let mut vertices = Vec::new(alloc);
+    let mut vertices = Vec::with_capacity(alloc, order.len())?;
     for row in order {
         let op = mem::replace(&mut ops[*row], no_op(alloc));
         let vertex = vertex_of(alloc, &rows[*row].digest, op, links[*row].as_slice(), ranks)?;
@@ -118,7 +118,7 @@ fn edges_of(
     ensures len { IfOk result (λ edges. length edges.items ≡ length op.now.inputs) }
     ensures edges { IfOk result (λ edges. (i : ℕ) → i < length op.now.inputs → edge_at edges.items i ≡ edge_to (slice_index ranks.now (slice_index named.now i)) (input_at op.now i)) }
 {
-    let mut edges = Vec::new(alloc);
+    let mut edges = Vec::with_capacity(alloc, op.inputs.len())?;
     for (i, input) in op.inputs.as_slice().iter().enumerate() {
         edges.push(edge(ranks[named[i]], input))?;
     }

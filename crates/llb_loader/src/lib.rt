@@ -31,6 +31,6 @@ pub use fault::{Feature, LoadFault, Memory, Rule};
 pub use graph::{Edge, Graph, Vertex};
 pub use laws::{numbering_goes_down, one_answer, one_answer_in, one_numbering};
 pub use linking::link;
-pub use loading::load;
+pub use loading::{load, load_owned};
 pub use locals::Locals;
 pub use row::Row;

@@ -39,21 +39,21 @@ pub fn link(alloc: Global, rows: &[Row]) -> Result<Graph, LoadFault>
     }
     let index = index_of(alloc, rows)?;
     let terminal = terminal_of(rows, &index);
-    link_read(alloc, rows, &index, terminal, ops)
+    link_read(alloc, rows, index, terminal, ops)
 }
 
 // The rows are distinct enough and have their ops.
 fn link_read(
     alloc: Global,
     rows: &[Row],
-    index: &IndexMap<&str, usize>,
+    index: IndexMap<&str, usize>,
     terminal: usize,
     ops: Vec<Op>,
 ) -> Result<Graph, LoadFault>
     requires few { length rows.now ≤ 65_536 }
     requires ops { length ops.items ≡ length rows.now }
     requires within { All IsWithinLimits ops.items }
-    requires index { IsIndex rows.now index.now }
+    requires index { IsIndex rows.now index }
     requires apart { IsApart rows.now }
     requires terminal { IsTerminal rows.now terminal }
     requires found { terminal ≡ terminal_in rows.now }
@@ -65,12 +65,13 @@ fn link_read(
         return Err(LoadFault::NoResult);
     }
     let result = &last.inputs.as_slice()[0];
-    let Some(start) = row_of(rows, index, terminal, &result.digest) else {
+    let Some(start) = row_of(rows, &index, terminal, &result.digest) else {
         return Err(LoadFault::UnknownDigest(terminal as u32, 0));
     };
-    let links = links_of(alloc, rows, index, terminal, &ops)?;
+    let links = links_of(alloc, rows, &index, terminal, &ops)?;
     let seen = reached(alloc, &links, start)?;
-    check_names(rows, index, terminal, &ops, &seen)?;
+    check_names(rows, &index, terminal, &ops, &seen)?;
+    drop(index);
     link_named(alloc, rows, terminal, start, ops, &links, &seen)
 }
 

@@ -1,7 +1,8 @@
 //! A definition is loaded: its entries are rows under their own digest texts.
 
-ghost use Rattle.std.specs.Prelude.{◌≡◌, false, IfOk, IfErr};
+ghost use Rattle.std.specs.Prelude.{◌≡◌, ◌≤◌, false, length, IfOk, IfErr};
 ghost use Rattle.llb_loader.specs.Faults.{is_memory};
+ghost use Rattle.llb_loader.specs.Link.{IsGraphOf, IsRefusalOf};
 ghost use Rattle.llb_loader.specs.Load.{IsGraphIn, IsRefusalIn, rows_from};
 
 use crate::digest::digest_of;
@@ -21,6 +22,25 @@ pub fn load(alloc: Global, bytes: &[u8]) -> Result<Graph, LoadFault>
     ensures refused { IfErr result (λ e. is_memory e ≡ false → IsRefusalIn bytes.now e) }
 {
     let entries = read_definition(alloc, bytes)?;
+    linked(alloc, entries)
+}
+
+/// What `load` answers, of bytes that are given up: they are dropped once the entries are read.
+pub fn load_owned(alloc: Global, bytes: Vec<u8>) -> Result<Graph, LoadFault>
+    ensures graph { IfOk result (λ g. IsGraphIn bytes.items g) }
+    ensures refused { IfErr result (λ e. is_memory e ≡ false → IsRefusalIn bytes.items e) }
+{
+    let entries = read_definition(alloc, &bytes)?;
+    drop(bytes);
+    linked(alloc, entries)
+}
+
+// The graph of entries under their digest texts.
+fn linked(alloc: Global, entries: Entries) -> Result<Graph, LoadFault>
+    requires { length entries ≤ 65_536 }
+    ensures graph { IfOk result (λ g. IsGraphOf (rows_from entries) g) }
+    ensures refused { IfErr result (λ e. is_memory e ≡ false → IsRefusalOf (rows_from entries) e) }
+{
     let rows = rows_of(alloc, entries)?;
     link(alloc, &rows)
 }
@@ -29,7 +49,7 @@ pub fn load(alloc: Global, bytes: &[u8]) -> Result<Graph, LoadFault>
 fn rows_of(alloc: Global, entries: Entries) -> Result<Vec<Row>, Memory>
     ensures { IfOk result (λ rows. rows.items ≡ rows_from entries) }
 {
-    let mut rows = Vec::new(alloc);
+    let mut rows = Vec::with_capacity(alloc, entries.len())?;
     for bytes in entries.into_vec() {
         let digest = digest_of(alloc, bytes.as_slice())?;
         rows.push(Row { digest, bytes })?;

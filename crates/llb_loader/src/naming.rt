@@ -95,7 +95,7 @@ pub(crate) fn rows_of(
     requires { IsIndex rows.now index.now }
     ensures { IfOk result (λ named. named.items ≡ rows_named rows.now terminal op.now) }
 {
-    let mut named = Vec::new(alloc);
+    let mut named = Vec::with_capacity(alloc, op.inputs.len())?;
     for input in op.inputs.as_slice() {
         if let Some(row) = row_of(rows, index, terminal, &input.digest) {
             named.push(row)?;
@@ -115,7 +115,7 @@ pub(crate) fn links_of(
     requires { IsIndex rows.now index.now }
     ensures { IfOk result (λ links. lists links.items ≡ graph_of rows.now terminal ops.now) }
 {
-    let mut links = Vec::new(alloc);
+    let mut links = Vec::with_capacity(alloc, ops.len())?;
     for op in ops {
         links.push(rows_of(alloc, rows, index, terminal, op)?)?;
     }

@@ -18,7 +18,7 @@ pub(crate) fn ops_of(alloc: Global, rows: &[Row]) -> Result<Vec<Op>, LoadFault>
     ensures within { IfOk result (λ ops. All IsWithinLimits ops.items) }
     ensures refused { IfErr result (λ e. is_memory e ≡ false → RefusesRow rows.now e) }
 {
-    let mut ops = Vec::new(alloc);
+    let mut ops = Vec::with_capacity(alloc, rows.len())?;
     for (k, row) in rows.iter().enumerate() {
         let op = read_op(alloc, row.bytes.as_slice());
         match op {

@@ -9,10 +9,10 @@ use Rattle.llb_loader.specs.Rows.{lists, InRange, Reached}
 use Rattle.llb_loader.specs.Placing.{IsMarked}
 use Rattle.llb_loader.specs.Naming.{graph_of, rows_named, row_named}
 use Rattle.llb_loader.specs.Linking.{plan, op_at, IsStarted, ReachedRow}
-use Rattle.llb_loader.specs.Checks.{RefusesUnknown}
+use Rattle.llb_loader.specs.Checks.{NamesAll, RefusesUnknown}
 use Rattle.llb_loader.proofs.Plans.{in_range, named_below}
 use Rattle.llb_loader.proofs.Parts.{op_read, input_read}
-use Rattle.llb_loader.proofs.Refusals.{not_empty, planned, unplanned, refused_by, refuses_unknown}
+use Rattle.llb_loader.proofs.Refusals.{not_empty, planned, unplanned, refused_by, refuses_unknown, all_named}
 use Rattle.llb_loader.proofs.linking.link_read.Goals as goal
 
 pub returns-in_default-clause-refused : goal.returns-in_default-clause-refused
@@ -85,6 +85,34 @@ returns-in_err-check_names-clause-refused c =
     (subst (λ (seen : List Bool). RefusesUnknown c.args.rows.now c.args.terminal c.deref-3.result.now (IsMarked seen) c.in_err-check_names.field-0.0) c.deref-4.ensures.value c.in_err-check_names.ensures.refused) in
     rw (p.1, p.2) (λ _. refused_by c.args.rows.now c.args.ops.items (plan c.args.rows.now c.args.ops.items c.args.terminal c.in-Some.start) c.in_err-check_names.field-0.0
     (planned c.args.rows.now c.args.ops.items c.args.terminal c.in-Some.start c.requires.found started.start) (refuses_unknown c.args.rows.now c.args.ops.items c.args.terminal c.in-Some.start (IsMarked c.in_ok-seen.seen.items) started exact c.in_err-check_names.field-0.0 found))
+
+pub link_named-requires-clause-named : goal.link_named-requires-clause-named
+link_named-requires-clause-named c =
+    let links : lists c.deref-2.result.now ≡ graph_of c.args.rows.now c.args.terminal c.args.ops.items =
+    ap (λ (xs : List (Vec ℕ)). lists xs) c.deref-2.ensures.value ∙ c.in_ok-links.ensures
+    ∙ ap (graph_of c.args.rows.now c.args.terminal) c.deref.ensures.value in
+    let exact : (k : ℕ) → IsMarked c.in_ok-seen.seen.items k ↔ ReachedRow (plan c.args.rows.now c.args.ops.items c.args.terminal c.in-Some.start) k =
+    subst (λ (g : List (List ℕ)). (k : ℕ) → IsMarked c.in_ok-seen.seen.items k ↔ Reached g c.in-Some.start k) links c.in_ok-seen.ensures.exact in
+    let h : c.args.terminal < length c.args.ops.items = (let t = c.requires.terminal.holds.0 in let l = c.requires.ops in omega (arith, t, l)) in
+    let last = op_read c.args.ops.items c.args.terminal c.index-last.result.now h c.index-last.ensures in
+    let some : 0 < length c.index-last.result.now.inputs = not_empty _ c.if-is_empty.ensures in
+    let first = input_read (op_at c.args.ops.items c.args.terminal) c.as_slice.result.now 0 c.index-as_slice-0.result
+    (c.as_slice.ensures ∙ sym (ap (λ (o : Op). o.inputs) last))
+    (let e = ap (λ (xs : List Input). length xs) c.as_slice.ensures in omega (arith, some, e)) c.index-as_slice-0.is in
+    let started : IsStarted (plan c.args.rows.now c.args.ops.items c.args.terminal c.in-Some.start) = record {
+      result = record {
+        apart = c.requires.apart;
+        terminal = c.requires.terminal;
+        input = (let e = ap (λ (o : Op). length o.inputs) last in omega (arith, some, e));
+      };
+      start = ap (λ (i : Input). row_named c.args.rows.now c.args.terminal i.digest) first ∙ sym c.in-Some.ensures;
+    } in
+    let Named : List Op → List Bool → Type 0 = λ ops seen. (k : ℕ) → IsMarked seen k
+    → NamesAll c.args.rows.now c.args.terminal (op_at ops k) (length (op_at ops k).inputs) in
+    let found : Named c.args.ops.items c.in_ok-seen.seen.items =
+    subst (λ (ops : List Op). Named ops c.in_ok-seen.seen.items) c.deref-3.ensures.value
+    (subst (λ (seen : List Bool). Named c.deref-3.result.now seen) c.deref-4.ensures.value c.in_ok-check_names.ensures.named) in
+    all_named c.args.rows.now c.args.ops.items c.args.terminal c.in-Some.start (IsMarked c.in_ok-seen.seen.items) started exact found
 
 pub link_named-requires-clause-planned : goal.link_named-requires-clause-planned
 link_named-requires-clause-planned c =
