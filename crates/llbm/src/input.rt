@@ -5,7 +5,7 @@ ghost use Rattle.llbm.specs.Running.{passed_on, unread_as, Loads};
 
 use crate::bounded::{ReadFault, read_bounded};
 use crate::fault::ProgramFault;
-use llb_loader::{Graph, LoadFault, load};
+use llb_loader::{Graph, LoadFault, load_owned};
 use llb_ops::OpFault;
 use std::alloc::Global;
 use std::io::Read;
@@ -41,7 +41,7 @@ pub(crate) fn loaded<R: Read>(alloc: Global, input: &mut R) -> Result<Graph, Pro
 {
     match read_bounded(alloc, input, LIMIT, READS) {
         Err(fault) => Err(unread(fault)),
-        Ok(bytes) => match load(alloc, &bytes) {
+        Ok(bytes) => match load_owned(alloc, bytes) {
             Ok(graph) => Ok(graph),
             Err(fault) => Err(passed_on(fault)),
         },

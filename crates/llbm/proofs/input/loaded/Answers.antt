@@ -1,21 +1,21 @@
-use Rattle.std.proofs.Common.{◌≡◌, sym, subst}
-use Rattle.std.specs.Prelude.{IfSome}
+use Rattle.std.proofs.Common.{subst}
 use Rattle.llbm.specs.Running.{IsRefusal}
 use Rattle.llbm.proofs.Answering.{reads_graph, tells, tells_unread, all_read}
 use Rattle.llbm.proofs.input.loaded.Goals as goal
 
 pub returns-in-Err : goal.returns-in-Err
 returns-in-Err g c =
-    tells_unread (g.R.Read.remaining c.args.input.now) (g.R.Read.remaining c.read_bounded.new.input) c.read_bounded.result c.in-Err.fault c.unread.result c.in-Err.is c.unread.ensures c.read_bounded.ensures.reads
+    tells_unread (g.R.Read.remaining c.args.input.now) (g.R.Read.remaining c.read_bounded.new.input) c.read_bounded.result c.in-Err.fault c.unread.result
+    c.in-Err.is c.unread.ensures c.read_bounded.ensures.reads
 
-pub returns-in-Ok-load : goal.returns-in-Ok-load
-returns-in-Ok-load g c = reads_graph (g.R.Read.remaining c.args.input.now) c.in-Ok-load.graph c.deref.result.now
-    (subst (λ ys. IfSome (g.R.Read.remaining c.args.input.now) (λ xs. ys ≡ xs)) (sym c.deref.ensures.value)
-    (all_read (g.R.Read.remaining c.args.input.now) (g.R.Read.remaining c.read_bounded.new.input) c.read_bounded.result c.in-Ok.bytes c.in-Ok.is c.read_bounded.ensures.reads))
-    c.in-Ok-load.ensures.graph
+pub returns-in-Ok-load_owned : goal.returns-in-Ok-load_owned
+returns-in-Ok-load_owned g c = reads_graph (g.R.Read.remaining c.args.input.now) c.in-Ok-load_owned.graph c.in-Ok.bytes.items
+    (all_read (g.R.Read.remaining c.args.input.now) (g.R.Read.remaining c.read_bounded.new.input) c.read_bounded.result c.in-Ok.bytes c.in-Ok.is
+    c.read_bounded.ensures.reads)
+    c.in-Ok-load_owned.ensures.graph
 
-pub returns : goal.returns
-returns g c = λ h. tells (g.R.Read.remaining c.args.input.now) c.in-Err-load.fault c.deref.result.now
-    (subst (λ ys. IfSome (g.R.Read.remaining c.args.input.now) (λ xs. ys ≡ xs)) (sym c.deref.ensures.value)
-    (all_read (g.R.Read.remaining c.args.input.now) (g.R.Read.remaining c.read_bounded.new.input) c.read_bounded.result c.in-Ok.bytes c.in-Ok.is c.read_bounded.ensures.reads))
-    c.in-Err-load.ensures.refused (subst IsRefusal c.passed_on.ensures h)
+pub returns-in-Err-load_owned : goal.returns-in-Err-load_owned
+returns-in-Err-load_owned g c = λ h. tells (g.R.Read.remaining c.args.input.now) c.in-Err-load_owned.fault c.in-Ok.bytes.items
+    (all_read (g.R.Read.remaining c.args.input.now) (g.R.Read.remaining c.read_bounded.new.input) c.read_bounded.result c.in-Ok.bytes c.in-Ok.is
+    c.read_bounded.ensures.reads)
+    c.in-Err-load_owned.ensures.refused (subst IsRefusal c.passed_on.ensures h)
