@@ -241,6 +241,7 @@ fn told(alloc: Global, steps: &[Step]) -> Result<String, TreeFault> {
         text.push_str(answer.as_str())?;
         text.push_str("|")?;
     }
+    tree.is_tree();
     push_tree(alloc, &mut text, &tree)?;
     Ok(text)
 }

@@ -152,6 +152,7 @@ fn shortest_spellings_are_written(rt: HostRuntime) -> Result<(), Fail> {
 // Whether a byte string's copy and the vector that it gives back are these bytes.
 fn keeps_bytes(alloc: Global, bytes: &[u8], other: &[u8]) -> Result<bool, Memory> {
     let kept = Bytes::from_slice(alloc, bytes)?;
+    kept.is_bytes();
     let copied = kept.copy()?;
     let apart = Bytes::new(Vec::from_slice(alloc, other)?);
     let told = kept.same(&copied) && !kept.same(&apart) && kept.as_slice() == bytes;

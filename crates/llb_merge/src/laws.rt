@@ -13,17 +13,17 @@ use llb_tree::Tree;
 /// is above the path; and what stands at the paths is a tree.
 pub fn at_each_path(lower: &Tree, upper: &Tree)
     ensures paths { (q : List (List ℕ)) → finite.get (lay lower.now upper.now) q ≡ lay_at (finite.get lower.now) (finite.get upper.now) q }
-    ensures tree { IsTree lower.now → IsTree upper.now → IsTree (lay lower.now upper.now) }
+    ensures tree { IsTree (lay lower.now upper.now) }
 {
-    let _ = lower;
-    let _ = upper;
+    lower.is_tree();
+    upper.is_tree();
 }
 
 /// A tree that is laid over the empty one is itself.
 pub fn over_the_empty_tree(tree: &Tree)
-    ensures { IsTree tree.now → lay empty_tree tree.now ≡ tree.now }
+    ensures { lay empty_tree tree.now ≡ tree.now }
 {
-    let _ = tree;
+    tree.is_tree();
 }
 
 /// A tree over which the empty one is laid is itself, but its root has the mode and the owner of the empty tree's.

@@ -4,6 +4,7 @@ use Rattle.std.specs.declared.cmp.Ordering.{Ordering}
 use Rattle.std.specs.declared.cmp.Ordering.TheVariants.{Less, Equal, Greater}
 use Rattle.std.specs.Ordering.{is_eq, eq_by_cmp}
 use Rattle.std.specs.FinMap as finite
+use Rattle.llb_wire.specs.Spelling.{AreBytes}
 use Rattle.llb_tree.specs.Meta.{MetaValue, IsMeta}
 use Rattle.llb_tree.specs.Path.{path_cmp, IsPath}
 use Rattle.llb_tree.specs.PathOrder.{path_cmp-IsTotalOrder, path_cmp-IsAntisymmetric}
@@ -53,10 +54,11 @@ module _ (t : TreeMap) (tree : IsTree t) (p : List (List ℕ)) (walks : walk (fi
       }
 
   pub IsTree-insert_dir : (m : MetaValue) → IsPath p → IsMeta m → IsTree (finite.insert t p (Dir m))
-  IsTree-insert_dir m path is = IsTree-insert (Dir m) (record { path = path; meta = is }) (λ q dir same. (m, refl))
+  IsTree-insert_dir m path is = IsTree-insert (Dir m) (record { path = path; meta = is; bytes = tt }) (λ q dir same. (m, refl))
 
-  pub IsTree-insert_file : (m : MetaValue) (b : List ℕ) → IsPath p → IsMeta m → file_fits (finite.get t p) ≡ Ok tt → IsTree (finite.insert t p (File m b))
-  IsTree-insert_file m b path is fits = IsTree-insert (File m b) (record { path = path; meta = is }) (λ q dir same. let e = sym (ap file_fits (ap (finite.get t) (sym same) ∙ dir.1)) ∙ fits in absurd (cc))
+  pub IsTree-insert_file : (m : MetaValue) (b : List ℕ) → IsPath p → IsMeta m → AreBytes b
+      → file_fits (finite.get t p) ≡ Ok tt → IsTree (finite.insert t p (File m b))
+  IsTree-insert_file m b path is bytes fits = IsTree-insert (File m b) (record { path = path; meta = is; bytes = bytes }) (λ q dir same. let e = sym (ap file_fits (ap (finite.get t) (sym same) ∙ dir.1)) ∙ fits in absurd (cc))
 
 abbrev single : MetaValue → TreeMap
 single m = finite.insert finite.empty [] (Dir m)
@@ -75,5 +77,5 @@ IsTree-empty m is = record {
   root = (m, finite.get-insert path_cmp-IsTotalOrder finite.empty [] (Dir m) []);
   closed = λ q. get-insert_cases (λ o. IsSome o → walk (finite.get (single m)) q ≡ Ok tt) finite.empty [] (Dir m) q
       (λ same _. ap (walk (finite.get (single m))) same) (none_there q);
-  stands = λ q d. get-insert_cases (λ o. o ≡ Some d → CanStand q d) finite.empty [] (Dir m) q (stands_there [] (Dir m) (record { path = root_path; meta = is }) q d) (none_stands q d);
+  stands = λ q d. get-insert_cases (λ o. o ≡ Some d → CanStand q d) finite.empty [] (Dir m) q (stands_there [] (Dir m) (record { path = root_path; meta = is; bytes = tt }) q d) (none_stands q d);
 }

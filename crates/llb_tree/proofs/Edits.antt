@@ -1,6 +1,7 @@
 -- What each edit answers: the tree that its rule gives, whole again.
 use Rattle.std.proofs.Common.{◌≡◌, ◌≢◌, ℕ, ◌+◌, ◌-◌, ◌≤◌, List, [], ◌∷◌, ◌++◌, length, Some, None, is_some, true, Option, Ok, refl, sym, ap, subst, ◌∙◌, arith, length-append}
 use Rattle.std.specs.FinMap as finite
+use Rattle.llb_wire.specs.Spelling.{AreBytes}
 use Rattle.llb_tree.specs.Path.{path_cmp, IsPath}
 use Rattle.llb_tree.specs.Meta.{MetaValue, IsMeta, root_meta}
 use Rattle.llb_tree.specs.Tree.{TreeMap, Entry, Dir, walk, file_fits, dir_fits, found, dir_there, places_fit, put_file, put_dir, remove, graft, subtree, with_tree, empty_tree, IsTree}
@@ -13,10 +14,10 @@ use Rattle.llb_tree.proofs.Grafted.{IsTree-with_tree, graft-Ok, get_inside}
 use Rattle.llb_tree.proofs.Changed.{dir_put, file_put, taken_away, tree_put, tree_taken, whole_set, deep_from, height_from}
 
 module _ (t new one : TreeMap) (d n : ℕ) (p : List (List ℕ)) (m : MetaValue) (whole : IsWhole t d) (path : IsPath p) (is : IsMeta m) (walks : walk (finite.get t) p ≡ Ok tt) (le : d ≤ n) (long : length p ≤ n) (short : n ≤ 128) (set : (q : List (List ℕ)) → finite.get new q ≡ set_look p (Some one) (finite.get t) q) where
-  pub file_edit : (b : List ℕ) → p ≢ [] → file_fits (finite.get t p) ≡ Ok tt → ((q : List (List ℕ)) → finite.get one q ≡ file_look m b q) → IsWhole new n × (put_file t p m b ≡ Ok new)
-  file_edit b named fits made =
+  pub file_edit : (b : List ℕ) → AreBytes b → p ≢ [] → file_fits (finite.get t p) ≡ Ok tt → ((q : List (List ℕ)) → finite.get one q ≡ file_look m b q) → IsWhole new n × (put_file t p m b ≡ Ok new)
+  file_edit b bytes named fits made =
       let same = file_put t new one p m b whole.tree fits made set in
-      (whole_set t new p (Some one) d n whole (subst IsTree (sym same) (IsTree-insert_file t whole.tree p walks m b path is fits)) le short (below long made) set, put_file-Ok t p m b named walks fits ∙ ap Ok (sym same))
+      (whole_set t new p (Some one) d n whole (subst IsTree (sym same) (IsTree-insert_file t whole.tree p walks m b path is bytes fits)) le short (below long made) set, put_file-Ok t p m b named walks fits ∙ ap Ok (sym same))
     where
       below : length p ≤ n → ((q : List (List ℕ)) → finite.get one q ≡ file_look m b q) → (q : List (List ℕ)) → is_some (look_in (Some one) q) ≡ true → length p + length q ≤ n
       below long made [] there = omega arith

@@ -143,7 +143,7 @@ module _ (t : TreeMap) (tree : IsTree t) (p : List (List ℕ)) (path : IsPath p)
         let there = sym (get_inside t p other q) ∙ is in
         let can = tree2.stands q e there in
         let le = fits_there p q e (finite.entries other) fit (sym (finite.get-entries other q) ∙ there) in
-        record { path = record { short = omega (arith, le, length-append p q); named = All-append (λ n. is_name n ≡ true) p q path.named can.path.named }; meta = can.meta })
+        record { path = record { short = omega (arith, le, length-append p q); named = All-append (λ n. is_name n ≡ true) p q path.named can.path.named }; meta = can.meta; bytes = can.bytes })
         (λ q out is. tree.stands q e (sym (get_outside t p other q out) ∙ is)) q;
   }
 

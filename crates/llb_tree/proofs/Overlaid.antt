@@ -5,7 +5,7 @@ use Rattle.std.proofs.lemmas.Bool.{ltb-false}
 use Rattle.std.specs.List.{list_any}
 use Rattle.std.specs.FinMap as finite
 use Rattle.llb_tree.specs.Meta.{MetaValue, IsMeta}
-use Rattle.llb_tree.specs.Tree.{Entry, Dir, File, TreeMap, Look, meta_in, parents, all_dirs, walk, height, IsDirAt, CanStand, IsTree}
+use Rattle.llb_tree.specs.Tree.{Entry, Dir, File, TreeMap, Look, meta_in, parents, all_dirs, walk, height, IsDirAt, HasBytes, CanStand, IsTree}
 use Rattle.llb_tree.specs.Falls.{height_le, le_height}
 use Rattle.llb_tree.specs.Overlay.{is_file, below_file, WayValue, is_mode, given, over, laid_over, over_at}
 use Rattle.llb_tree.specs.Laying.{IsWay, owner_fits}
@@ -88,6 +88,14 @@ over_meta w (Some (File m b)) (File k c) way lower is = given_meta w k way is
 over_meta w (Some (Dir m)) (File k c) way lower is = given_meta w k way is
 over_meta w (Some (Dir m)) (Dir k) way lower is = elim w.keeps as (λ b. IsMeta (cond b m (given w k))) [ true ↦ lower m refl | false ↦ given_meta w k way is ]
 
+over_bytes : (w : WayValue) (there : Option Entry) (d : Entry) → HasBytes d → HasBytes (over w there d)
+over_bytes w None (Dir k) bytes = tt
+over_bytes w None (File k c) bytes = bytes
+over_bytes w (Some (File m b)) (Dir k) bytes = tt
+over_bytes w (Some (File m b)) (File k c) bytes = bytes
+over_bytes w (Some (Dir m)) (File k c) bytes = bytes
+over_bytes w (Some (Dir m)) (Dir k) bytes = tt
+
 -- ---- the whole is a tree
 
 some_is : (o : Option Entry) → IsSome o → (e : Entry) × (o ≡ Some e)
@@ -117,7 +125,8 @@ module _ (w : WayValue) (a b t : TreeMap) (is : (q : List (List ℕ)) → finite
             (λ d up same.
             let can = upper.stands p d up in
             let own = over_meta w (finite.get a p) d way (λ m low. (lower.stands p (Dir m) low).meta) can.meta in
-            record { path = can.path; meta = subst (λ x. IsMeta (meta_in x)) same own })
+            let bytes = over_bytes w (finite.get a p) d can.bytes in
+            record { path = can.path; meta = subst (λ x. IsMeta (meta_in x)) same own; bytes = subst HasBytes same bytes })
             (λ none clear low. lower.stands p e low);
       }
 

@@ -8,6 +8,7 @@ use Rattle.std.specs.FinMap.{FinMap}
 use Rattle.std.specs.FinMap.Entries.{where_key}
 use Rattle.std.specs.Coded.{Coded, code_by, coded×, coded_ℕ, coded_list, coded_option}
 use Rattle.llb_wire.specs.Answer.{◌>>=◌}
+use Rattle.llb_wire.specs.Spelling.{AreBytes}
 use Rattle.llb_tree.specs.Path.{path_cmp, IsPath, is_within}
 pub use Rattle.llb_tree.specs.Meta.{MetaValue, IsMeta, root_meta}
 pub use Rattle.llb_tree.specs.Faults.{is_memory, Gives, MemoryLast}
@@ -149,10 +150,16 @@ empty_tree = finite.insert finite.empty [] (Dir root_meta)
 abbrev pub IsDirAt : Look → List (List ℕ) → Type 0
 IsDirAt look p = (m : MetaValue) × (look p ≡ Some (Dir m))
 
--- an entry that can stand at a path: this is a path, at most 128 names, and the entry has a mode and owners
+-- the content of a file is bytes
+abbrev pub HasBytes : Entry → Type 0
+HasBytes (Dir m) = Unit {0}
+HasBytes (File m content) = AreBytes content
+
+-- an entry that can stand at a path: this is a path, at most 128 names, the entry has a mode and owners, and bytes as content
 pub record CanStand (p : List (List ℕ)) (e : Entry) : Type 0 where
   pub path : IsPath p
   pub meta : IsMeta (meta_in e)
+  pub bytes : HasBytes e
 
 -- the root is a directory, and so is each proper prefix of a path that is there; and what is there can stand there
 pub record IsTree (t : TreeMap) : Type 0 where

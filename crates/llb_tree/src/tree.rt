@@ -113,6 +113,14 @@ impl Tree {
         self.root.get(path.names())
     }
 
+    /// A law: the root is a directory, and so is each proper prefix of a path that is there; and each entry can stand at
+    /// its path, which is one, with a mode and owners and, for a file, with bytes. Takes no memory.
+    pub fn is_tree(&self)
+        ensures { IsTree self.now }
+    {
+        let _root = &self.root;
+    }
+
     /// Puts a file at a path, or replaces the file there. In this order: 25 `Root` at the root, 21 `NotFound` or 22
     /// `NotDir` at the first parent that is missing or a file, 23 `IsDir` where a directory is there; 27 `Memory`.
     /// After a refusal the tree is unchanged.
@@ -122,6 +130,7 @@ impl Tree {
         ensures err { OnErr result (self.new ≡ self.old) }
     {
         meta.is_meta();
+        content.is_bytes();
         let names = path.names();
         if path.is_root() {
             return Err(TreeFault::Root);

@@ -9,7 +9,8 @@ use Rattle.std.proofs.lemmas.List.Elements.{All-nil}
 use Rattle.std.specs.List.{list_all, position_or_len, before_first, after_first}
 use Rattle.std.specs.Fmt.{decimal}
 use Rattle.std.specs.Cmp.Lexicographic.{pointwise, bytes_decides}
-use Rattle.hex.specs.Hex.{encode_with, lower_digits, IsBytes}
+use Rattle.hex.specs.Hex.{encode_with, lower_digits}
+use Rattle.llb_wire.specs.Spelling.{AreBytes}
 use Rattle.llb_tree.specs.Path.{is_name, IsPath, parts_of}
 use Rattle.llb_tree.specs.Meta.{MetaValue, IsMeta, meta_of}
 use Rattle.llb_tree.specs.Tree.{Dir, File}
@@ -161,13 +162,9 @@ lower_digit c is =
           (c - 87, omega (arith, from, to), digit_at 16 (c - 87) refl (omega (arith, from, to)) ∙ ap (λ t. cond t (48 + (c - 87)) (87 + (c - 87))) (le-ltb (c - 87) 10 (omega (arith, from, to))) ∙ omega (arith, from))
     ]
 
-byte_more : (b : ℕ) (content : List ℕ) → b < 256 → IsBytes content → IsBytes (b ∷ content)
-byte_more b content small bytes zero = small
-byte_more b content small bytes (suc i) = bytes i
-
-digits_give : (digits : List ℕ) → list_all is_lower digits ≡ true → length digits % 2 ≡ 0 → (content : List ℕ) × IsBytes content × (encode_with lower_digits content ≡ digits)
+digits_give : (digits : List ℕ) → list_all is_lower digits ≡ true → length digits % 2 ≡ 0 → (content : List ℕ) × AreBytes content × (encode_with lower_digits content ≡ digits)
 unfolding encode_with
-digits_give [] all even = ([], (λ i. omega arith), refl)
+digits_give [] all even = ([], tt, refl)
 digits_give (a ∷ []) all even = absurd (omega (arith, even))
 digits_give (a ∷ b ∷ digits) all even =
     let one = and_parts (is_lower a) _ all in
@@ -178,19 +175,19 @@ digits_give (a ∷ b ∷ digits) all even =
     let high : (k * 16 + j) / 16 ≡ k = omega (arith, j_small) in
     let low : (k * 16 + j) % 16 ≡ j = omega (arith, j_small) in (
       (k * 16 + j) ∷ content,
-      byte_more (k * 16 + j) content (omega (arith, k_small, j_small)) bytes,
+      (omega (arith, k_small, j_small), bytes),
       λ i. (ap (λ n. get_or lower_digits n 0) high ∙ k_is) i ∷ (ap (λ n. get_or lower_digits n 0) low ∙ j_is) i ∷ same i,
     )
 
-content_given : (digits content : List ℕ) → IsBytes content → encode_with lower_digits content ≡ digits → not (length digits == 0) ≡ true → (content : List ℕ) × IsBytes content × (digits ≡ content_text content)
+content_given : (digits content : List ℕ) → AreBytes content → encode_with lower_digits content ≡ digits → not (length digits == 0) ≡ true → (content : List ℕ) × AreBytes content × (digits ≡ content_text content)
 unfolding encode_with
 content_given digits [] bytes same some = absurd (true≢false (sym some ∙ ap (λ t. not t) (eq-eqb (length digits) 0 (ap length (sym same)))))
 content_given digits (b ∷ content) bytes same some = (b ∷ content, bytes, sym same)
 
-content_gives : (digits : List ℕ) → is_content digits ≡ true → (content : List ℕ) × IsBytes content × (digits ≡ content_text content)
+content_gives : (digits : List ℕ) → is_content digits ≡ true → (content : List ℕ) × AreBytes content × (digits ≡ content_text content)
 content_gives digits is =
     elim (or_parts (pointwise nat_eq digits (codes "-")) _ is) [
-      | inl dash ↦ ([], (λ i. omega arith), (bytes_decides digits (codes "-")).0 dash)
+      | inl dash ↦ ([], tt, (bytes_decides digits (codes "-")).0 dash)
       | inr pairs ↦
           let all = and_parts _ (list_all is_lower digits) pairs in
           let some = and_parts (not (length digits == 0)) (length digits % 2 == 0) all.0 in

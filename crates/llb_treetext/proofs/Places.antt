@@ -10,7 +10,7 @@ use Rattle.llb_tree.specs.Meta.{MetaValue, IsMeta, root_meta}
 use Rattle.llb_tree.specs.Tree.{Entry, Dir, File, Look, TreeMap, parents, all_dirs, walk, IsDirAt, CanStand, IsTree, empty_tree}
 use Rattle.llb_tree.proofs.Within.{between, within_split}
 use Rattle.llb_treetext.specs.TreeText.{names_text, path_text, line_of}
-use Rattle.llb_treetext.specs.Reading.{HaveBytes, IsRow, IsFault, comes_next}
+use Rattle.llb_treetext.specs.Reading.{IsRow, IsFault, comes_next}
 use Rattle.llb_treetext.specs.Fields.{Fields, parts_seen, parts_from, trail}
 use Rattle.llb_treetext.specs.declared.parts.Parts.{Parts}
 use Rattle.llb_treetext.specs.declared.fault.TextFault.TheVariants.{Order, NoParent}
@@ -74,7 +74,7 @@ pub named_end : (d : List (List ℕ)) (n : List ℕ) → Named (d ++ n ∷ []) �
 named_end [] n named = All-head (λ name. is_name name ≡ true) n [] named
 named_end (m ∷ d) n named = named_end d n (All-tail (λ name. is_name name ≡ true) m (d ++ n ∷ []) named)
 
-module _ (t : TreeMap) (tree : IsTree t) (contents : HaveBytes t) (place : Place) (last : IsLast t place) where
+module _ (t : TreeMap) (tree : IsTree t) (place : Place) (last : IsLast t place) where
   here : slice_get (finite.entries t) (length last.front) ≡ Some last.row
   here = ap (λ es. slice_get es (length last.front)) last.entries ∙ at_end last.front last.row []
 
@@ -82,7 +82,7 @@ module _ (t : TreeMap) (tree : IsTree t) (contents : HaveBytes t) (place : Place
   found = there t tree (length last.front) last.row here
 
   last_row : IsRow last.row
-  last_row = entry_is_row t tree contents (length last.front) last.row here
+  last_row = entry_is_row t tree (length last.front) last.row here
 
   comes : (p : List (List ℕ)) → comes_next (finite.entries t) p ≡ is_lt (path_cmp last.row.0 p)
   comes p = ap (λ es. comes_next es p) last.entries ∙ comes_last last.front last.row p
@@ -160,7 +160,7 @@ module _ (t : TreeMap) (tree : IsTree t) (contents : HaveBytes t) (place : Place
 
       -- the row's path, and its directory
       ends : (d : List (List ℕ)) × ((n : List ℕ) × (row.0 ≡ d ++ n ∷ []))
-      ends = last_name row.0 (not_root t tree contents row is behind)
+      ends = last_name row.0 (not_root t tree row is behind)
 
       named : Named (ends.0 ++ ends.1.0 ∷ [])
       named = subst Named ends.1.1 is.stands.path.named
@@ -181,10 +181,10 @@ module _ (t : TreeMap) (tree : IsTree t) (contents : HaveBytes t) (place : Place
           → (u : TreeMap) × GoesOn t u rest later × IsLast u new × (finite.len u ≡ finite.len t + 1)
       goes_to rest later new text place_is kind_is there =
           let walk_is : walk (finite.get t) row.0 ≡ Ok tt = ap (walk (finite.get t)) ends.1.1 ∙ walks ends.0 ends.1.0 named next_end h dir dir_is holds each there in
-          let own = entries_put t tree contents row is behind in (
+          let own = entries_put t tree row is behind in (
             finite.insert t row.0 row.1,
-            goes_on t tree contents row is behind (finite.insert t row.0 row.1) rest later text
-                (put_ok t tree contents row is behind row.0 row.1 (not_root t tree contents row is behind) (not_there t tree contents row is behind) walk_is),
+            goes_on t tree row is behind (finite.insert t row.0 row.1) rest later text
+                (put_ok t tree row is behind row.0 row.1 (not_root t tree row is behind) (not_there t tree row is behind) walk_is),
             record { front = finite.entries t; row = row; entries = own; names = place_is; kind = kind_is },
             finite.len-entries (finite.insert t row.0 row.1) ∙ ap length own ∙ length-append (finite.entries t) (row ∷ []) ∙ ap (λ k. k + 1) (sym (finite.len-entries t)),
           )
@@ -239,7 +239,7 @@ module _ (m : MetaValue) (is : IsMeta m) where
       by_path q e root at =
           let same : ◌≡◌ {A = Option Entry} (Some (Dir m)) (Some e) = sym root_there ∙ ap (finite.get (root_of m)) (sym root) ∙ at in
           let own : Dir m ≡ e = cc in
-          subst (λ p. CanStand p e) (sym root) (subst (CanStand []) own (record { path = record { short = omega arith; named = All-nil (λ name. is_name name ≡ true) }; meta = is }))
+          subst (λ p. CanStand p e) (sym root) (subst (CanStand []) own (record { path = record { short = omega arith; named = All-nil (λ name. is_name name ≡ true) }; meta = is; bytes = tt }))
 
 module _ (row : Pair) (is : IsRow row) (bytes later : List ℕ) (text : bytes ≡ line_of row ++ later) (place : Place) (names : place.names.now ≡ names_text row.0) where
   starts_at : (m : MetaValue) → row.0 ≡ [] → row.1 ≡ Dir m → place.is_dir ≡ is_dir row.1 → (t : TreeMap) × IsFront bytes t later × IsLast t place × (finite.len t ≡ 1)

@@ -17,7 +17,7 @@ use Rattle.llb_tree.specs.declared.fault.TreeFault.{TreeFault}
 use Rattle.llb_tree.specs.declared.fault.TreeFault.TheVariants as fault
 use Rattle.llb_wire.specs.Answer.{◌>>=◌}
 use Rattle.llb_treetext.specs.TreeText.{row_text, line_of, lines_of, tree_text}
-use Rattle.llb_treetext.specs.Reading.{HasBytes, HaveBytes, IsRow, IsText, Begins, IsFault, Stops, comes_next}
+use Rattle.llb_treetext.specs.Reading.{IsRow, IsText, Begins, IsFault, Stops, comes_next}
 use Rattle.llb_treetext.specs.Placing.{put_row, HasNoFault, GoesOn, IsFront}
 use Rattle.llb_treetext.specs.Fields.{entry_of}
 use Rattle.llb_treetext.specs.declared.fault.TextFault.{TextFault}
@@ -96,7 +96,7 @@ walk_more f g more (n ∷ p) walks =
         let own = more [] (m, is) in
         walk-cons g n p ∙ ap (λ e. all_dirs (e ∷ map (λ q. g (n ∷ q)) (parents p))) own.1 ∙ rest walks
 
-module _ (t : TreeMap) (tree : IsTree t) (contents : HaveBytes t) (row : Pair) (is : IsRow row) (next : comes_next (finite.entries t) row.0 ≡ true) where
+module _ (t : TreeMap) (tree : IsTree t) (row : Pair) (is : IsRow row) (next : comes_next (finite.entries t) row.0 ≡ true) where
   some_rows : (r : Pair) × ((rows : List Pair) × (finite.entries t ≡ r ∷ rows))
   some_rows = go (finite.entries t) refl
     where
@@ -123,9 +123,6 @@ module _ (t : TreeMap) (tree : IsTree t) (contents : HaveBytes t) (row : Pair) (
 
   text_put : tree_text (finite.insert t row.0 row.1) ≡ tree_text t ++ line_of row
   text_put = ap lines_of entries_put ∙ flat_map-append line_of (finite.entries t) (row ∷ []) ∙ ap (λ l. tree_text t ++ l) (append-nil (line_of row))
-
-  bytes_put : HaveBytes (finite.insert t row.0 row.1)
-  bytes_put p e = get-insert_cases (λ o. o ≡ Some e → HasBytes e) t row.0 row.1 p (λ same own. let one : row.1 ≡ e = cc in subst HasBytes one is.bytes) (contents p e)
 
   tree_put : walk (finite.get t) row.0 ≡ Ok tt → IsTree (finite.insert t row.0 row.1)
   tree_put walks = record {
@@ -159,7 +156,6 @@ module _ (t : TreeMap) (tree : IsTree t) (contents : HaveBytes t) (row : Pair) (
           let own : finite.insert t row.0 row.1 ≡ new = cc in
           record {
             tree = subst IsTree own (tree_put walks);
-            contents = subst HaveBytes own bytes_put;
             text = ap (λ l. tree_text t ++ l) begins ∙ sym (append_assoc (tree_text t) (line_of row) later) ∙ ap (λ l. l ++ later) (sym text_put ∙ ap tree_text own);
             shorter = omega (arith, ap length begins, length-append (line_of row) later, length-append (row_text row) (10 ∷ []));
           }
@@ -215,15 +211,9 @@ module _ (m : MetaValue) where
       finite.entries-insert path_cmp-IsTotalOrder empty_tree [] (Dir m)
       ∙ ap (finite.put path_cmp [] (Dir m)) (finite.entries-insert path_cmp-IsTotalOrder finite.empty [] (Dir root_meta) ∙ ap (finite.put path_cmp [] (Dir root_meta)) none_empty)
 
-  root_bytes : HaveBytes (finite.insert empty_tree [] (Dir m))
-  root_bytes p e = get-insert_cases (λ o. o ≡ Some e → HasBytes e) empty_tree [] (Dir m) p (λ same own. let one : Dir m ≡ e = cc in subst HasBytes one tt)
-      (get-insert_cases (λ o. o ≡ Some e → HasBytes e) finite.empty [] (Dir root_meta) p (λ same own. let one : Dir root_meta ≡ e = cc in subst HasBytes one tt)
-      (λ there. let none : ◌≡◌ {A = Option Entry} None (Some e) = sym (finite.get-empty path_cmp p) ∙ there in absurd cc))
-
   pub root_front : (p : List (List ℕ)) (o : Option (List ℕ)) (t : TreeMap) (bytes later : List ℕ) → IsRow (p, entry_of m o) → bytes ≡ line_of (p, entry_of m o) ++ later → p ≡ [] → finite.insert empty_tree [] (Dir m) ≡ t → IsTree t → IsFront bytes t later
   root_front p o t bytes later row begins at is tree = record {
     tree = tree;
-    contents = subst HaveBytes is root_bytes;
     text = begins ∙ (λ i. line_of (at i, root_entry m o (row.root at) i) ++ later) ∙ ap (λ l. l ++ later) (sym (append-nil (line_of ([], Dir m))) ∙ ap lines_of (sym root_entries) ∙ ap tree_text is);
   }
 
@@ -253,7 +243,7 @@ module _ (bytes : List ℕ) (t : TreeMap) (rest : List ℕ) (front : IsFront byt
   stops e some fault = record {
     rows = finite.entries t;
     rest = rest;
-    before = inr (t, front.tree, front.contents, refl);
+    before = inr (t, front.tree, refl);
     split = front.text;
     more = λ none. absurd (omega (arith, ap length none, some));
     fault = fault;
@@ -263,10 +253,10 @@ module _ (bytes : List ℕ) (t : TreeMap) (rest : List ℕ) (front : IsFront byt
   no_fault_left u is some = λ e fault. (one_answer bytes).apart u e is (stops e some fault)
 
   pub front_more : (new : TreeMap) (later : List ℕ) → GoesOn t new rest later → IsFront bytes new later
-  front_more new later goes = record { tree = goes.tree; contents = goes.contents; text = front.text ∙ goes.text }
+  front_more new later goes = record { tree = goes.tree; text = front.text ∙ goes.text }
 
   pub whole_text : (length rest == 0) ≡ true → IsText bytes t
-  whole_text none = record { tree = front.tree; contents = front.contents; text = front.text ∙ ap (λ r. tree_text t ++ r) (no_length rest (eqb-true (length rest) 0 none)) ∙ append-nil (tree_text t) }
+  whole_text none = record { tree = front.tree; text = front.text ∙ ap (λ r. tree_text t ++ r) (no_length rest (eqb-true (length rest) 0 none)) ∙ append-nil (tree_text t) }
     where
       no_length : (xs : List ℕ) → length xs ≡ 0 → xs ≡ []
       no_length [] is = refl

@@ -4,7 +4,7 @@ use Rattle.std.specs.List.{position, position_or_len, before_first, after_first}
 use Rattle.std.proofs.lemmas.List.{drop-drop}
 use Rattle.std.proofs.lemmas.List.Sums.{split_at_first, passes_at_first}
 use Rattle.std.proofs.lemmas.Bool.{ltb-true, eqb-true}
-use Rattle.hex.specs.Hex.{IsBytes}
+use Rattle.llb_wire.specs.Spelling.{AreBytes}
 use Rattle.llb_tree.specs.Path.{IsPath}
 use Rattle.llb_tree.specs.Meta.{MetaValue, IsMeta}
 use Rattle.llb_tree.specs.Tree.{Entry, Dir, File}
@@ -17,10 +17,10 @@ abbrev pub Pair : Type 0
 Pair = List (List ℕ) × Entry
 
 pub dir_is_row : (p : List (List ℕ)) (m : MetaValue) → IsPath p → IsMeta m → IsRow (p, Dir m)
-dir_is_row p m path meta = record { stands = record { path = path; meta = meta }; bytes = tt; root = λ at. (m, refl) }
+dir_is_row p m path meta = record { stands = record { path = path; meta = meta; bytes = tt }; root = λ at. (m, refl) }
 
-pub file_is_row : (p : List (List ℕ)) (m : MetaValue) (content : List ℕ) → IsPath p → IsMeta m → IsBytes content → p ≢ [] → IsRow (p, File m content)
-file_is_row p m content path meta bytes named = record { stands = record { path = path; meta = meta }; bytes = bytes; root = λ at. absurd (named at) }
+pub file_is_row : (p : List (List ℕ)) (m : MetaValue) (content : List ℕ) → IsPath p → IsMeta m → AreBytes content → p ≢ [] → IsRow (p, File m content)
+file_is_row p m content path meta bytes named = record { stands = record { path = path; meta = meta; bytes = bytes }; root = λ at. absurd (named at) }
 
 -- ---- the first line
 

@@ -14,7 +14,7 @@ use Rattle.llb_tree.specs.Path.{path_cmp}
 use Rattle.llb_tree.specs.PathOrder.{path_cmp-IsTotalOrder}
 use Rattle.llb_tree.specs.Tree.{Entry, Dir, Look, TreeMap, parents, all_dirs, walk, IsTree}
 use Rattle.llb_treetext.specs.TreeText.{row_text, line_of, lines_of, tree_text}
-use Rattle.llb_treetext.specs.Reading.{HaveBytes, IsRow, IsText, AreBefore, IsFault, Stops, comes_next, HasOneAnswer, ReadsBack}
+use Rattle.llb_treetext.specs.Reading.{IsRow, IsText, AreBefore, IsFault, Stops, comes_next, HasOneAnswer, ReadsBack}
 use Rattle.llb_treetext.specs.Faults.{is_memory}
 use Rattle.llb_treetext.specs.declared.fault.TextFault.{TextFault}
 use Rattle.llb_treetext.specs.declared.fault.TextFault.TheVariants.{BadLine, Order, NoParent, Memory}
@@ -59,10 +59,9 @@ module _ (t : TreeMap) (tree : IsTree t) where
   pub there : (k : ℕ) (x : Pair) → slice_get (finite.entries t) k ≡ Some x → finite.get t x.0 ≡ Some x.1
   there k x is = finite.get-entries t x.0 ∙ find_here (finite.entries t) k x (finite.entries_sorted t) is
 
-  pub entry_is_row : HaveBytes t → (k : ℕ) (x : Pair) → slice_get (finite.entries t) k ≡ Some x → IsRow x
-  entry_is_row contents k x is = record {
+  pub entry_is_row : (k : ℕ) (x : Pair) → slice_get (finite.entries t) k ≡ Some x → IsRow x
+  entry_is_row k x is = record {
     stands = tree.stands x.0 x.1 (there k x is);
-    bytes = contents x.0 x.1 (there k x is);
     root = λ at. (tree.root.0, let e : Some x.1 ≡ Some (Dir tree.root.0) = sym (there k x is) ∙ ap (finite.get t) at ∙ tree.root.1 in cc);
   }
 
@@ -71,13 +70,13 @@ unfolding AllRows
 all_rows [] each = tt
 all_rows (e ∷ es) each = (each 0 e refl, all_rows es (λ k x is. each (suc k) x is))
 
-tree_rows : (t : TreeMap) → IsTree t → HaveBytes t → AllRows (finite.entries t)
-tree_rows t tree contents = all_rows (finite.entries t) (entry_is_row t tree contents)
+tree_rows : (t : TreeMap) → IsTree t → AllRows (finite.entries t)
+tree_rows t tree = all_rows (finite.entries t) (entry_is_row t tree)
 
 before_rows : (rows : List Pair) → AreBefore rows → AllRows rows
 unfolding AllRows
 before_rows rows (inl none) = subst AllRows (sym none) tt
-before_rows rows (inr (t, tree, contents, same)) = subst AllRows (sym same) (tree_rows t tree contents)
+before_rows rows (inr (t, tree, same)) = subst AllRows (sym same) (tree_rows t tree)
 
 -- ---- two lists of rows at the front of one text
 
@@ -179,7 +178,7 @@ module _ (t : TreeMap) (tree : IsTree t) (rows : List Pair) (row : Pair) (more :
 -- where rows of a text go on, what is behind the shorter ones is not faulty
 no_fault_before : (xs ys : List Pair) (a b : List ℕ) (e : TextFault) → AreBefore ys → Longer xs ys a b → ¬ IsFault xs a e
 no_fault_before xs ys a b e (inl none) l fault = let long = ap length (sym none ∙ l.rows) in absurd (omega (arith, length-append xs (l.row ∷ l.more), long))
-no_fault_before xs ys a b e (inr (t, tree, contents, same)) l fault = no_fault t tree xs l.row l.more (sym same ∙ l.rows) a (lines_of l.more ++ b) e l.is_row l.text fault
+no_fault_before xs ys a b e (inr (t, tree, same)) l fault = no_fault t tree xs l.row l.more (sym same ∙ l.rows) a (lines_of l.more ++ b) e l.is_row l.text fault
 
 -- ---- one answer
 
@@ -191,7 +190,7 @@ none_behind xs ys a l = let long = ap length l.text in absurd (omega (arith, lon
 
 one_tree : (bytes : List ℕ) (t u : TreeMap) → IsText bytes t → IsText bytes u → t ≡ u
 one_tree bytes t u is are =
-    elim (compared (finite.entries t) (finite.entries u) [] [] (tree_rows t is.tree is.contents) (tree_rows u are.tree are.contents) (sym (whole bytes t is) ∙ whole bytes u are)) [
+    elim (compared (finite.entries t) (finite.entries u) [] [] (tree_rows t is.tree) (tree_rows u are.tree) (sym (whole bytes t is) ∙ whole bytes u are)) [
       | inl e ↦ finite.same_entries_map t u e.0
       | inr e ↦ elim e [ inl l ↦ absurd (none_behind _ _ _ l) | inr l ↦ absurd (none_behind _ _ _ l) ]
     ]
@@ -201,9 +200,9 @@ some_entries t tree none = let e : ◌≡◌ {A = Option Entry} None (Some (Dir 
 
 apart : (bytes : List ℕ) (t : TreeMap) (e : TextFault) → IsText bytes t → ¬ Stops bytes e
 apart bytes t e is stops =
-    elim (compared stops.rows (finite.entries t) stops.rest [] (before_rows stops.rows stops.before) (tree_rows t is.tree is.contents) (sym stops.split ∙ whole bytes t is)) [
+    elim (compared stops.rows (finite.entries t) stops.rest [] (before_rows stops.rows stops.before) (tree_rows t is.tree) (sym stops.split ∙ whole bytes t is)) [
       | inl s ↦ some_entries t is.tree (sym s.0 ∙ stops.more s.1)
-      | inr s ↦ elim s [ inl l ↦ no_fault_before stops.rows (finite.entries t) stops.rest [] e (inr (t, is.tree, is.contents, refl)) l stops.fault | inr l ↦ none_behind _ _ _ l ]
+      | inr s ↦ elim s [ inl l ↦ no_fault_before stops.rows (finite.entries t) stops.rest [] e (inr (t, is.tree, refl)) l stops.fault | inr l ↦ none_behind _ _ _ l ]
     ]
 
 same_fault : (rows : List Pair) (rest : List ℕ) (e d : TextFault) → IsFault rows rest e → IsFault rows rest d → e ≡ d
@@ -235,10 +234,10 @@ one_fault bytes e d s u =
 pub one_answer : (bytes : List ℕ) → HasOneAnswer bytes
 one_answer bytes = record { trees = one_tree bytes; apart = apart bytes; faults = one_fault bytes }
 
-pub reads_back : (t : TreeMap) → ReadsBack t
-reads_back t tree contents (Ok u) answer = one_tree (tree_text t) u t answer (record { tree = tree; contents = contents; text = refl })
-reads_back t tree contents (Err e) answer = go (is_memory e) refl
+pub reads_back : (t : TreeMap) → IsTree t → ReadsBack t
+reads_back t tree (Ok u) answer = one_tree (tree_text t) u t answer (record { tree = tree; text = refl })
+reads_back t tree (Err e) answer = go (is_memory e) refl
   where
     go : (b : Bool) → is_memory e ≡ b → b ≡ true
     go true m = refl
-    go false m = absurd (apart (tree_text t) t e (record { tree = tree; contents = contents; text = refl }) (answer m))
+    go false m = absurd (apart (tree_text t) t e (record { tree = tree; text = refl }) (answer m))

@@ -15,6 +15,7 @@ use Rattle.std.specs.Result.{result_ok}
 use Rattle.std.specs.Cmp.Lexicographic.{pointwise}
 use Rattle.hex.specs.Hex.{encode_with, encode_lower, lower_digits, hex_digit_value, decode_of, IsBytes}
 use Rattle.hex.proofs.HexLemmas.{length-encode_with, decode_of-encode_lower, IsAscii-encode_with, IsDigits-lower_digits}
+use Rattle.llb_wire.specs.Spelling.{AreBytes}
 use Rattle.llb_tree.specs.Path.{is_name, is_name_byte, IsPath, joined, path_of}
 use Rattle.llb_tree.specs.Meta.{MetaValue, IsMeta, meta_of}
 use Rattle.llb_tree.specs.Tree.{Entry, Dir, File}
@@ -147,16 +148,22 @@ digit_solid c d is = by_cases (nat_lt c 33) refl
     by_cases true t = let e : ◌≡◌ {A = Option ℕ} (Some d) None = sym is ∙ none (ltb-true c 33 t) in absurd cc
     by_cases false t = ltb-false c 33 t
 
-encode_solid : (content : List ℕ) → IsBytes content → Solid (encode_with lower_digits content)
+-- bytes as `hex` says it: at each place a number below 256, 0 past the end
+byte_at : (content : List ℕ) → AreBytes content → IsBytes content
+byte_at [] bytes k = omega arith
+byte_at (b ∷ content) bytes zero = bytes.0
+byte_at (b ∷ content) bytes (suc k) = byte_at content bytes.1 k
+
+encode_solid : (content : List ℕ) → AreBytes content → Solid (encode_with lower_digits content)
 unfolding encode_with
 encode_solid [] bytes = All-nil (λ b. 33 ≤ b)
 encode_solid (b ∷ content) bytes =
-    let small : b < 256 = bytes 0 in
+    let small : b < 256 = bytes.0 in
     All-cons (λ b. 33 ≤ b) (get_or lower_digits (b / 16) 0) (get_or lower_digits (b % 16) 0 ∷ encode_with lower_digits content) (digit_solid _ (b / 16) (IsDigits-lower_digits (b / 16) (omega arith)))
     (All-cons (λ b. 33 ≤ b) (get_or lower_digits (b % 16) 0) (encode_with lower_digits content) (digit_solid _ (b % 16) (IsDigits-lower_digits (b % 16) (omega arith)))
-    (encode_solid content (λ k. bytes (suc k))))
+    (encode_solid content bytes.1))
 
-content_solid : (content : List ℕ) → IsBytes content → Solid (content_text content)
+content_solid : (content : List ℕ) → AreBytes content → Solid (content_text content)
 content_solid [] bytes = All-cons (λ b. 33 ≤ b) 45 [] (omega arith) (All-nil (λ b. 33 ≤ b))
 content_solid (b ∷ content) bytes = encode_solid (b ∷ content) bytes
 
@@ -168,9 +175,9 @@ no_dash b content = and_false (nat_eq (get_or lower_digits (b / 16) 0) 45)
     and_false true = refl
     and_false false = refl
 
-content_is : (content : List ℕ) → IsBytes content → content_in (content_text content) ≡ Some content
+content_is : (content : List ℕ) → AreBytes content → content_in (content_text content) ≡ Some content
 content_is [] bytes = refl
-content_is (b ∷ content) bytes = ap (λ t. cond t (Some []) (result_ok (decode_of (encode_lower (b ∷ content))))) (no_dash b content) ∙ ap result_ok (decode_of-encode_lower (b ∷ content) bytes)
+content_is (b ∷ content) bytes = ap (λ t. cond t (Some []) (result_ok (decode_of (encode_lower (b ∷ content))))) (no_dash b content) ∙ ap result_ok (decode_of-encode_lower (b ∷ content) (byte_at (b ∷ content) bytes))
 
 -- ---- the path
 
@@ -206,14 +213,14 @@ digit_lower (suc n) k all lt =
       | inr top ↦ let e : k ≡ n = omega arith in ap (λ j. is_lower (get_or lower_digits j 0)) e ∙ both.0
     ]
 
-encode_lower_all : (content : List ℕ) → IsBytes content → list_all is_lower (encode_with lower_digits content) ≡ true
+encode_lower_all : (content : List ℕ) → AreBytes content → list_all is_lower (encode_with lower_digits content) ≡ true
 unfolding encode_with
 encode_lower_all [] bytes = refl
 encode_lower_all (b ∷ content) bytes =
-    let small : b < 256 = bytes 0 in
-    λ i. digit_lower 16 (b / 16) refl (omega arith) i && (digit_lower 16 (b % 16) refl (omega arith) i && encode_lower_all content (λ k. bytes (suc k)) i)
+    let small : b < 256 = bytes.0 in
+    λ i. digit_lower 16 (b / 16) refl (omega arith) i && (digit_lower 16 (b % 16) refl (omega arith) i && encode_lower_all content bytes.1 i)
 
-is_content_text : (content : List ℕ) → IsBytes content → is_content (content_text content) ≡ true
+is_content_text : (content : List ℕ) → AreBytes content → is_content (content_text content) ≡ true
 is_content_text [] bytes = refl
 is_content_text (b ∷ content) bytes =
     let long = length-encode_with lower_digits (b ∷ content) in
@@ -245,7 +252,7 @@ long_path (n ∷ p) path named = omega (arith, some_name n (All-head (λ name. i
 dir_is : (m : MetaValue) (p : List (List ℕ)) → IsPath p → dir_in m (path_text p) ≡ Some (p, Dir m)
 dir_is m p path = ap (λ o. on o (λ q. Some (q, Dir m))) (path_is p path)
 
-file_is : (m : MetaValue) (content : List ℕ) (p : List (List ℕ)) → IsBytes content → IsPath p → file_in m (content_text content) (path_text p) ≡ Some (p, File m content)
+file_is : (m : MetaValue) (content : List ℕ) (p : List (List ℕ)) → AreBytes content → IsPath p → file_in m (content_text content) (path_text p) ≡ Some (p, File m content)
 file_is m content p bytes path =
     ap (λ o. on o (λ c. on (result_ok (path_of (path_text p))) (λ q. Some (q, File m c)))) (content_is content bytes)
     ∙ ap (λ o. on o (λ q. Some (q, File m content))) (path_is p path)
@@ -253,7 +260,7 @@ file_is m content p bytes path =
 -- the entry of the parts of an entry
 pub row_from_is : (row : List (List ℕ) × Entry) → IsRow row → row_from (parts_from row) ≡ Some row
 row_from_is (p, Dir m) is = dir_is m p is.stands.path
-row_from_is (p, File m content) is = file_is m content p is.bytes is.stands.path
+row_from_is (p, File m content) is = file_is m content p is.stands.bytes is.stands.path
 
 one_solid : (c : ℕ) → 33 ≤ c → Solid (c ∷ [])
 one_solid c le = All-cons (λ b. 33 ≤ b) c [] le (All-nil (λ b. 33 ≤ b))
@@ -261,7 +268,7 @@ one_solid c le = All-cons (λ b. 33 ≤ b) c [] le (All-nil (λ b. 33 ≤ b))
 dir_parts_are : (m : MetaValue) (p : List (List ℕ)) → IsPath p → dir_parts m (path_text p) ≡ Some (m, None, path_text p)
 dir_parts_are m p path = ap (λ t. cond {A = Option Fields} t (Some (m, None, path_text p)) None) (is_path_text p path)
 
-file_parts_are : (m : MetaValue) (content : List ℕ) (p : List (List ℕ)) → IsBytes content → IsPath p → p ≢ [] → file_parts m (content_text content) (path_text p) ≡ Some (m, Some (content_text content), path_text p)
+file_parts_are : (m : MetaValue) (content : List ℕ) (p : List (List ℕ)) → AreBytes content → IsPath p → p ≢ [] → file_parts m (content_text content) (path_text p) ≡ Some (m, Some (content_text content), path_text p)
 file_parts_are m content p bytes path named =
     (λ i. cond {A = Option Fields} (is_content_text content bytes i && is_path_text p path i && not (le-ltb (length (path_text p)) 2 (long_path p path named) i)) (Some (m, Some (content_text content), path_text p)) None)
 
@@ -274,8 +281,8 @@ parts_are (p, Dir m) is =
 parts_are (p, File m content) is =
     ap (λ o. on o by_kind) (word (102 ∷ []) (meta_text m ++ (content_text content ++ 32 ∷ path_text p)) (one_solid 102 (omega arith)))
     ∙ ap (λ o. on o (λ (m : MetaValue × List ℕ). on (cut_at 32 m.1) (λ c. file_parts m.0 c.0 c.1))) (meta_is m is.stands.meta (content_text content ++ 32 ∷ path_text p))
-    ∙ ap (λ o. on o (λ (c : List ℕ × List ℕ). file_parts m c.0 c.1)) (word (content_text content) (path_text p) (content_solid content is.bytes))
-    ∙ file_parts_are m content p is.bytes is.stands.path (λ at. let one = (is.root at).1 in absurd cc)
+    ∙ ap (λ o. on o (λ (c : List ℕ × List ℕ). file_parts m c.0 c.1)) (word (content_text content) (path_text p) (content_solid content is.stands.bytes))
+    ∙ file_parts_are m content p is.stands.bytes is.stands.path (λ at. let one = (is.root at).1 in absurd cc)
 
 -- the entry of the line of an entry
 pub row_is : (row : List (List ℕ) × Entry) → IsRow row → row_in (row_text row) ≡ Some row
@@ -308,7 +315,7 @@ pub row_plain : (row : List (List ℕ) × Entry) → IsRow row → Plain (row_te
 row_plain (p, Dir m) is = words_plain (100 ∷ []) (meta_text m ++ path_text p) (one_solid 100 (omega arith)) (meta_plain m (path_text p) is.stands.meta (path_plain p is.stands.path))
 row_plain (p, File m content) is =
     words_plain (102 ∷ []) (meta_text m ++ (content_text content ++ 32 ∷ path_text p)) (one_solid 102 (omega arith))
-    (meta_plain m (content_text content ++ 32 ∷ path_text p) is.stands.meta (words_plain (content_text content) (path_text p) (content_solid content is.bytes) (path_plain p is.stands.path)))
+    (meta_plain m (content_text content ++ 32 ∷ path_text p) is.stands.meta (words_plain (content_text content) (path_text p) (content_solid content is.stands.bytes) (path_plain p is.stands.path)))
 
 one_text : (c : ℕ) → c < 128 → IsUtf8 (c ∷ [])
 one_text c lt = IsUtf8-from_ascii (c ∷ []) (IsAscii-cons c [] lt IsAscii-nil)
@@ -365,7 +372,7 @@ digit_ascii k = by_cases (nat_lt k 16) refl
     by_cases true t = digit_low _ k (IsDigits-lower_digits k (ltb-true k 16 t))
     by_cases false t = subst (λ v. v < 128) (sym (get_or_past lower_digits k 0 (ltb-false k 16 t))) (omega arith)
 
-content_utf8 : (content : List ℕ) → IsBytes content → IsUtf8 (content_text content)
+content_utf8 : (content : List ℕ) → AreBytes content → IsUtf8 (content_text content)
 content_utf8 [] bytes = one_text 45 (omega arith)
 content_utf8 (b ∷ content) bytes = IsUtf8-from_ascii (encode_lower (b ∷ content)) (IsAscii-encode_with lower_digits (b ∷ content) digit_ascii)
 
@@ -373,4 +380,4 @@ pub row_utf8 : (row : List (List ℕ) × Entry) → IsRow row → IsUtf8 (row_te
 row_utf8 (p, Dir m) is = words_utf8 (100 ∷ []) (meta_text m ++ path_text p) (one_text 100 (omega arith)) (meta_utf8 m (path_text p) is.stands.meta (path_utf8 p is.stands.path))
 row_utf8 (p, File m content) is =
     words_utf8 (102 ∷ []) (meta_text m ++ (content_text content ++ 32 ∷ path_text p)) (one_text 102 (omega arith))
-    (meta_utf8 m (content_text content ++ 32 ∷ path_text p) is.stands.meta (words_utf8 (content_text content) (path_text p) (content_utf8 content is.bytes) (path_utf8 p is.stands.path)))
+    (meta_utf8 m (content_text content ++ 32 ∷ path_text p) is.stands.meta (words_utf8 (content_text content) (path_text p) (content_utf8 content is.stands.bytes) (path_utf8 p is.stands.path)))

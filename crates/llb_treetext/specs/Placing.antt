@@ -9,7 +9,7 @@ use Rattle.llb_tree.specs.Tree.{Entry, Dir, File, TreeMap, IsTree, put_dir, put_
 use Rattle.llb_tree.specs.declared.fault.TreeFault.{TreeFault}
 use Rattle.llb_treetext.specs.declared.fault.TextFault.{TextFault}
 use Rattle.llb_treetext.specs.TreeText.{names_text, tree_text}
-use Rattle.llb_treetext.specs.Reading.{HaveBytes, IsText, IsFault, Stops}
+use Rattle.llb_treetext.specs.Reading.{IsText, IsFault, Stops}
 use Rattle.llb_treetext.specs.Faults.{is_memory}
 use Rattle.llb_treetext.specs.declared.judge.Place.{Place}
 
@@ -25,14 +25,12 @@ HasNoFault rows rest = (e : TextFault) → ¬ IsFault rows rest e
 -- a line more is in the tree: what is before and what is left is the same text, and less is left
 pub record GoesOn (old new : TreeMap) (rest later : List ℕ) : Type 0 where
   pub tree : IsTree new
-  pub contents : HaveBytes new
   pub text : tree_text old ++ rest ≡ tree_text new ++ later
   pub shorter : length later < length rest
 
 -- a tree of the lines at the front of a text, and what is left of the text
 pub record IsFront (bytes : List ℕ) (t : TreeMap) (rest : List ℕ) : Type 0 where
   pub tree : IsTree t
-  pub contents : HaveBytes t
   pub text : bytes ≡ tree_text t ++ rest
 
 -- ---- without memory: of the tree so far the last line's path and kind are enough

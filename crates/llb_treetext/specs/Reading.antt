@@ -1,40 +1,28 @@
 -- Which texts are the texts of trees, and what a text that is none has wrong first. Nothing here knows how a text is read.
-use Rattle.std.specs.Prelude.{◌≡◌, ◌≢◌, ℕ, ◌+◌, Bool, true, false, List, [], ◌∷◌, ◌++◌, length, Some, Result, Ok, Err, MatchResult, ◌⊎◌}
+use Rattle.std.specs.Prelude.{◌≡◌, ◌≢◌, ℕ, ◌+◌, Bool, true, false, List, [], ◌∷◌, ◌++◌, length, Result, Ok, Err, MatchResult, ◌⊎◌}
 use Rattle.std.specs.Ordering.{is_lt}
 use Rattle.std.specs.FinMap as finite
-use Rattle.hex.specs.Hex.{IsBytes}
 use Rattle.llb_tree.specs.Path.{path_cmp}
 use Rattle.llb_tree.specs.Meta.{MetaValue}
-use Rattle.llb_tree.specs.Tree.{Entry, Dir, File, TreeMap, CanStand, IsTree, walk}
+use Rattle.llb_tree.specs.Tree.{Entry, Dir, TreeMap, CanStand, IsTree, walk}
 use Rattle.llb_treetext.specs.TreeText.{line_of, lines_of, tree_text}
 use Rattle.llb_treetext.specs.Faults.{is_memory}
 use Rattle.llb_treetext.specs.declared.fault.TextFault.{TextFault}
 use Rattle.llb_treetext.specs.declared.fault.TextFault.TheVariants.{BadLine, Order, NoParent, Memory}
 
--- the content of a file is bytes
-abbrev pub HasBytes : Entry → Type 0
-HasBytes (Dir m) = Unit {0}
-HasBytes (File m content) = IsBytes content
-
 -- an entry that has a line: it can stand at its path, and the root is a directory
 pub record IsRow (row : List (List ℕ) × Entry) : Type 0 where
   pub stands : CanStand row.0 row.1
-  pub bytes : HasBytes row.1
   pub root : row.0 ≡ [] → (m : MetaValue) × (row.1 ≡ Dir m)
-
--- the contents of all files are bytes
-abbrev pub HaveBytes : TreeMap → Type 0
-HaveBytes t = (p : List (List ℕ)) (e : Entry) → finite.get t p ≡ Some e → HasBytes e
 
 -- the bytes are the text of a tree
 pub record IsText (bytes : List ℕ) (t : TreeMap) : Type 0 where
   pub tree : IsTree t
-  pub contents : HaveBytes t
   pub text : bytes ≡ tree_text t
 
 -- no rows yet, or those of a tree
 abbrev pub AreBefore : List (List (List ℕ) × Entry) → Type 0
-AreBefore rows = (rows ≡ []) ⊎ ((t : TreeMap) × IsTree t × HaveBytes t × (rows ≡ finite.entries t))
+AreBefore rows = (rows ≡ []) ⊎ ((t : TreeMap) × IsTree t × (rows ≡ finite.entries t))
 
 -- the root comes first, and then each path behind the last one
 abbrev pub comes_next : List (List (List ℕ) × Entry) → List (List ℕ) → Bool
@@ -82,4 +70,4 @@ pub record HasOneAnswer (bytes : List ℕ) : Type 0 where
 
 -- what is read of the text of a tree is the tree; want of memory is the one other answer
 abbrev pub ReadsBack : TreeMap → Type 0
-ReadsBack t = IsTree t → HaveBytes t → (r : Result TreeMap TextFault) → Answers (tree_text t) r → MatchResult r (λ u. u ≡ t) (λ e. is_memory e ≡ true)
+ReadsBack t = (r : Result TreeMap TextFault) → Answers (tree_text t) r → MatchResult r (λ u. u ≡ t) (λ e. is_memory e ≡ true)

@@ -8,7 +8,6 @@ ghost use Rattle.std.specs.Ordering.{is_lt};
 ghost use Rattle.std.specs.Option.{is_none};
 ghost use Rattle.llb_tree.specs.Tree.{TreeMap, IsTree};
 ghost use Rattle.llb_treetext.specs.Fields.{trail};
-ghost use Rattle.llb_treetext.specs.Reading.{HaveBytes};
 ghost use Rattle.llb_treetext.specs.Placing.{rank, trail_cmp, opens, IsLast, Starts, GoesTo, Judges};
 
 use crate::fault::TextFault;
@@ -103,7 +102,7 @@ fn next_place<'a>(
     rest: &'a [u8],
     number: u64,
 ) -> Result<(Place<'a>, &'a [u8]), TextFault>
-    ensures { (t : TreeMap) → IsTree t → HaveBytes t → IsLast t last.now → number ≡ finite.len t + 1 → GoesTo t rest.now result }
+    ensures { (t : TreeMap) → IsTree t → IsLast t last.now → number ≡ finite.len t + 1 → GoesTo t rest.now result }
 {
     let Some((parts, later)) = next_parts(rest) else {
         return Err(TextFault::BadLine(number));

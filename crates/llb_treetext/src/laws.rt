@@ -15,5 +15,5 @@ pub fn one_answer(bytes: &[u8])
 pub fn reads_back(tree: &Tree)
     ensures { ReadsBack tree.now }
 {
-    let _ = tree;
+    tree.is_tree();
 }

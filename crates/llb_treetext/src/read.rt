@@ -4,7 +4,7 @@ ghost use Rattle.std.specs.Prelude.{◌≡◌, ◌+◌, [], IfOk};
 ghost use Rattle.std.specs.FinMap as finite;
 ghost use Rattle.llb_tree.specs.Tree as base;
 ghost use Rattle.llb_tree.specs.Tree.{Dir, IsTree, TreeMap, empty_tree};
-ghost use Rattle.llb_treetext.specs.Reading.{Answers, MemoryIsLast, HaveBytes, IsText};
+ghost use Rattle.llb_treetext.specs.Reading.{Answers, MemoryIsLast, IsText};
 ghost use Rattle.llb_treetext.specs.Fields.{pair_of};
 ghost use Rattle.llb_treetext.specs.Placing.{put_row, HasNoFault, GoesOn, IsFront};
 
@@ -34,7 +34,6 @@ fn put(tree: &mut Tree, row: Row) -> Result<(), TreeFault>
 // nothing but memory can be refused.
 fn read_next<'a>(alloc: Global, tree: &mut Tree, rest: &'a [u8]) -> Result<&'a [u8], Memory>
     requires tree { IsTree tree.old }
-    requires contents { HaveBytes tree.old }
     requires sound { HasNoFault (finite.entries tree.old) rest.now }
     ensures { IfOk result (λ later. GoesOn tree.old tree.new rest.now later.now) }
 {
@@ -48,13 +47,6 @@ fn read_next<'a>(alloc: Global, tree: &mut Tree, rest: &'a [u8]) -> Result<&'a [
             _ => unreachable!(),
         },
     }
-}
-
-// What a tree has at its paths makes a tree.
-fn is_tree(alloc: Global, tree: &Tree)
-    ensures { IsTree tree.now }
-{
-    let _ = tree.get(&Path::root(alloc));
 }
 
 // The tree of a root directory alone.
@@ -77,7 +69,7 @@ fn read_root(alloc: Global, bytes: &[u8]) -> Result<(Tree, &[u8]), Memory>
     match root_alone(alloc, row.meta) {
         Err(_) => Err(Memory),
         Ok(tree) => {
-            is_tree(alloc, &tree);
+            tree.is_tree();
             Ok((tree, later))
         }
     }

@@ -1,6 +1,7 @@
-//! Byte strings, which contracts see as lists.
+//! Byte strings, which contracts see as lists. That the elements are bytes is kept by the type.
 
 ghost use Rattle.std.specs.Prelude.{◌≡◌, ◌↔◌, IfOk, IsTrue};
+ghost use Rattle.llb_wire.specs.Spelling.{AreBytes};
 
 use crate::fault::Memory;
 use std::alloc::Global;
@@ -18,6 +19,10 @@ impl Model for Bytes {
     ghost Value = { List ℕ };
 
     ghost view = { λ b. b.content.items };
+
+    ghost use Rattle.llb_wire.specs.Spelling.{AreBytes};
+
+    ghost invariant = { λ b. AreBytes b.content.items };
 }
 
 impl Bytes {
@@ -40,6 +45,13 @@ impl Bytes {
         ensures { result.now ≡ self.now }
     {
         self.content.as_slice()
+    }
+
+    /// A law: each element is below 256.
+    pub fn is_bytes(&self)
+        ensures { AreBytes self.now }
+    {
+        let _content = &self.content;
     }
 
     /// Gives the bytes back.

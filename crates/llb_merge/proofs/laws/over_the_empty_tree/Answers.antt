@@ -1,6 +1,6 @@
--- A law of the definition.
+-- A law of the definition, of what a tree is by its type.
 use Rattle.llb_merge.specs.Laws.{lay_over_empty}
 use Rattle.llb_merge.proofs.laws.over_the_empty_tree.Goals as goal
 
 pub returns : goal.returns
-returns c = λ tree. lay_over_empty c.args.tree.now tree
+returns c = lay_over_empty c.args.tree.now c.is_tree.ensures

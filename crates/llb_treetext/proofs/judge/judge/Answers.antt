@@ -19,13 +19,13 @@ pub returns-in-Err-next_place : goal.returns-in-Err-next_place
 returns-in-Err-next_place c =
     let (t, front, last, number) = c.loop-last.invariant in
     let some = some_left c.args.bytes.now t c.loop-last.rest.now front c.is_empty.result c.is_empty.ensures c.loop-last-test.true in
-    let fault = c.in-Err-next_place.ensures t front.tree front.contents last (ap (λ n. n + 1) number) in
+    let fault = c.in-Err-next_place.ensures t front.tree last (ap (λ n. n + 1) number) in
     (fault.0, stops c.args.bytes.now t c.loop-last.rest.now front c.in-Err-next_place.fault some fault.1)
 
 pub loop-last-preserved : goal.loop-last-preserved
 loop-last-preserved c =
     let (t, front, last, number) = c.loop-last.invariant in
-    let (new, goes, place, more) = c.in-Ok-next_place.ensures t front.tree front.contents last (ap (λ n. n + 1) number) in
+    let (new, goes, place, more) = c.in-Ok-next_place.ensures t front.tree last (ap (λ n. n + 1) number) in
     (new, front_more c.args.bytes.now t c.loop-last.rest.now front new c.in-Ok-next_place.later.now goes, place, ap (λ n. n + 1) number ∙ sym more)
 
 pub returns : goal.returns

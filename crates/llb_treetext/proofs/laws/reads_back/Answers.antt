@@ -1,6 +1,6 @@
--- A law of the definitions.
+-- A law of the definitions, of what a tree is by its type.
 use Rattle.llb_treetext.proofs.Unique.{reads_back}
 use Rattle.llb_treetext.proofs.laws.reads_back.Goals as goal
 
 pub returns : goal.returns
-returns c = reads_back c.args.tree.now
+returns c = reads_back c.args.tree.now c.is_tree.ensures

@@ -16,7 +16,7 @@ unreachable-requires-in_default-fault c =
     let rest = c.args.rest.now in
     let later = c.in-Some.later.now in
     let next = is_next (finite.entries c.args.tree.now) rest c.requires.sound row (found.0, (later, found.1)) in
-    let put = put_there c.args.tree.now c.requires.tree c.requires.contents row found.0 next rest later in
+    let put = put_there c.args.tree.now c.requires.tree row found.0 next rest later in
     c.in_default-fault.not-Memory (put c.requires.sound found.1 c.in-Err.fault c.in-Err.ensures)
 
 pub returns-in-Ok : goal.returns-in-Ok
@@ -26,5 +26,5 @@ returns-in-Ok c =
     let rest = c.args.rest.now in
     let later = c.in-Some.later.now in
     let next = is_next (finite.entries c.args.tree.now) rest c.requires.sound row (found.0, (later, found.1)) in
-    let goes = goes_on c.args.tree.now c.requires.tree c.requires.contents row found.0 next c.put.new.tree rest later in
+    let goes = goes_on c.args.tree.now c.requires.tree row found.0 next c.put.new.tree rest later in
     goes found.1 c.in-Ok.ensures
