@@ -1,5 +1,5 @@
 -- When two keys of caches are one: their IDs, their seeds and their modes are the same.
-use Rattle.std.specs.Prelude.{◌≡◌, ◌↔◌, ℕ, Bool, true, false, ◌&&◌, ◌==◌, List, Option, Some, None, nat_eq}
+use Rattle.std.specs.Prelude.{◌≡◌, ◌↔◌, ℕ, Bool, true, false, not, ◌&&◌, ◌||◌, ◌==◌, List, length, Option, Some, None, nat_eq}
 use Rattle.std.specs.Cmp.{IsEquivalence}
 use Rattle.std.specs.Cmp.Lexicographic.{pointwise, bytes_decides}
 use Rattle.std.specs.Hash as fed
@@ -31,6 +31,18 @@ same_seeds None None = true
 same_seeds None (Some t) = false
 same_seeds (Some s) None = false
 same_seeds (Some s) (Some t) = same_seed s t
+
+-- the output of that index of the entry of that digest text
+abbrev pub seed_by : List ℕ → ℕ → Seed
+seed_by digest index = record { digest = digest; index = index }
+
+-- whether a copy of a key has a byte to copy
+abbrev pub has_digest : Option Seed → Bool
+has_digest (Some s) = not (length s.digest == 0)
+has_digest None = false
+
+abbrev pub has_text : Key → Bool
+has_text k = not (length k.id == 0) || has_digest k.seed
 
 -- whether two keys are one
 unfoldable pub same_key : Key → Key → Bool

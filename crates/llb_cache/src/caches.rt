@@ -12,6 +12,7 @@ use crate::growing::{
     admitted, make_all, places_at, places_for, readied, set_at, take_back, take_lease,
 };
 use crate::key::Key;
+use crate::key_ref::KeyRef;
 use crate::need::{Need, Place};
 use crate::search::{count, is_shut, keys_differ, number_for};
 use crate::trees::Trees;
@@ -132,26 +133,26 @@ impl Caches {
     }
 
     /// The number of the instance that a need of a lease that is out has. Takes no memory.
-    pub fn instance_of(&self, lease: Lease, need: u32) -> u32
-        requires { need < length (places_of self.now.out lease) }
-        ensures { result ≡ (place_at self.now.out lease need).number }
+    pub fn instance_of(&self, lease: &Lease, need: u32) -> u32
+        requires { need < length (places_of self.now.out lease.now) }
+        ensures { result ≡ (place_at self.now.out lease.now need).number }
     {
         places_at(&self.out, lease.number)[need as usize].number
     }
 
     /// The tree of the instance that a need of a lease that is out has. Takes no memory.
-    pub fn content(&self, lease: Lease, need: u32) -> &Tree
-        requires { need < length (places_of self.now.out lease) }
-        ensures { tree_at self.now.rows (place_at self.now.out lease need) ≡ Some result.now }
+    pub fn content(&self, lease: &Lease, need: u32) -> &Tree
+        requires { need < length (places_of self.now.out lease.now) }
+        ensures { tree_at self.now.rows (place_at self.now.out lease.now need) ≡ Some result.now }
     {
         let place = &places_at(&self.out, lease.number)[need as usize];
         self.rows[&place.key].at(place.number)
     }
 
     /// Puts a tree in the place of the one that the instance of a need has, for all leases that have it. Takes no memory.
-    pub fn set_content(&mut self, lease: Lease, need: u32, tree: Tree)
-        requires { need < length (places_of self.old.out lease) }
-        ensures { self.new ≡ with_content self.old lease need tree }
+    pub fn set_content(&mut self, lease: &Lease, need: u32, tree: Tree)
+        requires { need < length (places_of self.old.out lease.now) }
+        ensures { self.new ≡ with_content self.old lease.now need tree }
     {
         let place = &places_at(&self.out, lease.number)[need as usize];
         set_at(&mut self.rows, place, tree);
@@ -166,7 +167,7 @@ impl Caches {
     }
 
     /// Whether a lease of this key would be refused: it is locked, and a lease has its instance. Takes no memory.
-    pub fn is_shut(&self, key: &Key) -> bool
+    pub fn is_shut(&self, key: &KeyRef<'_>) -> bool
         ensures { result ≡ (is_locked key.now.mode && is_held self.now.out (place key.now 0)) }
     {
         is_shut(&self.out, key)
@@ -176,7 +177,7 @@ impl Caches {
     pub fn next_instance(&self, key: &Key) -> u32
         ensures { result ≡ number_for self.now.out key.now key.now.mode }
     {
-        number_for(&self.out, key, count(&self.out))
+        number_for(&self.out, &key.by_ref(), count(&self.out))
     }
 
     /// How many leases are out. Takes no memory.

@@ -53,7 +53,7 @@ pub(crate) fn readied(
     let count = count(out);
     let mut readies = Vec::new(alloc);
     for need in needs {
-        let number = number_for(out, &need.key, count);
+        let number = number_for(out, &need.key.by_ref(), count);
         let room = Room::up_to(alloc, number)?;
         let place = Place {
             key: need.key,

@@ -35,7 +35,7 @@ pub struct Key {
     pub mode: Mode,
 }
 
-fn same_mode(mode: Mode, other: Mode) -> bool
+pub(crate) fn same_mode(mode: Mode, other: Mode) -> bool
     ensures { result ≡ same_mode mode other }
 {
     match mode {

@@ -5,6 +5,7 @@ ghost use Rattle.llb_cache.specs.Caches.{same_place, place};
 
 use crate::fault::Memory;
 use crate::key::Key;
+use crate::key_ref::KeyRef;
 use llb_tree::Tree;
 
 /// An instance of this key. Where it is a new one, it begins with this tree: the seed's, or the empty one.
@@ -30,9 +31,9 @@ impl Place {
         Ok(Place { key, number })
     }
 
-    pub(crate) fn is(&self, key: &Key, number: u32) -> bool
+    pub(crate) fn is(&self, key: &KeyRef<'_>, number: u32) -> bool
         ensures { result ≡ same_place (place key.now number) self.now }
     {
-        number == self.number && key == &self.key
+        number == self.number && key.is(&self.key)
     }
 }

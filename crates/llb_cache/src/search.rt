@@ -5,12 +5,13 @@ ghost use Rattle.std.specs.List.{list_any, find};
 ghost use Rattle.llb_cache.specs.Key.{same_key};
 ghost use Rattle.llb_cache.specs.Caches.{same_place, place, is_held, leases, first_free, number_for, is_locked, is_shut, free_lease};
 
-use crate::key::{Key, Mode};
+use crate::key::Mode;
+use crate::key_ref::KeyRef;
 use crate::need::{Need, Place};
 use llb_wire::Many;
 
 // Whether an instance is among these.
-fn has_place(places: &[Place], key: &Key, number: u32) -> bool
+fn has_place(places: &[Place], key: &KeyRef<'_>, number: u32) -> bool
     ensures { result ≡ list_any (same_place (place key.now number)) places.now }
 {
     for held in places {
@@ -23,7 +24,7 @@ fn has_place(places: &[Place], key: &Key, number: u32) -> bool
 
 // Whether a lease that is out has an instance.
 #[tactic(auto, unfolding(crate::specs::Caches::is_held))]
-pub(crate) fn is_held(out: &[Option<Many<Place>>], key: &Key, number: u32) -> bool
+pub(crate) fn is_held(out: &[Option<Many<Place>>], key: &KeyRef<'_>, number: u32) -> bool
     ensures { result ≡ is_held out.now (place key.now number) }
 {
     for lease in out {
@@ -51,7 +52,7 @@ pub(crate) fn count(out: &[Option<Many<Place>>]) -> u32
 }
 
 // The least number whose instance no lease has, where it is below the count or the count itself.
-fn first_free(out: &[Option<Many<Place>>], key: &Key, count: u32) -> u32
+fn first_free(out: &[Option<Many<Place>>], key: &KeyRef<'_>, count: u32) -> u32
     ensures { result ≡ first_free out.now key.now 0 count }
 {
     for number in 0..count {
@@ -63,11 +64,11 @@ fn first_free(out: &[Option<Many<Place>>], key: &Key, count: u32) -> u32
 }
 
 // The number of the instance that a key gives, where so many leases are out.
-pub(crate) fn number_for(out: &[Option<Many<Place>>], key: &Key, count: u32) -> u32
+pub(crate) fn number_for(out: &[Option<Many<Place>>], key: &KeyRef<'_>, count: u32) -> u32
     requires { count ≡ leases out.now }
     ensures { result ≡ number_for out.now key.now key.now.mode }
 {
-    match key.mode {
+    match key.mode() {
         Mode::Shared => 0,
         Mode::Locked => 0,
         Mode::Private => first_free(out, key, count),
@@ -75,10 +76,10 @@ pub(crate) fn number_for(out: &[Option<Many<Place>>], key: &Key, count: u32) -> 
 }
 
 // Whether a key is locked, and a lease has its instance.
-pub(crate) fn is_shut(out: &[Option<Many<Place>>], key: &Key) -> bool
+pub(crate) fn is_shut(out: &[Option<Many<Place>>], key: &KeyRef<'_>) -> bool
     ensures { result ≡ (is_locked key.now.mode && is_held out.now (place key.now 0)) }
 {
-    match key.mode {
+    match key.mode() {
         Mode::Shared => false,
         Mode::Private => false,
         Mode::Locked => is_held(out, key, 0),
@@ -91,7 +92,7 @@ pub(crate) fn first_shut(out: &[Option<Many<Place>>], needs: &[Need]) -> Option<
     ensures within { IfSome result (λ i. i < length needs.now) }
 {
     for (i, need) in needs.iter().enumerate() {
-        if is_shut(out, &need.key) {
+        if is_shut(out, &need.key.by_ref()) {
             return Some(i);
         }
     }

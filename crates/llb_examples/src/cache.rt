@@ -1,7 +1,7 @@
 //! Caches. A need is a row: the ID and the mode of its key, the index of its seed or none, and the name of the one file in
 //! its tree, where it has one. A story is told in a line of text: the answer to each step.
 
-use llb_cache::{Caches, Key, Lease, LeaseFault, Many, Memory, Mode, Need, Seed};
+use llb_cache::{Caches, Key, KeyRef, Lease, LeaseFault, Many, Memory, Mode, Need, Seed};
 use llb_tree::{Meta, Path, Text, Tree};
 use llb_wire::Bytes;
 use std::alloc::Global;
@@ -78,7 +78,7 @@ fn push_lease(
     text.push_str(format!(in alloc; "{number}:")?.as_str())?;
     for need in 0..4 {
         if (need as usize) < caches.needs(lease) {
-            let instance = caches.instance_of(lease, need);
+            let instance = caches.instance_of(&lease, need);
             text.push_str(format!(in alloc; "{instance}")?.as_str())?;
         }
     }
@@ -123,10 +123,30 @@ fn push_count(alloc: Global, text: &mut String, caches: &Caches, row: &Row) -> R
     Ok(())
 }
 
+// The same key, from one that borrows its texts.
+fn again(alloc: Global, row: &Row) -> Result<Key, Memory> {
+    let (id, mode, index, _) = *row;
+    let seed = match index {
+        Some(index) => Some(("sha256:00", index)),
+        None => None,
+    };
+    KeyRef::new(id, seed, mode).to_key(alloc)
+}
+
+fn is_made_again(alloc: Global, row: &Row) -> bool {
+    match key_of(alloc, row) {
+        Ok(key) => match again(alloc, row) {
+            Ok(other) => key.same(&other),
+            Err(_) => false,
+        },
+        Err(_) => false,
+    }
+}
+
 // The instance that a lease of the key would have now, or that it would be refused.
 fn push_next(alloc: Global, text: &mut String, caches: &Caches, row: &Row) -> Result<(), Memory> {
     let key = key_of(alloc, row)?;
-    if caches.is_shut(&key) {
+    if caches.is_shut(&key.by_ref()) {
         text.push_str("shut")?;
         return Ok(());
     }
@@ -143,7 +163,7 @@ fn see(
     need: u32,
 ) -> Result<(), Memory> {
     if (need as usize) < caches.needs(lease) {
-        push_files(alloc, text, caches.content(lease, need))?;
+        push_files(alloc, text, caches.content(&lease, need))?;
     }
     Ok(())
 }
@@ -157,7 +177,7 @@ fn set(
 ) -> Result<(), Memory> {
     let tree = marked(alloc, name)?;
     if (need as usize) < caches.needs(lease) {
-        caches.set_content(lease, need, tree);
+        caches.set_content(&lease, need, tree);
     }
     Ok(())
 }
@@ -215,6 +235,13 @@ const B: Row = ("b", Mode::Locked, None, "");
 const P: Row = ("p", Mode::Private, Some(0), "f");
 
 const S: Row = ("s", Mode::Shared, None, "");
+
+#[test]
+fn a_key_that_borrows_its_texts_makes_the_key(rt: HostRuntime) {
+    assert!(rt; is_made_again(rt.alloc(), &A));
+    assert!(rt; is_made_again(rt.alloc(), &P));
+    assert!(rt; is_made_again(rt.alloc(), &("", Mode::Shared, None, "")));
+}
 
 #[test]
 fn a_held_key_refuses_all_needs(rt: HostRuntime) {
