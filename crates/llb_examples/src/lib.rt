@@ -25,6 +25,8 @@ mod merge;
 #[cfg(test)]
 mod mount;
 #[cfg(test)]
+mod mount_types;
+#[cfg(test)]
 mod nodes;
 #[cfg(test)]
 mod ops;

@@ -1,7 +1,7 @@
 //! Definitions, and rows under digest texts of any kind. The answer is told in a line of text: the refusal as it is
 //! printed, or the vertices and the result.
 
-use llb_loader::{Edge, Graph, LoadFault, Row, Vertex, link, load};
+use llb_loader::{Edge, Graph, LoadFault, Row, Vertex, link, load, load_owned};
 use llb_wire::{Bytes, Memory, Text, write_varint};
 use std::alloc::{AllocError, Global};
 use std::test::Fail;
@@ -233,7 +233,7 @@ fn loaded_bytes(alloc: Global, definition: &[u8]) -> Result<String, Memory> {
 
 fn loaded(alloc: Global, given: &[Given<'_>]) -> Result<String, Memory> {
     let definition = definition_of(alloc, given)?;
-    loaded_bytes(alloc, &definition)
+    Ok(told(alloc, load_owned(alloc, definition))?)
 }
 
 pub(crate) fn linked(alloc: Global, given: &[Given<'_>]) -> Result<String, Memory> {

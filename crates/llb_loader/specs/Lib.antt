@@ -1,5 +1,6 @@
 pub mod Rows
 pub mod Mounts
+pub mod MountTypes
 pub mod KeyOrder
 pub mod Scripts
 pub mod Rules

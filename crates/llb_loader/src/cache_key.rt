@@ -3,11 +3,11 @@
 
 ghost use Rattle.std.specs.Prelude.{◌≡◌, Some};
 ghost use Rattle.std.specs.Option.{option_copied, option_cmp};
-ghost use Rattle.llb_loader.specs.Mounts.{cache_in, key_of, seed_of, seed_by};
+ghost use Rattle.llb_loader.specs.Mounts.{key_of, seed_of, seed_by};
 ghost use Rattle.llb_loader.specs.KeyOrder.{seed_cmp};
 
-use crate::mount_type::CACHE;
-use llb_ops::{CacheOpt, Input, Mount};
+use crate::mount_type::cache_in;
+use llb_ops::{Input, Mount};
 use std::cmp::Ordering;
 use std::marker::Model;
 
@@ -39,16 +39,6 @@ pub(crate) fn key_of<'a>(inputs: &'a [Input], mount: &'a Mount) -> Option<Key<'a
     let mode = options.sharing;
     let seed = seed_in(inputs, mount);
     Some(Key { id, mode, seed })
-}
-
-// The options of the cache that a mount shows, if it shows one.
-fn cache_in(mount: &Mount) -> Option<&CacheOpt>
-    ensures { option_copied result ≡ cache_in mount.now }
-{
-    if mount.mount_type != CACHE {
-        return None;
-    }
-    mount.cache_opt.as_ref()
 }
 
 // The input with whose output a new instance begins, none for -1.

@@ -5,11 +5,12 @@ ghost use Rattle.std.specs.List.{All};
 ghost use Rattle.llb_ops.specs.declared.op.Input.{Input};
 ghost use Rattle.llb_ops.specs.declared.op.Kind.TheVariants as kind;
 ghost use Rattle.llb_loader.specs.Rules.{IsBelow, ShowsInput, HasOptions, IsShared, IsKnownSharing, HasWord, AreMountOutputs, mount_outputs, none};
+ghost use Rattle.llb_loader.specs.MountTypes.{number_of};
 ghost use Rattle.llb_loader.specs.Checking.{IsFirstBroken, exec_rules, word_rules, path_rules, mount_rules, cache_rules, script_rules};
 
 use crate::caches::caches_apart;
 use crate::fault::Rule;
-use crate::mount_type::{BIND, CACHE, TMPFS};
+use crate::mount_type::MountType;
 use crate::numbers::{are_outputs, is_input};
 use crate::paths::{all_there, cwd_reads, dests_apart, dests_of, has_root, selectors_read};
 use llb_applet::{ScriptFault, read_script};
@@ -125,10 +126,10 @@ fn all_show(count: usize, mounts: &[Mount]) -> bool
 fn shows_input(count: usize, mount: &Mount) -> bool
     ensures { IsTrue result ↔ ShowsInput count mount.now }
 {
-    if mount.mount_type == BIND {
+    if MountType::Bind.is_of(mount) {
         return is_input(count, mount.input);
     }
-    if mount.mount_type == CACHE {
+    if MountType::Cache.is_of(mount) {
         return is_input(count, mount.input);
     }
     true
@@ -137,10 +138,10 @@ fn shows_input(count: usize, mount: &Mount) -> bool
 fn are_mount_outputs(alloc: Global, mounts: &[Mount]) -> Result<bool, AllocError>
     ensures { IfOk result (λ stand. IsTrue stand ↔ AreMountOutputs mounts.now) }
 {
-    if !all_silent(CACHE, mounts) {
+    if !all_silent(MountType::Cache, mounts) {
         return Ok(false);
     }
-    if !all_silent(TMPFS, mounts) {
+    if !all_silent(MountType::Tmpfs, mounts) {
         return Ok(false);
     }
     let outputs = outputs_of(alloc, mounts)?;
@@ -148,11 +149,11 @@ fn are_mount_outputs(alloc: Global, mounts: &[Mount]) -> Result<bool, AllocError
 }
 
 // Whether no mount of a type has an output.
-fn all_silent(number: i32, mounts: &[Mount]) -> bool
-    ensures { IsTrue result ↔ All (λ m. m.mount_type ≡ number → m.output ≡ none) mounts.now }
+fn all_silent(mount_type: MountType, mounts: &[Mount]) -> bool
+    ensures { IsTrue result ↔ All (λ m. m.mount_type ≡ number_of mount_type → m.output ≡ none) mounts.now }
 {
     for mount in mounts {
-        if mount.mount_type == number {
+        if mount_type.is_of(mount) {
             if mount.output != -1 {
                 return false;
             }
@@ -191,7 +192,7 @@ fn all_have_options(mounts: &[Mount]) -> bool
     ensures { IsTrue result ↔ All HasOptions mounts.now }
 {
     for mount in mounts {
-        if mount.mount_type == CACHE {
+        if MountType::Cache.is_of(mount) {
             if mount.cache_opt.is_none() {
                 return false;
             }
@@ -204,7 +205,7 @@ fn all_shared(mounts: &[Mount]) -> bool
     ensures { IsTrue result ↔ All IsShared mounts.now }
 {
     for mount in mounts {
-        if mount.mount_type == CACHE {
+        if MountType::Cache.is_of(mount) {
             if !is_known(&mount.cache_opt) {
                 return false;
             }

@@ -4,11 +4,12 @@ ghost use Rattle.std.specs.Prelude.{◌≡◌};
 ghost use Rattle.std.specs.List.{list_any, find};
 ghost use Rattle.llb_ops.specs.declared.op.Kind.TheVariants as kind;
 ghost use Rattle.llb_loader.specs.Mounts.{has_type};
+ghost use Rattle.llb_loader.specs.MountTypes.{number_of};
 ghost use Rattle.llb_loader.specs.Rules.{owner_of, owner_by_name, user_by_name};
 ghost use Rattle.llb_loader.specs.Features.{is_nameless, copies_with, has_pattern, has_field, unpacks, has, features, feature_of};
 
 use crate::fault::Feature;
-use crate::mount_type::{SECRET, SSH};
+use crate::mount_type::MountType;
 use llb_ops::{
     Action, ActionKind, ChownOpt, CopyFile, ExecOp, FileOp, Kind, Mount, Op, SourceOp, User,
     UserOpt,
@@ -42,10 +43,10 @@ fn exec_feature(exec: &ExecOp) -> Option<Feature>
     ensures { result ≡ find (has (Some (kind.Exec exec.now))) features }
 {
     let mounts = exec.mounts.as_slice();
-    if any_of_type(mounts, SECRET) {
+    if any_of_type(mounts, MountType::Secret) {
         return Some(Feature::SecretMount);
     }
-    if any_of_type(mounts, SSH) {
+    if any_of_type(mounts, MountType::Ssh) {
         return Some(Feature::SshMount);
     }
     if !exec.secretenv.is_empty() {
@@ -54,11 +55,11 @@ fn exec_feature(exec: &ExecOp) -> Option<Feature>
     None
 }
 
-fn any_of_type(mounts: &[Mount], number: i32) -> bool
-    ensures { result ≡ list_any (has_type number) mounts.now }
+fn any_of_type(mounts: &[Mount], mount_type: MountType) -> bool
+    ensures { result ≡ list_any (has_type (number_of mount_type)) mounts.now }
 {
     for mount in mounts {
-        if mount.mount_type == number {
+        if mount_type.is_of(mount) {
             return true;
         }
     }

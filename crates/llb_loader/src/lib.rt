@@ -33,4 +33,5 @@ pub use laws::{numbering_goes_down, one_answer, one_answer_in, one_numbering};
 pub use linking::link;
 pub use loading::{load, load_owned};
 pub use locals::Locals;
+pub use mount_type::{MountType, cache_in};
 pub use row::Row;

@@ -1,16 +1,55 @@
-//! The types of mounts, by their numbers.
+//! The types of mounts, and the options of the cache that a mount shows.
 
-/// Shows an input of the op.
-pub(crate) const BIND: i32 = 0;
+ghost use Rattle.std.specs.Prelude.{◌≡◌};
+ghost use Rattle.std.specs.Option.{option_copied};
+ghost use Rattle.llb_loader.specs.Mounts.{cache_in, has_type};
+ghost use Rattle.llb_loader.specs.MountTypes.{number_of};
 
-/// Shows a secret.
-pub(crate) const SECRET: i32 = 1;
+use llb_ops::{CacheOpt, Mount};
 
-/// Shows an SSH agent.
-pub(crate) const SSH: i32 = 2;
+/// What a mount shows.
+#[derive(Clone, Copy, Debug, PartialEq, Eq)]
+pub enum MountType {
+    /// An input of the op, or the empty tree.
+    Bind,
+    /// A secret.
+    Secret,
+    /// An SSH agent.
+    Ssh,
+    /// A cache.
+    Cache,
+    /// An empty tree.
+    Tmpfs,
+}
 
-/// Shows a cache.
-pub(crate) const CACHE: i32 = 3;
+impl MountType {
+    /// The number of the type in a definition. Takes no memory.
+    pub fn number(self) -> i32
+        ensures { result ≡ number_of self }
+    {
+        match self {
+            MountType::Bind => 0,
+            MountType::Secret => 1,
+            MountType::Ssh => 2,
+            MountType::Cache => 3,
+            MountType::Tmpfs => 4,
+        }
+    }
 
-/// Shows an empty tree.
-pub(crate) const TMPFS: i32 = 4;
+    /// Whether a mount has this type. Takes no memory.
+    pub fn is_of(self, mount: &Mount) -> bool
+        ensures { result ≡ has_type (number_of self) mount.now }
+    {
+        mount.mount_type == self.number()
+    }
+}
+
+/// The options of the cache that a mount shows, if it shows one. Takes no memory.
+pub fn cache_in(mount: &Mount) -> Option<&CacheOpt>
+    ensures { option_copied result ≡ cache_in mount.now }
+{
+    if !MountType::Cache.is_of(mount) {
+        return None;
+    }
+    mount.cache_opt.as_ref()
+}

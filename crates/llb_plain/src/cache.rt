@@ -7,11 +7,8 @@ ghost use Rattle.llb_loader.specs.Mounts.{cache, has_type};
 ghost use Rattle.llb_model.specs.Program.{has_cache};
 ghost use Rattle.llb_plain.specs.Evaluation.{cache_from};
 
-use llb_loader::{Graph, Vertex};
+use llb_loader::{Graph, MountType, Vertex};
 use llb_ops::{Kind, Mount};
-
-// The type of mounts that show caches.
-const CACHE: i32 = 3;
 
 /// The least vertex that mounts a cache.
 pub(crate) fn first_with_cache(graph: &Graph) -> Option<u32>
@@ -41,7 +38,7 @@ fn any_cache(mounts: &[Mount]) -> bool
     ensures { result ≡ list_any (has_type cache) mounts.now }
 {
     for mount in mounts {
-        if mount.mount_type == CACHE {
+        if MountType::Cache.is_of(mount) {
             return true;
         }
     }
