@@ -1,7 +1,7 @@
 //! The view. Contracts see the list of its mounts, in the order in which they were given; a mount's number is its place in
 //! it. The dests never change, so that one of them is the root and no two are the same from `make` on.
 
-ghost use Rattle.std.specs.Prelude.{◌≡◌, ◌≢◌, ◌↔◌, IsTrue, ℕ, ◌<◌, ◌≤◌, List, length, IfOk, IfErr, OnOk, OnErr, is_err, Contains, AllPairs};
+ghost use Rattle.std.specs.Prelude.{◌≡◌, ◌≢◌, ◌↔◌, IsTrue, ℕ, ◌<◌, ◌≤◌, List, length, IfOk, IfErr, IsOk, OnOk, OnErr, is_err, Contains, AllPairs};
 ghost use Rattle.llb_mount.specs.View.{IsView, dests, mount_at, with_tree_of};
 ghost use Rattle.llb_mount.specs.Route.{IsRoute, route};
 
@@ -74,10 +74,12 @@ impl View {
         all_differ(mounts)
     }
 
-    /// The view of these mounts, of which it can be made (`can_make`), numbered from 0 in their order; 62 `Memory`.
+    /// The view of these mounts, of which it can be made (`can_make`), numbered from 0 in their order. It takes the mounts over, and so
+    /// no memory: 62 `Memory` is not answered.
     pub fn make(mounts: Many<Shown>) -> Result<View, Memory>
         requires { IsView mounts }
-        ensures { IfOk result (λ v. v ≡ mounts) }
+        ensures view { IfOk result (λ v. v ≡ mounts) }
+        ensures made { IsOk result }
     {
         let mounts = mounts.into_vec();
         Ok(View { mounts })
