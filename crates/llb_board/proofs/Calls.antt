@@ -1,12 +1,12 @@
 -- Where the table grants what the board does, and the first cause where not.
-use Rattle.std.proofs.Common.{◌≡◌, ℕ, ◌<◌, Bool, true, false, List, [], ◌∷◌, length, map, Option, Some, None, refl, sym, ap, ◌∙◌}
-use Rattle.std.specs.Prelude.{Result, Ok, Err, is_ok, slice_get, slice_set, if◌then◌else◌}
+use Rattle.std.proofs.Common.{◌≡◌, ℕ, ◌<◌, Bool, true, false, List, [], ◌∷◌, length, map, Option, Some, None, inl, inr, refl, sym, ap, ◌∙◌}
+use Rattle.std.specs.Prelude.{◌⊎◌, Result, Ok, Err, is_ok, slice_get, slice_set, if◌then◌else◌}
 use Rattle.std.specs.Result.{result_ok}
 use Rattle.std.specs.List.{find}
 use Rattle.llb_cache.specs.declared.key.Key.{Key}
 use Rattle.llb_cache.specs.declared.need.Need as cache_need
 use Rattle.llb_cache.specs.declared.fault.LeaseFault.{LeaseFault}
-use Rattle.llb_cache.specs.Caches.{CachesValue, Row, Leases, Taken, taken, place_for, free_lease, with_lease, made_all, is_shut, lease_by, lease_of, trees_of, AreApart, AreThere}
+use Rattle.llb_cache.specs.Caches.{CachesValue, Row, Leases, Taken, taken, place_for, free_lease, with_lease, made_all, is_shut, lease_by, trees_of, AreApart, AreThere}
 use Rattle.llb_loader.specs.declared.graph.Vertex.{Vertex}
 use Rattle.llb_tree.specs.Tree.{TreeMap}
 use Rattle.llb_model.specs.Caches.{Place, Has, Distinct, put_all, trees_at}
@@ -27,7 +27,7 @@ use Rattle.llb_model.proofs.Lists.{inside}
 use Rattle.llb_model.proofs.Events.{Answer, ready_is}
 use Rattle.llb_model.proofs.Leases.{refuses_alike, takes_alike, makes_alike, writes_alike}
 use Rattle.llb_execution.specs.Parts.{work_with}
-use Rattle.llb_board.specs.Caches.{shut_key, unless_shut, places_taken, written}
+use Rattle.llb_board.specs.Caches.{shut_key, unless_shut, places_taken, some_lease, lease_if, written}
 use Rattle.llb_board.specs.Board.{Seen, recorded}
 use Rattle.llb_board.specs.Rules.{faulted, claim_fault, claim_of, step_fault, claim_may_want, Begun, begun_at, begun, Written, written_by, worked_in, worked_by, left_at}
 use Rattle.llb_board.specs.Views.{at_of, state_of}
@@ -134,11 +134,14 @@ claim_held n w v x c e can same is =
     ∙ ap (λ o. recorded n (Claim w v) claim_fault (claim_unless n.build n.state w v (start_with x can.trees) o)) (sym (shut_as_held c n.state.workers can.trees x same) ∙ h.1)
     ∙ ap (λ f. Err f) (sym h.2)
 
--- memory may be wanted of a claim that only a held key refuses
-pub claim_wants : (n : Seen) (w v : ℕ) (x : Vertex) → CanClaim n.build n.state w v x → claim_may_want (claim_of n w v) ≡ true
-claim_wants n w v x can = ap (λ r. claim_may_want (recorded n (Claim w v) claim_fault r)) can.grants ∙ by_key (held_key (held n.state.workers) (needs_of x))
+-- memory may be wanted of a claim where it may be of the look at its keys
+pub claim_wants : (n : Seen) (w v : ℕ) (x : Vertex) (c : CachesValue) → CanClaim n.build n.state w v x → HoldsAs c.out n.state.workers
+    → claim_may_want (claim_of n w v) ≡ claim_may_want (unless_shut (needs_of x) (shut_key c.out (needs_of x)))
+claim_wants n w v x c can same =
+    ap (λ r. claim_may_want (recorded n (Claim w v) claim_fault r)) can.grants ∙ by_key (held_key (held n.state.workers) (needs_of x))
+    ∙ ap (λ o. claim_may_want (unless_shut (needs_of x) o)) (sym (shut_as_held c n.state.workers can.trees x same))
   where
-    by_key : (o : Option Key) → claim_may_want (recorded n (Claim w v) claim_fault (claim_unless n.build n.state w v (start_with x can.trees) o)) ≡ true
+    by_key : (o : Option Key) → claim_may_want (recorded n (Claim w v) claim_fault (claim_unless n.build n.state w v (start_with x can.trees) o)) ≡ claim_may_want (unless_shut (needs_of x) o)
     by_key None = refl
     by_key (Some k) = refl
 
@@ -156,28 +159,44 @@ pub record Leased (c : CachesValue) (workers : List At) : Type 0 where
 pub places_alike : (c : CachesValue) (workers : List At) (inputs : List TreeMap) (needs : List Need) → Leased c workers → places_taken c.out needs ≡ places_for (held workers) needs
 places_alike c workers inputs needs l = sym (taken_places c.out inputs needs) ∙ takes_alike c.out workers inputs needs l.same l.apart
 
--- the lease of what a vertex needs: its number, and the caches behind it
-pub record Granted (c : CachesValue) (x : Vertex) (trees : List TreeMap) (l : ℕ) (new : CachesValue) : Type 0 where
-  pub number : l ≡ free_lease c.out
-  pub rows : new.rows ≡ made_all c.rows (taken c.out (asked trees (needs_of x)))
-  pub out : new.out ≡ with_lease c.out (free_lease c.out) (places_taken c.out (needs_of x))
+-- what a lease of these instances leaves: it, where there are some
+abbrev pub LeasedNew : Leases → Option ℕ → List Place → Leases → Type 0
+LeasedNew out l ps new = ((l ≡ Some (free_lease out)) × (new ≡ with_lease out (free_lease out) ps)) ⊎ ((l ≡ None) × (ps ≡ []) × (new ≡ out))
 
-lease_inside : {a b : ℕ × CachesValue} → ◌≡◌ {A = Result (ℕ × CachesValue) LeaseFault} (Ok a) (Ok b) → a ≡ b
+-- the lease of what a vertex needs, and the caches behind it
+pub record Granted (c : CachesValue) (x : Vertex) (trees : List TreeMap) (l : Option ℕ) (new : CachesValue) : Type 0 where
+  pub rows : new.rows ≡ made_all c.rows (taken c.out (asked trees (needs_of x)))
+  pub leased : LeasedNew c.out l (places_taken c.out (needs_of x)) new.out
+
+lease_inside : {a b : Option ℕ × CachesValue} → ◌≡◌ {A = Result (Option ℕ × CachesValue) LeaseFault} (Ok a) (Ok b) → a ≡ b
 lease_inside e = cc
 
-pub granted_of : (c new : CachesValue) (x : Vertex) (trees : List TreeMap) (l : ℕ) (ns : List cache_need.Need) → ns ≡ asked trees (needs_of x) → lease_of c ns ≡ Ok (l, new) → Granted c x trees l new
-granted_of c new x trees l ns are is = by_key (find (is_shut c.out) ns) is
+pub granted_of : (c new : CachesValue) (x : Vertex) (trees : List TreeMap) (l : Option ℕ) (ns : List cache_need.Need) → ns ≡ asked trees (needs_of x) → lease_if c ns ≡ Ok (l, new)
+    → Granted c x trees l new
+granted_of c new x trees l [] are is =
+    let same = lease_inside is in
+    record {
+      rows = ap (λ p. p.1.rows) (sym same) ∙ ap (λ ms. made_all c.rows (taken c.out ms)) are;
+      leased = inr (
+        ap (λ p. p.0) (sym same),
+        sym (taken_places c.out trees (needs_of x)) ∙ ap (λ ms. map (λ (t : Taken). t.0) (taken c.out ms)) (sym are),
+        ap (λ p. p.1.out) (sym same),
+      );
+    }
+granted_of c new x trees l (n ∷ ns) are is = by_key (find (is_shut c.out) (n ∷ ns)) is
   where
-    by_key : (o : Option cache_need.Need) → lease_by c ns o ≡ Ok (l, new) → Granted c x trees l new
-    by_key (Some n) is = absurd cc
+    by_key : (o : Option cache_need.Need) → some_lease (lease_by c (n ∷ ns) o) ≡ Ok (l, new) → Granted c x trees l new
+    by_key (Some m) is = absurd cc
     by_key None is =
         let same = lease_inside is in
         record {
-          number = sym (ap (λ p. p.0) same);
           rows = sym (ap (λ p. p.1.rows) same) ∙ ap (λ ms. made_all c.rows (taken c.out ms)) are;
-          out = sym (ap (λ p. p.1.out) same)
-              ∙ ap (λ ms. with_lease c.out (free_lease c.out) (map (λ (t : Taken). t.0) (taken c.out ms))) are
-              ∙ ap (with_lease c.out (free_lease c.out)) (taken_places c.out trees (needs_of x));
+          leased = inl (
+            sym (ap (λ p. p.0) same),
+            sym (ap (λ p. p.1.out) same)
+                ∙ ap (λ ms. with_lease c.out (free_lease c.out) (map (λ (t : Taken). t.0) (taken c.out ms))) are
+                ∙ ap (with_lease c.out (free_lease c.out)) (taken_places c.out trees (needs_of x)),
+          );
         }
 
 -- what is begun where no key is shut is what the table gives
@@ -196,7 +215,7 @@ pub needs_asked : (b : Build) (c : CachesValue) (w v : ℕ) (x : Vertex) (trees 
     → begun_so.needs ≡ asked trees (needs_of x)
 needs_asked b c w v x trees o begun_so there is = ap (λ (g : Begun). g.needs) (sym (begun_is b c w v x trees o begun_so there is))
 
-pub claims : (b : Build) (s : State) (w v : ℕ) (x : Vertex) (c new : CachesValue) (l : ℕ) (begun_so : Begun) (ns : List Need) (can : CanClaim b s w v x) → s.store ≡ store_of c.rows → Leased c s.workers
+pub claims : (b : Build) (s : State) (w v : ℕ) (x : Vertex) (c new : CachesValue) (l : Option ℕ) (begun_so : Begun) (ns : List Need) (can : CanClaim b s w v x) → s.store ≡ store_of c.rows → Leased c s.workers
     → Distinct (map key_of (needs_of x)) → unless_shut (needs_of x) (shut_key c.out (needs_of x)) ≡ Ok ns
     → begun b c w v x (inputs_from (ending_at s.statuses) x.inputs) ≡ Ok begun_so
     → Granted c x can.trees l new → Claims b s w v x c new begun_so.execution begun_so.reply

@@ -1,9 +1,9 @@
 -- A claim that is granted: what the board does is what the table gives, and its type keeps what it keeps.
-use Rattle.std.proofs.Common.{◌≡◌, ◌≢◌, ℕ, ◌<◌, List, [], ◌∷◌, ◌++◌, length, map, Some, refl, sym, subst, ◌∙◌, arith}
+use Rattle.std.proofs.Common.{◌≡◌, ◌≢◌, ℕ, ◌<◌, List, [], ◌∷◌, ◌++◌, length, map, Option, Some, refl, sym, subst, ◌∙◌, arith}
 use Rattle.std.specs.Prelude.{Bool, Ok, AllPairs}
 use Rattle.std.proofs.lemmas.Option.{slice_get_within}
 use Rattle.llb_cache.specs.declared.need.Need as cache_need
-use Rattle.llb_cache.specs.Caches.{CachesValue, Row, leases, lease_of, AreApart, AreThere}
+use Rattle.llb_cache.specs.Caches.{CachesValue, Row, leases, AreApart, AreThere}
 use Rattle.llb_loader.specs.declared.graph.Vertex.{Vertex}
 use Rattle.llb_loader.specs.Graph.{IsGraph}
 use Rattle.llb_model.specs.Program.{Build, Need, needs_of}
@@ -14,7 +14,7 @@ use Rattle.llb_model.specs.Table.{Event, Claim, Reply, claim_grant}
 use Rattle.llb_model.proofs.Leasing.{leased_holds_as}
 use Rattle.llb_model.proofs.Lists.{length_set}
 use Rattle.llb_model.proofs.Needs.{graph_distinct}
-use Rattle.llb_board.specs.Caches.{shut_key, unless_shut, places_taken, rows_after}
+use Rattle.llb_board.specs.Caches.{shut_key, unless_shut, places_taken, lease_if, rows_after}
 use Rattle.llb_board.specs.Room.{supplies_of, supplies_for}
 use Rattle.llb_board.specs.Rules.{Begun, begun}
 use Rattle.llb_board.specs.Views.{status_of, at_of, leased_by, execution_of}
@@ -60,15 +60,15 @@ module _ (b : Build) (first : List Row) (ss : List Stand) (ds : List Desk) (c : 
   differ = subst (AllPairs (λ (n m : cache_need.Need). n.key ≢ m.key)) (sym asked_so) (asked_differ may.can.trees (needs_of x) (graph_distinct b may.graph v x may.can.there))
 
   -- what the board does
-  pub record Did (l : ℕ) (own : own.Execution) (r : Reply) (new : CachesValue) : Type 0 where
+  pub record Did (l : Option ℕ) (own : own.Execution) (r : Reply) (new : CachesValue) : Type 0 where
     pub grants : claim_grant b (state_as (data_of ss ds c halted)) w v ≡ Ok (state_as (claimed (data_of ss ds c halted) w v l own new), r)
     pub rows : new.rows ≡ rows_after c.rows (state_as (claimed (data_of ss ds c halted) w v l own new)) w
     pub keeps : Keeps b first (claimed (data_of ss ds c halted) w v l own new) (es ++ Claim w v ∷ []) capacity
     pub low_v : v < length ss
     pub low_w : w < length ds
 
-  pub did : (l : ℕ) (own : own.Execution) (new : CachesValue) (ns : List Need) → unless_shut (needs_of x) (shut_key c.out (needs_of x)) ≡ Ok ns → execution_of own ≡ g.execution
-      → lease_of c g.needs ≡ Ok (l, new) → supplies_of own ≡ supplies_for (Some x) → Did l own g.reply new
+  pub did : (l : Option ℕ) (own : own.Execution) (new : CachesValue) (ns : List Need) → unless_shut (needs_of x) (shut_key c.out (needs_of x)) ≡ Ok ns → execution_of own ≡ g.execution
+      → lease_if c g.needs ≡ Ok (l, new) → supplies_of own ≡ supplies_for (Some x) → Did l own g.reply new
   did l own new ns admitted same leases supplies =
       let d = data_of ss ds c halted in
       let s = state_as d in
@@ -80,12 +80,14 @@ module _ (b : Build) (first : List Row) (ss : List Stand) (ds : List Desk) (c : 
       let does = claim_does b d w v l x c new own g.reply so in
       let vertex : own.vertex ≡ v = so.vertex in
       let stays = marks_kept b ss v (stand.Running w) Waiting can.waits refl refl in
+      let rows = claim_rows b d w v l x c new own g.reply can.idle refl so in
       record {
         grants = does;
-        rows = claim_rows b d w v l x c new own g.reply can.idle refl so;
+        rows = rows;
         keeps = kept_after b first d (claimed d w v l own new) es capacity (Claim w v) g.reply may.kept (claim_done b s w v _ does) (record {
           same = length_set ds w (desk.Runs l own);
-          leased = leased_claimed d w l own (places_taken c.out (needs_of x)) new.out may.kept.leased can.idle lease.number so.places lease.out;
+          rows = rows;
+          leased = leased_claimed d w l own (places_taken c.out (needs_of x)) new.out may.kept.leased can.idle so.places lease.leased;
           supplies = supplies_claimed b ds w l own may.kept.supplies (supplies ∙ made_for b x v own.vertex can.there vertex);
           marks = may.kept.halted_are ∙ sym stays;
         });

@@ -1,8 +1,9 @@
 -- What the board's type keeps, as an event is done.
-use Rattle.std.proofs.Common.{◌≡◌, ℕ, ◌<◌, List, [], ◌∷◌, ◌++◌, map, length, refl, sym, ap, subst, ◌∙◌, arith, take, drop}
-use Rattle.std.specs.Prelude.{Bool, true, false, Option, Some, None, Result, Ok, slice_get, slice_set, replicate}
-use Rattle.std.proofs.lemmas.List.{length_push, drop_all, take_all, append-nil}
-use Rattle.llb_cache.specs.Caches.{CachesValue, Row, Leases, free_lease, with_lease, trimmed, IsOut}
+use Rattle.std.proofs.Common.{◌≡◌, ℕ, ◌<◌, List, [], ◌∷◌, ◌++◌, map, length, inl, inr, refl, sym, ap, subst, ◌∙◌, arith, take, drop}
+use Rattle.std.specs.Prelude.{Bool, true, false, Option, Some, None, Result, Ok, option_map, slice_get, slice_set, replicate}
+use Rattle.std.proofs.lemmas.List.{drop_all, take_all, append-nil}
+use Rattle.std.proofs.lemmas.List.Sums.{fold-append}
+use Rattle.llb_cache.specs.Caches.{CachesValue, Row, Leases, free_lease, with_lease}
 use Rattle.llb_tree.specs.Tree.{empty_tree}
 use Rattle.llb_loader.specs.declared.graph.Vertex.{Vertex}
 use Rattle.llb_loader.specs.Graph.{IsGraph}
@@ -17,13 +18,13 @@ use Rattle.llb_model.specs.Run.{run}
 use Rattle.llb_model.proofs.Lists.{inside, get_set_same}
 use Rattle.llb_model.proofs.Events.{Answer, IsStep, step_is}
 use Rattle.llb_model.proofs.Runs.{run_more}
-use Rattle.llb_model.proofs.Rooms.{event_room}
+use Rattle.llb_model.proofs.Rooms.{event_room, run_has_few}
 use Rattle.llb_model.proofs.Alone.{over_after}
-use Rattle.llb_model.proofs.Leasing.{claim_leases, settle_gives_back}
+use Rattle.llb_model.proofs.Leasing.{claim_leases, claim_without}
 use Rattle.llb_model.specs.Caches.{Place}
 use Rattle.llb_board.specs.Caches.{written, places_at, rows_after}
 use Rattle.llb_board.specs.Views.{status_of, at_of, leased_by, execution_of, state_of}
-use Rattle.llb_board.specs.Board.{Seen, Replays, opening_with, recorded}
+use Rattle.llb_board.specs.Board.{Seen, Replays, opening_with, kept_next, kept_along, recorded}
 use Rattle.llb_board.specs.Rules.{faulted, step_fault, left_at}
 use Rattle.llb_board.specs.Room.{IsKept, AreOver, Supplies, supplies_of, supplies_for, seen, ready_made, needed}
 use Rattle.llb_board.specs.declared.stand.Stand.{Stand}
@@ -32,7 +33,7 @@ use Rattle.llb_board.specs.declared.stand.Desk.{Desk}
 use Rattle.llb_board.specs.declared.stand.Desk.TheVariants as desk
 use Rattle.llb_board.specs.declared.stand.Execution as own
 use Rattle.llb_board.proofs.Lists.{map_set, set_same, length_map, get_map}
-use Rattle.llb_board.proofs.Calls.{Claims, steps, CanSettle, left_if}
+use Rattle.llb_board.proofs.Calls.{Claims, LeasedNew, steps, CanSettle, left_if}
 use Rattle.llb_board.proofs.Sound.{consistent}
 use Rattle.llb_board.proofs.Stopped.{marks_stay}
 
@@ -56,29 +57,44 @@ Keeps b first d es capacity = IsKept (seen_as b first d es) d.desks d.out d.halt
 -- there is room for an event that is granted
 pub has_room : (b : Seen) (desks : List Desk) (out : Leases) (halted : List Bool) (capacity : ℕ) (e : Event) (a : Answer) → IsKept b desks out halted capacity
     → table b.build b.state e ≡ Some a → length b.events < capacity
-has_room b desks out halted capacity e a kept granted = omega (arith, event_room b.build b.state e a granted, kept.room)
+has_room b desks out halted capacity e a kept granted =
+    let few = run_has_few b.build b.opening b.state b.events kept.replays.replies kept.replays.leads in
+    omega (arith, event_room b.build b.state e a granted, few, kept.room)
 
--- what an event has to keep beside the run
-pub record Stays (b : Build) (d d' : Data) : Type 0 where
+-- what an event of a worker has to keep beside the run
+pub record Stays (b : Build) (w : ℕ) (d d' : Data) : Type 0 where
   pub same : length d'.desks ≡ length d.desks
+  pub rows : d'.rows ≡ rows_after d.rows (state_as d') w
   pub leased : AreLeased d'.out (map at_of d'.desks) (map leased_by d'.desks)
   pub supplies : map ready_made d'.desks ≡ map (needed b) (map at_of d'.desks)
   pub marks : d'.halted ≡ stopped b (map status_of d'.stands)
 
+-- the lists of instances behind one event more
+kept_more : (b : Build) (s : State) (first rows : List Row) (t u : State) (es : List Event) (e : Event) (r : Reply) → kept_along b s first es ≡ Some (t, rows)
+    → table b t e ≡ Some (u, r) → kept_along b s first (es ++ e ∷ []) ≡ Some (u, rows_after rows u (worker_of e))
+kept_more b s first rows t u es e r so_far granted =
+    fold-append (kept_next b) (Some (s, first)) es (e ∷ [])
+    ∙ ap (λ o. kept_next b o e) so_far
+    ∙ ap (option_map (λ (a : State × Reply). (a.0, rows_after rows a.0 (worker_of e)))) granted
+
 pub kept_after : (b : Build) (first : List Row) (d d' : Data) (es : List Event) (capacity : ℕ) (e : Event) (r : Reply) → Keeps b first d es capacity
-    → table b (state_as d) e ≡ Some (state_as d', r) → Stays b d d' → Keeps b first d' (es ++ e ∷ []) capacity
+    → table b (state_as d) e ≡ Some (state_as d', r) → Stays b (worker_of e) d d' → Keeps b first d' (es ++ e ∷ []) capacity
 kept_after b first d d' es capacity e r kept granted stays =
     let o = opening_with (length d.desks) first in
     let leads : run b (opening b o) (es ++ e ∷ []) ≡ Some (state_as d', kept.replays.replies ++ r ∷ [])
     = run_more b (opening b o) (state_as d) (state_as d') es kept.replays.replies e r kept.replays.leads granted in
-    let less = event_room b (state_as d) e (state_as d', r) granted in
-    let room = kept.room in
+    let keeps : kept_along b (opening b o) first (es ++ e ∷ []) ≡ Some (state_as d', d'.rows)
+    = kept_more b (opening b o) first d.rows (state_as d) (state_as d') es e r kept.replays.keeps granted ∙ ap (λ rows. Some (state_as d', rows)) (sym stays.rows) in
     let some = kept.some in
     let few = kept.few in
     let same = stays.same in
     record {
-      replays = record { replies = kept.replays.replies ++ r ∷ []; leads = ap (λ n. run b (opening b (opening_with n first)) (es ++ e ∷ [])) same ∙ leads };
-      room = omega (arith, less, room, length_push es e);
+      replays = record {
+        replies = kept.replays.replies ++ r ∷ [];
+        leads = ap (λ n. run b (opening b (opening_with n first)) (es ++ e ∷ [])) same ∙ leads;
+        keeps = ap (λ n. kept_along b (opening b (opening_with n first)) first (es ++ e ∷ [])) same ∙ keeps;
+      };
+      room = kept.room;
       leased = stays.leased;
       supplies = stays.supplies;
       some = omega (arith, length_map at_of d'.desks, length_map at_of d.desks, same, some);
@@ -116,7 +132,7 @@ kept_written b first d d' es capacity same kept = subst (λ (x : Data). Keeps b 
 -- ---- a claim
 
 -- the board's data after a claim
-abbrev pub claimed : Data → ℕ → ℕ → ℕ → own.Execution → CachesValue → Data
+abbrev pub claimed : Data → ℕ → ℕ → Option ℕ → own.Execution → CachesValue → Data
 claimed d w v l x new = record {
   stands = slice_set d.stands v (stand.Running w);
   desks = slice_set d.desks w (desk.Runs l x);
@@ -125,14 +141,14 @@ claimed d w v l x new = record {
   halted = d.halted;
 }
 
-pub state_claimed : (d : Data) (w v l : ℕ) (x : own.Execution) (new : CachesValue)
+pub state_claimed : (d : Data) (w v : ℕ) (l : Option ℕ) (x : own.Execution) (new : CachesValue)
     → state_as (claimed d w v l x new)
     ≡ record { statuses = slice_set (map status_of d.stands) v (Running w); workers = slice_set (map at_of d.desks) w (Runs (execution_of x)); store = store_of new.rows }
 state_claimed d w v l x new =
     λ i. record { statuses = map_set status_of d.stands v (stand.Running w) i; workers = map_set at_of d.desks w (desk.Runs l x) i; store = store_of new.rows }
 
 -- the machine's claim is what the board does
-pub claim_does : (b : Build) (d : Data) (w v l : ℕ) (x : Vertex) (c new : CachesValue) (own : own.Execution) (r : Reply)
+pub claim_does : (b : Build) (d : Data) (w v : ℕ) (l : Option ℕ) (x : Vertex) (c new : CachesValue) (own : own.Execution) (r : Reply)
     → Claims b (state_as d) w v x c new (execution_of own) r → claim_grant b (state_as d) w v ≡ Ok (state_as (claimed d w v l own new), r)
 claim_does b d w v l x c new own r claims = claims.grants ∙ (λ i. Ok (sym (state_claimed d w v l own new) i, r))
 
@@ -141,7 +157,7 @@ pub set_there : {A : Type 0} (xs : List A) (i : ℕ) (old x : A) → slice_get x
 set_there xs i old x at = get_set_same xs i x old at
 
 -- its instances are the ones that are written or made
-pub claim_rows : (b : Build) (d : Data) (w v l : ℕ) (x : Vertex) (c new : CachesValue) (own : own.Execution) (r : Reply)
+pub claim_rows : (b : Build) (d : Data) (w v : ℕ) (l : Option ℕ) (x : Vertex) (c new : CachesValue) (own : own.Execution) (r : Reply)
     → slice_get (map at_of d.desks) w ≡ Some Idle → d.rows ≡ c.rows
     → Claims b (state_as d) w v x c new (execution_of own) r → new.rows ≡ rows_after d.rows (state_as (claimed d w v l own new)) w
 claim_rows b d w v l x c new own r idle same claims =
@@ -149,22 +165,27 @@ claim_rows b d w v l x c new own r idle same claims =
     ∙ (λ i. written (store_of new.rows) (sym same i) (places_at (sym (set_there (map at_of d.desks) w Idle (Runs (execution_of own)) idle) i)))
     ∙ ap (λ (ws : List At). written (store_of new.rows) d.rows (places_at (slice_get ws w))) (sym (map_set at_of d.desks w (desk.Runs l own)))
 
-pub leased_claimed : (d : Data) (w l : ℕ) (own : own.Execution) (ps : List Place) (new : Leases) → AreLeased d.out (map at_of d.desks) (map leased_by d.desks)
-    → slice_get (map at_of d.desks) w ≡ Some Idle → l ≡ free_lease d.out → own.places.items ≡ ps → new ≡ with_lease d.out (free_lease d.out) ps
+pub leased_claimed : (d : Data) (w : ℕ) (l : Option ℕ) (own : own.Execution) (ps : List Place) (new : Leases) → AreLeased d.out (map at_of d.desks) (map leased_by d.desks)
+    → slice_get (map at_of d.desks) w ≡ Some Idle → own.places.items ≡ ps → LeasedNew d.out l ps new
     → AreLeased new (map at_of (slice_set d.desks w (desk.Runs l own))) (map leased_by (slice_set d.desks w (desk.Runs l own)))
-leased_claimed d w l own ps new leased idle number same is =
-    let after = claim_leases d.out (map at_of d.desks) (map leased_by d.desks) w (execution_of own) leased idle in
-    let ls : map leased_by (slice_set d.desks w (desk.Runs l own)) ≡ slice_set (map leased_by d.desks) w (Some (free_lease d.out))
-    = map_set leased_by d.desks w (desk.Runs l own) ∙ ap (λ n. slice_set (map leased_by d.desks) w (Some n)) number in
-    let out : new ≡ with_lease d.out (free_lease d.out) own.places.items = is ∙ ap (with_lease d.out (free_lease d.out)) (sym same) in
-    subst (λ (o : Leases). AreLeased o (map at_of (slice_set d.desks w (desk.Runs l own))) (map leased_by (slice_set d.desks w (desk.Runs l own)))) (sym out)
-    (subst (λ (ws : List At). AreLeased (with_lease d.out (free_lease d.out) own.places.items) ws (map leased_by (slice_set d.desks w (desk.Runs l own)))) (sym (map_set at_of d.desks w (desk.Runs l own)))
-    (subst (AreLeased (with_lease d.out (free_lease d.out) own.places.items) (slice_set (map at_of d.desks) w (Runs (execution_of own)))) (sym ls) after))
+leased_claimed d w l own ps new leased idle same is =
+    subst (λ (ws : List At). AreLeased new ws (map leased_by (slice_set d.desks w (desk.Runs l own)))) (sym (map_set at_of d.desks w (desk.Runs l own)))
+    (subst (AreLeased new (slice_set (map at_of d.desks) w (Runs (execution_of own)))) (sym (map_set leased_by d.desks w (desk.Runs l own))) (elim is [
+      | inl h ↦
+          let out : new ≡ with_lease d.out (free_lease d.out) own.places.items = h.1 ∙ ap (with_lease d.out (free_lease d.out)) (sym same) in
+          subst (λ (n : Option ℕ). AreLeased new (slice_set (map at_of d.desks) w (Runs (execution_of own))) (slice_set (map leased_by d.desks) w n)) (sym h.0)
+          (subst (λ (o : Leases). AreLeased o (slice_set (map at_of d.desks) w (Runs (execution_of own))) (slice_set (map leased_by d.desks) w (Some (free_lease d.out)))) (sym out)
+          (claim_leases d.out (map at_of d.desks) (map leased_by d.desks) w (execution_of own) leased idle))
+      | inr h ↦
+          subst (λ (n : Option ℕ). AreLeased new (slice_set (map at_of d.desks) w (Runs (execution_of own))) (slice_set (map leased_by d.desks) w n)) (sym h.0)
+          (subst (λ (o : Leases). AreLeased o (slice_set (map at_of d.desks) w (Runs (execution_of own))) (slice_set (map leased_by d.desks) w None)) (sym h.2)
+          (claim_without d.out (map at_of d.desks) (map leased_by d.desks) w (execution_of own) leased idle (same ∙ h.1)))
+    ]))
 
 pub made_for : (b : Build) (x : Vertex) (v n : ℕ) → slice_get b.graph.vertices v ≡ Some x → n ≡ v → supplies_for (Some x) ≡ supplies_for (slice_get b.graph.vertices n)
 made_for b x v n there same = sym (ap (λ k. supplies_for (slice_get b.graph.vertices k)) same ∙ ap supplies_for there)
 
-pub supplies_claimed : (b : Build) (ds : List Desk) (w l : ℕ) (x : own.Execution) → map ready_made ds ≡ map (needed b) (map at_of ds)
+pub supplies_claimed : (b : Build) (ds : List Desk) (w : ℕ) (l : Option ℕ) (x : own.Execution) → map ready_made ds ≡ map (needed b) (map at_of ds)
     → supplies_of x ≡ supplies_for (slice_get b.graph.vertices x.vertex)
     → map ready_made (slice_set ds w (desk.Runs l x)) ≡ map (needed b) (map at_of (slice_set ds w (desk.Runs l x)))
 supplies_claimed b ds w l x kept made =
@@ -202,14 +223,14 @@ same_length ds ds' same = sym (length_map ready_made ds') ∙ ap length same ∙
 -- ---- a settle
 
 -- what a worker has ready is what its vertex needs
-pub made_enough : (b : Build) (ds : List Desk) (w l : ℕ) (x : own.Execution) → map ready_made ds ≡ map (needed b) (map at_of ds)
+pub made_enough : (b : Build) (ds : List Desk) (w : ℕ) (l : Option ℕ) (x : own.Execution) → map ready_made ds ≡ map (needed b) (map at_of ds)
     → slice_get ds w ≡ Some (desk.Runs l x)
     → supplies_of x ≡ supplies_for (slice_get b.graph.vertices x.vertex)
 made_enough b ds w l x kept at =
     inside (sym (get_map ready_made ds w (desk.Runs l x) at) ∙ ap (λ l. slice_get l w) kept
     ∙ get_map (needed b) (map at_of ds) w (Runs (execution_of x)) (get_map at_of ds w (desk.Runs l x) at))
 
-pub all_empty : (b : Build) (ds : List Desk) (w l : ℕ) (x : own.Execution) → map ready_made ds ≡ map (needed b) (map at_of ds)
+pub all_empty : (b : Build) (ds : List Desk) (w : ℕ) (l : Option ℕ) (x : own.Execution) → map ready_made ds ≡ map (needed b) (map at_of ds)
     → slice_get ds w ≡ Some (desk.Runs l x) → x.outputs.items ≡ replicate (program_in b (execution_of x)).outputs empty_tree
 all_empty b ds w l x kept at = ap (λ (s : Supplies). s.outputs) (made_enough b ds w l x kept at)
 
@@ -218,7 +239,7 @@ finished_at b desk.Idle = false
 finished_at b (desk.Runs l x) = is_finished (program_in b (execution_of x)).steps (execution_of x)
 
 -- how the worker's execution ends: x is what was looked at, and y what was taken
-pub leaves : (b : Build) (ds : List Desk) (w l k : ℕ) (x y : own.Execution) (o : Option Vertex) (stands : Status)
+pub leaves : (b : Build) (ds : List Desk) (w : ℕ) (l k : Option ℕ) (x y : own.Execution) (o : Option Vertex) (stands : Status)
     → slice_get ds w ≡ Some (desk.Runs l x) → slice_get ds w ≡ Some (desk.Runs k y)
     → is_finished (program_in b (execution_of x)).steps (execution_of x) ≡ true → o ≡ slice_get b.graph.vertices y.vertex
     → stands ≡ Settled (ended (program_at o) y.view y.fault)
@@ -261,24 +282,6 @@ pub settle_rows : (d : Data) (w v : ℕ) (s : Stand) (out : Leases) (halted : Li
 settle_rows d w v s out halted x at =
     (λ i. written (store_of d.rows) d.rows (places_at (sym (set_there (map at_of d.desks) w x Idle at) i)))
     ∙ ap (λ (ws : List At). written (store_of d.rows) d.rows (places_at (slice_get ws w))) (sym (map_set at_of d.desks w desk.Idle))
-
-pub leased_settled : (d : Data) (w l : ℕ) → AreLeased d.out (map at_of d.desks) (map leased_by d.desks) → slice_get (map leased_by d.desks) w ≡ Some (Some l)
-    → AreLeased (trimmed (slice_set d.out l None)) (map at_of (slice_set d.desks w desk.Idle)) (map leased_by (slice_set d.desks w desk.Idle))
-leased_settled d w l leased at =
-    let out = trimmed (slice_set d.out l None) in
-    let after = settle_gives_back d.out (map at_of d.desks) (map leased_by d.desks) w l leased at in
-    subst (λ (ws : List At). AreLeased out ws (map leased_by (slice_set d.desks w desk.Idle))) (sym (map_set at_of d.desks w desk.Idle))
-    (subst (AreLeased out (slice_set (map at_of d.desks) w Idle)) (sym (map_set leased_by d.desks w desk.Idle)) after)
-
--- the lease of a worker is out
-pub lease_out : (d : Data) (w l : ℕ) → AreLeased d.out (map at_of d.desks) (map leased_by d.desks) → slice_get (map leased_by d.desks) w ≡ Some (Some l) → IsOut d.out l
-lease_out d w l leased at =
-    let x = leased.runs w l at in
-    let has = leased.has w x.0 x.1 in
-    let same : has.0 ≡ l = lease_inside (sym has.1 ∙ at) in (x.0.places, ap (slice_get d.out) (sym same) ∙ has.2)
-  where
-    lease_inside : {k n : ℕ} → ◌≡◌ {A = Option (Option ℕ)} (Some (Some k)) (Some (Some n)) → k ≡ n
-    lease_inside e = cc
 
 -- the vertex that a worker leaves was Running by it
 pub leaves_running : (b : Seen) (w v : ℕ) (stands : Status) → Replays b → CanSettle b.build b.state w v stands → slice_get b.state.statuses v ≡ Some (Running w)

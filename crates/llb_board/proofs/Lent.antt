@@ -1,17 +1,17 @@
 -- The instances of a lease, as a micro-step reads and writes them one after another, and workers whose leases are given back.
-use Rattle.std.proofs.Common.{◌≡◌, ℕ, zero, suc, ◌+◌, ◌<◌, ◌≤◌, List, [], ◌∷◌, drop, map, length, Option, Some, None, unwrap_or, refl, sym, ap, subst, ◌∙◌, add-one, arith}
+use Rattle.std.proofs.Common.{◌≡◌, ℕ, zero, suc, ◌+◌, ◌<◌, ◌≤◌, List, [], ◌∷◌, drop, map, length, Option, Some, None, unwrap_or, inl, inr, refl, sym, ap, subst, ◌∙◌, add-one, arith}
 use Rattle.std.specs.Prelude.{slice_get, slice_set, slice_index_or}
 use Rattle.std.proofs.Math.Seq.{drop-cons}
 use Rattle.llb_cache.specs.Caches as cache
-use Rattle.llb_cache.specs.Caches.{Row, Leases, leases, tree_at, trimmed, place_at, places_of}
+use Rattle.llb_cache.specs.Caches.{CachesValue, Row, Leases, leases, tree_at, place_at, places_of}
 use Rattle.llb_tree.specs.Tree.{TreeMap, empty_tree}
 use Rattle.llb_model.specs.Caches.{Place}
 use Rattle.llb_model.specs.State.{At, Idle}
 use Rattle.llb_model.specs.Kept.{store_of}
 use Rattle.llb_model.specs.Leases.{AreLeased, put_each}
 use Rattle.llb_model.proofs.Kept.{shows_instances}
-use Rattle.llb_model.proofs.Leasing.{settle_gives_back}
-use Rattle.llb_board.specs.Caches.{tree_of}
+use Rattle.llb_model.proofs.Leasing.{settle_gives_back, settle_without}
+use Rattle.llb_board.specs.Caches.{tree_of, IsOutIf, given_back}
 use Rattle.llb_board.specs.Views.{at_of, leased_by}
 use Rattle.llb_board.specs.declared.stand.Desk.{Desk}
 use Rattle.llb_board.specs.declared.stand.Desk.TheVariants as desk
@@ -40,6 +40,34 @@ pub put_none : (rows : List Row) (ps : List Place) → put_each rows ps [] ≡ r
 put_none rows [] = refl
 put_none rows (p ∷ ps) = refl
 
+-- ---- a worker that leaves
+
+pub leased_settled : (c : CachesValue) (ds : List Desk) (w : ℕ) (l : Option ℕ) → AreLeased c.out (map at_of ds) (map leased_by ds) → slice_get (map leased_by ds) w ≡ Some l
+    → AreLeased (given_back c l).out (map at_of (slice_set ds w desk.Idle)) (map leased_by (slice_set ds w desk.Idle))
+leased_settled c ds w l leased at =
+    subst (λ (ws : List At). AreLeased (given_back c l).out ws (map leased_by (slice_set ds w desk.Idle))) (sym (map_set at_of ds w desk.Idle))
+    (subst (AreLeased (given_back c l).out (slice_set (map at_of ds) w Idle)) (sym (map_set leased_by ds w desk.Idle)) (by_lease l at))
+  where
+    by_lease : (l : Option ℕ) → slice_get (map leased_by ds) w ≡ Some l → AreLeased (given_back c l).out (slice_set (map at_of ds) w Idle) (slice_set (map leased_by ds) w None)
+    by_lease None at = settle_without c.out (map at_of ds) (map leased_by ds) w leased at
+    by_lease (Some n) at = settle_gives_back c.out (map at_of ds) (map leased_by ds) w n leased at
+
+some_apart : (l : ℕ) → ◌≡◌ {A = Option (Option ℕ)} (Some None) (Some (Some l)) → ⊥
+some_apart l e = cc
+
+lease_inside : {k n : ℕ} → ◌≡◌ {A = Option (Option ℕ)} (Some (Some k)) (Some (Some n)) → k ≡ n
+lease_inside e = cc
+
+-- its lease is out
+pub lease_out : (out : Leases) (workers : List At) (ls : List (Option ℕ)) (w : ℕ) (l : Option ℕ) → AreLeased out workers ls → slice_get ls w ≡ Some l → IsOutIf out l
+lease_out out workers ls w None leased at = tt
+lease_out out workers ls w (Some l) leased at =
+    let r = leased.runs w l at in
+    elim (leased.has w r.0 r.1) [
+      | inl h ↦ (r.0.places, ap (slice_get out) (lease_inside (sym at ∙ h.1)) ∙ h.2)
+      | inr h ↦ absurd (some_apart l (sym h.0 ∙ at))
+    ]
+
 -- ---- workers that were sent away one after another
 
 -- the first so many are idle
@@ -67,32 +95,22 @@ idled_same (suc n) (d ∷ ds) at = ap (λ l. desk.Idle ∷ l) (idled_same n ds a
 abbrev pub LeasedFrom : Leases → ℕ → List Desk → Type 0
 LeasedFrom out n ds = AreLeased out (map at_of (idled n ds)) (map leased_by (idled n ds))
 
-pub leased_next : (out : Leases) (n l : ℕ) (x : own.Execution) (ds : List Desk) → LeasedFrom out n ds → slice_get ds n ≡ Some (desk.Runs l x)
-    → LeasedFrom (trimmed (slice_set out l None)) (n + 1) ds
-leased_next out n l x ds leased at =
-    let new = trimmed (slice_set out l None) in
+pub leased_next : (c : CachesValue) (n : ℕ) (l : Option ℕ) (x : own.Execution) (ds : List Desk) → LeasedFrom c.out n ds → slice_get ds n ≡ Some (desk.Runs l x)
+    → LeasedFrom (given_back c l).out (n + 1) ds
+leased_next c n l x ds leased at =
     let there = get_map leased_by (idled n ds) n (desk.Runs l x) (idled_at n ds ∙ at) in
-    let after = settle_gives_back out (map at_of (idled n ds)) (map leased_by (idled n ds)) n l leased there in
     let same : slice_set (idled n ds) n desk.Idle ≡ idled (n + 1) ds = idled_next n ds (desk.Runs l x) at ∙ ap (λ k. idled k ds) (sym (add-one n)) in
-    subst (λ (es : List Desk). AreLeased new (map at_of es) (map leased_by es)) same
-    (subst (λ (ws : List At). AreLeased new ws (map leased_by (slice_set (idled n ds) n desk.Idle))) (sym (map_set at_of (idled n ds) n desk.Idle))
-    (subst (AreLeased new (slice_set (map at_of (idled n ds)) n Idle)) (sym (map_set leased_by (idled n ds) n desk.Idle)) after))
+    subst (λ (es : List Desk). AreLeased (given_back c l).out (map at_of es) (map leased_by es)) same
+    (leased_settled c (idled n ds) n l leased there)
 
 pub leased_idle : (out : Leases) (n : ℕ) (ds : List Desk) → LeasedFrom out n ds → slice_get ds n ≡ Some desk.Idle → LeasedFrom out (n + 1) ds
 leased_idle out n ds leased at =
     subst (λ (es : List Desk). AreLeased out (map at_of es) (map leased_by es)) (sym (ap (λ k. idled k ds) (add-one n) ∙ idled_same n ds at)) leased
 
 -- the lease of the next is out
-pub out_next : (out : Leases) (n l : ℕ) (x : own.Execution) (ds : List Desk) → LeasedFrom out n ds → slice_get ds n ≡ Some (desk.Runs l x) → cache.IsOut out l
+pub out_next : (out : Leases) (n : ℕ) (l : Option ℕ) (x : own.Execution) (ds : List Desk) → LeasedFrom out n ds → slice_get ds n ≡ Some (desk.Runs l x) → IsOutIf out l
 out_next out n l x ds leased at =
-    let there = get_map leased_by (idled n ds) n (desk.Runs l x) (idled_at n ds ∙ at) in
-    let r = leased.runs n l there in
-    let has = leased.has n r.0 r.1 in
-    let same : has.0 ≡ l = lease_inside (sym has.1 ∙ there) in
-    (r.0.places, ap (slice_get out) (sym same) ∙ has.2)
-  where
-    lease_inside : {k m : ℕ} → ◌≡◌ {A = Option (Option ℕ)} (Some (Some k)) (Some (Some m)) → k ≡ m
-    lease_inside e = cc
+    lease_out out (map at_of (idled n ds)) (map leased_by (idled n ds)) n l leased (get_map leased_by (idled n ds) n (desk.Runs l x) (idled_at n ds ∙ at))
 
 -- all are idle then
 all_idle : (n : ℕ) (ds : List Desk) → length ds ≤ n → (w l : ℕ) → slice_get (map leased_by (idled n ds)) w ≡ Some (Some l) → ⊥

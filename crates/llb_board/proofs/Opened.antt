@@ -11,7 +11,6 @@ use Rattle.llb_model.specs.Leases.{AreLeased}
 use Rattle.llb_model.specs.Table.{Event}
 use Rattle.llb_model.specs.Room.{most_events}
 use Rattle.llb_model.specs.Run.{run}
-use Rattle.llb_model.proofs.Rooms.{opening_room}
 use Rattle.llb_board.specs.Views.{status_of, at_of, leased_by}
 use Rattle.llb_board.specs.Board.{Replays, opening_with, opened}
 use Rattle.llb_board.specs.Rules.{may_work}
@@ -45,7 +44,7 @@ seen_open b first workers ss ds rows es s d e f = λ i. record {
 
 opened_replays : (b : Build) (workers : ℕ) (rows : List Row) → Replays (opened b workers rows)
 unfolding run
-opened_replays b workers rows = record { replies = []; leads = refl }
+opened_replays b workers rows = record { replies = []; leads = refl; keeps = refl }
 
 both : (a b : Bool) → (a && b) ≡ true → (a ≡ true) × (b ≡ true)
 both true true is = (refl, refl)
@@ -78,7 +77,7 @@ kept_open b first workers capacity ss ds rows out es halted fresh f none one mos
     let room = fresh.room in
     let kept : IsKept (opened b workers rows) ds out halted capacity = record {
       replays = opened_replays b workers rows;
-      room = omega (arith, opening_room b (opening_with workers rows), room);
+      room = room;
       leased = leased_open workers ds out fresh.desks none;
       supplies = ap (map ready_made) fresh.desks ∙ map_replicate ready_made workers Idle ∙ sym (map_replicate (needed b) workers model.Idle);
       some = omega (arith, length-replicate workers model.Idle, one);

@@ -1,14 +1,14 @@
 -- A settle that is granted: what the board does is what the table gives, and its type keeps what it keeps.
-use Rattle.std.proofs.Common.{◌≡◌, ℕ, ◌<◌, List, [], ◌∷◌, ◌++◌, length, map, Some, arith}
-use Rattle.std.specs.Prelude.{Bool, None, Ok, slice_get, slice_set}
+use Rattle.std.proofs.Common.{◌≡◌, ℕ, ◌<◌, List, [], ◌∷◌, ◌++◌, length, map, Option, Some, arith}
+use Rattle.std.specs.Prelude.{Bool, Ok, slice_get, slice_set}
 use Rattle.std.proofs.lemmas.Option.{slice_get_within}
-use Rattle.llb_cache.specs.Caches.{CachesValue, Row, IsOut, trimmed}
+use Rattle.llb_cache.specs.Caches.{CachesValue, Row}
 use Rattle.llb_loader.specs.Graph.{IsGraph}
 use Rattle.llb_model.specs.Program.{Build}
 use Rattle.llb_model.specs.State.{Running, Runs, stopped}
 use Rattle.llb_model.specs.Table.{Event, Settle, settle_reply, settle_grant}
 use Rattle.llb_model.proofs.Lists.{length_set}
-use Rattle.llb_board.specs.Caches.{rows_after}
+use Rattle.llb_board.specs.Caches.{rows_after, IsOutIf, given_back}
 use Rattle.llb_board.specs.Room.{AreOver}
 use Rattle.llb_board.specs.Rules.{left_at}
 use Rattle.llb_board.specs.Views.{status_of, at_of, leased_by}
@@ -16,22 +16,23 @@ use Rattle.llb_board.specs.declared.stand.Stand.{Stand}
 use Rattle.llb_board.specs.declared.stand.Desk.{Desk}
 use Rattle.llb_board.specs.declared.stand.Desk.TheVariants as desk
 use Rattle.llb_board.proofs.Lists.{length_map}
+use Rattle.llb_board.proofs.Lent.{leased_settled, lease_out}
 use Rattle.llb_board.proofs.Calls.{CanSettle, can_settle, settle_done}
 use Rattle.llb_board.proofs.Claiming.{data_of}
-use Rattle.llb_board.proofs.Kept.{Data, state_as, seen_as, Keeps, kept_after, settled, settle_does, settle_rows, leased_settled, lease_out, leaves_running, supplies_settled, still_over}
+use Rattle.llb_board.proofs.Kept.{Data, state_as, seen_as, Keeps, kept_after, settled, settle_does, settle_rows, leaves_running, supplies_settled, still_over}
 
-module _ (b : Build) (first : List Row) (ss : List Stand) (ds : List Desk) (c : CachesValue) (halted : List Bool) (es : List Event) (capacity w v l : ℕ) (s : Stand)
+module _ (b : Build) (first : List Row) (ss : List Stand) (ds : List Desk) (c : CachesValue) (halted : List Bool) (es : List Event) (capacity w v : ℕ) (l : Option ℕ) (s : Stand)
     (kept : Keeps b first (data_of ss ds c halted) es capacity) (left : left_at b (slice_get (map at_of ds) w) ≡ Ok (v, status_of s))
-    (leased : slice_get (map leased_by ds) w ≡ Some (Some l)) where
+    (leased : slice_get (map leased_by ds) w ≡ Some l) where
   -- the data behind it, with these marks
   abbrev pub after : List Bool → Data
-  after marks = settled (data_of ss ds c halted) w v s (trimmed (slice_set c.out l None)) marks
+  after marks = settled (data_of ss ds c halted) w v s (given_back c l).out marks
 
   pub ends : CanSettle b (state_as (data_of ss ds c halted)) w v (status_of s)
   ends = can_settle b (state_as (data_of ss ds c halted)) w v (status_of s) left
 
   pub grants : (marks : List Bool) → settle_grant b (state_as (data_of ss ds c halted)) w ≡ Ok (state_as (after marks), settle_reply v ends.ending)
-  grants marks = settle_does b (data_of ss ds c halted) w v s (trimmed (slice_set c.out l None)) marks ends
+  grants marks = settle_does b (data_of ss ds c halted) w v s (given_back c l).out marks ends
 
   pub running : slice_get (map status_of ss) v ≡ Some (Running w)
   running = leaves_running (seen_as b first (data_of ss ds c halted) es) w v (status_of s) kept.replays ends
@@ -39,18 +40,19 @@ module _ (b : Build) (first : List Row) (ss : List Stand) (ds : List Desk) (c : 
   pub low : v < length ss
   low = omega (arith, slice_get_within (map status_of ss) v (Running w) running, length_map status_of ss)
 
-  pub is_out : IsOut c.out l
-  is_out = lease_out (data_of ss ds c halted) w l kept.leased leased
+  pub is_out : IsOutIf c.out l
+  is_out = lease_out c.out (map at_of ds) (map leased_by ds) w l kept.leased leased
 
   pub rows_stay : (marks : List Bool) → c.rows ≡ rows_after c.rows (state_as (after marks)) w
-  rows_stay marks = settle_rows (data_of ss ds c halted) w v s (trimmed (slice_set c.out l None)) marks (Runs ends.x) ends.there
+  rows_stay marks = settle_rows (data_of ss ds c halted) w v s (given_back c l).out marks (Runs ends.x) ends.there
 
   pub keeps : (marks : List Bool) → marks ≡ stopped b (map status_of (slice_set ss v s)) → Keeps b first (after marks) (es ++ Settle w ∷ []) capacity
   keeps marks are =
       kept_after b first (data_of ss ds c halted) (after marks) es capacity (Settle w) (settle_reply v ends.ending) kept
       (settle_done b (state_as (data_of ss ds c halted)) w _ (grants marks)) (record {
         same = length_set ds w desk.Idle;
-        leased = leased_settled (data_of ss ds c halted) w l kept.leased leased;
+        rows = rows_stay marks;
+        leased = leased_settled c ds w l kept.leased leased;
         supplies = supplies_settled b ds w kept.supplies;
         marks = are;
       })

@@ -2,6 +2,7 @@
 use Rattle.llb_loader.specs.Graph.{IsGraph}
 use Rattle.llb_model.specs.State.{opening}
 use Rattle.llb_model.specs.Consistent.{IsConsistent}
+use Rattle.llb_model.specs.Laws.{IsReached}
 use Rattle.llb_model.specs.Plain.{StandsByOutcomes}
 use Rattle.llb_model.proofs.Consistent.{opening_consistent, run_consistent}
 use Rattle.llb_model.proofs.Plain.{opening_plain, run_plain}
@@ -9,6 +10,9 @@ use Rattle.llb_board.specs.Board.{Seen, Replays}
 
 pub consistent : (b : Seen) → Replays b → IsConsistent b.build b.state
 consistent b here = run_consistent b.build (opening b.build b.opening) b.state b.events here.replies (opening_consistent b.build b.opening) here.leads
+
+pub reached : (b : Seen) → Replays b → IsReached b.build b.state
+reached b here = record { opened = b.opening; events = b.events; replies = here.replies; leads = here.leads }
 
 pub plain : (b : Seen) → IsGraph b.build.graph → Replays b → StandsByOutcomes b.build b.state
 plain b graph here = run_plain b.build graph (opening b.build b.opening) b.state b.events here.replies (opening_plain b.build b.opening) here.leads

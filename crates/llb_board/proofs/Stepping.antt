@@ -12,14 +12,14 @@ use Rattle.llb_model.specs.Caches.{Place, Store, Has, Distinct, content, trees_a
 use Rattle.llb_model.specs.Program.{Build, MicroStep, step_on}
 use Rattle.llb_model.specs.State.{Execution, At, Runs, State, program_in, is_finished, next_step}
 use Rattle.llb_model.specs.Kept.{store_of}
-use Rattle.llb_model.specs.Leases.{AreLeased, put_each}
+use Rattle.llb_model.specs.Leases.{AreLeased, HasLease, put_each}
 use Rattle.llb_model.specs.Table.{Reply, with_step, step_reply}
 use Rattle.llb_model.proofs.Leases.{writes_alike}
 use Rattle.llb_model.proofs.Lists.{get_set_same}
 use Rattle.llb_model.proofs.Leasing.{step_keeps_lease}
 use Rattle.llb_model.proofs.Parts.{step_keeps}
 use Rattle.llb_execution.specs.Parts.{work_with}
-use Rattle.llb_board.specs.Caches.{written, places_at}
+use Rattle.llb_board.specs.Caches.{written, places_at, leased_places}
 use Rattle.llb_board.specs.Rules.{step_memory, GivesStep, Written, worked_by, written_by, worked_in}
 use Rattle.llb_board.specs.Views.{at_of, leased_by, execution_of}
 use Rattle.llb_board.specs.declared.event.Stepped.{Stepped}
@@ -66,8 +66,21 @@ goes_on b rows x {A} r open_still =
 
 -- ---- the instances of a lease
 
-pub places_are : (out : Leases) (l : ℕ) (ps : List Place) → cache.Has out l ps → places_of out l ≡ ps
-places_are out l ps has = ap (λ (o : Option (Option (List Place))). unwrap_or (unwrap_or o None) []) has
+some_apart : (l : ℕ) → ◌≡◌ {A = Option (Option ℕ)} (Some None) (Some (Some l)) → ⊥
+some_apart l e = cc
+
+lease_inside : {k n : ℕ} → ◌≡◌ {A = Option (Option ℕ)} (Some (Some k)) (Some (Some n)) → k ≡ n
+lease_inside e = cc
+
+pub places_are : (out : Leases) (l : Option ℕ) (ps : List Place) → HasLease out (Some l) ps → leased_places out l ≡ ps
+places_are out None ps has = elim has [
+  | inl h ↦ absurd (some_apart h.0 h.1)
+  | inr h ↦ sym h.1
+]
+places_are out (Some l) ps has = elim has [
+  | inl h ↦ ap (places_of out) (lease_inside h.1) ∙ ap (λ (o : Option (Option (List Place))). unwrap_or (unwrap_or o None) []) h.2
+  | inr h ↦ absurd (some_apart l (sym h.0))
+]
 
 pub trees_count : (s : Store) (ps : List Place) (ts : List TreeMap) → ts ≡ trees_at s ps → length ts ≡ length ps
 trees_count s ps ts is = ap length is ∙ length_map (λ (p : Place). unwrap_or (content s p) _) ps
@@ -95,24 +108,33 @@ apart_distinct (p ∷ ps) apart = (
 )
 
 -- the lease of a running worker, and what holds of its instances
-pub record Holding (rows : List Row) (out : Leases) (ds : List Desk) (w l : ℕ) (x : own.Execution) : Type 0 where
-  pub has : cache.Has out l x.places.items
+pub record Holding (rows : List Row) (out : Leases) (ds : List Desk) (w : ℕ) (l : Option ℕ) (x : own.Execution) : Type 0 where
+  pub has : HasLease out (Some l) x.places.items
   pub distinct : Distinct x.places.items
   pub within : (p : Place) → Has x.places.items p → p.number < length (trees_of rows p.key)
 
-lease_inside : {k n : ℕ} → ◌≡◌ {A = Option (Option ℕ)} (Some (Some k)) (Some (Some n)) → k ≡ n
-lease_inside e = cc
+held_distinct : (out : Leases) (l : Option (Option ℕ)) (ps : List Place) → AreApart out → HasLease out l ps → Distinct ps
+held_distinct out l ps apart has = elim has [
+  | inl h ↦ apart_distinct ps (apart h.0 ps h.2)
+  | inr h ↦ subst Distinct (sym h.1) tt
+]
 
-pub holding : (rows : List Row) (out : Leases) (ds : List Desk) (w l : ℕ) (x : own.Execution) → AreApart out → AreThere rows out → AreLeased out (map at_of ds) (map leased_by ds)
+held_within : (rows : List Row) (out : Leases) (l : Option (Option ℕ)) (ps : List Place) → AreThere rows out → HasLease out l ps
+    → (p : Place) → Has ps p → p.number < length (trees_of rows p.key)
+held_within rows out l ps there has = elim has [
+  | inl h ↦ all_has (λ p. p.number < length (trees_of rows p.key)) ps (there h.0 ps h.2)
+  | inr h ↦ λ p held. absurd (subst (λ qs. Has qs p) h.1 held)
+]
+
+pub holding : (rows : List Row) (out : Leases) (ds : List Desk) (w : ℕ) (l : Option ℕ) (x : own.Execution) → AreApart out → AreThere rows out → AreLeased out (map at_of ds) (map leased_by ds)
     → slice_get ds w ≡ Some (desk.Runs l x) → Holding rows out ds w l x
 holding rows out ds w l x apart there leased at =
     let h = leased.has w (execution_of x) (get_map at_of ds w (desk.Runs l x) at) in
-    let same : h.0 ≡ l = lease_inside (sym h.1 ∙ get_map leased_by ds w (desk.Runs l x) at) in
-    let has : cache.Has out l x.places.items = ap (slice_get out) (sym same) ∙ h.2 in
+    let has : HasLease out (Some l) x.places.items = subst (λ (o : Option (Option ℕ)). HasLease out o x.places.items) (get_map leased_by ds w (desk.Runs l x) at) h in
     record {
       has = has;
-      distinct = apart_distinct x.places.items (apart l x.places.items has);
-      within = all_has (λ p. p.number < length (trees_of rows p.key)) x.places.items (there l x.places.items has);
+      distinct = held_distinct out (Some l) x.places.items apart has;
+      within = held_within rows out (Some l) x.places.items there has;
     }
 
 -- ---- from the execution to the worker
@@ -157,19 +179,19 @@ ok_through P Q (Ok x) f h = f h
 ok_through P Q (Err e) f h = tt
 
 -- the instances of a worker whose desk is set
-pub places_set : (ds : List Desk) (w : ℕ) (old : Desk) (l : ℕ) (x : own.Execution) → slice_get ds w ≡ Some old
+pub places_set : (ds : List Desk) (w : ℕ) (old : Desk) (l : Option ℕ) (x : own.Execution) → slice_get ds w ≡ Some old
     → places_at (slice_get (map at_of (slice_set ds w (desk.Runs l x))) w) ≡ x.places.items
 places_set ds w old l x at =
     ap (λ ws. places_at (slice_get ws w)) (map_set at_of ds w (desk.Runs l x))
     ∙ ap places_at (get_set_same (map at_of ds) w (Runs (execution_of x)) (at_of old) (get_map at_of ds w old at))
 
 -- the lease stays
-pub leased_stepped : (out out' : Leases) (ds : List Desk) (w l : ℕ) (x y : own.Execution) → AreLeased out (map at_of ds) (map leased_by ds) → slice_get ds w ≡ Some (desk.Runs l x)
+pub leased_stepped : (out out' : Leases) (ds : List Desk) (w : ℕ) (l : Option ℕ) (x y : own.Execution) → AreLeased out (map at_of ds) (map leased_by ds) → slice_get ds w ≡ Some (desk.Runs l x)
     → out' ≡ out → y.places ≡ x.places → AreLeased out' (map at_of (slice_set ds w (desk.Runs l y))) (map leased_by (slice_set ds w (desk.Runs l y)))
 leased_stepped out out' ds w l x y leased at same places =
     let kept = step_keeps_lease out (map at_of ds) (map leased_by ds) w (execution_of x) (execution_of y) leased (get_map at_of ds w (desk.Runs l x) at) (λ i. (places i).items) in
     let ls : map leased_by (slice_set ds w (desk.Runs l y)) ≡ map leased_by ds
-    = map_set leased_by ds w (desk.Runs l y) ∙ set_same (map leased_by ds) w (Some l) (get_map leased_by ds w (desk.Runs l x) at) in
+    = map_set leased_by ds w (desk.Runs l y) ∙ set_same (map leased_by ds) w l (get_map leased_by ds w (desk.Runs l x) at) in
     subst (λ (o : Leases). AreLeased o (map at_of (slice_set ds w (desk.Runs l y))) (map leased_by (slice_set ds w (desk.Runs l y)))) (sym same)
     (subst (λ (ws : List At). AreLeased out ws (map leased_by (slice_set ds w (desk.Runs l y)))) (sym (map_set at_of ds w (desk.Runs l y)))
     (subst (AreLeased out (slice_set (map at_of ds) w (Runs (execution_of y)))) (sym ls) kept))

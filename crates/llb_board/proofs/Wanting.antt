@@ -48,11 +48,6 @@ graph_edges g k v graph there =
 abbrev pub needs_left : Vertex → ℕ → List Need
 needs_left v i = needs_from v.op.inputs i (drop i (kind_mounts v.op.kind))
 
--- behind the needs so far come those of the mounts that are left, and no key is shut before
-pub record WantedSoFar (out : Leases) (v : Vertex) (i : ℕ) (before : List Need) : Type 0 where
-  pub all : before ++ needs_left v i ≡ needs_of v
-  pub shut : shut_key out (needs_left v i) ≡ shut_key out (needs_of v)
-
 -- ---- the trees that instances begin with
 
 map_take : (i : ℕ) (ws : List Wanted) → map need_of (take i ws) ≡ take i (map need_of ws)

@@ -1,5 +1,5 @@
 -- A board as contracts see it: what it was opened with, the machine's state, and the record of events; and what a call did.
-use Rattle.std.specs.Prelude.{◌≡◌, ◌≢◌, ℕ, List, [], ◌∷◌, ◌++◌, slice_get, Some, Result, Ok, Err, Bool, true, is_some, ◌||◌, ◌&&◌}
+use Rattle.std.specs.Prelude.{◌≡◌, ◌≢◌, ℕ, List, [], ◌∷◌, ◌++◌, fold, option_map, slice_get, Option, Some, None, Result, Ok, Err, Bool, true, is_some, ◌||◌, ◌&&◌}
 use Rattle.std.specs.List.{list_any, list_all}
 use Rattle.llb_loader.specs.declared.graph.Edge.{Edge}
 use Rattle.llb_loader.specs.declared.graph.Vertex.{Vertex}
@@ -31,10 +31,21 @@ abbrev pub opened : Build → ℕ → List Row → Seen
 opened b workers rows =
     record { build = b; opening = opening_with workers rows; first = rows; state = opening b (opening_with workers rows); rows = rows; events = [] }
 
--- the record is a run from the opening state to where the board is
+-- behind an event that is granted: the state, and the lists of instances
+abbrev pub kept_next : Build → Option (State × List Row) → Event → Option (State × List Row)
+kept_next b None e = None
+kept_next b (Some (s, rows)) e = option_map (λ (a : State × Reply). (a.0, rows_after rows a.0 (worker_of e))) (table b s e)
+
+-- and behind events, each of which is granted
+abbrev pub kept_along : Build → State → List Row → List Event → Option (State × List Row)
+kept_along b s rows es = fold (kept_next b) (Some (s, rows)) es
+
+-- the record is a run from the opening state to where the board is, and its lists of instances are what the record leaves of those that
+-- were handed in
 pub record Replays (b : Seen) : Type 0 where
   pub replies : List Reply
   pub leads : run b.build (opening b.build b.opening) b.events ≡ Some (b.state, replies)
+  pub keeps : kept_along b.build (opening b.build b.opening) b.first b.events ≡ Some (b.state, b.rows)
 
 abbrev pub after_event : Seen → Event → State → Seen
 after_event b e s = record b { state = s; rows = rows_after b.rows s (worker_of e); events = b.events ++ e ∷ [] }

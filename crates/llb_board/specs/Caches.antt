@@ -11,6 +11,7 @@ use Rattle.llb_ops.specs.declared.op.Input.{Input}
 use Rattle.llb_loader.specs.declared.graph.Edge.{Edge}
 use Rattle.llb_loader.specs.declared.graph.Vertex.{Vertex}
 use Rattle.llb_cache.specs.declared.need.Need as cache_need
+use Rattle.llb_cache.specs.declared.fault.LeaseFault.{LeaseFault}
 use Rattle.llb_model.specs.Kept.{store_of}
 use Rattle.llb_model.specs.Leases.{asked}
 use Rattle.llb_model.specs.State.{first_trees}
@@ -64,6 +65,36 @@ taken_with c inputs needs = (
 -- the tree of an instance; the empty one where it is not there
 abbrev pub tree_of : Store → Place → TreeMap
 tree_of s p = unwrap_or (content s p) empty_tree
+
+-- ---- leases, which a vertex without caches has none of
+
+-- the instances of a lease
+abbrev pub leased_places : Leases → Option ℕ → List Place
+leased_places out (Some l) = cache.places_of out l
+leased_places out None = []
+
+-- it is out
+abbrev pub IsOutIf : Leases → Option ℕ → Type 0
+IsOutIf out (Some l) = cache.IsOut out l
+IsOutIf out None = Unit {0}
+
+-- what is out where it is given back
+abbrev pub out_without : Leases → Option ℕ → Leases
+out_without out (Some l) = cache.trimmed (slice_set out l None)
+out_without out None = out
+
+-- the caches then
+abbrev pub given_back : cache.CachesValue → Option ℕ → cache.CachesValue
+given_back c l = record c { out = out_without c.out l }
+
+abbrev pub some_lease : Result (ℕ × cache.CachesValue) LeaseFault → Result (Option ℕ × cache.CachesValue) LeaseFault
+some_lease (Ok (l, c)) = Ok (Some l, c)
+some_lease (Err e) = Err e
+
+-- a lease of needs, where there are some
+abbrev pub lease_if : cache.CachesValue → List cache_need.Need → Result (Option ℕ × cache.CachesValue) LeaseFault
+lease_if c [] = Ok (None, c)
+lease_if c (n ∷ needs) = some_lease (cache.lease_of c (n ∷ needs))
 
 -- ---- the lists of instances
 

@@ -3,6 +3,7 @@ pub mod Store
 pub mod Caches
 pub mod Views
 pub mod Board
+pub mod Headline
 pub mod Rules
 pub mod Room
 pub mod Begun

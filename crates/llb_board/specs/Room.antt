@@ -1,6 +1,7 @@
--- What a board keeps so that no event to come needs memory for the record, nor a settle memory for its outputs, that commands run where their
--- exec says and see the caches that it shows, that each running worker has a lease of its instances, and that no search begins anew.
-use Rattle.std.specs.Prelude.{◌≡◌, ℕ, ◌+◌, ◌<◌, ◌≤◌, Bool, true, ◌||◌, List, [], map, replicate, length, Option, Some, None, slice_get}
+-- What a board keeps so that no event to come needs memory for the record, which has room for a whole run, nor a settle memory for its outputs,
+-- that commands run where their exec says and see the caches that it shows, that each running worker has a lease of its instances, and that no
+-- search begins anew.
+use Rattle.std.specs.Prelude.{◌≡◌, ℕ, ◌<◌, ◌≤◌, Bool, true, ◌||◌, List, [], map, replicate, length, Option, Some, None, slice_get}
 use Rattle.llb_tree.specs.Tree.{TreeMap, empty_tree}
 use Rattle.llb_applet.specs.declared.setting.Setting.{Setting}
 use Rattle.llb_loader.specs.declared.graph.Vertex.{Vertex}
@@ -14,7 +15,7 @@ use Rattle.llb_model.specs.Leases.{AreLeased}
 use Rattle.llb_model.specs.State.{Status, At, Idle, Runs, stopped, is_blocked}
 use Rattle.llb_model.specs.Run.{is_settled}
 use Rattle.llb_model.specs.Table.{Event}
-use Rattle.llb_model.specs.Room.{still_to_come}
+use Rattle.llb_model.specs.Room.{most_events}
 use Rattle.llb_board.specs.Board.{Seen, Replays, opening_with}
 use Rattle.llb_execution.specs.Parts.{kind_setting, mounts_in, shown_in}
 use Rattle.llb_board.specs.Views.{state_of, leased_by}
@@ -80,7 +81,7 @@ seen b first stands desks rows events = record {
 
 pub record IsKept (b : Seen) (desks : List Desk) (out : Leases) (halted : List Bool) (capacity : ℕ) : Type 0 where
   pub replays : Replays b
-  pub room : still_to_come b.build b.state + length b.events ≤ capacity
+  pub room : most_events b.build ≤ capacity
   pub leased : AreLeased out b.state.workers (map leased_by desks)
   pub supplies : map ready_made desks ≡ map (needed b.build) b.state.workers
   pub some : 0 < length b.state.workers

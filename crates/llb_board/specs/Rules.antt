@@ -5,6 +5,7 @@ use Rattle.llb_loader.specs.declared.graph.Vertex.{Vertex}
 use Rattle.llb_tree.specs.Tree.{TreeMap}
 use Rattle.llb_cache.specs.declared.need.Need as cache_need
 use Rattle.llb_cache.specs.Caches.{CachesValue, Row}
+use Rattle.llb_cache.specs.Key.{has_text}
 use Rattle.llb_model.specs.Caches.{Place, trees_at}
 use Rattle.llb_model.specs.Kept.{store_of}
 use Rattle.llb_model.specs.Leases.{asked, put_each}
@@ -83,10 +84,10 @@ settle_fault no_settle.NoWorker = settle.NoWorker
 settle_fault no_settle.NotRunning = settle.NotRunning
 settle_fault no_settle.NotFinished = settle.NotFinished
 
--- where memory may be wanted of a claim: where nothing else stands in the way, or for a key that is held
+-- where memory may be wanted of a claim: where nothing else stands in the way, or for the text of the key that is held
 abbrev pub claim_may_want : {A : Type 0} → Result A ClaimFault → Bool
 claim_may_want (Ok a) = true
-claim_may_want (Err (claim.Held k)) = true
+claim_may_want (Err (claim.Held k)) = has_text k
 claim_may_want (Err claim.NoWorker) = false
 claim_may_want (Err claim.Busy) = false
 claim_may_want (Err claim.NoVertex) = false

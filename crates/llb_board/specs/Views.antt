@@ -42,7 +42,7 @@ at_of (desk.Runs l x) = model.Runs (execution_of x)
 -- the lease of a worker's instances
 abbrev pub leased_by : Desk → Option ℕ
 leased_by desk.Idle = None
-leased_by (desk.Runs l x) = Some l
+leased_by (desk.Runs l x) = l
 
 abbrev pub state_of : List Stand → List Desk → List Row → model.State
 state_of stands desks rows = record { statuses = map status_of stands; workers = map at_of desks; store = store_of rows }

@@ -2,11 +2,12 @@
 //! type keeps that the record is a run of the table to where the board is, that it has room for every event to come, and that each
 //! running worker has a lease of its instances of caches.
 
-ghost use Rattle.std.specs.Prelude.{◌≡◌, ◌<◌, ◌≤◌, length, map, true, is_some, option_map, OnErr, IfErr, IfOk};
+ghost use Rattle.std.specs.Prelude.{◌≡◌, ◌<◌, ◌≤◌, ◌+◌, length, true, is_some, option_map, OnErr, IfErr, IfOk};
 ghost use Rattle.llb_model.specs.Outcome.{output_in};
 ghost use Rattle.llb_model.specs.State.{ending_at, missing_local};
-ghost use Rattle.llb_model.specs.Room.{most_events};
+ghost use Rattle.llb_model.specs.Room.{most_events, still_to_come};
 ghost use Rattle.llb_model.specs.Run.{chosen, is_complete};
+ghost use Rattle.llb_model.specs.Laws.{IsReached};
 ghost use Rattle.llb_loader.specs.Graph.{IsGraph};
 ghost use Rattle.llb_board.specs.Board.{Seen, Replays};
 ghost use Rattle.llb_wire.specs.Answer.{MemoryLast};
@@ -23,7 +24,7 @@ use crate::event::{At, Event, Settled, Status, Stepped};
 use crate::events::Events;
 use crate::fault::{ClaimFault, OpenFault, SettleFault, StepFault};
 use crate::fresh::opening;
-use crate::instances::give_all_back;
+use crate::instances::{give_all_back, give_back, lease_for};
 use crate::job::Job;
 use crate::needs::wanted_by;
 use crate::ready::{is_marked, is_ready, mark_stopped, output_at, stand_at};
@@ -32,7 +33,7 @@ use crate::step::{Begun, begin, claimable, desk_at, is_finished, leave, step_at}
 use llb_cache::Caches;
 use llb_loader::{Graph, Locals};
 use llb_tree::Tree;
-use llb_wire::{Many, Memory, Text};
+use llb_wire::{Memory, Text};
 use std::alloc::Global;
 use std::marker::Model;
 
@@ -133,7 +134,8 @@ impl Board {
     }
 
     /// An idle worker takes a vertex that waits and has all its inputs, with an instance of each cache that the vertex shows. 131, 132,
-    /// 133, 134, 135 with the first locked key that a running worker has, 141; where memory is refused for a key, 141 stands in the place of 135.
+    /// 133, 134, 135 with the first locked key that a running worker has, 141. Where memory is refused for that key's own
+    /// text, 141 stands in the place of 135; memory for anything else comes after it.
     pub fn claim(&mut self, w: u32, v: u32) -> Result<Job, ClaimFault>
         ensures gives { GivesClaim (λ job. (self.new, claim_reply job)) result (claim_of self.old w v) }
         ensures last { IfErr result (λ e. claim_memory e ≡ true → claim_may_want (claim_of self.old w v) ≡ true) }
@@ -156,7 +158,7 @@ impl Board {
             needs,
         } = begun;
         self.caches.is_exclusive();
-        let lease = self.caches.lease(Many::new(needs))?;
+        let lease = lease_for(&mut self.caches, needs)?;
         self.first_open = first_open(&self.build, &self.stands, &self.halted, self.first_open);
         self.events.push_reserved(Event::Claim(w, v));
         self.stands[v as usize] = Stand::Running(w);
@@ -189,7 +191,7 @@ impl Board {
     {
         let vertices = self.build.vertices();
         let (v, stand, lease) = leave(&self.build, &mut self.desks, w)?;
-        self.caches.give_back(lease);
+        give_back(&mut self.caches, lease);
         let failed = stand.has_failed();
         self.stands[v as usize] = stand;
         self.events.push_reserved(Event::Settle(w));
@@ -232,10 +234,12 @@ impl Board {
         output_at(&self.stands, v, i)
     }
 
-    /// The record of events since the board was opened: at most one claim, one settle and its micro-steps for each vertex.
+    /// The record of events since the board was opened: at most one claim, one settle and its micro-steps for each vertex. It has room
+    /// for a whole run, and so for all that is still to come. No memory.
     pub fn events(&self) -> &Events
         ensures all { result.now.list ≡ self.now.events }
-        ensures bound { length result.now.list ≤ most_events self.now.build }
+        ensures bound { still_to_come self.now.build self.now.state + length result.now.list ≤ most_events self.now.build }
+        ensures room { most_events self.now.build ≤ result.now.room }
     {
         &self.events
     }
@@ -297,9 +301,12 @@ impl Board {
         let _ = &self.desks;
     }
 
-    /// The record is a run of the table from the opening state to where the board is.
+    /// The record is a run of the table from the opening state to where the board is, and the lists of instances are what it leaves of
+    /// those that were handed in: two boards of one opening and one record are the same. So the board's state is one to which granted
+    /// events lead.
     pub fn replays(&self)
-        ensures { Replays self.now }
+        ensures run { Replays self.now }
+        ensures reached { IsReached self.now.build self.now.state }
     {
         let _ = &self.events;
     }

@@ -1,18 +1,21 @@
-//! The instances of caches that a worker has: their trees for a micro-step, and behind it, and the leases given back.
+//! The instances of caches that a worker has: their lease, their trees for a micro-step and behind it, and the lease given back. A
+//! worker whose vertex shows no cache has no lease.
 
-ghost use Rattle.std.specs.Prelude.{◌≡◌, ◌<◌, ◌^◌, map, length, IfOk, IfErr, true};
+ghost use Rattle.std.specs.Prelude.{◌≡◌, ◌≢◌, ◌<◌, ◌^◌, map, length, AllPairs, IfOk, IfErr, OnErr, true};
 ghost use Rattle.llb_cache.specs.Caches.{places_of, leases};
+ghost use Rattle.llb_cache.specs.Faults.{Gives};
 ghost use Rattle.llb_model.specs.Caches.{trees_at};
 ghost use Rattle.llb_model.specs.Kept.{store_of};
 ghost use Rattle.llb_model.specs.Leases.{AreLeased, put_each};
-ghost use Rattle.llb_board.specs.Caches.{tree_of};
+ghost use Rattle.llb_board.specs.Caches.{tree_of, leased_places, IsOutIf, given_back, lease_if};
 ghost use Rattle.llb_board.specs.Views.{at_of, leased_by};
 ghost use Rattle.llb_board.specs.Rules.{step_memory};
 
 use crate::fault::StepFault;
 use crate::stand::Desk;
-use llb_cache::{Caches, Lease, Place};
+use llb_cache::{Caches, Lease, LeaseFault, Need, Place};
 use llb_tree::Tree;
+use llb_wire::Many;
 use std::alloc::Global;
 
 /// Copies of the trees of instances; of one that is not there the empty tree.
@@ -41,8 +44,43 @@ fn content(alloc: Global, caches: &Caches, place: &Place) -> Result<Tree, StepFa
     }
 }
 
-/// These trees take the places of those of a lease's instances.
-pub(crate) fn write_back(caches: &mut Caches, lease: Lease, trees: Vec<Tree>)
+/// A lease of these needs, none where there are none. Their keys differ, and none of them is held.
+pub(crate) fn lease_for(caches: &mut Caches, needs: Vec<Need>) -> Result<Option<Lease>, LeaseFault>
+    requires differ { AllPairs (λ n m. n.key ≢ m.key) needs.items }
+    requires few { leases caches.old.out < 65536 }
+    ensures gives { Gives (λ l. (l, caches.new)) result (lease_if caches.old needs.items) }
+    ensures err { OnErr result (caches.new ≡ caches.old) }
+{
+    if needs.is_empty() {
+        return Ok(None);
+    }
+    Ok(Some(caches.lease(Many::new(needs))?))
+}
+
+/// A lease that is out is given back, where there is one.
+pub(crate) fn give_back(caches: &mut Caches, lease: Option<Lease>)
+    requires { IsOutIf caches.old.out lease }
+    ensures { caches.new ≡ given_back caches.old lease }
+{
+    if let Some(lease) = lease {
+        caches.give_back(lease);
+    }
+}
+
+/// These trees take the places of those of a lease's instances; there are none without one.
+pub(crate) fn write_back(caches: &mut Caches, lease: Option<Lease>, trees: Vec<Tree>)
+    requires count { length trees.items ≡ length (leased_places caches.old.out lease) }
+    requires few { length trees.items < 2 ^ 32 }
+    ensures rows { caches.new.rows ≡ put_each caches.old.rows (leased_places caches.old.out lease) trees.items }
+    ensures out { caches.new.out ≡ caches.old.out }
+{
+    if let Some(lease) = lease {
+        write_all(caches, lease, trees);
+    }
+}
+
+// These trees take the places of those of a lease's instances.
+fn write_all(caches: &mut Caches, lease: Lease, trees: Vec<Tree>)
     requires count { length trees.items ≡ length (places_of caches.old.out lease) }
     requires few { length trees.items < 2 ^ 32 }
     ensures rows { caches.new.rows ≡ put_each caches.old.rows (places_of caches.old.out lease) trees.items }
@@ -50,7 +88,7 @@ pub(crate) fn write_back(caches: &mut Caches, lease: Lease, trees: Vec<Tree>)
 {
     let mut need = 0;
     for tree in trees {
-        caches.set_content(lease, need, tree);
+        caches.set_content(&lease, need, tree);
         need += 1;
     }
 }
@@ -63,7 +101,7 @@ pub(crate) fn give_all_back(caches: &mut Caches, desks: &[Desk])
 {
     for desk in desks {
         if let Desk::Runs(lease, _) = desk {
-            caches.give_back(*lease);
+            give_back(caches, *lease);
         }
     }
 }

@@ -1,4 +1,5 @@
-//! What holds of a board after every list of granted events, since its record replays to its state.
+//! What holds of a board after every list of granted events, since its record replays to its state. Who reads one contract reads that
+//! of `headline`.
 
 ghost use Rattle.std.specs.Prelude.{◌≡◌, ◌↔◌, ◌<◌, ℕ, None, true, length, slice_get};
 ghost use Rattle.llb_model.specs.Outcome.{outcome};
@@ -6,8 +7,20 @@ ghost use Rattle.llb_model.specs.Run.{chosen, is_complete, StandsPlainly};
 ghost use Rattle.llb_model.specs.Consistent.{IsConsistent};
 ghost use Rattle.llb_model.specs.Laws as machine;
 ghost use Rattle.llb_board.specs.Board.{SettledArePlain, ChosenIsGranted, OthersKeep, OneWorkerEach, ReadyBehindDone, BlockedBehindAFailure, OutcomeByInputs};
+ghost use Rattle.llb_board.specs.Headline.{Headline};
 
 use crate::board::Board;
+
+/// The promise of the whole machine. The record is a run of the written table from the opening state to the board's, with its replies.
+/// No two workers have one locked cache at once, nor one instance of a private one; no event of another worker changes what a worker
+/// has alone, and none looks at it. A settled vertex with no cache mount at or before it has its plain outcome. A board is so at every
+/// moment, whoever did the events, and in which order.
+pub fn headline(board: &Board)
+    ensures { Headline board.now }
+{
+    board.is_graph();
+    board.replays();
+}
 
 /// Vertices and workers agree on what runs, what is done has all its outputs, and what does not wait all its inputs.
 pub fn is_consistent(board: &Board)
@@ -65,6 +78,28 @@ pub fn held_once(board: &Board)
     ensures locked { machine.IsLockedOnce board.now.build }
 {
     let _ = board;
+}
+
+/// What a running worker has are instances that differ, each with a tree.
+pub fn held_are_there(board: &Board)
+    ensures { machine.HeldAreThere board.now.build }
+{
+    board.is_graph();
+}
+
+/// A claim takes the least instance of a private key that no running worker has.
+pub fn claims_least(board: &Board)
+    ensures { machine.ClaimsLeast board.now.build }
+{
+    let _ = board;
+}
+
+/// The instances of a key are a list: no number is left out, on this board, and behind all events where none is left out at first.
+pub fn stays_dense(board: &Board)
+    ensures here { machine.IsDense board.now.state.store }
+    ensures after { machine.StaysDense board.now.build }
+{
+    let _ = board.caches();
 }
 
 /// Where no cache is shared, after any list of granted events the settled vertices and the free instances of caches stand as

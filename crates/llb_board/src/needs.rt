@@ -1,9 +1,8 @@
 //! The caches that a vertex shows, and what its claim takes of them: the instances, the trees that they begin with, and the needs
 //! of a lease. Stands on the mounts of a vertex and on caches, which it only reads.
 
-ghost use Rattle.std.specs.Prelude.{◌≡◌, ◌<◌, ◌^◌, Ok, map, length, option_map, unwrap_or};
-ghost use Rattle.std.specs.Option.{option_copied};
-ghost use Rattle.llb_loader.specs.Mounts.{cache_in, key_of, seed_of};
+ghost use Rattle.std.specs.Prelude.{◌≡◌, ◌<◌, ◌^◌, Ok, IfErr, true, map, length, option_map, unwrap_or};
+ghost use Rattle.llb_loader.specs.Mounts.{key_of, seed_of};
 ghost use Rattle.llb_loader.specs.Rules.{kind_mounts};
 ghost use Rattle.llb_model.specs.Caches.{content};
 ghost use Rattle.llb_model.specs.Kept.{store_of};
@@ -11,18 +10,16 @@ ghost use Rattle.llb_model.specs.Leases.{asked};
 ghost use Rattle.llb_model.specs.Program.{needs_of, mount_of, base_in, mode_of, key_as, seed_as};
 ghost use Rattle.llb_model.specs.State.{first_trees};
 ghost use Rattle.llb_board.specs.Caches.{need_of, shut_key, unless_shut, places_taken, number_of, taken_with, HasEdges};
-ghost use Rattle.llb_board.specs.Rules.{GivesClaim};
+ghost use Rattle.llb_cache.specs.Key.{seed_by};
+ghost use Rattle.llb_board.specs.Rules.{GivesClaim, claim_memory, claim_may_want};
 
 use crate::fault::ClaimFault;
-use llb_cache::{Caches, Key, Mode, Need, Place, Seed};
+use llb_cache::{Caches, Key, KeyRef, Mode, Need, Place};
 use llb_execution::{input_tree, mounts_of};
-use llb_loader::Vertex;
-use llb_ops::{CacheOpt, Mount};
+use llb_loader::{Vertex, cache_in};
+use llb_ops::Mount;
 use llb_tree::Tree;
 use std::alloc::Global;
-
-/// A cache mount's type.
-const CACHE: i32 = 3;
 
 /// A cache that an exec shows: at which mount, its key, and the number of the input that a new instance begins with, -1 for none.
 #[derive(Drop)]
@@ -43,7 +40,7 @@ pub(crate) struct Taking {
     pub needs: Vec<Need>,
 }
 
-/// The caches that a vertex shows, or the first locked key that a lease has. Takes memory for the keys up to that one alone.
+/// The caches that a vertex shows, or the first locked key that a lease has: then memory is taken for that key alone.
 pub(crate) fn wanted_by(
     alloc: Global,
     caches: &Caches,
@@ -52,66 +49,69 @@ pub(crate) fn wanted_by(
     requires seeds { HasEdges vertex.now }
     requires few { length (kind_mounts vertex.now.op.kind) < 2 ^ 32 }
     ensures gives { GivesClaim (λ ws. map need_of ws.items) result (unless_shut (needs_of vertex.now) (shut_key caches.now.out (needs_of vertex.now))) }
+    ensures last { IfErr result (λ e. claim_memory e ≡ true → claim_may_want (unless_shut (needs_of vertex.now) (shut_key caches.now.out (needs_of vertex.now))) ≡ true) }
+{
+    match first_shut(caches, vertex) {
+        Some(key) => Err(ClaimFault::Held(key.to_key(alloc)?)),
+        None => wants(alloc, vertex),
+    }
+}
+
+// The first locked key that a vertex shows and a lease has. No memory.
+fn first_shut<'a>(caches: &Caches, vertex: &'a Vertex) -> Option<KeyRef<'a>>
+    requires { HasEdges vertex.now }
+    ensures { result ≡ shut_key caches.now.out (needs_of vertex.now) }
+{
+    for mount in mounts_of(&vertex.op.kind) {
+        if let Some(key) = key_shown(vertex, mount) {
+            if caches.is_shut(&key) {
+                return Some(key);
+            }
+        }
+    }
+    None
+}
+
+// The caches that a vertex shows.
+fn wants(alloc: Global, vertex: &Vertex) -> Result<Vec<Wanted>, ClaimFault>
+    requires seeds { HasEdges vertex.now }
+    requires few { length (kind_mounts vertex.now.op.kind) < 2 ^ 32 }
+    ensures { GivesClaim (λ ws. map need_of ws.items) result (Ok (needs_of vertex.now)) }
 {
     let mut wanted = Vec::new(alloc);
     for (i, mount) in mounts_of(&vertex.op.kind).iter().enumerate() {
-        let Some(key) = key_shown(vertex, mount)? else {
-            continue;
-        };
-        if caches.is_shut(&key) {
-            return Err(ClaimFault::Held(key));
+        if let Some(key) = key_shown(vertex, mount) {
+            wanted.push(Wanted {
+                mount: i as u32,
+                key: key.to_key(alloc)?,
+                input: mount.input,
+            })?;
         }
-        wanted.push(Wanted {
-            mount: i as u32,
-            key,
-            input: mount.input,
-        })?;
     }
     Ok(wanted)
 }
 
-// The key of the cache that a mount of a vertex shows, if it shows one.
-fn key_shown(vertex: &Vertex, mount: &Mount) -> Result<Option<Key>, ClaimFault>
+// The key of the cache that a mount of a vertex shows, if it shows one. No memory.
+fn key_shown<'a>(vertex: &'a Vertex, mount: &'a Mount) -> Option<KeyRef<'a>>
     requires { HasEdges vertex.now }
-    ensures { GivesClaim (λ k. k) result (Ok (option_map key_as (key_of vertex.now.op.inputs mount.now))) }
+    ensures { result ≡ option_map key_as (key_of vertex.now.op.inputs mount.now) }
 {
-    match cache_in(mount) {
-        Some(options) => {
-            let id = options.id.copy()?;
-            let seed = seed_shown(vertex, mount.input)?;
-            let mode = mode_of(options.sharing);
-            Ok(Some(Key { id, seed, mode }))
-        }
-        None => Ok(None),
-    }
+    let options = cache_in(mount)?;
+    let seed = seed_shown(vertex, mount.input);
+    Some(KeyRef::new(options.id.as_str(), seed, mode_of(options.sharing)))
 }
 
-// The options of the cache that a mount shows, if it shows one.
-fn cache_in(mount: &Mount) -> Option<&CacheOpt>
-    ensures { option_copied result ≡ cache_in mount.now }
-{
-    if mount.mount_type != CACHE {
-        return None;
-    }
-    mount.cache_opt.as_ref()
-}
-
-// The output that a new instance begins with: that of an input of a vertex, none for -1.
-fn seed_shown(vertex: &Vertex, input: i64) -> Result<Option<Seed>, ClaimFault>
+// The digest text and the index of the output that a new instance begins with: that of an input of a vertex, none for -1.
+fn seed_shown(vertex: &Vertex, input: i64) -> Option<(&str, u32)>
     requires { HasEdges vertex.now }
-    ensures { GivesClaim (λ s. s) result (Ok (option_map seed_as (seed_of vertex.now.op.inputs input))) }
+    ensures { option_map (λ s. seed_by s.0.now s.1) result ≡ option_map seed_as (seed_of vertex.now.op.inputs input) }
 {
     if input < 0 {
-        return Ok(None);
+        return None;
     }
-    match vertex.op.inputs.as_slice().get(input as usize) {
-        Some(shown) => {
-            let digest = shown.digest.copy()?;
-            let index = vertex.inputs.as_slice()[input as usize].index;
-            Ok(Some(Seed { digest, index }))
-        }
-        None => Ok(None),
-    }
+    let at = input as usize;
+    let shown = vertex.op.inputs.as_slice().get(at)?;
+    Some((shown.digest.as_str(), vertex.inputs.as_slice()[at].index))
 }
 
 // The way in which a cache is shared, by its number.

@@ -36,8 +36,8 @@ impl Stand {
 #[derive(Drop)]
 pub(crate) enum Desk {
     Idle,
-    /// The lease of its instances of caches, and what it has else.
-    Runs(Lease, Execution),
+    /// The lease of its instances of caches, where it has some, and what it has else.
+    Runs(Option<Lease>, Execution),
 }
 
 /// What a running worker has. In `places` are the instances of caches that it has leased, in `outputs` an empty tree for each

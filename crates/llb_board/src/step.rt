@@ -1,14 +1,12 @@
 //! One worker's execution of a vertex: how it begins, a micro-step of it, and how it ends.
 
-ghost use Rattle.std.specs.Prelude.{◌≡◌, [], map, option_map, replicate, slice_get, slice_set, is_ok, is_some, nat_le, ◌||◌, true, Some, Err};
+ghost use Rattle.std.specs.Prelude.{◌≡◌, [], map, option_map, slice_get, slice_set, is_ok, is_some, nat_le, ◌||◌, true, Some, Err};
 ghost use Rattle.std.specs.Prelude.{Ok, OnErr, OnOk, IfOk, MatchResult};
-ghost use Rattle.llb_tree.specs.Tree.{empty_tree};
 ghost use Rattle.llb_model.specs.Outcome.{inputs_from};
 ghost use Rattle.llb_model.specs.State.{ending_at};
 ghost use Rattle.llb_model.specs.Table.{claim_start, step_grant};
-ghost use Rattle.llb_model.specs.Program.{mount_of, needs_of, view_on};
-ghost use Rattle.llb_model.specs.Leases.{AreLeased};
-ghost use Rattle.llb_cache.specs.Caches.{Has};
+ghost use Rattle.llb_model.specs.Program.{needs_of};
+ghost use Rattle.llb_model.specs.Leases.{AreLeased, HasLease};
 ghost use Rattle.llb_board.specs.Caches.{need_of, rows_after};
 ghost use Rattle.llb_board.specs.Begun.{begun_as, outfit_as, outfit_of};
 ghost use Rattle.llb_board.specs.Views.{execution_of, at_of, leased_by, status_of, state_of, step_reply};
@@ -94,29 +92,6 @@ fn outfit_for(alloc: Global, vertex: &Vertex) -> Result<Outfit, ClaimFault>
     })
 }
 
-// Two views on the trees of the inputs, one for the job and one for the worker.
-fn views(
-    alloc: Global,
-    build: &Build,
-    vertex: &Vertex,
-    inputs: (Vec<Tree>, Vec<Tree>),
-    caches: Vec<u32>,
-) -> Result<(View, View), ClaimFault>
-    requires kind { IsVertexOf vertex.now vertex.now.op.kind }
-    requires caches { caches.items ≡ map mount_of (needs_of vertex.now) }
-    requires same { inputs.1.items ≡ inputs.0.items }
-    ensures { GivesClaim (λ p. p) result (Ok (
-      view_on build.now.locals vertex.now vertex.now.op.kind inputs.0.items,
-      view_on build.now.locals vertex.now vertex.now.op.kind inputs.0.items,
-    )) }
-{
-    let (shown, kept) = inputs;
-    let again = caches.clone()?;
-    let view = View::on(alloc, build.locals(), vertex, shown, caches)?;
-    let own = View::on(alloc, build.locals(), vertex, kept, again)?;
-    Ok((view, own))
-}
-
 /// What a claim begins: the job, the worker's own part, and what is to be leased.
 #[derive(Drop)]
 pub(crate) struct Begun {
@@ -143,12 +118,12 @@ pub(crate) fn begin(
     ensures supplies { IfOk result (λ b. supplies_of b.execution ≡ supplies_for (Some vertex.now)) }
 {
     let (w, v) = at;
-    let shown = gathered(alloc, stands, vertex.inputs.as_slice())?;
-    let kept = gathered(alloc, stands, vertex.inputs.as_slice())?;
+    let inputs = gathered(alloc, stands, vertex.inputs.as_slice())?;
     let numbers = mount_numbers(alloc, &wanted)?;
-    let taking = taking_for(alloc, caches, &shown, wanted)?;
-    let (view, own) = views(alloc, build, vertex, (shown, kept), numbers)?;
+    let taking = taking_for(alloc, caches, &inputs, wanted)?;
     let outfit = outfit_for(alloc, vertex)?;
+    let view = View::on(alloc, build.locals(), vertex, inputs, numbers)?;
+    let own = view.copy()?;
     let job = Job {
         worker: w,
         vertex: v,
@@ -187,10 +162,10 @@ fn step_of(
     build: &Build,
     execution: &mut Execution,
     caches: &mut Caches,
-    lease: Lease,
+    lease: Option<Lease>,
 ) -> Result<Stepped, StepFault>
     requires supplies { supplies_of execution.old ≡ supplies_for (slice_get build.now.graph.vertices execution.old.vertex) }
-    requires leased { Has caches.old.out lease execution.old.places.items }
+    requires leased { HasLease caches.old.out (Some lease) execution.old.places.items }
     ensures gives { GivesStep (λ r. (execution_of execution.new, caches.new.rows, step_reply r)) result
         (worked_in build.now caches.old.rows (execution_of execution.old)) }
     ensures last { MemoryLast step_memory result (worked_in build.now caches.old.rows (execution_of execution.old)) }
@@ -237,15 +212,16 @@ pub(crate) fn step_at(
     }
 }
 
-/// A worker leaves what it runs, which is finished: the vertex, what stands there then, and the lease of its instances. No memory.
+/// A worker leaves what it runs, which is finished: the vertex, what stands there then, and the lease of its instances, where it has
+/// one. No memory.
 pub(crate) fn leave(
     build: &Build,
     desks: &mut [Desk],
     w: u32,
-) -> Result<(u32, Stand, Lease), SettleFault>
+) -> Result<(u32, Stand, Option<Lease>), SettleFault>
     requires { map ready_made desks.old ≡ map (needed build.now) (map at_of desks.old) }
     ensures gives { GivesSettle (λ p. (p.0, status_of p.1)) result (left_at build.now (slice_get (map at_of desks.old) w)) }
-    ensures leased { IfOk result (λ p. slice_get (map leased_by desks.old) w ≡ Some (Some p.2)) }
+    ensures leased { IfOk result (λ p. slice_get (map leased_by desks.old) w ≡ Some p.2) }
     ensures idle { OnOk result (desks.new ≡ slice_set desks.old w desk.Idle) }
     ensures err { OnErr result (desks.new ≡ desks.old) }
 {

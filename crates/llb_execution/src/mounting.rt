@@ -10,18 +10,12 @@ ghost use Rattle.llb_execution.specs.Parts.{kind_setting};
 
 use crate::refusal::NoMemory;
 use llb_applet::Setting;
-use llb_loader::Vertex;
+use llb_loader::{MountType, Vertex};
 use llb_mount::{Shown, View};
 use llb_ops::{Kind, Meta, Mount};
 use llb_tree::{Path, Tree, TreeFault};
 use llb_wire::{Many, Memory, Text};
 use std::alloc::Global;
-
-/// A bind mount's type.
-const BIND: i32 = 0;
-
-/// A tmpfs mount's type.
-const TMPFS: i32 = 4;
 
 /// Where the commands of a vertex run: an exec's cwd and env, and of any other vertex, which has no commands, the root and no env.
 /// `Memory` is the want of memory, and the one refusal.
@@ -125,7 +119,7 @@ fn shown_of(alloc: Global, inputs: &[Tree], mount: &Mount) -> Result<Shown, NoMe
 fn selector_of(alloc: Global, mount: &Mount) -> Result<Path, NoMemory>
     ensures { IfOk result (λ p. p ≡ selector_of mount.now) }
 {
-    if mount.mount_type == TMPFS {
+    if MountType::Tmpfs.is_of(mount) {
         return Ok(Path::root(alloc));
     }
     path_in(alloc, &mount.selector)
@@ -135,7 +129,7 @@ fn selector_of(alloc: Global, mount: &Mount) -> Result<Path, NoMemory>
 fn tree_shown(alloc: Global, inputs: &[Tree], mount: &Mount) -> Result<Tree, NoMemory>
     ensures { IfOk result (λ t. t ≡ tree_shown inputs.now mount.now) }
 {
-    if mount.mount_type != BIND {
+    if !MountType::Bind.is_of(mount) {
         return Ok(Tree::empty(alloc)?);
     }
     match input_tree(inputs, mount.input) {

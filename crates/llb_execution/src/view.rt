@@ -75,6 +75,14 @@ impl View {
         Ok(View { own })
     }
 
+    /// An equal second owner, whose trees are shared. `Memory` is the want of memory, and the one refusal.
+    pub fn copy(&self) -> Result<View, Memory>
+        ensures { IfOk result (λ v. v ≡ self.now) }
+    {
+        let own = copy_of(&self.own)?;
+        Ok(View { own })
+    }
+
     /// Does micro-step k; that number stands in its fault. The trees are those of the instances of the caches that the view shows,
     /// in the order of the needs, and a command leaves them as it changes them. The answer is the fault, where there is one, and
     /// then the view and the trees are as they were. `Memory` is the want of memory, and the one refusal; then they are so too.
@@ -225,6 +233,29 @@ impl View {
             _ => Ok(0),
         }
     }
+}
+
+// A second owner of all that a view has.
+fn copy_of(own: &Own) -> Result<Own, NoMemory>
+    ensures { IfOk result (λ o. own_of o ≡ own_of own.now) }
+{
+    match own {
+        Own::Local(tree) => Ok(Own::Local(tree.copy()?)),
+        Own::Files(inputs, results) => Ok(Own::Files(tree_copies(inputs)?, tree_copies(results)?)),
+        Own::Layers(inputs, laid) => Ok(Own::Layers(tree_copies(inputs)?, laid.copy()?)),
+        Own::Mounted(mounts, numbers) => Ok(Own::Mounted(mounts.copy()?, numbers.clone()?)),
+    }
+}
+
+// Second owners of trees.
+fn tree_copies(trees: &Vec<Tree>) -> Result<Vec<Tree>, NoMemory>
+    ensures { IfOk result (λ v. v.items ≡ trees.now.items) }
+{
+    let mut copies = Vec::new(*trees.allocator());
+    for tree in trees {
+        copies.push(tree.copy()?)?;
+    }
+    Ok(copies)
 }
 
 // What a vertex's program begins on.

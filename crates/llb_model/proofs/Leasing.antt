@@ -2,14 +2,13 @@
 use Rattle.std.proofs.Common.{◌≡◌, ◌≢◌, ℕ, zero, suc, ◌+◌, ◌<◌, Bool, true, false, List, [], ◌∷◌, ◌++◌, length, Option, Some, None, inl, inr, refl, sym, ap, subst, ◌∙◌, cond, arith}
 use Rattle.std.specs.Prelude.{slice_get, slice_set, nat_lt}
 use Rattle.std.proofs.lemmas.Bool.{ltb-false, ltb-true}
-use Rattle.std.proofs.lemmas.List.{length-replicate}
 use Rattle.llb_cache.specs.Caches as cache
-use Rattle.llb_cache.specs.Caches.{Leases, is_held, with_lease, free_lease, before, trimmed}
+use Rattle.llb_cache.specs.Caches.{Leases, with_lease, free_lease, before, trimmed}
 use Rattle.llb_cache.proofs.Leased.{held_by, holder, free_within, lease_cases}
 use Rattle.llb_model.specs.Caches.{Place, Has}
 use Rattle.llb_model.specs.State.{Execution, At, Idle, Runs}
-use Rattle.llb_model.specs.Leases.{AreLeased, OpensLeased, LeasedHoldsAs, ClaimLeases, StepKeepsLease, SettleGivesBack}
-use Rattle.llb_model.proofs.Lists.{some_of, eq_or, got_set, get_set_same, get_set_other, length_set, got_replicate, get_within, got_within, get_middle}
+use Rattle.llb_model.specs.Leases.{AreLeased, LeasedHoldsAs, ClaimLeases, ClaimWithout, StepKeepsLease, SettleGivesBack, SettleWithout}
+use Rattle.llb_model.proofs.Lists.{some_of, eq_or, got_set, get_set_same, get_set_other, length_set, get_within, got_within, get_middle}
 use Rattle.llb_model.proofs.Claims.{held_has}
 use Rattle.llb_model.proofs.Dense.{holder_of}
 
@@ -92,21 +91,18 @@ same_lease e = cc
 runs_same : {x y : Execution} → ◌≡◌ {A = Option At} (Some (Runs x)) (Some (Runs y)) → x ≡ y
 runs_same e = cc
 
-pub opens_leased : OpensLeased
-opens_leased n = record {
-  count = length-replicate n None ∙ sym (length-replicate n Idle);
-  has = λ w x at. absurd (let h : Runs x ≡ Idle = got_replicate n Idle w (Runs x) at in cc);
-  runs = λ w l at. absurd (let h : Some l ≡ None = got_replicate n None w (Some l) at in cc);
-  once = λ w u l at here. absurd (let h : Some l ≡ None = got_replicate n None w (Some l) at in cc);
-  whose = λ l ps at. absurd cc;
-}
+-- a lease is no want of one
+some_apart : (l : ℕ) → ◌≡◌ {A = Option (Option ℕ)} (Some None) (Some (Some l)) → ⊥
+some_apart l e = cc
 
 module _ (out : Leases) (workers : List At) (ls : List (Option ℕ)) (are : AreLeased out workers ls) where
   -- the lease of a worker is out, of what it has
   leased_at : (w l : ℕ) (x : Execution) → slice_get ls w ≡ Some (Some l) → slice_get workers w ≡ Some (Runs x) → cache.Has out l x.places
   leased_at w l x at there =
-      let h = are.has w x there in
-      subst (λ k. cache.Has out k x.places) (same_lease (sym h.1 ∙ at)) h.2
+      elim (are.has w x there) [
+        | inl h ↦ subst (λ k. cache.Has out k x.places) (same_lease (sym h.1 ∙ at)) h.2
+        | inr h ↦ absurd (some_apart l (sym h.0 ∙ at))
+      ]
 
   idle_apart : (w u : ℕ) (x : Execution) → slice_get workers w ≡ Some Idle → slice_get workers u ≡ Some (Runs x) → u ≢ w
   idle_apart w u x idle there same = let both : some_of Idle ≡ some_of (Runs x) = sym idle ∙ ap (slice_get workers) (sym same) ∙ there in cc
@@ -121,8 +117,10 @@ pub leased_holds_as : LeasedHoldsAs
 leased_holds_as out workers ls are = record {
   leased = λ p h.
       let r = holder_of workers p h in
-      let l = are.has r.0 r.1 r.2 in
-      held_by out l.0 r.1.places p l.2 r.3;
+      elim (are.has r.0 r.1 r.2) [
+        | inl l ↦ held_by out l.0 r.1.places p l.2 r.3
+        | inr l ↦ absurd (subst (λ ps. Has ps p) l.1 r.3)
+      ];
   running = λ p is.
       let h = holder out p is in
       let w = are.whose h.0 h.1 h.2 in
@@ -140,10 +138,11 @@ claim_leases out workers ls w z are idle = record {
   has = λ u x at. elim (got_set workers w (Runs z) u (Runs x) at) [
     | inl h ↦
         let same : z ≡ x = cc (h.1) in
-        (l, ap (slice_get (slice_set ls w (Some l))) h.0 ∙ there, subst (λ (y : Execution). cache.Has (with_lease out l z.places) l y.places) same (lease_there out z.places))
-    | inr h ↦
-        let old = are.has u x h.1 in
-        (old.0, get_set_other ls w (Some l) u h.0 ∙ old.1, lease_stays out z.places old.0 x.places old.2)
+        inl (l, ap (slice_get (slice_set ls w (Some l))) h.0 ∙ there, subst (λ (y : Execution). cache.Has (with_lease out l z.places) l y.places) same (lease_there out z.places))
+    | inr h ↦ elim (are.has u x h.1) [
+      | inl old ↦ inl (old.0, get_set_other ls w (Some l) u h.0 ∙ old.1, lease_stays out z.places old.0 x.places old.2)
+      | inr old ↦ inr (get_set_other ls w (Some l) u h.0 ∙ old.0, old.1)
+    ]
   ];
   runs = λ u k at. elim (got_set ls w (Some l) u (Some k) at) [
     | inl h ↦ (z, ap (slice_get (slice_set workers w (Runs z))) h.0 ∙ get_set_same workers w (Runs z) Idle idle)
@@ -177,14 +176,50 @@ claim_leases out workers ls w z are idle = record {
     there : slice_get (slice_set ls w (Some l)) w ≡ Some (Some l)
     there = let old = get_within ls w (omega (arith, are.count, got_within workers w Idle idle)) in get_set_same ls w (Some l) old.0 old.1
 
+-- the lease of another worker where that of one is set to none
+without : (ls : List (Option ℕ)) (w u k : ℕ) → slice_get (slice_set ls w None) u ≡ Some (Some k) → (u ≢ w) × (slice_get ls u ≡ Some (Some k))
+without ls w u k at = elim (got_set ls w None u (Some k) at) [
+  | inl h ↦ absurd (cc (h.1))
+  | inr h ↦ h
+]
+
+pub claim_without : ClaimWithout
+claim_without out workers ls w z are idle none = record {
+  count = length_set ls w None ∙ are.count ∙ sym (length_set workers w (Runs z));
+  has = λ u x at. elim (got_set workers w (Runs z) u (Runs x) at) [
+    | inl h ↦
+        let same : z ≡ x = cc (h.1) in
+        inr (ap (slice_get (slice_set ls w None)) h.0 ∙ there, ap (λ (t : Execution). t.places) (sym same) ∙ none)
+    | inr h ↦ elim (are.has u x h.1) [
+      | inl old ↦ inl (old.0, get_set_other ls w None u h.0 ∙ old.1, old.2)
+      | inr old ↦ inr (get_set_other ls w None u h.0 ∙ old.0, old.1)
+    ]
+  ];
+  runs = λ u k at.
+      let h = without ls w u k at in
+      let old = are.runs u k h.1 in
+      (old.0, get_set_other workers w (Runs z) u h.0 ∙ old.1);
+  once = λ u v k at here. are.once u v k (without ls w u k at).1 (without ls w v k here).1;
+  whose = λ a ps at.
+      let old = are.whose a ps at in
+      let r = are.runs old.0 a old.1 in
+      (old.0, get_set_other ls w None old.0 (idle_apart out workers ls are w old.0 r.0 idle r.1) ∙ old.1);
+}
+  where
+    there : slice_get (slice_set ls w None) w ≡ Some None
+    there = let old = get_within ls w (omega (arith, are.count, got_within workers w Idle idle)) in get_set_same ls w None old.0 old.1
+
 pub step_keeps_lease : StepKeepsLease
 step_keeps_lease out workers ls w x z are at_w places = record {
   count = are.count ∙ sym (length_set workers w (Runs z));
   has = λ u y at. elim (got_set workers w (Runs z) u (Runs y) at) [
     | inl h ↦
         let same : z ≡ y = cc (h.1) in
-        let old = are.has w x at_w in
-        (old.0, ap (slice_get ls) h.0 ∙ old.1, subst (cache.Has out old.0) (sym places ∙ ap (λ (t : Execution). t.places) same) old.2)
+        let stay : x.places ≡ y.places = sym places ∙ ap (λ (t : Execution). t.places) same in
+        elim (are.has w x at_w) [
+          | inl old ↦ inl (old.0, ap (slice_get ls) h.0 ∙ old.1, subst (cache.Has out old.0) stay old.2)
+          | inr old ↦ inr (ap (slice_get ls) h.0 ∙ old.0, sym stay ∙ old.1)
+        ]
     | inr h ↦ are.has u y h.1
   ];
   runs = λ u k at. elim (eq_or u w) [
@@ -200,9 +235,10 @@ settle_gives_back out workers ls w l are at_w = record {
   count = length_set ls w None ∙ are.count ∙ sym (length_set workers w Idle);
   has = λ u x at. elim (got_set workers w Idle u (Runs x) at) [
     | inl h ↦ absurd (cc (h.1))
-    | inr h ↦
-        let old = are.has u x h.1 in
-        (old.0, get_set_other ls w None u h.0 ∙ old.1, back_stays out l old.0 x.places (λ same. h.0 (are.once u w l (old.1 ∙ ap some_lease same) at_w)) old.2)
+    | inr h ↦ elim (are.has u x h.1) [
+      | inl old ↦ inl (old.0, get_set_other ls w None u h.0 ∙ old.1, back_stays out l old.0 x.places (λ same. h.0 (are.once u w l (old.1 ∙ ap some_lease same) at_w)) old.2)
+      | inr old ↦ inr (get_set_other ls w None u h.0 ∙ old.0, old.1)
+    ]
   ];
   runs = λ u k at. elim (got_set ls w None u (Some k) at) [
     | inl h ↦ absurd (cc (h.1))
@@ -216,4 +252,24 @@ settle_gives_back out workers ls w l are at_w = record {
       let b = back_is out l a ps at in
       let old = are.whose a ps b.1 in
       (old.0, get_set_other ls w None old.0 (λ same. b.0 (same_lease (sym old.1 ∙ ap (slice_get ls) same ∙ at_w))) ∙ old.1);
+}
+
+pub settle_without : SettleWithout
+settle_without out workers ls w are at_w = record {
+  count = length_set ls w None ∙ are.count ∙ sym (length_set workers w Idle);
+  has = λ u x at. elim (got_set workers w Idle u (Runs x) at) [
+    | inl h ↦ absurd (cc (h.1))
+    | inr h ↦ elim (are.has u x h.1) [
+      | inl old ↦ inl (old.0, get_set_other ls w None u h.0 ∙ old.1, old.2)
+      | inr old ↦ inr (get_set_other ls w None u h.0 ∙ old.0, old.1)
+    ]
+  ];
+  runs = λ u k at.
+      let h = without ls w u k at in
+      let old = are.runs u k h.1 in
+      (old.0, get_set_other workers w Idle u h.0 ∙ old.1);
+  once = λ u v k at here. are.once u v k (without ls w u k at).1 (without ls w v k here).1;
+  whose = λ a ps at.
+      let old = are.whose a ps at in
+      (old.0, get_set_other ls w None old.0 (λ same. some_apart a (sym at_w ∙ ap (slice_get ls) (sym same) ∙ old.1)) ∙ old.1);
 }

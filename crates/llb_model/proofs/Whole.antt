@@ -1,21 +1,19 @@
--- Whole runs stand as their claim order, and their settled vertices without caches as the plain outcomes.
-use Rattle.std.proofs.Common.{◌≡◌, ℕ, suc, Bool, true, false, cond, List, [], ◌∷◌, Option, Some, None, is_some, inl, inr, refl, sym, ap, subst, ◌∙◌}
+-- Whole runs stand as their claim order.
+use Rattle.std.proofs.Common.{◌≡◌, ℕ, suc, Bool, true, false, cond, List, [], ◌∷◌, Option, Some, None, inl, inr, refl, sym, ap, subst, ◌∙◌}
 use Rattle.std.specs.Prelude.{slice_get}
 use Rattle.llb_cache.specs.declared.key.Key.{Key}
-use Rattle.llb_loader.specs.Graph.{IsGraph}
 use Rattle.llb_model.specs.Caches.{Place, IsExclusive}
 use Rattle.llb_model.specs.Program.{Build, needs_of}
 use Rattle.llb_model.specs.State.{Status, Waiting, Running, Settled, State, opening, program_in, is_finished, held, place_for}
 use Rattle.llb_model.specs.Table.{Event, Claim, Step, Settle, Reply, Claimed, HasRead, Acted, HasMerged, HasRun, Faulted, SettledDone, SettledFailed, table}
 use Rattle.llb_model.specs.Run.{run}
 use Rattle.llb_model.specs.Order.{Order, at_first, order, claims_in, StandsIn}
-use Rattle.llb_model.specs.Laws.{HasDistinctNeeds, NoShared, RunsInClaimOrder, EachIn, IsChosen, AloneInClaimOrder, ChosenIsGranted, SettledArePlain}
-use Rattle.llb_model.proofs.Lists.{some_of, get_within}
+use Rattle.llb_model.specs.Laws.{HasDistinctNeeds, NoShared, RunsInClaimOrder, EachIn, IsChosen, AloneInClaimOrder}
+use Rattle.llb_model.proofs.Lists.{some_of}
 use Rattle.llb_model.proofs.Stores.{has_map, same_store}
 use Rattle.llb_model.proofs.Events.{Answer}
 use Rattle.llb_model.proofs.Runs.{run_none, run_first}
-use Rattle.llb_model.proofs.Plain.{opening_plain, run_plain}
-use Rattle.llb_model.proofs.Alone.{IsNextOf, chosen_is, chosen_granted}
+use Rattle.llb_model.proofs.Alone.{IsNextOf, chosen_is}
 use Rattle.llb_model.proofs.Separate.{alone, alone_free, TakesFree}
 use Rattle.llb_model.proofs.Tracks.{any, Agrees, agree_settled, Tracks, after_reply, event_tracks, opening_tracks}
 
@@ -109,16 +107,3 @@ alone_in_claim_order b differ opened es rs s given all rest =
       same_list s.statuses o.statuses (λ k. rests (slice_get s.statuses k) (slice_get o.statuses k) (tracks.agree k) (rest k)),
       same_store s.store o.store (λ p. tracks.free p (λ w x there has. let own = tracks.working w x there in rest x.vertex w own.status)),
     )
-
--- the event that a driver chooses is granted
-pub chosen_is_granted : (b : Build) → ChosenIsGranted b
-chosen_is_granted b s e some is =
-    let first = get_within s.workers 0 some in
-    ap is_some (chosen_granted b s e first.0 first.1 is).given
-
--- ---- vertices without caches
-
-pub settled_are_plain : (b : Build) → IsGraph b.graph → SettledArePlain b
-settled_are_plain b graph s v e r there is =
-    let stand = run_plain b graph (opening b r.opened) s r.events r.replies (opening_plain b r.opened) r.leads in
-    stand.settled v e is there

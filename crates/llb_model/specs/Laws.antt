@@ -7,8 +7,7 @@ use Rattle.llb_mount.specs.declared.shown.Shown.{Shown}
 use Rattle.llb_tree.specs.Tree.{TreeMap}
 use Rattle.llb_model.specs.Caches.{Place, place, Store, content, put, Hold, Has, Distinct, IsExclusive}
 use Rattle.llb_model.specs.Program.{Build, Need, key_of, needs_of, has_cache, filled, taken, blanked}
-use Rattle.llb_model.specs.Outcome.{Ending, Ended, outcome, is_plain}
-use Rattle.llb_model.specs.State.{Running, Settled, Execution, Runs, State, Opening, opening, IsFree, places_by}
+use Rattle.llb_model.specs.State.{Running, Execution, Runs, State, Opening, opening, IsFree, places_by}
 use Rattle.llb_model.specs.Table.{Event, Claim, Job, Reply, Claimed, worker_of, table}
 use Rattle.llb_model.specs.Run.{run, chosen}
 use Rattle.llb_model.specs.Order.{at_first, order, claims_in, StandsIn}
@@ -91,10 +90,6 @@ abbrev pub AloneInClaimOrder : Build → Type 0
 AloneInClaimOrder b = (o : Opening) (es : List Event) (rs : List Reply) (s : State) → run b (opening b o) es ≡ Some (s, rs) → AreChosen b (opening b o) es → IsAtRest s
     → (s.statuses ≡ (order b (at_first b o.store) (claims_in rs)).statuses) × (s.store ≡ (order b (at_first b o.store) (claims_in rs)).store)
 
--- the event that is chosen is granted, by a machine with a worker
-abbrev pub ChosenIsGranted : Build → Type 0
-ChosenIsGranted b = (s : State) (e : Event) → 0 < length s.workers → chosen b s ≡ Some e → is_some (table b s e) ≡ true
-
 -- ---- the instances of a key are a list
 
 -- no number is left out
@@ -113,12 +108,6 @@ ClaimsLeast b = (s t : State) (w v : ℕ) (vertex : Vertex) (job : Job) → slic
 -- what a running worker has are instances that differ, each with a tree
 abbrev pub HeldAreThere : Build → Type 0
 HeldAreThere b = (s : State) → IsReached b s → (w : ℕ) (x : Execution) → slice_get s.workers w ≡ Some (Runs x) → Distinct x.places × ((trees : List TreeMap) × Hold s.store x.places trees)
-
--- ---- vertices without caches
-
--- a settled vertex with no cache at or before it has its plain outcome, whoever shares caches elsewhere
-abbrev pub SettledArePlain : Build → Type 0
-SettledArePlain b = (s : State) (v : ℕ) (e : Ending) → IsReached b s → slice_get s.statuses v ≡ Some (Settled e) → is_plain b v ≡ true → outcome b v ≡ Some (Ended e)
 
 -- ---- views
 

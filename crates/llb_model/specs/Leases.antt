@@ -1,5 +1,5 @@
 -- Leases of caches, and what the running workers have: what a claim, a step and a settle do, in words of leases.
-use Rattle.std.specs.Prelude.{◌≡◌, ℕ, ◌<◌, true, List, [], ◌∷◌, length, map, Option, Some, None, option_map, slice_get, slice_set, replicate}
+use Rattle.std.specs.Prelude.{◌≡◌, ◌⊎◌, ℕ, ◌<◌, true, List, [], ◌∷◌, length, map, Option, Some, None, option_map, slice_get, slice_set}
 use Rattle.std.specs.List.{find}
 use Rattle.llb_cache.specs.declared.need.Need as cache_need
 use Rattle.llb_cache.specs.Caches as cache
@@ -47,26 +47,30 @@ WritesAlike rows = (ps : List Place) (ts : List TreeMap) → ((p : Place) → Ha
 
 -- ---- the leases of workers
 
--- each running worker has a lease of its own, of the instances that it has; and no other lease is out
+-- a running worker has a lease of these instances, or none where there are no instances
+abbrev pub HasLease : Leases → Option (Option ℕ) → List Place → Type 0
+HasLease out l ps = ((k : ℕ) × (l ≡ Some (Some k)) × cache.Has out k ps) ⊎ ((l ≡ Some None) × (ps ≡ []))
+
+-- each running worker that has instances has a lease of its own of them; and no other lease is out
 pub record AreLeased (out : Leases) (workers : List At) (ls : List (Option ℕ)) : Type 0 where
   pub count : length ls ≡ length workers
-  pub has : (w : ℕ) (x : Execution) → slice_get workers w ≡ Some (Runs x) → (l : ℕ) × (slice_get ls w ≡ Some (Some l)) × cache.Has out l x.places
+  pub has : (w : ℕ) (x : Execution) → slice_get workers w ≡ Some (Runs x) → HasLease out (slice_get ls w) x.places
   pub runs : (w l : ℕ) → slice_get ls w ≡ Some (Some l) → (x : Execution) × (slice_get workers w ≡ Some (Runs x))
   pub once : (w u l : ℕ) → slice_get ls w ≡ Some (Some l) → slice_get ls u ≡ Some (Some l) → w ≡ u
   pub whose : (l : ℕ) (ps : List Place) → cache.Has out l ps → (w : ℕ) × (slice_get ls w ≡ Some (Some l))
-
--- a machine that nothing has happened on
-abbrev pub OpensLeased : Type 0
-OpensLeased = (n : ℕ) → AreLeased [] (replicate n Idle) (replicate n None)
 
 -- then the leases have what the running workers have
 abbrev pub LeasedHoldsAs : Type 0
 LeasedHoldsAs = (out : Leases) (workers : List At) (ls : List (Option ℕ)) → AreLeased out workers ls → HoldsAs out workers
 
--- a claim leases, a step keeps its lease, a settle gives it back
+-- a claim leases where it has instances, a step keeps its lease, a settle gives it back
 abbrev pub ClaimLeases : Type 0
 ClaimLeases = (out : Leases) (workers : List At) (ls : List (Option ℕ)) (w : ℕ) (z : Execution) → AreLeased out workers ls → slice_get workers w ≡ Some Idle
     → AreLeased (cache.with_lease out (cache.free_lease out) z.places) (slice_set workers w (Runs z)) (slice_set ls w (Some (cache.free_lease out)))
+
+abbrev pub ClaimWithout : Type 0
+ClaimWithout = (out : Leases) (workers : List At) (ls : List (Option ℕ)) (w : ℕ) (z : Execution) → AreLeased out workers ls → slice_get workers w ≡ Some Idle → z.places ≡ []
+    → AreLeased out (slice_set workers w (Runs z)) (slice_set ls w None)
 
 abbrev pub StepKeepsLease : Type 0
 StepKeepsLease = (out : Leases) (workers : List At) (ls : List (Option ℕ)) (w : ℕ) (x z : Execution) → AreLeased out workers ls → slice_get workers w ≡ Some (Runs x) → z.places ≡ x.places
@@ -75,3 +79,7 @@ StepKeepsLease = (out : Leases) (workers : List At) (ls : List (Option ℕ)) (w 
 abbrev pub SettleGivesBack : Type 0
 SettleGivesBack = (out : Leases) (workers : List At) (ls : List (Option ℕ)) (w l : ℕ) → AreLeased out workers ls → slice_get ls w ≡ Some (Some l)
     → AreLeased (cache.trimmed (slice_set out l None)) (slice_set workers w Idle) (slice_set ls w None)
+
+abbrev pub SettleWithout : Type 0
+SettleWithout = (out : Leases) (workers : List At) (ls : List (Option ℕ)) (w : ℕ) → AreLeased out workers ls → slice_get ls w ≡ Some None
+    → AreLeased out (slice_set workers w Idle) (slice_set ls w None)

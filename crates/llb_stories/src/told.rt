@@ -1,6 +1,7 @@
 //! A story is a list of calls on a board with their answers, printed: a fault by its number.
 
 use super::written::{CacheRow, key_of};
+use llb_board::laws::headline;
 use llb_board::{At, Board, Event, Settled, Status, Stepped};
 use llb_tree::Tree;
 use llb_treetext::print_tree;
@@ -111,6 +112,7 @@ fn settle(alloc: Global, board: &mut Board, w: u32) -> Result<String, AllocError
 }
 
 fn chosen(alloc: Global, board: &Board) -> Result<String, AllocError> {
+    headline(board);
     match board.chosen() {
         Some(event) => event_text(alloc, event),
         None => String::from_str(alloc, "none"),

@@ -23,7 +23,7 @@ loop-desk-preserved c =
           record {
             rows = ap (λ (v : CachesValue). v.rows) new ∙ c.loop-desk.invariant.rows;
             leased = subst (λ (o : Leases). LeasedFrom o (c.loop-desk.desk-index + 1) c.args.desks.now) (sym (ap (λ (v : CachesValue). v.out) new))
-                (leased_next c.loop-desk.caches.out c.loop-desk.desk-index w.in-Runs.lease w.in-Runs.field-1 c.args.desks.now c.loop-desk.invariant.leased (at ∙ ap Some w.in-Runs.is));
+                (leased_next c.loop-desk.caches c.loop-desk.desk-index w.in-Runs.lease w.in-Runs.field-1 c.args.desks.now c.loop-desk.invariant.leased (at ∙ ap Some w.in-Runs.is));
           }
       | in_default w ↦
           record {

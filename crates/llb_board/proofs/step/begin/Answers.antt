@@ -2,6 +2,7 @@ use Rattle.std.proofs.Common.{◌≡◌, List, map, sym, ap, ◌∙◌}
 use Rattle.std.specs.Prelude.{Result, Ok}
 use Rattle.llb_loader.specs.declared.graph.Edge.{Edge}
 use Rattle.llb_model.specs.Outcome.{inputs_from}
+use Rattle.llb_model.specs.Program.{view_on}
 use Rattle.llb_model.specs.State.{ending_at}
 use Rattle.llb_board.specs.Caches.{taken_with}
 use Rattle.llb_board.specs.Begun.{outfit_as}
@@ -19,7 +20,7 @@ parts c =
     let t = c.in_ok-taking.taking in
     record {
       view = c.in_ok-view.view;
-      own = c.in_ok-view.own;
+      own = c.in_ok-own.own;
       places = t.places.items;
       instances = c.new-2.result;
       trees = c.new.result;
@@ -27,13 +28,15 @@ parts c =
       outfit = outfit_as c.in_ok-outfit.outfit;
     }
 
-are_parts : (c : goal.After-new-2) → AreParts c.args.build.now c.args.caches.now c.args.vertex.now c.in_ok-shown.shown.items (parts c)
+are_parts : (c : goal.After-new-2) → AreParts c.args.build.now c.args.caches.now c.args.vertex.now c.in_ok-inputs.inputs.items (parts c)
 unfolding parts
 are_parts c =
-    let views = inside_ok c.in_ok-view.ensures in
+    let x = c.args.vertex.now in
+    let view : view_on c.args.build.now.locals x x.op.kind c.in_ok-inputs.inputs.items ≡ c.in_ok-view.view
+    = ap (λ locals. view_on locals x x.op.kind c.in_ok-inputs.inputs.items) (sym c.locals.ensures) ∙ sym c.in_ok-view.ensures in
     record {
-      view = ap (λ p. p.0) views;
-      own = ap (λ p. p.1) views;
+      view = view;
+      own = view ∙ sym c.in_ok-own.ensures;
       taking = (λ i. taken_with c.args.caches.now (sym c.deref-2.ensures.value i) (sym c.requires.wanted i)) ∙ inside_ok c.in_ok-taking.ensures
           ∙ (λ i. (c.in_ok-taking.taking.places.items, sym c.new-2.ensures i, sym c.new.ensures i, c.in_ok-taking.taking.needs.items));
       outfit = inside_ok c.in_ok-outfit.ensures;
@@ -42,11 +45,11 @@ are_parts c =
 pub returns-clause-gives : goal.returns-clause-gives
 unfolding parts
 returns-clause-gives c =
-    let there : or_not_ready (inputs_from (ending_at (map status_of c.args.stands.now)) c.args.vertex.now.inputs) ≡ Ok c.in_ok-shown.shown.items
-    = ap (λ (es : List Edge). or_not_ready (inputs_from (ending_at (map status_of c.args.stands.now)) es)) (sym c.as_slice.ensures) ∙ c.in_ok-shown.ensures in
+    let there : or_not_ready (inputs_from (ending_at (map status_of c.args.stands.now)) c.args.vertex.now.inputs) ≡ Ok c.in_ok-inputs.inputs.items
+    = ap (λ (es : List Edge). or_not_ready (inputs_from (ending_at (map status_of c.args.stands.now)) es)) (sym c.as_slice.ensures) ∙ c.in_ok-inputs.ensures in
     begun_of c.args.build.now c.args.caches.now c.args.at.0 c.args.at.1 c.args.vertex.now
-    (inputs_from (ending_at (map status_of c.args.stands.now)) c.args.vertex.now.inputs) c.in_ok-shown.shown.items (parts c) there (are_parts c)
+    (inputs_from (ending_at (map status_of c.args.stands.now)) c.args.vertex.now.inputs) c.in_ok-inputs.inputs.items (parts c) there (are_parts c)
 
 pub returns-clause-supplies : goal.returns-clause-supplies
 unfolding parts
-returns-clause-supplies c = supplied c.args.build.now c.args.caches.now c.args.vertex.now c.in_ok-shown.shown.items (parts c) (are_parts c)
+returns-clause-supplies c = supplied c.args.build.now c.args.caches.now c.args.vertex.now c.in_ok-inputs.inputs.items (parts c) (are_parts c)

@@ -32,8 +32,8 @@ returns-in_err-wanted-clause-gives c =
     ∙ claim_held (seen b.build b.start.rows ss ds b.caches.rows b.events.list) c.args.w c.args.v x b.caches e can same (c.in_err-wanted.ensures.gives known) in
     search (rules, refused)
 
-pub lease-requires-clause-differ : goal.lease-requires-clause-differ
-lease-requires-clause-differ c =
+pub lease_for-requires-clause-differ : goal.lease_for-requires-clause-differ
+lease_for-requires-clause-differ c =
     let b = c.self.inside in
     let ss = b.stands.items in
     let ds = b.desks.items in
@@ -43,11 +43,10 @@ lease-requires-clause-differ c =
     let may : MayClaim b.build b.start.rows ss ds b.caches b.halted.items b.events.list b.events.room c.args.w c.args.v x
     = record { kept = c.self.invariant.kept; can = can; graph = c.in_ok-vertex.ensures.graph; apart = c.is_exclusive.ensures.apart; there = c.is_exclusive.ensures.there } in
     let begins = rw c.deref-3.ensures.value at c.in_ok-begun.ensures.gives in
-    rw c.new.ensures
     (differ b.build b.start.rows ss ds b.caches b.halted.items b.events.list b.events.room c.args.w c.args.v x may (begun_as c.in_ok-begun.begun) begins)
 
-pub lease-requires-clause-few : goal.lease-requires-clause-few
-lease-requires-clause-few c =
+pub lease_for-requires-clause-few : goal.lease_for-requires-clause-few
+lease_for-requires-clause-few c =
     let b = c.self.inside in
     few_out b.build b.start.rows b.stands.items b.desks.items b.caches b.halted.items b.events.list b.events.room c.self.invariant.kept
 
@@ -59,9 +58,41 @@ returns-in_err-lease-clause-last c =
     let x = c.in_ok-vertex.vertex.now in
     let can = can_claim b.build (state_of ss ds b.caches.rows) c.args.w c.args.v x
     (rw (c.deref.ensures.value, c.deref-2.ensures.value) at c.in_ok-vertex.ensures.first) c.in_ok-vertex.ensures.there in
+    let same = same_held b.build b.start.rows ss ds b.caches b.halted.items b.events.list b.events.room c.self.invariant.kept in
     let wants : claim_may_want (claim_of c.args.self.now c.args.w c.args.v) ≡ true
     = ap (λ (n : Seen). claim_may_want (claim_of n c.args.w c.args.v)) (sym c.self.view_is)
-    ∙ claim_wants (seen b.build b.start.rows ss ds b.caches.rows b.events.list) c.args.w c.args.v x can in
+    ∙ claim_wants (seen b.build b.start.rows ss ds b.caches.rows b.events.list) c.args.w c.args.v x b.caches can same
+    ∙ ap claim_may_want c.in_ok-wanted.ensures.gives in
+    search (rules, wants)
+
+pub returns-in_err-begun-clause-last : goal.returns-in_err-begun-clause-last
+returns-in_err-begun-clause-last c =
+    let b = c.self.inside in
+    let ss = b.stands.items in
+    let ds = b.desks.items in
+    let x = c.in_ok-vertex.vertex.now in
+    let can = can_claim b.build (state_of ss ds b.caches.rows) c.args.w c.args.v x
+    (rw (c.deref.ensures.value, c.deref-2.ensures.value) at c.in_ok-vertex.ensures.first) c.in_ok-vertex.ensures.there in
+    let same = same_held b.build b.start.rows ss ds b.caches b.halted.items b.events.list b.events.room c.self.invariant.kept in
+    let wants : claim_may_want (claim_of c.args.self.now c.args.w c.args.v) ≡ true
+    = ap (λ (n : Seen). claim_may_want (claim_of n c.args.w c.args.v)) (sym c.self.view_is)
+    ∙ claim_wants (seen b.build b.start.rows ss ds b.caches.rows b.events.list) c.args.w c.args.v x b.caches can same
+    ∙ ap claim_may_want c.in_ok-wanted.ensures.gives in
+    search (rules, wants)
+
+pub returns-in_err-wanted-clause-last : goal.returns-in_err-wanted-clause-last
+returns-in_err-wanted-clause-last c =
+    let b = c.self.inside in
+    let ss = b.stands.items in
+    let ds = b.desks.items in
+    let x = c.in_ok-vertex.vertex.now in
+    let can = can_claim b.build (state_of ss ds b.caches.rows) c.args.w c.args.v x
+    (rw (c.deref.ensures.value, c.deref-2.ensures.value) at c.in_ok-vertex.ensures.first) c.in_ok-vertex.ensures.there in
+    let same = same_held b.build b.start.rows ss ds b.caches b.halted.items b.events.list b.events.room c.self.invariant.kept in
+    let wants : claim_memory c.in_err-wanted.field-0.0 ≡ true → claim_may_want (claim_of c.args.self.now c.args.w c.args.v) ≡ true
+    = λ memory. ap (λ (n : Seen). claim_may_want (claim_of n c.args.w c.args.v)) (sym c.self.view_is)
+    ∙ claim_wants (seen b.build b.start.rows ss ds b.caches.rows b.events.list) c.args.w c.args.v x b.caches can same
+    ∙ c.in_err-wanted.ensures.last memory in
     search (rules, wants)
 
 pub push_reserved-requires : goal.push_reserved-requires
@@ -77,9 +108,9 @@ push_reserved-requires c =
     let begins = rw c.deref-3.ensures.value at c.in_ok-begun.ensures.gives in
     let own = c.in_ok-begun.begun.execution in
     let r = claim_reply c.in_ok-begun.begun.job in
-    let new = c.lease.new.self in
+    let new = c.lease_for.new.caches in
     let d = did b.build b.start.rows ss ds b.caches b.halted.items b.events.list b.events.room c.args.w c.args.v x may (begun_as c.in_ok-begun.begun) begins
-    c.in_ok-lease.lease own new _ c.in_ok-wanted.ensures.gives refl (rw c.new.ensures at c.in_ok-lease.ensures.gives) c.in_ok-begun.ensures.supplies in
+    c.in_ok-lease.lease own new _ c.in_ok-wanted.ensures.gives refl c.in_ok-lease.ensures.gives c.in_ok-begun.ensures.supplies in
     has_room (seen b.build b.start.rows ss ds b.caches.rows b.events.list) ds b.caches.out b.halted.items b.events.room (Claim c.args.w c.args.v) _ c.self.invariant.kept
     (claim_done b.build (state_of ss ds b.caches.rows) c.args.w c.args.v _ d.grants)
 
@@ -96,9 +127,9 @@ index_mut-requires c =
     let begins = rw c.deref-3.ensures.value at c.in_ok-begun.ensures.gives in
     let own = c.in_ok-begun.begun.execution in
     let r = claim_reply c.in_ok-begun.begun.job in
-    let new = c.lease.new.self in
+    let new = c.lease_for.new.caches in
     let d = did b.build b.start.rows ss ds b.caches b.halted.items b.events.list b.events.room c.args.w c.args.v x may (begun_as c.in_ok-begun.begun) begins
-    c.in_ok-lease.lease own new _ c.in_ok-wanted.ensures.gives refl (rw c.new.ensures at c.in_ok-lease.ensures.gives) c.in_ok-begun.ensures.supplies in
+    c.in_ok-lease.lease own new _ c.in_ok-wanted.ensures.gives refl c.in_ok-lease.ensures.gives c.in_ok-begun.ensures.supplies in
     let len : vec_len b.stands ≡ length b.stands.items = search rules in
     omega (arith, d.low_v, len)
 
@@ -115,9 +146,9 @@ index_mut-requires-2 c =
     let begins = rw c.deref-3.ensures.value at c.in_ok-begun.ensures.gives in
     let own = c.in_ok-begun.begun.execution in
     let r = claim_reply c.in_ok-begun.begun.job in
-    let new = c.lease.new.self in
+    let new = c.lease_for.new.caches in
     let d = did b.build b.start.rows ss ds b.caches b.halted.items b.events.list b.events.room c.args.w c.args.v x may (begun_as c.in_ok-begun.begun) begins
-    c.in_ok-lease.lease own new _ c.in_ok-wanted.ensures.gives refl (rw c.new.ensures at c.in_ok-lease.ensures.gives) c.in_ok-begun.ensures.supplies in
+    c.in_ok-lease.lease own new _ c.in_ok-wanted.ensures.gives refl c.in_ok-lease.ensures.gives c.in_ok-begun.ensures.supplies in
     let len : vec_len b.desks ≡ length b.desks.items = search rules in
     omega (arith, d.low_w, len)
 
@@ -134,9 +165,9 @@ invariant_of-self-2 c =
     let begins = rw c.deref-3.ensures.value at c.in_ok-begun.ensures.gives in
     let own = c.in_ok-begun.begun.execution in
     let r = claim_reply c.in_ok-begun.begun.job in
-    let new = c.lease.new.self in
+    let new = c.lease_for.new.caches in
     let d = did b.build b.start.rows ss ds b.caches b.halted.items b.events.list b.events.room c.args.w c.args.v x may (begun_as c.in_ok-begun.begun) begins
-    c.in_ok-lease.lease own new _ c.in_ok-wanted.ensures.gives refl (rw c.new.ensures at c.in_ok-lease.ensures.gives) c.in_ok-begun.ensures.supplies in
+    c.in_ok-lease.lease own new _ c.in_ok-wanted.ensures.gives refl c.in_ok-lease.ensures.gives c.in_ok-begun.ensures.supplies in
     let before = data_of ss ds b.caches b.halted.items in
     let after = claimed before c.args.w c.args.v c.in_ok-lease.lease own new in
     record {
@@ -158,9 +189,9 @@ returns-clause-gives c =
     let begins = rw c.deref-3.ensures.value at c.in_ok-begun.ensures.gives in
     let own = c.in_ok-begun.begun.execution in
     let r = claim_reply c.in_ok-begun.begun.job in
-    let new = c.lease.new.self in
+    let new = c.lease_for.new.caches in
     let d = did b.build b.start.rows ss ds b.caches b.halted.items b.events.list b.events.room c.args.w c.args.v x may (begun_as c.in_ok-begun.begun) begins
-    c.in_ok-lease.lease own new _ c.in_ok-wanted.ensures.gives refl (rw c.new.ensures at c.in_ok-lease.ensures.gives) c.in_ok-begun.ensures.supplies in
+    c.in_ok-lease.lease own new _ c.in_ok-wanted.ensures.gives refl c.in_ok-lease.ensures.gives c.in_ok-begun.ensures.supplies in
     let before = data_of ss ds b.caches b.halted.items in
     let after = claimed before c.args.w c.args.v c.in_ok-lease.lease own new in
     ap (λ (n : Seen). claim_of n c.args.w c.args.v) (sym c.self.view_is)

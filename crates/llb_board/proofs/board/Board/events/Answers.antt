@@ -1,5 +1,5 @@
-use Rattle.std.proofs.Common.{◌≤◌, length, subst}
-use Rattle.llb_model.specs.Room.{most_events}
+use Rattle.std.proofs.Common.{◌≤◌, ◌+◌, length, subst}
+use Rattle.llb_model.specs.Room.{most_events, still_to_come}
 use Rattle.llb_model.proofs.Rooms.{run_has_few}
 use Rattle.llb_board.specs.Board.{Seen}
 use Rattle.llb_board.specs.Room.{seen}
@@ -10,4 +10,9 @@ returns-clause-bound c =
     let i = c.self.inside in
     let b = seen i.build i.start.rows i.stands.items i.desks.items i.caches.rows i.events.list in
     let few = run_has_few b.build b.opening b.state b.events c.self.invariant.kept.replays.replies c.self.invariant.kept.replays.leads in
-    subst (λ (s : Seen). length i.events.list ≤ most_events s.build) c.self.view_is few
+    subst (λ (s : Seen). still_to_come s.build s.state + length i.events.list ≤ most_events s.build) c.self.view_is few
+
+pub returns-clause-room : goal.returns-clause-room
+returns-clause-room c =
+    let i = c.self.inside in
+    subst (λ (s : Seen). most_events s.build ≤ i.events.room) c.self.view_is c.self.invariant.kept.room

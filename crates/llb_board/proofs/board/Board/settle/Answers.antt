@@ -25,7 +25,7 @@ give_back-requires c =
     let v = c.in_ok-v.v in
     let s = c.in_ok-v.stand in
     let left : left_at b.build (slice_get (map at_of ds) w) ≡ Ok (v, status_of s) = rw c.deref_mut.ensures.value at c.in_ok-v.ensures.gives in
-    let leased : slice_get (map leased_by ds) w ≡ Some (Some c.in_ok-v.lease) = rw c.deref_mut.ensures.value at c.in_ok-v.ensures.leased in
+    let leased : slice_get (map leased_by ds) w ≡ Some c.in_ok-v.lease = rw c.deref_mut.ensures.value at c.in_ok-v.ensures.leased in
     is_out b.build b.start.rows ss ds b.caches b.halted.items b.events.list b.events.room w v c.in_ok-v.lease s c.self.invariant.kept left leased
 
 pub index_mut-requires : goal.index_mut-requires
@@ -37,7 +37,7 @@ index_mut-requires c =
     let v = c.in_ok-v.v in
     let s = c.in_ok-v.stand in
     let left : left_at b.build (slice_get (map at_of ds) w) ≡ Ok (v, status_of s) = rw c.deref_mut.ensures.value at c.in_ok-v.ensures.gives in
-    let leased : slice_get (map leased_by ds) w ≡ Some (Some c.in_ok-v.lease) = rw c.deref_mut.ensures.value at c.in_ok-v.ensures.leased in
+    let leased : slice_get (map leased_by ds) w ≡ Some c.in_ok-v.lease = rw c.deref_mut.ensures.value at c.in_ok-v.ensures.leased in
     let len : vec_len b.stands ≡ length ss = search rules in
     omega (arith, low b.build b.start.rows ss ds b.caches b.halted.items b.events.list b.events.room w v c.in_ok-v.lease s c.self.invariant.kept left leased, len)
 
@@ -50,7 +50,7 @@ push_reserved-requires c =
     let v = c.in_ok-v.v in
     let s = c.in_ok-v.stand in
     let left : left_at b.build (slice_get (map at_of ds) w) ≡ Ok (v, status_of s) = rw c.deref_mut.ensures.value at c.in_ok-v.ensures.gives in
-    let leased : slice_get (map leased_by ds) w ≡ Some (Some c.in_ok-v.lease) = rw c.deref_mut.ensures.value at c.in_ok-v.ensures.leased in
+    let leased : slice_get (map leased_by ds) w ≡ Some c.in_ok-v.lease = rw c.deref_mut.ensures.value at c.in_ok-v.ensures.leased in
     has_room (seen b.build b.start.rows ss ds b.caches.rows b.events.list) ds b.caches.out b.halted.items b.events.room (Settle w) _ c.self.invariant.kept
     (settle_done b.build (state_of ss ds b.caches.rows) w _ (grants b.build b.start.rows ss ds b.caches b.halted.items b.events.list b.events.room w v c.in_ok-v.lease s c.self.invariant.kept left leased b.halted.items))
 
@@ -69,7 +69,7 @@ invariant_of-self-then-failed c =
     let v = c.in_ok-v.v in
     let s = c.in_ok-v.stand in
     let left : left_at b.build (slice_get (map at_of ds) w) ≡ Ok (v, status_of s) = rw c.deref_mut.ensures.value at c.in_ok-v.ensures.gives in
-    let leased : slice_get (map leased_by ds) w ≡ Some (Some c.in_ok-v.lease) = rw c.deref_mut.ensures.value at c.in_ok-v.ensures.leased in
+    let leased : slice_get (map leased_by ds) w ≡ Some c.in_ok-v.lease = rw c.deref_mut.ensures.value at c.in_ok-v.ensures.leased in
     let idle : c.leave.new.desks ≡ slice_set ds w desk.Idle = rw c.deref_mut.ensures.value at c.in_ok-v.ensures.idle in
     let desks : take b.desks.len (c.leave.new.desks ++ drop (length c.leave.new.desks) ds) ≡ slice_set ds w desk.Idle
     = whole_written b.desks.len c.leave.new.desks ds (ap length idle ∙ length_set ds w desk.Idle) (search rules) ∙ idle in
@@ -98,7 +98,7 @@ returns-then-failed-clause-gives c =
     let v = c.in_ok-v.v in
     let s = c.in_ok-v.stand in
     let left : left_at b.build (slice_get (map at_of ds) w) ≡ Ok (v, status_of s) = rw c.deref_mut.ensures.value at c.in_ok-v.ensures.gives in
-    let leased : slice_get (map leased_by ds) w ≡ Some (Some c.in_ok-v.lease) = rw c.deref_mut.ensures.value at c.in_ok-v.ensures.leased in
+    let leased : slice_get (map leased_by ds) w ≡ Some c.in_ok-v.lease = rw c.deref_mut.ensures.value at c.in_ok-v.ensures.leased in
     let idle : c.leave.new.desks ≡ slice_set ds w desk.Idle = rw c.deref_mut.ensures.value at c.in_ok-v.ensures.idle in
     let desks : take b.desks.len (c.leave.new.desks ++ drop (length c.leave.new.desks) ds) ≡ slice_set ds w desk.Idle
     = whole_written b.desks.len c.leave.new.desks ds (ap length idle ∙ length_set ds w desk.Idle) (search rules) ∙ idle in
@@ -119,7 +119,7 @@ invariant_of-self-else-failed c =
     let v = c.in_ok-v.v in
     let s = c.in_ok-v.stand in
     let left : left_at b.build (slice_get (map at_of ds) w) ≡ Ok (v, status_of s) = rw c.deref_mut.ensures.value at c.in_ok-v.ensures.gives in
-    let leased : slice_get (map leased_by ds) w ≡ Some (Some c.in_ok-v.lease) = rw c.deref_mut.ensures.value at c.in_ok-v.ensures.leased in
+    let leased : slice_get (map leased_by ds) w ≡ Some c.in_ok-v.lease = rw c.deref_mut.ensures.value at c.in_ok-v.ensures.leased in
     let idle : c.leave.new.desks ≡ slice_set ds w desk.Idle = rw c.deref_mut.ensures.value at c.in_ok-v.ensures.idle in
     let desks : take b.desks.len (c.leave.new.desks ++ drop (length c.leave.new.desks) ds) ≡ slice_set ds w desk.Idle
     = whole_written b.desks.len c.leave.new.desks ds (ap length idle ∙ length_set ds w desk.Idle) (search rules) ∙ idle in
@@ -143,7 +143,7 @@ returns-clause-gives c =
     let v = c.in_ok-v.v in
     let s = c.in_ok-v.stand in
     let left : left_at b.build (slice_get (map at_of ds) w) ≡ Ok (v, status_of s) = rw c.deref_mut.ensures.value at c.in_ok-v.ensures.gives in
-    let leased : slice_get (map leased_by ds) w ≡ Some (Some c.in_ok-v.lease) = rw c.deref_mut.ensures.value at c.in_ok-v.ensures.leased in
+    let leased : slice_get (map leased_by ds) w ≡ Some c.in_ok-v.lease = rw c.deref_mut.ensures.value at c.in_ok-v.ensures.leased in
     let idle : c.leave.new.desks ≡ slice_set ds w desk.Idle = rw c.deref_mut.ensures.value at c.in_ok-v.ensures.idle in
     let desks : take b.desks.len (c.leave.new.desks ++ drop (length c.leave.new.desks) ds) ≡ slice_set ds w desk.Idle
     = whole_written b.desks.len c.leave.new.desks ds (ap length idle ∙ length_set ds w desk.Idle) (search rules) ∙ idle in

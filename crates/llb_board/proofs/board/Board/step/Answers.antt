@@ -31,6 +31,7 @@ invariant_of-self-2 c =
     let kept = kept_after b.build b.start.rows before after b.events.list b.events.room (Step c.args.w) r c.self.invariant.kept granted
     (record {
       same = same;
+      rows = c.in_ok-stepped.ensures.rows;
       leased = c.in_ok-stepped.ensures.leased;
       supplies = supplies_stepped b.build b.stands.items ds new b.caches.rows rows c.args.w r c.self.invariant.kept.supplies granted supplies;
       marks = c.self.invariant.kept.halted_are;

@@ -5,7 +5,7 @@ use Rattle.llb_cache.specs.Caches.{CachesValue, Leases, Row, place_at, places_of
 use Rattle.llb_tree.specs.Tree.{TreeMap}
 use Rattle.llb_model.specs.Leases.{put_each}
 use Rattle.llb_board.proofs.Lent.{put_next, put_none}
-use Rattle.llb_board.proofs.instances.write_back.Goals as goal
+use Rattle.llb_board.proofs.instances.write_all.Goals as goal
 
 pub loop-tree-init : goal.loop-tree-init
 loop-tree-init c =

@@ -1,7 +1,7 @@
 use Rattle.std.proofs.Common.{◌≡◌, ◌+◌, drop, length}
 use Rattle.llb_cache.specs.Caches.{places_of}
 use Rattle.llb_model.specs.Leases.{put_each}
-use Rattle.llb_board.proofs.instances.write_back.Given as goal
+use Rattle.llb_board.proofs.instances.write_all.Given as goal
 
 abbrev pub invariant-loop-tree : goal.invariant-loop-tree
 invariant-loop-tree l = record {

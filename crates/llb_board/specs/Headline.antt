@@ -1,0 +1,45 @@
+-- The promise of the whole machine over a board, part by part, in the words of the machine's definitions.
+use Rattle.std.specs.Prelude.{◌≡◌, ◌≢◌, ℕ, Some, option_map, slice_get}
+use Rattle.llb_cache.specs.declared.key.Mode.TheVariants.{Locked}
+use Rattle.llb_tree.specs.Tree.{TreeMap}
+use Rattle.llb_model.specs.Caches.{Place, content, Has, IsExclusive}
+use Rattle.llb_model.specs.Laws.{with_content, with_content_after}
+use Rattle.llb_model.specs.State.{Execution, Runs, State}
+use Rattle.llb_model.specs.Table.{Event, Reply, worker_of, table}
+use Rattle.llb_board.specs.Board.{Seen, Replays, SettledArePlain}
+
+-- a running worker has an instance
+pub record HasPlace (b : Seen) (w : ℕ) (p : Place) : Type 0 where
+  pub execution : Execution
+  pub runs : slice_get b.state.workers w ≡ Some (Runs execution)
+  pub has : Has execution.places p
+
+-- two running workers with one locked key are one worker
+abbrev pub LockedOnce : Seen → Type 0
+LockedOnce b = (w u : ℕ) (p q : Place) → HasPlace b w p → HasPlace b u q → p.key ≡ q.key → p.key.mode ≡ Locked → w ≡ u
+
+-- two running workers with one instance of a locked or a private key are one worker
+abbrev pub HeldOnce : Seen → Type 0
+HeldOnce b = (w u : ℕ) (p : Place) → HasPlace b w p → HasPlace b u p → IsExclusive p.key.mode → w ≡ u
+
+-- an event of another worker leaves such an instance as it is
+abbrev pub OthersLeave : Seen → Type 0
+OthersLeave b = (w : ℕ) (p : Place) → HasPlace b w p → IsExclusive p.key.mode → (e : Event) (t : State) (r : Reply) → worker_of e ≢ w → table b.build b.state e ≡ Some (t, r)
+    → content t.store p ≡ content b.state.store p
+
+-- and would have the same reply, and the same effect elsewhere, whatever tree it were
+abbrev pub OthersIgnore : Seen → Type 0
+OthersIgnore b = (w : ℕ) (p : Place) → HasPlace b w p → IsExclusive p.key.mode → (e : Event) (tree : TreeMap) → worker_of e ≢ w
+    → table b.build (with_content p tree b.state) e ≡ option_map (with_content_after p tree) (table b.build b.state e)
+
+pub record Headline (b : Seen) : Type 0 where
+  -- after every interleaving of events the state and the replies are the written table's on the recorded events
+  pub replays : Replays b
+  -- no two executions hold one locked cache at once, nor one instance of a private one
+  pub locked_once : LockedOnce b
+  pub held_once : HeldOnce b
+  -- nor does another worker's event change what an execution has alone, or look at it
+  pub others_leave : OthersLeave b
+  pub others_ignore : OthersIgnore b
+  -- every settled vertex with no cache mount at or before it has the graph's plain outcome
+  pub plain : SettledArePlain b
