@@ -21,7 +21,7 @@ use Rattle.llb_treetext.specs.TreeText.{tree_text}
 use Rattle.llbm.specs.GraphText.{graph_text}
 use Rattle.llbm.specs.Answer.{build_of, result_in, Yields, YieldsNone, IsRefused, Lacks, IsNotRun, YieldsPart, DrawsPart}
 use Rattle.llbm.specs.Answer.{Runs}
-use Rattle.llbm.proofs.Ending.{result_fails}
+use Rattle.llbm.proofs.Ending.{result_fails, tree_fails_none}
 use Rattle.llbm.specs.Running.{passed_on, unread_as, IsRefusal, TellsRefusal, IsFinished, Shows, Answers}
 use Rattle.llbm.specs.Bounded.{ReadsAll}
 use Rattle.llbm.specs.declared.bounded.ReadFault.{ReadFault}
@@ -60,7 +60,7 @@ reads_graph left g bytes read loaded = some_map (λ xs. bytes ≡ xs) (λ xs. Is
 
 module _ (ls : List Local) (left : Option (List ℕ)) (g : Numbered) (graph : IsGraph g) (b : Seen) (fin : IsFinished ls g b) (loads : IfSome left (λ bytes. IsGraphIn bytes g)) where
   yields : (bytes : List ℕ) → IsGraphIn bytes g → (t : TreeMap) → result_in b.state g ≡ Some t → Yields ls bytes (tree_text t)
-  yields bytes loaded t is = record { graph = g; loaded = loaded; state = b.state; ended = fin.ended; tree = t; result = is; printed = refl }
+  yields bytes loaded t is = record { graph = g; loaded = loaded; state = b.state; ended = fin.ended; tree = t; result = is; none_failed = tree_fails_none (build_of ls g) graph b.state fin.ended t is; printed = refl }
 
   pub answers_text : (out out' : Option (List ℕ)) (t : TreeMap) → result_in b.state g ≡ Some t → Appends out out' (tree_text t) → IfSome left (λ bytes. (text : List ℕ) × Yields ls bytes text × Appends out out' text)
   answers_text out out' t is app = some_map (λ bytes. IsGraphIn bytes g) (λ bytes. (text : List ℕ) × Yields ls bytes text × Appends out out' text) left (λ bytes loaded. (tree_text t, yields bytes loaded t is, app)) loads

@@ -5,6 +5,7 @@ use Rattle.llb_loader.specs.declared.graph.Edge.{Edge}
 use Rattle.llb_loader.specs.Graph.{Numbered, LeadsBelow, IsGraph}
 use Rattle.llb_loader.specs.Locals.{Local}
 use Rattle.llb_model.specs.declared.fault.VertexFault.{VertexFault}
+use Rattle.llb_tree.specs.Tree.{TreeMap}
 use Rattle.llb_model.specs.Caches.{no_instances}
 use Rattle.llb_model.specs.Kept.{store_of}
 use Rattle.llb_model.specs.Program.{Build}
@@ -22,6 +23,7 @@ use Rattle.llb_model.proofs.Consistent.{opening_consistent, run_consistent}
 use Rattle.llb_model.proofs.Stopped.{is_stopped, stopped_there, stopped_cases, done_count}
 use Rattle.llb_model.proofs.Complete.{is_over, over_by, each_true, complete_is_none}
 use Rattle.llb_board.specs.Board.{Seen, Replays, opened}
+use Rattle.llbm.proofs.Reaching.{none_fails}
 use Rattle.llbm.specs.Alone.{Goes, EndsInClaimOrder}
 use Rattle.llbm.specs.Answer.{build_of, run_opening, IsEnd, FailsBy}
 use Rattle.llbm.specs.Running.{IsFinished}
@@ -155,3 +157,8 @@ module _ (b : Build) (graph : IsGraph b.graph) (s : State) (here : IsConsistent 
 
 pub result_fails : (b : Build) → IsGraph b.graph → (s : State) → IsEnd b s → output_in (ending_at s.statuses b.graph.result.vertex) b.graph.result.index ≡ None → FailsBy s b.graph.result.vertex
 result_fails b graph s end none = no_result_fails b graph s (ended_consistent b graph run_opening end.events s end.ends) end.ends.complete none
+
+-- and where it is one no vertex has failed
+pub tree_fails_none : (b : Build) → IsGraph b.graph → (s : State) → IsEnd b s → (t : TreeMap) → output_in (ending_at s.statuses b.graph.result.vertex) b.graph.result.index ≡ Some t
+    → (v : ℕ) (f : VertexFault) → ending_at s.statuses v ≡ Some (Failed f) → ⊥
+tree_fails_none b graph s end = none_fails b s (ended_consistent b graph run_opening end.events s end.ends) graph

@@ -1,5 +1,6 @@
 pub mod Printing
 pub mod Driving
+pub mod Reaching
 pub mod Ending
 pub mod Answering
 pub mod Entering

@@ -40,7 +40,8 @@ pub record IsEnd (b : Build) (s : State) : Type 0 where
 abbrev pub result_in : State → Numbered → Option TreeMap
 result_in s g = output_in (ending_at s.statuses g.result.vertex) g.result.index
 
--- bytes that are the definition of a graph whose result, where a run on these local trees has ended, is a tree of that text
+-- bytes that are the definition of a graph whose result, where a run on these local trees has ended, is a tree of that text; then no vertex
+-- has failed
 pub record Yields (locals : List Local) (bytes text : List ℕ) : Type 0 where
   pub graph : Numbered
   pub loaded : IsGraphIn bytes graph
@@ -48,6 +49,7 @@ pub record Yields (locals : List Local) (bytes text : List ℕ) : Type 0 where
   pub ended : IsEnd (build_of locals graph) state
   pub tree : TreeMap
   pub result : result_in state graph ≡ Some tree
+  pub none_failed : (v : ℕ) (f : VertexFault) → ending_at state.statuses v ≡ Some (Failed f) → ⊥
   pub printed : text ≡ tree_text tree
 
 -- a vertex at or before one has failed

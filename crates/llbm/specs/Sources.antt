@@ -1,8 +1,9 @@
 -- What is read of the files of local sources.
 use Rattle.std.specs.Prelude.{◌≡◌, ◌<◌, ◌≤◌, ◌⊎◌, ℕ, List, [], ◌∷◌, length, if◌then◌else◌, Option, Result, Ok, Err, IfSome}
 use Rattle.llb_tree.specs.Tree.{TreeMap}
+use Rattle.llb_treetext.specs.declared.fault.TextFault.{TextFault}
 use Rattle.llb_treetext.specs.Faults.{is_memory}
-use Rattle.llb_treetext.specs.Reading.{Answers}
+use Rattle.llb_treetext.specs.Reading.{Answers, MemoryIsLast}
 use Rattle.llb_loader.specs.Locals as given
 use Rattle.llb_loader.specs.Locals.{with_local}
 use Rattle.llbm.specs.declared.words.Local.{Local}
@@ -13,14 +14,20 @@ use Rattle.llbm.specs.declared.sources.SourceFault.TheVariants.{Read, TooLong, T
 abbrev pub limit : ℕ
 limit = 67108864
 
--- What is read of bytes: the tree whose text they are, or why they are none's. A device or memory may fail at any bytes.
+-- What is read of bytes: the tree whose text they are, or why they are none's. A device or memory may fail at any bytes, but the reading of the
+-- text wants memory only where the bytes are a tree's.
 abbrev pub ReadsTree : List ℕ → Result TreeMap SourceFault → Type 0
 ReadsTree bytes (Ok t) = (length bytes ≤ limit) × Answers bytes (Ok t)
 ReadsTree bytes (Err TooLong) = limit < length bytes
-ReadsTree bytes (Err (Text e)) = (length bytes ≤ limit) × Answers bytes (Err e)
+ReadsTree bytes (Err (Text e)) = (length bytes ≤ limit) × Answers bytes (Err e) × MemoryIsLast bytes (Err e)
 ReadsTree bytes (Err Read) = Unit {0}
 ReadsTree bytes (Err Reading) = Unit {0}
 ReadsTree bytes (Err Adding) = Unit {0}
+
+-- the reading of a text, as that of a source
+abbrev pub told : Result TreeMap TextFault → Result TreeMap SourceFault
+told (Ok t) = Ok t
+told (Err e) = Err (Text e)
 
 -- the same, where the bytes are known
 abbrev pub Reads : Option (List ℕ) → Result TreeMap SourceFault → Type 0

@@ -3,7 +3,7 @@
 
 ghost use Rattle.std.specs.Prelude.{◌≡◌, ◌⊎◌, ℕ, List, [], Option, Some, IfOk, IfErr, OnOk, IfSome};
 ghost use Rattle.llb_loader.specs.Locals.{with_local};
-ghost use Rattle.llbm.specs.Sources.{source_status, Gathers, Reads};
+ghost use Rattle.llbm.specs.Sources.{source_status, Gathers, Reads, told};
 ghost use Rattle.llbm.specs.declared.sources.SourceFault.TheVariants.{Adding};
 
 use crate::bounded::{ReadFault, read_bounded};
@@ -59,13 +59,20 @@ pub fn local_from<R: Read>(alloc: Global, input: &mut R) -> Result<Tree, SourceF
     ensures { Reads (R.remaining input.old) result }
 {
     match read_bounded(alloc, input, LIMIT, READS) {
-        Ok(bytes) => match read_tree(alloc, bytes.as_slice()) {
-            Ok(tree) => Ok(tree),
-            Err(fault) => Err(SourceFault::Text(fault)),
-        },
+        Ok(bytes) => told(read_tree(alloc, bytes.as_slice())),
         Err(ReadFault::TooLong) => Err(SourceFault::TooLong),
         Err(ReadFault::Memory) => Err(SourceFault::Reading),
         Err(_) => Err(SourceFault::Read),
+    }
+}
+
+// What is told of the reading of a text.
+fn told(read: Result<Tree, TextFault>) -> Result<Tree, SourceFault>
+    ensures { result ≡ told read }
+{
+    match read {
+        Ok(tree) => Ok(tree),
+        Err(fault) => Err(SourceFault::Text(fault)),
     }
 }
 

@@ -23,5 +23,5 @@ returns-clause-order c =
     λ fresh ended.
     let left = when_true c.go_alone-whole.result (chosen b.build b.state ≡ None) c.go_alone-whole.ensures.ends (elim c.if-whole.branch [ then-whole w ↦ w.if-whole.true | else-whole w ↦ absurd (cc (ended, w.fault-is)) ]) in
     let complete : is_complete b.build b.state ≡ true = c.chosen_until_complete.ensures.0 left in
-    ends_in_order c.args.board b c.go_alone-whole.ensures.goes c.replays.ensures fresh complete
+    ends_in_order c.args.board b c.go_alone-whole.ensures.goes c.replays.ensures.run fresh complete
     (complete_rests b.build c.is_graph.ensures b.state c.is_consistent.ensures complete) c.alone_in_claim_order.ensures
