@@ -64,7 +64,7 @@ fn both(first: &Text, second: &Text) -> Result<(Text, Text), ScriptFault>
 
 impl Command {
     /// An equal second owner; 74 `Memory`.
-    pub fn copy(&self, alloc: Global) -> Result<Command, ScriptFault>
+    pub fn copy(&self) -> Result<Command, ScriptFault>
         ensures { Gives (λ c. c) result (Ok self.now) }
     {
         match self {
@@ -89,7 +89,7 @@ impl Command {
             }
             Command::Concat { out, parts } => {
                 let out = out.copy()?;
-                let parts = Many::new(copies(alloc, parts.as_slice())?);
+                let parts = Many::new(copies(parts.allocator(), parts.as_slice())?);
                 Ok(Command::Concat { out, parts })
             }
             Command::Chmod { mode, path } => {

@@ -47,7 +47,7 @@ impl Script {
         let alloc = *self.commands.allocator();
         let mut commands = Vec::new(alloc);
         for command in &self.commands {
-            commands.push(command.copy(alloc)?)?;
+            commands.push(command.copy()?)?;
         }
         Ok(Script { commands })
     }

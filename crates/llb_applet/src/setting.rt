@@ -6,7 +6,6 @@ use crate::fault::Memory;
 use crate::texts::copies;
 use llb_tree::Path;
 use llb_wire::{Many, Text};
-use std::alloc::Global;
 
 /// Where commands run: paths are read from `cwd`, and `env` is what `envfile` writes.
 #[derive(Drop)]
@@ -17,11 +16,11 @@ pub struct Setting {
 
 impl Setting {
     /// An equal second owner; 75 `Memory`.
-    pub fn copy(&self, alloc: Global) -> Result<Setting, Memory>
+    pub fn copy(&self) -> Result<Setting, Memory>
         ensures { IfOk result (λ s. s ≡ self.now) }
     {
         let cwd = self.cwd.copy()?;
-        let env = copies(alloc, self.env.as_slice())?;
+        let env = copies(self.env.allocator(), self.env.as_slice())?;
         Ok(Setting {
             cwd,
             env: Many::new(env),

@@ -60,12 +60,22 @@ returned (opening.Memory g ts c) = (record { graph = g; locals = ts }, c)
 returned (opening.Workers g ts c) = (record { graph = g; locals = ts }, c)
 returned (opening.MissingLocal name g ts c) = (record { graph = g; locals = ts }, c)
 
--- ---- what an event answers
+abbrev pub open_memory : OpenFault → Bool
+open_memory (opening.Memory g ts c) = true
+open_memory (opening.Workers g ts c) = false
+open_memory (opening.MissingLocal name g ts c) = false
+
+abbrev pub GivesOpen : {X Y : Type 0} → (X → Y) → Result X OpenFault → Result Y OpenFault → Type 0
+GivesOpen = answer.Gives open_memory
+
+-- ---- what an event answers: what the table gives, with its cause as a fault
 
 -- a cause as a fault
 abbrev pub faulted : {A C F : Type 0} → (C → F) → Result A C → Result A F
 faulted fault (Ok x) = Ok x
 faulted fault (Err cause) = Err (fault cause)
+
+-- ---- what a claim answers, and what it begins
 
 abbrev pub claim_fault : ClaimCause → ClaimFault
 claim_fault no_claim.NoWorker = claim.NoWorker
@@ -74,15 +84,8 @@ claim_fault no_claim.NoVertex = claim.NoVertex
 claim_fault no_claim.NotReady = claim.NotReady
 claim_fault (no_claim.Held key) = claim.Held key
 
-abbrev pub step_fault : StepCause → StepFault
-step_fault no_step.NoWorker = step.NoWorker
-step_fault no_step.NotRunning = step.NotRunning
-step_fault no_step.NothingLeft = step.NothingLeft
-
-abbrev pub settle_fault : SettleCause → SettleFault
-settle_fault no_settle.NoWorker = settle.NoWorker
-settle_fault no_settle.NotRunning = settle.NotRunning
-settle_fault no_settle.NotFinished = settle.NotFinished
+abbrev pub claim_of : Seen → ℕ → ℕ → Result (Seen × Reply) ClaimFault
+claim_of b w v = recorded b (Claim w v) claim_fault (claim_grant b.build b.state w v)
 
 -- where memory may be wanted of a claim: where nothing else stands in the way, or for the text of the key that is held
 abbrev pub claim_may_want : {A : Type 0} → Result A ClaimFault → Bool
@@ -94,22 +97,6 @@ claim_may_want (Err claim.NoVertex) = false
 claim_may_want (Err claim.NotReady) = false
 claim_may_want (Err claim.Memory) = false
 
-abbrev pub claim_of : Seen → ℕ → ℕ → Result (Seen × Reply) ClaimFault
-claim_of b w v = recorded b (Claim w v) claim_fault (claim_grant b.build b.state w v)
-
-abbrev pub step_of : Seen → ℕ → Result (Seen × Reply) StepFault
-step_of b w = recorded b (Step w) step_fault (step_grant b.build b.state w)
-
-abbrev pub settle_of : Seen → ℕ → Result (Seen × Reply) SettleFault
-settle_of b w = recorded b (Settle w) settle_fault (settle_grant b.build b.state w)
-
--- ---- want of memory, which no rule gives
-
-abbrev pub open_memory : OpenFault → Bool
-open_memory (opening.Memory g ts c) = true
-open_memory (opening.Workers g ts c) = false
-open_memory (opening.MissingLocal name g ts c) = false
-
 abbrev pub claim_memory : ClaimFault → Bool
 claim_memory claim.Memory = true
 claim_memory claim.NoWorker = false
@@ -118,28 +105,8 @@ claim_memory claim.NoVertex = false
 claim_memory claim.NotReady = false
 claim_memory (claim.Held key) = false
 
-abbrev pub step_memory : StepFault → Bool
-step_memory step.Memory = true
-step_memory step.NoWorker = false
-step_memory step.NotRunning = false
-step_memory step.NothingLeft = false
-
-abbrev pub settle_memory : SettleFault → Bool
-settle_memory e = false
-
-abbrev pub GivesOpen : {X Y : Type 0} → (X → Y) → Result X OpenFault → Result Y OpenFault → Type 0
-GivesOpen = answer.Gives open_memory
-
 abbrev pub GivesClaim : {X Y : Type 0} → (X → Y) → Result X ClaimFault → Result Y ClaimFault → Type 0
 GivesClaim = answer.Gives claim_memory
-
-abbrev pub GivesStep : {X Y : Type 0} → (X → Y) → Result X StepFault → Result Y StepFault → Type 0
-GivesStep = answer.Gives step_memory
-
-abbrev pub GivesSettle : {X Y : Type 0} → (X → Y) → Result X SettleFault → Result Y SettleFault → Type 0
-GivesSettle = answer.Gives settle_memory
-
--- ---- the parts of an event
 
 -- inputs that are not all there are no trees to begin with
 abbrev pub or_not_ready : {A : Type 0} → Option A → Result A ClaimFault
@@ -163,6 +130,25 @@ begun_at b c w v vertex trees ps = record {
 abbrev pub begun : Build → CachesValue → ℕ → ℕ → Vertex → Option (List TreeMap) → Result Begun ClaimFault
 begun b c w v vertex (Some trees) = Ok (begun_at b c w v vertex trees (places_taken c.out (needs_of vertex)))
 begun b c w v vertex None = Err claim.NotReady
+
+-- ---- what a step answers, and what its micro-step leaves
+
+abbrev pub step_fault : StepCause → StepFault
+step_fault no_step.NoWorker = step.NoWorker
+step_fault no_step.NotRunning = step.NotRunning
+step_fault no_step.NothingLeft = step.NothingLeft
+
+abbrev pub step_of : Seen → ℕ → Result (Seen × Reply) StepFault
+step_of b w = recorded b (Step w) step_fault (step_grant b.build b.state w)
+
+abbrev pub step_memory : StepFault → Bool
+step_memory step.Memory = true
+step_memory step.NoWorker = false
+step_memory step.NotRunning = false
+step_memory step.NothingLeft = false
+
+abbrev pub GivesStep : {X Y : Type 0} → (X → Y) → Result X StepFault → Result Y StepFault → Type 0
+GivesStep = answer.Gives step_memory
 
 -- what a micro-step leaves: the execution, the trees of its instances, and the reply
 pub record Worked : Type 0 where
@@ -191,6 +177,22 @@ written_by rows ps (Err e) = Err e
 
 abbrev pub worked_in : Build → List Row → Execution → Result Written StepFault
 worked_in b rows x = written_by rows x.places (worked (program_in b x).steps x (trees_at (store_of rows) x.places))
+
+-- ---- what a settle answers, and what it leaves
+
+abbrev pub settle_fault : SettleCause → SettleFault
+settle_fault no_settle.NoWorker = settle.NoWorker
+settle_fault no_settle.NotRunning = settle.NotRunning
+settle_fault no_settle.NotFinished = settle.NotFinished
+
+abbrev pub settle_of : Seen → ℕ → Result (Seen × Reply) SettleFault
+settle_of b w = recorded b (Settle w) settle_fault (settle_grant b.build b.state w)
+
+abbrev pub settle_memory : SettleFault → Bool
+settle_memory e = false
+
+abbrev pub GivesSettle : {X Y : Type 0} → (X → Y) → Result X SettleFault → Result Y SettleFault → Type 0
+GivesSettle = answer.Gives settle_memory
 
 -- the vertex that a worker leaves, and how it stands then
 abbrev pub left_at : Build → Option At → Result (ℕ × Status) SettleFault

@@ -380,7 +380,7 @@ fn told(alloc: Global, mounts: &[Mount<'_>], cwd: &str, script: &str) -> Result<
     let Some(mut view) = view_of(alloc, mounts)? else {
         return Ok(String::from_str(alloc, "no view")?);
     };
-    let (script, setting) = (script.copy()?, setting.copy(alloc)?);
+    let (script, setting) = (script.copy()?, setting.copy()?);
     let mut text = run(alloc, script.commands(), &setting, &mut view)?;
     for shown in view.mounts() {
         push_tree(alloc, &mut text, &shown.tree)?;

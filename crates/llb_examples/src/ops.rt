@@ -237,8 +237,8 @@ fn input_told(op: &Op) -> &'static str {
 fn told(op: &Op) -> (&'static str, &'static str, usize) {
     let does = match &op.kind {
         Some(Kind::File(file)) => file_told(file),
-        Some(Kind::Source(source)) => source_told(source),
-        Some(Kind::Exec(exec)) => exec_told(exec),
+        Some(Kind::Source(source)) => source_told(source.get()),
+        Some(Kind::Exec(exec)) => exec_told(exec.get()),
         Some(_) => "another op",
         None => "nothing",
     };

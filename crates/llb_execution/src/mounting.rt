@@ -23,7 +23,7 @@ pub fn setting_of(alloc: Global, vertex: &Vertex) -> Result<Setting, Memory>
     ensures { IfOk result (λ s. s ≡ kind_setting vertex.now.op.kind) }
 {
     match &vertex.op.kind {
-        Some(Kind::Exec(exec)) => Ok(setting_with(alloc, &exec.meta)?),
+        Some(Kind::Exec(exec)) => Ok(setting_with(alloc, &exec.get().meta)?),
         _ => Ok(setting_with(alloc, &None)?),
     }
 }
@@ -75,7 +75,7 @@ pub fn mounts_of(kind: &Option<Kind>) -> &[Mount]
     ensures { result.now ≡ kind_mounts kind.now }
 {
     match kind {
-        Some(Kind::Exec(exec)) => exec.mounts.as_slice(),
+        Some(Kind::Exec(exec)) => exec.get().mounts.as_slice(),
         _ => &[],
     }
 }

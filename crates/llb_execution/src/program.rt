@@ -94,7 +94,7 @@ fn steps_of(alloc: Global, kind: &Option<Kind>, script: &Option<Script>) -> Resu
             Ok(Steps::Inputs(numbers))
         }
         Some(Kind::Exec(exec)) => {
-            let setting = setting_with(alloc, &exec.meta)?;
+            let setting = setting_with(alloc, &exec.get().meta)?;
             commands(setting, script)
         }
         _ => Ok(Steps::Nothing),

@@ -274,7 +274,7 @@ fn own_on(
         Some(Kind::Source(_)) => Ok(Own::Local(local_tree(alloc, locals, vertex)?)),
         Some(Kind::Merge(_)) => Ok(Own::Layers(inputs, Tree::empty(alloc)?)),
         Some(Kind::Exec(exec)) => {
-            let mounts = view_of(alloc, inputs.as_slice(), exec.mounts.as_slice())?;
+            let mounts = view_of(alloc, inputs.as_slice(), exec.get().mounts.as_slice())?;
             Ok(Own::Mounted(mounts, caches))
         }
         _ => Ok(Own::Files(inputs, Vec::new(alloc))),

@@ -85,7 +85,7 @@ fn script_in(alloc: Global, op: &Op) -> Result<Option<Script>, Memory>
     ensures { IfOk result (λ script. script ≡ script_in op.now) }
 {
     match &op.kind {
-        Some(Kind::Exec(exec)) => commands_in(alloc, &exec.meta),
+        Some(Kind::Exec(exec)) => commands_in(alloc, &exec.get().meta),
         _ => Ok(None),
     }
 }

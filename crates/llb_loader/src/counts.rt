@@ -40,7 +40,7 @@ pub(crate) fn count_of(op: &Op) -> usize
         Some(Kind::Source(_)) => 1,
         Some(Kind::Merge(_)) => 1,
         Some(Kind::File(file)) => outputs_among(file.actions.as_slice()),
-        Some(Kind::Exec(exec)) => mount_outputs_among(exec.mounts.as_slice()),
+        Some(Kind::Exec(exec)) => mount_outputs_among(exec.get().mounts.as_slice()),
         Some(Kind::Build(_)) => 0,
         Some(Kind::Diff(_)) => 0,
         None => 0,

@@ -22,8 +22,8 @@ pub(crate) fn first_feature(op: &Op) -> Option<Feature>
     match &op.kind {
         Some(Kind::Diff(_)) => Some(Feature::DiffOp),
         Some(Kind::Build(_)) => Some(Feature::BuildOp),
-        Some(Kind::Source(source)) => source_feature(source),
-        Some(Kind::Exec(exec)) => exec_feature(exec),
+        Some(Kind::Source(source)) => source_feature(source.get()),
+        Some(Kind::Exec(exec)) => exec_feature(exec.get()),
         Some(Kind::File(file)) => file_feature(file),
         Some(Kind::Merge(_)) => None,
         None => None,

@@ -38,7 +38,7 @@ impl Vertex {
         ensures { option_map (λ t. t.now) result ≡ local_name self.now.op }
     {
         match &self.op.kind {
-            Some(Kind::Source(source)) => source.identifier.as_str().strip_prefix("local://"),
+            Some(Kind::Source(source)) => source.get().identifier.as_str().strip_prefix("local://"),
             _ => None,
         }
     }

@@ -29,9 +29,9 @@ fn broken_in(alloc: Global, inputs: &[Input], kind: &Kind) -> Result<Option<Rule
     ensures { IfOk result (IsFirstBroken inputs.now (Some kind.now) (rules_on (Some kind.now))) }
 {
     match kind {
-        Kind::Source(source) => Ok(broken_in_source(source)),
+        Kind::Source(source) => Ok(broken_in_source(source.get())),
         Kind::File(file) => Ok(broken_in_file(alloc, inputs, file)?),
-        Kind::Exec(exec) => broken_in_exec(alloc, inputs, exec),
+        Kind::Exec(exec) => broken_in_exec(alloc, inputs, exec.get()),
         Kind::Merge(merge) => Ok(broken_in_merge(inputs, merge)),
         Kind::Build(_) => Ok(None),
         Kind::Diff(_) => Ok(None),

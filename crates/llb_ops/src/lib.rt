@@ -21,7 +21,7 @@ pub use fault::OpFault;
 pub use file::{
     Action, ActionKind, Actions, ChownOpt, CopyFile, FileOp, MkDir, MkFile, Rm, User, UserOpt,
 };
-pub use llb_wire::{Bytes, Text};
+pub use llb_wire::{Boxed, Bytes, Text};
 pub use merge::{MergeInput, MergeOp};
 pub use op::{Input, Kind, Op, op_is_read_again, op_is_read_of_records, read_op, write_op};
 pub use source::{Attribute, Attributes, SourceOp};

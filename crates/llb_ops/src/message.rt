@@ -9,7 +9,7 @@ ghost use Rattle.llb_ops.specs.Records.{Shape, views, all, texts_fit, message_of
 use crate::fault::OpFault;
 use crate::records::{Record, chosen, count, joined, lone_payload, parts, room_for, since};
 use crate::shape::Named;
-use llb_wire::{Many, Memory};
+use llb_wire::{Boxed, Many, Memory};
 use std::alloc::Global;
 
 /// A message: the fields that it names, what it is of its records, and its canonical bytes.
@@ -66,6 +66,18 @@ pub fn joined_message<M: Message>(
     }
     let bytes = joined(alloc, records, number)?;
     read_message(alloc, &bytes)
+}
+
+/// A joined message in a place of its own.
+pub fn boxed_message<M: Message>(
+    alloc: Global,
+    records: &[Record<'_>],
+    number: u32,
+) -> Result<Boxed<M>, OpFault>
+    ensures { Gives (λ m. m) result (message_of M.shape M.reading (joined_of (all number (views records.now)))) }
+{
+    let message = joined_message::<M>(alloc, records, number)?;
+    Ok(Boxed::new(alloc, message)?)
 }
 
 /// A message that stands once: its payloads, one behind the other.

@@ -11,12 +11,12 @@ use crate::exec::ExecOp;
 use crate::fault::OpFault;
 use crate::file::FileOp;
 use crate::merge::MergeOp;
-use crate::message::{Member, Message, each, joined_message, one_of, read_message};
+use crate::message::{Member, Message, boxed_message, each, joined_message, one_of, read_message};
 use crate::records::{Record, joined, last_int64, last_text, unnamed, within_limits};
 use crate::shape::{ENTRY_LIMIT, Form, Named};
 use crate::source::SourceOp;
 use crate::writing::{put_bytes, put_extra, put_messages, put_one_of, put_set_bytes, put_signed};
-use llb_wire::{Bytes, Many, Memory, Text};
+use llb_wire::{Boxed, Bytes, Many, Memory, Text};
 use std::alloc::Global;
 
 /// A vertex of the build graph as its entry tells it.
@@ -29,11 +29,12 @@ pub struct Op {
     pub extra: Bytes,
 }
 
-/// What an op does. Builds and diffs are kept as their joined payloads.
+/// What an op does. Builds and diffs are kept as their joined payloads; the two large messages have places of their own, so that an op of
+/// another kind doesn't take their room.
 #[derive(Drop)]
 pub enum Kind {
-    Exec(ExecOp),
-    Source(SourceOp),
+    Exec(Boxed<ExecOp>),
+    Source(Boxed<SourceOp>),
     File(FileOp),
     Build(Bytes),
     Merge(MergeOp),
@@ -96,8 +97,8 @@ impl Member for Kind {
     #[tactic(auto, unfolding(crate::specs::Messages::kind_of))]
     fn read(alloc: Global, number: u32, records: &[Record<'_>]) -> Result<Kind, OpFault> {
         match number {
-            2 => Ok(Kind::Exec(joined_message(alloc, records, number)?)),
-            3 => Ok(Kind::Source(joined_message(alloc, records, number)?)),
+            2 => Ok(Kind::Exec(boxed_message(alloc, records, number)?)),
+            3 => Ok(Kind::Source(boxed_message(alloc, records, number)?)),
             4 => Ok(Kind::File(joined_message(alloc, records, number)?)),
             5 => Ok(Kind::Build(Bytes::new(joined(alloc, records, number)?))),
             6 => Ok(Kind::Merge(joined_message(alloc, records, number)?)),
@@ -113,8 +114,8 @@ impl Member for Kind {
     fn write(&self, alloc: Global) -> Result<Vec<u8>, Memory> {
         let mut out = Vec::new(alloc);
         match self {
-            Kind::Exec(op) => put_set_bytes(&mut out, 2, &op.write(alloc)?)?,
-            Kind::Source(op) => put_set_bytes(&mut out, 3, &op.write(alloc)?)?,
+            Kind::Exec(op) => put_set_bytes(&mut out, 2, &op.get().write(alloc)?)?,
+            Kind::Source(op) => put_set_bytes(&mut out, 3, &op.get().write(alloc)?)?,
             Kind::File(op) => put_set_bytes(&mut out, 4, &op.write(alloc)?)?,
             Kind::Build(bytes) => put_set_bytes(&mut out, 5, bytes.as_slice())?,
             Kind::Merge(op) => put_set_bytes(&mut out, 6, &op.write(alloc)?)?,

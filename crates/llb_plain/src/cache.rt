@@ -28,7 +28,7 @@ fn mounts_cache(vertex: &Vertex) -> bool
     ensures { result ≡ has_cache vertex.now }
 {
     match &vertex.op.kind {
-        Some(Kind::Exec(exec)) => any_cache(exec.mounts.as_slice()),
+        Some(Kind::Exec(exec)) => any_cache(exec.get().mounts.as_slice()),
         _ => false,
     }
 }

@@ -3,6 +3,7 @@
 //! want of memory, and sinks that take bytes. Nothing here knows a message.
 #![tactic(auto)]
 
+mod boxed;
 mod bytes;
 mod fault;
 mod field;
@@ -13,6 +14,7 @@ mod sink;
 mod text;
 mod writing;
 
+pub use boxed::Boxed;
 pub use bytes::Bytes;
 pub use fault::{Memory, WireFault};
 pub use field::{Field, Wire};

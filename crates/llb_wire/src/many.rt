@@ -2,6 +2,7 @@
 
 ghost use Rattle.std.specs.Prelude.{◌≡◌, ◌==◌, length};
 
+use std::alloc::Global;
 use std::marker::Model;
 
 /// A list that owns its items. Contracts see the list of their values.
@@ -42,6 +43,11 @@ impl<T> Many<T> {
         ensures { result ≡ (length self.now == 0) }
     {
         self.items.is_empty()
+    }
+
+    /// Where the memory of the items comes from.
+    pub fn allocator(&self) -> Global {
+        *self.items.allocator()
     }
 
     /// Gives the items back.

@@ -1,0 +1,44 @@
+//! A value in a place of its own, which contracts see as the value.
+
+ghost use Rattle.std.specs.Prelude.{◌≡◌, IfOk};
+
+use crate::fault::Memory;
+use std::alloc::Global;
+use std::marker::Model;
+
+/// A value in a place of its own: an enum whose large variants are boxed takes the room of its small ones.
+#[derive(Drop)]
+pub struct Boxed<T> {
+    place: Box<T>,
+}
+
+impl<T> Model for Boxed<T> {
+    ghost Value = { T };
+
+    ghost view = { λ b. b.place.value };
+}
+
+impl<T: Drop> Boxed<T> {
+    /// Takes the value over, which is dropped where memory is refused.
+    pub fn new(alloc: Global, value: T) -> Result<Boxed<T>, Memory>
+        ensures { IfOk result (λ b. b ≡ value) }
+    {
+        let place = Box::new(alloc, value)?;
+        Ok(Boxed { place })
+    }
+}
+
+impl<T> Boxed<T> {
+    pub fn get(&self) -> &T
+        ensures { result.now ≡ self.now }
+    {
+        &self.place
+    }
+
+    /// Gives the value back.
+    pub fn into_inner(self) -> T
+        ensures { result ≡ self }
+    {
+        Box::into_inner(self.place)
+    }
+}
