@@ -9,7 +9,7 @@ use Rattle.llb_execution.proofs.view.own_on.Goals as goal
 pub view_of-requires : goal.view_of-requires
 view_of-requires c =
     let is : c.args.vertex.now.op.kind ≡ Some (kind.Exec c.in-Some-Exec.exec) = search rules in
-    rw c.as_slice-in-Some-Exec.ensures (exec_is_view c.as_slice.result.now c.args.vertex.now c.in-Some-Exec.exec is c.requires.kind)
+    rw (c.as_slice-in-Some-Exec.ensures, c.get.ensures) (exec_is_view c.as_slice.result.now c.args.vertex.now c.in-Some-Exec.exec is c.requires.kind)
 
 pub returns-in_ok-mounts-in-Some-Exec : goal.returns-in_ok-mounts-in-Some-Exec
 returns-in_ok-mounts-in-Some-Exec c =

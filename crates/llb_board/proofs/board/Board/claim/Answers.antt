@@ -21,11 +21,9 @@ use Rattle.llb_board.proofs.board.Board.claim.Goals.{In_ok-vertex, After-is_excl
 
 -- ---- the vertex is there, and the worker may claim it
 
-abbrev Can : In_ok-vertex → Type 0
-Can c = let b = c.self.inside in
-    CanClaim b.build (state_of b.stands.items b.desks.items b.caches.rows) c.args.w c.args.v c.in_ok-vertex.vertex.now
-
-can : (c : In_ok-vertex) → Can c
+can : (c : In_ok-vertex) → CanClaim c.self.inside.build (state_of c.self.inside.stands.items c.self.inside.desks.items c.self.inside.caches.rows) c.args.w
+    c.args.v
+    c.in_ok-vertex.vertex.now
 can c =
     let b = c.self.inside in
     can_claim b.build (state_of b.stands.items b.desks.items b.caches.rows) c.args.w c.args.v c.in_ok-vertex.vertex.now
@@ -38,10 +36,12 @@ wants c =
     let b = c.self.inside in
     let same = same_held b.build b.start.rows b.stands.items b.desks.items b.caches b.halted.items b.events.list b.events.room c.self.invariant.kept in
     ap (λ (n : Seen). claim_may_want (claim_of n c.args.w c.args.v)) (sym c.self.view_is)
-    ∙ claim_wants (seen b.build b.start.rows b.stands.items b.desks.items b.caches.rows b.events.list) c.args.w c.args.v c.in_ok-vertex.vertex.now b.caches (can c) same
+    ∙ claim_wants (seen b.build b.start.rows b.stands.items b.desks.items b.caches.rows b.events.list) c.args.w c.args.v c.in_ok-vertex.vertex.now b.caches
+      (can c) same
 
 pub wanted_by-requires-clause-seeds : goal.wanted_by-requires-clause-seeds
-wanted_by-requires-clause-seeds c = graph_edges c.self.inside.build.graph c.args.v c.in_ok-vertex.vertex.now c.in_ok-vertex.ensures.graph c.in_ok-vertex.ensures.there
+wanted_by-requires-clause-seeds c = graph_edges c.self.inside.build.graph c.args.v c.in_ok-vertex.vertex.now c.in_ok-vertex.ensures.graph
+    c.in_ok-vertex.ensures.there
 
 pub returns-in_err-wanted-clause-gives : goal.returns-in_err-wanted-clause-gives
 returns-in_err-wanted-clause-gives c =
@@ -51,7 +51,8 @@ returns-in_err-wanted-clause-gives c =
     let same = same_held b.build b.start.rows b.stands.items b.desks.items b.caches b.halted.items b.events.list b.events.room c.self.invariant.kept in
     let refused : claim_memory e ≡ false → claim_of c.args.self.now c.args.w c.args.v ≡ Err e
     = λ known. ap (λ (n : Seen). claim_of n c.args.w c.args.v) (sym c.self.view_is)
-    ∙ claim_held (seen b.build b.start.rows b.stands.items b.desks.items b.caches.rows b.events.list) c.args.w c.args.v c.in_ok-vertex.vertex.now b.caches e (can p) same
+    ∙ claim_held (seen b.build b.start.rows b.stands.items b.desks.items b.caches.rows b.events.list) c.args.w c.args.v c.in_ok-vertex.vertex.now b.caches e
+      (can p) same
     (c.in_err-wanted.ensures.gives known) in
     search (rules, refused)
 
@@ -79,10 +80,12 @@ abbrev May : After-is_exclusive → Type 0
 May c = let b = c.self.inside in
     MayClaim b.build b.start.rows b.stands.items b.desks.items b.caches b.halted.items b.events.list b.events.room c.args.w c.args.v c.in_ok-vertex.vertex.now
 
-may : (c : After-is_exclusive) → May c
-may c = record {
+may : (c : After-is_exclusive) → CanClaim c.self.inside.build (state_of c.self.inside.stands.items c.self.inside.desks.items c.self.inside.caches.rows)
+    c.args.w c.args.v
+    c.in_ok-vertex.vertex.now → May c
+may c is_granted = record {
   kept = c.self.invariant.kept;
-  can = can c.In_ok-vertex;
+  can = is_granted;
   graph = c.in_ok-vertex.ensures.graph;
   apart = c.is_exclusive.ensures.apart;
   there = c.is_exclusive.ensures.there;
@@ -94,10 +97,10 @@ begins c = rw c.deref-3.ensures.value at c.in_ok-begun.ensures.gives
 
 pub lease_for-requires-clause-differ : goal.lease_for-requires-clause-differ
 lease_for-requires-clause-differ c =
-    let p = (goal.at.lease_for-requires-clause-differ c).After-is_exclusive in
+    let path = goal.at.lease_for-requires-clause-differ c in
     let b = c.self.inside in
     differ b.build b.start.rows b.stands.items b.desks.items b.caches b.halted.items b.events.list b.events.room c.args.w c.args.v c.in_ok-vertex.vertex.now
-    (may p) (begun_as c.in_ok-begun.begun) (begins p)
+    (may path.After-is_exclusive (can path.In_ok-vertex)) (begun_as c.in_ok-begun.begun) (begins path.After-is_exclusive)
 
 pub lease_for-requires-clause-few : goal.lease_for-requires-clause-few
 lease_for-requires-clause-few c =
@@ -106,58 +109,79 @@ lease_for-requires-clause-few c =
 
 -- ---- the lease is taken
 
-did_so : (c : In_ok-lease) → Did c.self.inside.build c.self.inside.start.rows c.self.inside.stands.items c.self.inside.desks.items c.self.inside.caches c.self.inside.halted.items
-    c.self.inside.events.list c.self.inside.events.room c.args.w c.args.v c.in_ok-vertex.vertex.now (may c.After-is_exclusive) (begun_as c.in_ok-begun.begun)
-    (begins c.After-is_exclusive) c.in_ok-lease.lease c.in_ok-begun.begun.execution (claim_reply c.in_ok-begun.begun.job) c.lease_for.new.caches
-did_so c =
+-- the worker may claim the vertex, and this is what the claim begins
+record Granted (c : In_ok-lease) : Type 0 where
+  may : MayClaim c.self.inside.build c.self.inside.start.rows c.self.inside.stands.items c.self.inside.desks.items c.self.inside.caches
+    c.self.inside.halted.items
+      c.self.inside.events.list c.self.inside.events.room c.args.w c.args.v c.in_ok-vertex.vertex.now
+  begins : begun c.self.inside.build c.self.inside.caches c.args.w c.args.v c.in_ok-vertex.vertex.now
+      (inputs_from (ending_at (map status_of c.self.inside.stands.items)) c.in_ok-vertex.vertex.now.inputs) ≡ Ok (begun_as c.in_ok-begun.begun)
+
+did_so : (c : In_ok-lease) (g : Granted c) → Did c.self.inside.build c.self.inside.start.rows c.self.inside.stands.items c.self.inside.desks.items
+    c.self.inside.caches
+    c.self.inside.halted.items c.self.inside.events.list c.self.inside.events.room c.args.w c.args.v c.in_ok-vertex.vertex.now g.may
+      (begun_as c.in_ok-begun.begun) g.begins
+    c.in_ok-lease.lease c.in_ok-begun.begun.execution (claim_reply c.in_ok-begun.begun.job) c.lease_for.new.caches
+did_so c g =
     let b = c.self.inside in
-    did b.build b.start.rows b.stands.items b.desks.items b.caches b.halted.items b.events.list b.events.room c.args.w c.args.v c.in_ok-vertex.vertex.now (may c.After-is_exclusive)
-    (begun_as c.in_ok-begun.begun) (begins c.After-is_exclusive)
-    c.in_ok-lease.lease c.in_ok-begun.begun.execution c.lease_for.new.caches _ c.in_ok-wanted.ensures.gives refl c.in_ok-lease.ensures.gives c.in_ok-begun.ensures.supplies
+    did b.build b.start.rows b.stands.items b.desks.items b.caches b.halted.items b.events.list b.events.room c.args.w c.args.v c.in_ok-vertex.vertex.now g.may
+    (begun_as c.in_ok-begun.begun) g.begins
+    c.in_ok-lease.lease c.in_ok-begun.begun.execution c.lease_for.new.caches _ c.in_ok-wanted.ensures.gives refl c.in_ok-lease.ensures.gives
+      c.in_ok-begun.ensures.supplies
 
 -- the data behind it
 abbrev after : In_ok-lease → Data
 after c = let b = c.self.inside in
-    claimed (data_of b.stands.items b.desks.items b.caches b.halted.items) c.args.w c.args.v c.in_ok-lease.lease c.in_ok-begun.begun.execution c.lease_for.new.caches
+    claimed (data_of b.stands.items b.desks.items b.caches b.halted.items) c.args.w c.args.v c.in_ok-lease.lease c.in_ok-begun.begun.execution
+      c.lease_for.new.caches
 
 pub push_reserved-requires : goal.push_reserved-requires
 push_reserved-requires c =
+    let path = goal.at.push_reserved-requires c in
     let b = c.self.inside in
-    let d = did_so (goal.at.push_reserved-requires c).In_ok-lease in
-    has_room (seen b.build b.start.rows b.stands.items b.desks.items b.caches.rows b.events.list) b.desks.items b.caches.out b.halted.items b.events.room (Claim c.args.w c.args.v) _
+    let d = did_so path.In_ok-lease (record { may = may path.After-is_exclusive (can path.In_ok-vertex); begins = begins path.After-is_exclusive }) in
+    has_room (seen b.build b.start.rows b.stands.items b.desks.items b.caches.rows b.events.list) b.desks.items b.caches.out b.halted.items b.events.room
+      (Claim c.args.w c.args.v) _
     c.self.invariant.kept (claim_done b.build (state_of b.stands.items b.desks.items b.caches.rows) c.args.w c.args.v _ d.grants)
 
 pub index_mut-requires : goal.index_mut-requires
 index_mut-requires c =
+    let path = goal.at.index_mut-requires c in
+    let d = did_so path.In_ok-lease (record { may = may path.After-is_exclusive (can path.In_ok-vertex); begins = begins path.After-is_exclusive }) in
     let len : vec_len c.self.inside.stands ≡ length c.self.inside.stands.items = search rules in
-    omega (arith, (did_so (goal.at.index_mut-requires c).In_ok-lease).low_v, len)
+    omega (arith, d.low_v, len)
 
 pub index_mut-requires-2 : goal.index_mut-requires-2
 index_mut-requires-2 c =
+    let path = goal.at.index_mut-requires-2 c in
+    let d = did_so path.In_ok-lease (record { may = may path.After-is_exclusive (can path.In_ok-vertex); begins = begins path.After-is_exclusive }) in
     let len : vec_len c.self.inside.desks ≡ length c.self.inside.desks.items = search rules in
-    omega (arith, (did_so (goal.at.index_mut-requires-2 c).In_ok-lease).low_w, len)
+    omega (arith, d.low_w, len)
 
 pub invariant_of-self-2 : goal.invariant_of-self-2
 invariant_of-self-2 c =
-    let p = (goal.at.invariant_of-self-2 c).In_ok-lease in
+    let path = goal.at.invariant_of-self-2 c in
     let b = c.self.inside in
-    let d = did_so p in
+    let d = did_so path.In_ok-lease (record { may = may path.After-is_exclusive (can path.In_ok-vertex); begins = begins path.After-is_exclusive }) in
     let before = data_of b.stands.items b.desks.items b.caches b.halted.items in
     record {
       kept = rw (c.push_reserved.ensures.list, c.push_reserved.ensures.room) d.keeps;
-      over = still_over b.build b.start.rows before (after p) b.events.list b.events.room c.first_open-self-inside.result (Claim c.args.w c.args.v)
+      over = still_over b.build b.start.rows before (after path.In_ok-lease) b.events.list b.events.room c.first_open-self-inside.result
+        (Claim c.args.w c.args.v)
           (claim_reply c.in_ok-begun.begun.job) c.in_ok-vertex.ensures.graph c.self.invariant.kept
-          (claim_done b.build (state_of b.stands.items b.desks.items b.caches.rows) c.args.w c.args.v _ d.grants) (rw c.deref-4.ensures.value at c.first_open-self-inside.ensures.over);
+          (claim_done b.build (state_of b.stands.items b.desks.items b.caches.rows) c.args.w c.args.v _ d.grants)
+            (rw c.deref-4.ensures.value at c.first_open-self-inside.ensures.over);
     }
 
 pub returns-clause-gives : goal.returns-clause-gives
 returns-clause-gives c =
-    let p = (goal.at.returns-clause-gives c).In_ok-lease in
+    let path = goal.at.returns-clause-gives c in
     let b = c.self.inside in
-    let d = did_so p in
-    let before = data_of b.stands.items b.desks.items b.caches b.halted.items in
+    let d = did_so path.In_ok-lease (record { may = may path.After-is_exclusive (can path.In_ok-vertex); begins = begins path.After-is_exclusive }) in
+    let new = after path.In_ok-lease in
     let r = claim_reply c.in_ok-begun.begun.job in
     ap (λ (n : Seen). claim_of n c.args.w c.args.v) (sym c.self.view_is)
-    ∙ recorded_as b.build b.start.rows before (after p) b.events.list (Claim c.args.w c.args.v) claim_fault _ r d.grants
+    ∙ recorded_as b.build b.start.rows (data_of b.stands.items b.desks.items b.caches b.halted.items) new b.events.list (Claim c.args.w c.args.v) claim_fault
+      _ r d.grants
     (length_set b.desks.items c.args.w (desk.Runs c.in_ok-lease.lease c.in_ok-begun.begun.execution)) d.rows
-    ∙ (λ i. Ok (seen b.build b.start.rows (after p).stands (after p).desks (after p).rows (sym c.push_reserved.ensures.list i), r))
+    ∙ (λ i. Ok (seen b.build b.start.rows new.stands new.desks new.rows (sym c.push_reserved.ensures.list i), r))
