@@ -37,7 +37,7 @@ wants c =
     let same = same_held b.build b.start.rows b.stands.items b.desks.items b.caches b.halted.items b.events.list b.events.room c.self.invariant.kept in
     ap (λ (n : Seen). claim_may_want (claim_of n c.args.w c.args.v)) (sym c.self.view_is)
     ∙ claim_wants (seen b.build b.start.rows b.stands.items b.desks.items b.caches.rows b.events.list) c.args.w c.args.v c.in_ok-vertex.vertex.now b.caches
-      (can c) same
+    (can c) same
 
 pub wanted_by-requires-clause-seeds : goal.wanted_by-requires-clause-seeds
 wanted_by-requires-clause-seeds c = graph_edges c.self.inside.build.graph c.args.v c.in_ok-vertex.vertex.now c.in_ok-vertex.ensures.graph
@@ -52,7 +52,7 @@ returns-in_err-wanted-clause-gives c =
     let refused : claim_memory e ≡ false → claim_of c.args.self.now c.args.w c.args.v ≡ Err e
     = λ known. ap (λ (n : Seen). claim_of n c.args.w c.args.v) (sym c.self.view_is)
     ∙ claim_held (seen b.build b.start.rows b.stands.items b.desks.items b.caches.rows b.events.list) c.args.w c.args.v c.in_ok-vertex.vertex.now b.caches e
-      (can p) same
+    (can p) same
     (c.in_err-wanted.ensures.gives known) in
     search (rules, refused)
 
@@ -112,7 +112,7 @@ lease_for-requires-clause-few c =
 -- the worker may claim the vertex, and this is what the claim begins
 record Granted (c : In_ok-lease) : Type 0 where
   may : MayClaim c.self.inside.build c.self.inside.start.rows c.self.inside.stands.items c.self.inside.desks.items c.self.inside.caches
-    c.self.inside.halted.items
+      c.self.inside.halted.items
       c.self.inside.events.list c.self.inside.events.room c.args.w c.args.v c.in_ok-vertex.vertex.now
   begins : begun c.self.inside.build c.self.inside.caches c.args.w c.args.v c.in_ok-vertex.vertex.now
       (inputs_from (ending_at (map status_of c.self.inside.stands.items)) c.in_ok-vertex.vertex.now.inputs) ≡ Ok (begun_as c.in_ok-begun.begun)
@@ -120,20 +120,20 @@ record Granted (c : In_ok-lease) : Type 0 where
 did_so : (c : In_ok-lease) (g : Granted c) → Did c.self.inside.build c.self.inside.start.rows c.self.inside.stands.items c.self.inside.desks.items
     c.self.inside.caches
     c.self.inside.halted.items c.self.inside.events.list c.self.inside.events.room c.args.w c.args.v c.in_ok-vertex.vertex.now g.may
-      (begun_as c.in_ok-begun.begun) g.begins
+    (begun_as c.in_ok-begun.begun) g.begins
     c.in_ok-lease.lease c.in_ok-begun.begun.execution (claim_reply c.in_ok-begun.begun.job) c.lease_for.new.caches
 did_so c g =
     let b = c.self.inside in
     did b.build b.start.rows b.stands.items b.desks.items b.caches b.halted.items b.events.list b.events.room c.args.w c.args.v c.in_ok-vertex.vertex.now g.may
     (begun_as c.in_ok-begun.begun) g.begins
     c.in_ok-lease.lease c.in_ok-begun.begun.execution c.lease_for.new.caches _ c.in_ok-wanted.ensures.gives refl c.in_ok-lease.ensures.gives
-      c.in_ok-begun.ensures.supplies
+    c.in_ok-begun.ensures.supplies
 
 -- the data behind it
 abbrev after : In_ok-lease → Data
 after c = let b = c.self.inside in
     claimed (data_of b.stands.items b.desks.items b.caches b.halted.items) c.args.w c.args.v c.in_ok-lease.lease c.in_ok-begun.begun.execution
-      c.lease_for.new.caches
+    c.lease_for.new.caches
 
 pub push_reserved-requires : goal.push_reserved-requires
 push_reserved-requires c =
@@ -141,7 +141,7 @@ push_reserved-requires c =
     let b = c.self.inside in
     let d = did_so path.In_ok-lease (record { may = may path.After-is_exclusive (can path.In_ok-vertex); begins = begins path.After-is_exclusive }) in
     has_room (seen b.build b.start.rows b.stands.items b.desks.items b.caches.rows b.events.list) b.desks.items b.caches.out b.halted.items b.events.room
-      (Claim c.args.w c.args.v) _
+    (Claim c.args.w c.args.v) _
     c.self.invariant.kept (claim_done b.build (state_of b.stands.items b.desks.items b.caches.rows) c.args.w c.args.v _ d.grants)
 
 pub index_mut-requires : goal.index_mut-requires
@@ -167,10 +167,10 @@ invariant_of-self-2 c =
     record {
       kept = rw (c.push_reserved.ensures.list, c.push_reserved.ensures.room) d.keeps;
       over = still_over b.build b.start.rows before (after path.In_ok-lease) b.events.list b.events.room c.first_open-self-inside.result
-        (Claim c.args.w c.args.v)
+          (Claim c.args.w c.args.v)
           (claim_reply c.in_ok-begun.begun.job) c.in_ok-vertex.ensures.graph c.self.invariant.kept
           (claim_done b.build (state_of b.stands.items b.desks.items b.caches.rows) c.args.w c.args.v _ d.grants)
-            (rw c.deref-4.ensures.value at c.first_open-self-inside.ensures.over);
+          (rw c.deref-4.ensures.value at c.first_open-self-inside.ensures.over);
     }
 
 pub returns-clause-gives : goal.returns-clause-gives
@@ -182,6 +182,6 @@ returns-clause-gives c =
     let r = claim_reply c.in_ok-begun.begun.job in
     ap (λ (n : Seen). claim_of n c.args.w c.args.v) (sym c.self.view_is)
     ∙ recorded_as b.build b.start.rows (data_of b.stands.items b.desks.items b.caches b.halted.items) new b.events.list (Claim c.args.w c.args.v) claim_fault
-      _ r d.grants
+    _ r d.grants
     (length_set b.desks.items c.args.w (desk.Runs c.in_ok-lease.lease c.in_ok-begun.begun.execution)) d.rows
     ∙ (λ i. Ok (seen b.build b.start.rows new.stands new.desks new.rows (sym c.push_reserved.ensures.list i), r))

@@ -42,35 +42,37 @@ Can c = let b = c.self.inside in
 abbrev can : (c : In_ok-v) → Can c
 can c = let b = c.self.inside in
     ends b.build b.start.rows b.stands.items b.desks.items b.caches b.halted.items b.events.list b.events.room c.args.w c.in_ok-v.v c.in_ok-v.lease
-      c.in_ok-v.stand
+    c.in_ok-v.stand
     c.self.invariant.kept (is_left c) (is_leased c)
 
 -- the data behind it, with these marks
 abbrev data_with : In_ok-v → List Bool → Data
 data_with c marks = let b = c.self.inside in
     after b.build b.start.rows b.stands.items b.desks.items b.caches b.halted.items b.events.list b.events.room c.args.w c.in_ok-v.v c.in_ok-v.lease
-      c.in_ok-v.stand
+    c.in_ok-v.stand
     c.self.invariant.kept (is_left c) (is_leased c) marks
 
 granted : (c : In_ok-v) → settle_grant c.self.inside.build (state_of c.self.inside.stands.items c.self.inside.desks.items c.self.inside.caches.rows) c.args.w
     ≡ Ok (state_as (data_with c c.self.inside.halted.items), settle_reply c.in_ok-v.v (can c).ending)
 granted c = let b = c.self.inside in
     grants b.build b.start.rows b.stands.items b.desks.items b.caches b.halted.items b.events.list b.events.room c.args.w c.in_ok-v.v c.in_ok-v.lease
-      c.in_ok-v.stand
+    c.in_ok-v.stand
     c.self.invariant.kept (is_left c) (is_leased c) b.halted.items
 
 answered : (c : In_ok-v) → settle_of c.args.self.now c.args.w
-    ≡ Ok (seen_as c.self.inside.build c.self.inside.start.rows (data_with c c.self.inside.halted.items) (c.self.inside.events.list ++ Settle c.args.w ∷ []),
-      settle_reply c.in_ok-v.v (can c).ending)
+    ≡ Ok (
+      seen_as c.self.inside.build c.self.inside.start.rows (data_with c c.self.inside.halted.items) (c.self.inside.events.list ++ Settle c.args.w ∷ []),
+      settle_reply c.in_ok-v.v (can c).ending,
+    )
 answered c =
     let b = c.self.inside in
     ap (λ (n : Seen). settle_of n c.args.w) (sym c.self.view_is)
     ∙ recorded_as b.build b.start.rows (data_of b.stands.items b.desks.items b.caches b.halted.items) (data_with c b.halted.items) b.events.list
-      (Settle c.args.w) settle_fault _
+    (Settle c.args.w) settle_fault _
     (settle_reply c.in_ok-v.v (can c).ending) (granted c) (length_set b.desks.items c.args.w desk.Idle)
     (rows_stay b.build b.start.rows b.stands.items b.desks.items b.caches b.halted.items b.events.list b.events.room c.args.w c.in_ok-v.v c.in_ok-v.lease
-      c.in_ok-v.stand
-      c.self.invariant.kept (is_left c) (is_leased c) b.halted.items)
+    c.in_ok-v.stand
+    c.self.invariant.kept (is_left c) (is_leased c) b.halted.items)
 
 -- ---- what the board's type keeps
 
@@ -79,14 +81,14 @@ keeps_with : (c : In_ok-v) (marks : List Bool) → marks ≡ stopped c.self.insi
     → Keeps c.self.inside.build c.self.inside.start.rows (data_with c marks) (c.self.inside.events.list ++ Settle c.args.w ∷ []) c.self.inside.events.room
 keeps_with c marks are = let b = c.self.inside in
     keeps b.build b.start.rows b.stands.items b.desks.items b.caches b.halted.items b.events.list b.events.room c.args.w c.in_ok-v.v c.in_ok-v.lease
-      c.in_ok-v.stand
+    c.in_ok-v.stand
     c.self.invariant.kept (is_left c) (is_leased c) marks are
 
 over_so : (c : In_ok-v) → IsGraph c.self.inside.build.graph
     → AreOver c.self.inside.build (map status_of (slice_set c.self.inside.stands.items c.in_ok-v.v c.in_ok-v.stand)) c.self.inside.first_open
 over_so c graph = let b = c.self.inside in
     stay_over b.build b.start.rows b.stands.items b.desks.items b.caches b.halted.items b.events.list b.events.room c.args.w c.in_ok-v.v c.in_ok-v.lease
-      c.in_ok-v.stand
+    c.in_ok-v.stand
     c.self.invariant.kept (is_left c) (is_leased c) b.first_open graph c.self.invariant.over
 
 -- ---- the goals
@@ -96,7 +98,7 @@ give_back-requires c =
     let p = (goal.at.give_back-requires c).In_ok-v in
     let b = c.self.inside in
     is_out b.build b.start.rows b.stands.items b.desks.items b.caches b.halted.items b.events.list b.events.room c.args.w c.in_ok-v.v c.in_ok-v.lease
-      c.in_ok-v.stand
+    c.in_ok-v.stand
     c.self.invariant.kept (is_left p) (is_leased p)
 
 pub index_mut-requires : goal.index_mut-requires
@@ -104,15 +106,19 @@ index_mut-requires c =
     let p = (goal.at.index_mut-requires c).In_ok-v in
     let b = c.self.inside in
     let len : vec_len b.stands ≡ length b.stands.items = search rules in
-    omega (arith, low b.build b.start.rows b.stands.items b.desks.items b.caches b.halted.items b.events.list b.events.room c.args.w c.in_ok-v.v
-      c.in_ok-v.lease c.in_ok-v.stand
-      c.self.invariant.kept (is_left p) (is_leased p), len)
+    omega (
+      arith,
+      low b.build b.start.rows b.stands.items b.desks.items b.caches b.halted.items b.events.list b.events.room c.args.w c.in_ok-v.v
+          c.in_ok-v.lease c.in_ok-v.stand
+          c.self.invariant.kept (is_left p) (is_leased p),
+      len,
+    )
 
 pub push_reserved-requires : goal.push_reserved-requires
 push_reserved-requires c =
     let b = c.self.inside in
     has_room (seen b.build b.start.rows b.stands.items b.desks.items b.caches.rows b.events.list) b.desks.items b.caches.out b.halted.items b.events.room
-      (Settle c.args.w) _
+    (Settle c.args.w) _
     c.self.invariant.kept
     (settle_done b.build (state_of b.stands.items b.desks.items b.caches.rows) c.args.w _ (granted (goal.at.push_reserved-requires c).In_ok-v))
 
@@ -148,18 +154,21 @@ returns-then-failed-clause-gives c =
     let p = (goal.at.returns-then-failed-clause-gives c).In_ok-v in
     let b = c.self.inside in
     let failed = ap (λ k. is_failed (ending_of (Some k))) (sym (can p).is) ∙ sym c.has_failed-failed.ensures ∙ c.if-failed.true in
-    answered p ∙ (λ i. Ok (seen b.build b.start.rows (slice_set b.stands.items c.in_ok-v.v c.in_ok-v.stand) (sym (desks_are p) i)
-      (sym c.give_back.ensures i).rows (sym c.push_reserved.ensures.list i), reply_failed c.in_ok-v.v (can p).ending failed i))
+    answered p ∙ (λ i. Ok (
+      seen b.build b.start.rows (slice_set b.stands.items c.in_ok-v.v c.in_ok-v.stand) (sym (desks_are p) i)
+          (sym c.give_back.ensures i).rows (sym c.push_reserved.ensures.list i),
+      reply_failed c.in_ok-v.v (can p).ending failed i,
+    ))
 
 pub invariant_of-self-else-failed : goal.invariant_of-self-else-failed
 invariant_of-self-else-failed c =
     let p = (goal.at.invariant_of-self-else-failed c).In_ok-v in
     let b = c.self.inside in
     let runs = running b.build b.start.rows b.stands.items b.desks.items b.caches b.halted.items b.events.list b.events.room c.args.w c.in_ok-v.v
-      c.in_ok-v.lease c.in_ok-v.stand
-        c.self.invariant.kept (is_left p) (is_leased p) in
+    c.in_ok-v.lease c.in_ok-v.stand
+    c.self.invariant.kept (is_left p) (is_leased p) in
     let stays = marks_kept b.build b.stands.items c.in_ok-v.v c.in_ok-v.stand (Running c.args.w) runs refl
-      (sym c.has_failed-failed.ensures ∙ c.if-failed.false) in
+    (sym c.has_failed-failed.ensures ∙ c.if-failed.false) in
     record {
       kept = rw (c.push_reserved.ensures.list, c.push_reserved.ensures.room)
           (kept_written b.build b.start.rows (data_with p b.halted.items) _ _ b.events.room
@@ -179,5 +188,8 @@ returns-clause-gives c =
     let p = (goal.at.returns-clause-gives c).In_ok-v in
     let b = c.self.inside in
     let done = ap (λ k. is_failed (ending_of (Some k))) (sym (can p).is) ∙ sym c.has_failed-failed.ensures ∙ c.if-failed.false in
-    answered p ∙ (λ i. Ok (seen b.build b.start.rows (slice_set b.stands.items c.in_ok-v.v c.in_ok-v.stand) (sym (desks_are p) i)
-      (sym c.give_back.ensures i).rows (sym c.push_reserved.ensures.list i), reply_done c.in_ok-v.v (can p).ending done i))
+    answered p ∙ (λ i. Ok (
+      seen b.build b.start.rows (slice_set b.stands.items c.in_ok-v.v c.in_ok-v.stand) (sym (desks_are p) i)
+          (sym c.give_back.ensures i).rows (sym c.push_reserved.ensures.list i),
+      reply_done c.in_ok-v.v (can p).ending done i,
+    ))
