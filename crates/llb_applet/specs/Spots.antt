@@ -4,7 +4,7 @@ use Rattle.std.specs.FinMap as finite
 use Rattle.llb_wire.specs.Answer as answer
 use Rattle.llb_tree.specs.declared.fault.TreeFault.{TreeFault}
 use Rattle.llb_tree.specs.Tree as tree
-use Rattle.llb_tree.specs.Tree.{Entry, TreeMap, MetaValue, root_meta, put_file, put_dir, remove}
+use Rattle.llb_tree.specs.Tree.{Entry, TreeMap, MetaValue, new_dir_meta, put_file, put_dir, remove, is_dir}
 use Rattle.llb_mount.specs.declared.shown.Shown.{Shown}
 use Rattle.llb_mount.specs.View.{mount_at, with_tree_of}
 use Rattle.llb_mount.specs.Route.{route, place_in}
@@ -41,11 +41,6 @@ entry_at view spot = finite.get (tree_at view spot) spot.place
 abbrev pub is_dest : Spot → Bool
 is_dest spot = length spot.place == spot.base
 
-abbrev pub is_dir : Option Entry → Bool
-is_dir None = false
-is_dir (Some (tree.Dir m)) = true
-is_dir (Some (tree.File m bytes)) = false
-
 -- the mode and owner of a file, and its content
 abbrev pub file_in : Option Entry → Option (MetaValue × List ℕ)
 file_in None = None
@@ -73,11 +68,11 @@ without_spot view spot = if is_dest spot then None else with_change view spot.mo
 
 -- a directory is made where nothing stands, below the dest
 abbrev pub with_new_dir : Mounts → Spot → Option Mounts
-with_new_dir view spot = if is_dest spot || is_some (entry_at view spot) then None else with_change view spot.mount (put_dir (tree_at view spot) spot.place root_meta)
+with_new_dir view spot = if is_dest spot || is_some (entry_at view spot) then None else with_change view spot.mount (put_dir (tree_at view spot) spot.place new_dir_meta)
 
 -- the tree with a directory at a path, made where none is there
 abbrev pub dir_at : TreeMap → List (List ℕ) → Result TreeMap TreeFault
-dir_at t p = if is_dir (finite.get t p) then Ok t else put_dir t p root_meta
+dir_at t p = if is_dir (finite.get t p) then Ok t else put_dir t p new_dir_meta
 
 -- and with directories for each of these names, one below the other
 abbrev pub dirs_below : TreeMap → List (List ℕ) → List (List ℕ) → Result TreeMap TreeFault

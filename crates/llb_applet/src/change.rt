@@ -4,14 +4,14 @@
 ghost use Rattle.std.specs.Prelude.{◌≡◌, ◌+◌, ◌<◌, ◌≤◌, length, OnErr};
 ghost use Rattle.std.specs.FinMap as finite;
 ghost use Rattle.llb_tree.specs.Tree as tree;
-ghost use Rattle.llb_tree.specs.Tree.{IsTree, Gives, root_meta};
-ghost use Rattle.llb_applet.specs.Spots.{IsSpot, tree_at, is_dir, with_change, with_file, with_dir, without_spot, with_new_dir, with_dirs, dirs_below};
+ghost use Rattle.llb_tree.specs.Tree.{Gives};
+ghost use Rattle.llb_applet.specs.Spots.{IsSpot, tree_at, with_change, with_file, with_dir, without_spot, with_new_dir, with_dirs, dirs_below};
 ghost use Rattle.llb_applet.specs.Changes.{PutsAside, Does, settled};
 
 use crate::fault::Memory;
 use crate::spot::Spot;
 use llb_mount::View;
-use llb_tree::{Bytes, Entry, Meta, Name, Path, Tree, TreeFault};
+use llb_tree::{Bytes, Meta, Name, Path, Tree, TreeFault};
 use std::alloc::Global;
 
 // Takes a mount's tree out of the view, with an empty one in its place; nothing where the mount is read-only.
@@ -126,7 +126,7 @@ pub fn make_dir(alloc: Global, view: &mut View, spot: &Spot) -> Result<bool, Mem
     if spot.is_there(view) {
         return Ok(false);
     }
-    put_dir(alloc, view, spot, new_dir_meta())
+    put_dir(alloc, view, spot, Meta::new_dir())
 }
 
 /// Makes a directory and its missing parents below the dest, where it is not there.
@@ -174,29 +174,10 @@ fn make_below(tree: &mut Tree, at: &Path, names: &[Name]) -> Result<(), TreeFaul
         Some((name, more)) => {
             let mut next = at.copy()?;
             next.push(name.copy()?)?;
-            if !is_dir(tree, &next) {
-                tree.put_dir(&next, new_dir_meta())?;
+            if !tree.is_dir(&next) {
+                tree.put_dir(&next, Meta::new_dir())?;
             }
             make_below(tree, &next, more)
         }
     }
-}
-
-// Whether a directory stands at a path.
-fn is_dir(tree: &Tree, path: &Path) -> bool
-    ensures value { result ≡ is_dir (finite.get tree.now path.now) }
-    ensures tree { IsTree tree.now }
-{
-    match tree.get(path) {
-        Some(Entry::Dir(_)) => true,
-        Some(Entry::File(_, _)) => false,
-        None => false,
-    }
-}
-
-// The mode and owner of a new directory.
-fn new_dir_meta() -> Meta
-    ensures { result ≡ root_meta }
-{
-    Meta::new(0o755, 0, 0).unwrap()
 }

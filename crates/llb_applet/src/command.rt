@@ -7,8 +7,8 @@ ghost use Rattle.llb_applet.specs.Calls.{alone, pair, kind_of, form, command_of,
 
 use crate::applet::{Applet, is_word};
 use crate::fault::ScriptFault;
-use crate::mode::Mode;
 use crate::texts::copies;
+use llb_tree::Mode;
 use llb_wire::{Many, Text};
 use std::alloc::Global;
 

@@ -3,7 +3,8 @@
 ghost use Rattle.std.specs.Prelude.{◌≡◌, ◌++◌, [], length, ◌∷◌, IfOk, OnOk, option_map, unwrap_or};
 ghost use Rattle.std.specs.List.{flat_map};
 ghost use Rattle.std.specs.FinMap as finite;
-ghost use Rattle.llb_applet.specs.Spots.{IsSpot, entry_at, file_in, is_dir};
+ghost use Rattle.llb_tree.specs.Tree.{is_dir};
+ghost use Rattle.llb_applet.specs.Spots.{IsSpot, entry_at, file_in};
 ghost use Rattle.llb_applet.specs.Commands.{line, file_by, joined, listed, line_of, listing_by};
 ghost use Rattle.llb_wire.specs.Digest.{digits_of};
 
@@ -94,11 +95,7 @@ fn is_dir_below(tree: &Tree, path: &Path, name: &Name) -> Result<bool, Memory>
             return Ok(false);
         }
     }
-    match tree.get(&below) {
-        Some(Entry::Dir(_)) => Ok(true),
-        Some(Entry::File(_, _)) => Ok(false),
-        None => Ok(false),
-    }
+    Ok(tree.is_dir(&below))
 }
 
 // The lines of the names in a directory.

@@ -11,11 +11,10 @@ use crate::change::{make_dir, make_dirs, put_dir, put_file, remove};
 use crate::command::{Command, Kind};
 use crate::content::{envfile, joined, line, listing_by, more, sha256_by};
 use crate::fault::Memory;
-use crate::mode::Mode;
 use crate::setting::Setting;
 use crate::spot::{Spot, meta_in, path_by, spot_by, spot_of};
 use llb_mount::View;
-use llb_tree::{Bytes, Entry, Meta, Path, TreeFault};
+use llb_tree::{Bytes, Entry, Meta, Mode, Path, TreeFault};
 use llb_wire::Text;
 use std::alloc::Global;
 

@@ -2,9 +2,9 @@
 //! a path can have, means nothing.
 
 ghost use Rattle.std.specs.Prelude.{◌≡◌, ◌<◌, ◌++◌, length, IfOk, IfSome, option_map, is_some};
-ghost use Rattle.llb_tree.specs.Tree.{meta_in};
+ghost use Rattle.llb_tree.specs.Tree.{meta_in, is_dir};
 ghost use Rattle.llb_tree.specs.Rows.{seen};
-ghost use Rattle.llb_applet.specs.Spots.{IsSpot, spot_of, entry_at, is_dest, is_dir, file_in};
+ghost use Rattle.llb_applet.specs.Spots.{IsSpot, spot_of, entry_at, is_dest, file_in};
 ghost use Rattle.llb_applet.specs.Commands.{path_by, spot_by, new_meta, meta_there};
 
 use crate::fault::Memory;
@@ -115,11 +115,7 @@ impl Spot {
         requires { self.now.mount < length view.now }
         ensures { result ≡ is_dir (entry_at view.now self.now) }
     {
-        match self.entry(view) {
-            Some(Entry::Dir(_)) => true,
-            Some(Entry::File(_, _)) => false,
-            None => false,
-        }
+        view.tree_of(self.mount).is_dir(&self.place)
     }
 
     /// The content of the file that stands there.

@@ -31,27 +31,27 @@ use Rattle.llb_board.proofs.Kept.{Data, state_as, Keeps, kept_after, claimed, cl
 
 -- the data of a board over these caches
 abbrev pub data_of : List Stand → List Desk → CachesValue → List Bool → Data
-data_of ss ds c halted = record { stands = ss; desks = ds; rows = c.rows; out = c.out; halted = halted }
+data_of ss ds c stop_marks = record { stands = ss; desks = ds; rows = c.rows; out = c.out; stop_marks = stop_marks }
 
 -- a board whose worker w may claim vertex v, which is x
-pub record MayClaim (b : Build) (first : List Row) (ss : List Stand) (ds : List Desk) (c : CachesValue) (halted : List Bool) (es : List Event) (capacity w v : ℕ) (x : Vertex) : Type 0 where
-  pub kept : Keeps b first (data_of ss ds c halted) es capacity
-  pub can : CanClaim b (state_as (data_of ss ds c halted)) w v x
+pub record MayClaim (b : Build) (first : List Row) (ss : List Stand) (ds : List Desk) (c : CachesValue) (stop_marks : List Bool) (es : List Event) (capacity w v : ℕ) (x : Vertex) : Type 0 where
+  pub kept : Keeps b first (data_of ss ds c stop_marks) es capacity
+  pub can : CanClaim b (state_as (data_of ss ds c stop_marks)) w v x
   pub graph : IsGraph b.graph
   pub apart : AreApart c.out
   pub there : AreThere c.rows c.out
 
-pub same_held : (b : Build) (first : List Row) (ss : List Stand) (ds : List Desk) (c : CachesValue) (halted : List Bool) (es : List Event) (capacity : ℕ)
-    → Keeps b first (data_of ss ds c halted) es capacity → HoldsAs c.out (map at_of ds)
-same_held b first ss ds c halted es capacity kept = leased_holds_as c.out (map at_of ds) (map leased_by ds) kept.leased
+pub same_held : (b : Build) (first : List Row) (ss : List Stand) (ds : List Desk) (c : CachesValue) (stop_marks : List Bool) (es : List Event) (capacity : ℕ)
+    → Keeps b first (data_of ss ds c stop_marks) es capacity → HoldsAs c.out (map at_of ds)
+same_held b first ss ds c stop_marks es capacity kept = leased_holds_as c.out (map at_of ds) (map leased_by ds) kept.leased
 
 -- fewer leases are out than can be
-pub few_out : (b : Build) (first : List Row) (ss : List Stand) (ds : List Desk) (c : CachesValue) (halted : List Bool) (es : List Event) (capacity : ℕ)
-    → Keeps b first (data_of ss ds c halted) es capacity → leases c.out < 65536
-few_out b first ss ds c halted es capacity kept = let few = few_leases c.out (map at_of ds) (map leased_by ds) kept.leased in omega (arith, few, kept.few)
+pub few_out : (b : Build) (first : List Row) (ss : List Stand) (ds : List Desk) (c : CachesValue) (stop_marks : List Bool) (es : List Event) (capacity : ℕ)
+    → Keeps b first (data_of ss ds c stop_marks) es capacity → leases c.out < 65536
+few_out b first ss ds c stop_marks es capacity kept = let few = few_leases c.out (map at_of ds) (map leased_by ds) kept.leased in omega (arith, few, kept.few)
 
-module _ (b : Build) (first : List Row) (ss : List Stand) (ds : List Desk) (c : CachesValue) (halted : List Bool) (es : List Event) (capacity w v : ℕ) (x : Vertex)
-    (may : MayClaim b first ss ds c halted es capacity w v x) (g : Begun) (begins : begun b c w v x (inputs_from (ending_at (map status_of ss)) x.inputs) ≡ Ok g) where
+module _ (b : Build) (first : List Row) (ss : List Stand) (ds : List Desk) (c : CachesValue) (stop_marks : List Bool) (es : List Event) (capacity w v : ℕ) (x : Vertex)
+    (may : MayClaim b first ss ds c stop_marks es capacity w v x) (g : Begun) (begins : begun b c w v x (inputs_from (ending_at (map status_of ss)) x.inputs) ≡ Ok g) where
   asked_so : g.needs ≡ asked may.can.trees (needs_of x)
   asked_so = needs_asked b c w v x may.can.trees (inputs_from (ending_at (map status_of ss)) x.inputs) g may.can.inputs begins
 
@@ -61,19 +61,19 @@ module _ (b : Build) (first : List Row) (ss : List Stand) (ds : List Desk) (c : 
 
   -- what the board does
   pub record Did (l : Option ℕ) (own : own.Execution) (r : Reply) (new : CachesValue) : Type 0 where
-    pub grants : claim_grant b (state_as (data_of ss ds c halted)) w v ≡ Ok (state_as (claimed (data_of ss ds c halted) w v l own new), r)
-    pub rows : new.rows ≡ rows_after c.rows (state_as (claimed (data_of ss ds c halted) w v l own new)) w
-    pub keeps : Keeps b first (claimed (data_of ss ds c halted) w v l own new) (es ++ Claim w v ∷ []) capacity
+    pub grants : claim_grant b (state_as (data_of ss ds c stop_marks)) w v ≡ Ok (state_as (claimed (data_of ss ds c stop_marks) w v l own new), r)
+    pub rows : new.rows ≡ rows_after c.rows (state_as (claimed (data_of ss ds c stop_marks) w v l own new)) w
+    pub keeps : Keeps b first (claimed (data_of ss ds c stop_marks) w v l own new) (es ++ Claim w v ∷ []) capacity
     pub low_v : v < length ss
     pub low_w : w < length ds
 
   pub did : (l : Option ℕ) (own : own.Execution) (new : CachesValue) (ns : List Need) → unless_shut (needs_of x) (shut_key c.out (needs_of x)) ≡ Ok ns → execution_of own ≡ g.execution
       → lease_if c g.needs ≡ Ok (l, new) → supplies_of own ≡ supplies_for (Some x) → Did l own g.reply new
   did l own new ns admitted same leases supplies =
-      let d = data_of ss ds c halted in
+      let d = data_of ss ds c stop_marks in
       let s = state_as d in
       let can = may.can in
-      let held = same_held b first ss ds c halted es capacity may.kept in
+      let held = same_held b first ss ds c stop_marks es capacity may.kept in
       let lease = granted_of c new x can.trees l g.needs asked_so leases in
       let is = claims b s w v x c new l g ns can refl (record { same = held; apart = may.apart; there = may.there }) (graph_distinct b may.graph v x can.there) admitted begins lease in
       let so = subst (λ z. Claims b s w v x c new z g.reply) (sym same) is in
@@ -89,7 +89,7 @@ module _ (b : Build) (first : List Row) (ss : List Stand) (ds : List Desk) (c : 
           rows = rows;
           leased = leased_claimed d w l own (places_taken c.out (needs_of x)) new.out may.kept.leased can.idle so.places lease.leased;
           supplies = supplies_claimed b ds w l own may.kept.supplies (supplies ∙ made_for b x v own.vertex can.there vertex);
-          marks = may.kept.halted_are ∙ sym stays;
+          marks = may.kept.stop_marks_are ∙ sym stays;
         });
         low_v = omega (arith, slice_get_within (map status_of ss) v Waiting can.waits, length_map status_of ss);
         low_w = omega (arith, slice_get_within (map at_of ds) w Idle can.idle, length_map at_of ds);

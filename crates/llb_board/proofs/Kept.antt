@@ -43,7 +43,7 @@ pub record Data : Type 0 where
   pub desks : List Desk
   pub rows : List Row
   pub out : Leases
-  pub halted : List Bool
+  pub stop_marks : List Bool
 
 abbrev pub seen_as : Build → List Row → Data → List Event → Seen
 seen_as b first d es = seen b first d.stands d.desks d.rows es
@@ -52,12 +52,12 @@ abbrev pub state_as : Data → State
 state_as d = state_of d.stands d.desks d.rows
 
 abbrev pub Keeps : Build → List Row → Data → List Event → ℕ → Type 0
-Keeps b first d es capacity = IsKept (seen_as b first d es) d.desks d.out d.halted capacity
+Keeps b first d es capacity = IsKept (seen_as b first d es) d.desks d.out d.stop_marks capacity
 
 -- there is room for an event that is granted
-pub has_room : (b : Seen) (desks : List Desk) (out : Leases) (halted : List Bool) (capacity : ℕ) (e : Event) (a : Answer) → IsKept b desks out halted capacity
+pub has_room : (b : Seen) (desks : List Desk) (out : Leases) (stop_marks : List Bool) (capacity : ℕ) (e : Event) (a : Answer) → IsKept b desks out stop_marks capacity
     → table b.build b.state e ≡ Some a → length b.events < capacity
-has_room b desks out halted capacity e a kept granted =
+has_room b desks out stop_marks capacity e a kept granted =
     let few = run_has_few b.build b.opening b.state b.events kept.replays.replies kept.replays.leads in
     omega (arith, event_room b.build b.state e a granted, few, kept.room)
 
@@ -67,7 +67,7 @@ pub record Stays (b : Build) (w : ℕ) (d d' : Data) : Type 0 where
   pub rows : d'.rows ≡ rows_after d.rows (state_as d') w
   pub leased : AreLeased d'.out (map at_of d'.desks) (map leased_by d'.desks)
   pub supplies : map ready_made d'.desks ≡ map (needed b) (map at_of d'.desks)
-  pub marks : d'.halted ≡ stopped b (map status_of d'.stands)
+  pub marks : d'.stop_marks ≡ stopped b (map status_of d'.stands)
 
 -- the lists of instances behind one event more
 kept_more : (b : Build) (s : State) (first rows : List Row) (t u : State) (es : List Event) (e : Event) (r : Reply) → kept_along b s first es ≡ Some (t, rows)
@@ -99,7 +99,7 @@ kept_after b first d d' es capacity e r kept granted stays =
       supplies = stays.supplies;
       some = omega (arith, length_map at_of d'.desks, length_map at_of d.desks, same, some);
       few = omega (arith, length_map at_of d'.desks, length_map at_of d.desks, same, few);
-      halted_are = stays.marks;
+      stop_marks_are = stays.marks;
     }
 
 -- what is recorded of an event that is granted
@@ -138,7 +138,7 @@ claimed d w v l x new = record {
   desks = slice_set d.desks w (desk.Runs l x);
   rows = new.rows;
   out = new.out;
-  halted = d.halted;
+  stop_marks = d.stop_marks;
 }
 
 pub state_claimed : (d : Data) (w v : ℕ) (l : Option ℕ) (x : own.Execution) (new : CachesValue)
@@ -254,32 +254,32 @@ leaves b ds w l k x y o stands looked taken finished same ends =
 
 -- the board's data after a settle
 abbrev pub settled : Data → ℕ → ℕ → Stand → Leases → List Bool → Data
-settled d w v s out halted = record {
+settled d w v s out stop_marks = record {
   stands = slice_set d.stands v s;
   desks = slice_set d.desks w desk.Idle;
   rows = d.rows;
   out = out;
-  halted = halted;
+  stop_marks = stop_marks;
 }
 
-pub state_settled : (d : Data) (w v : ℕ) (s : Stand) (out : Leases) (halted : List Bool) (e : Ending) → status_of s ≡ Settled e
-    → state_as (settled d w v s out halted)
+pub state_settled : (d : Data) (w v : ℕ) (s : Stand) (out : Leases) (stop_marks : List Bool) (e : Ending) → status_of s ≡ Settled e
+    → state_as (settled d w v s out stop_marks)
     ≡ record { statuses = slice_set (map status_of d.stands) v (Settled e); workers = slice_set (map at_of d.desks) w Idle; store = store_of d.rows }
-state_settled d w v s out halted e is = λ i. record {
+state_settled d w v s out stop_marks e is = λ i. record {
   statuses = (map_set status_of d.stands v s ∙ ap (slice_set (map status_of d.stands) v) is) i;
   workers = map_set at_of d.desks w desk.Idle i;
   store = store_of d.rows;
 }
 
 -- the machine's settle is what the board does
-pub settle_does : (b : Build) (d : Data) (w v : ℕ) (s : Stand) (out : Leases) (halted : List Bool) (can : CanSettle b (state_as d) w v (status_of s))
-    → settle_grant b (state_as d) w ≡ Ok (state_as (settled d w v s out halted), settle_reply v can.ending)
-settle_does b d w v s out halted can = can.grants ∙ (λ i. Ok (sym (state_settled d w v s out halted can.ending can.is) i, settle_reply v can.ending))
+pub settle_does : (b : Build) (d : Data) (w v : ℕ) (s : Stand) (out : Leases) (stop_marks : List Bool) (can : CanSettle b (state_as d) w v (status_of s))
+    → settle_grant b (state_as d) w ≡ Ok (state_as (settled d w v s out stop_marks), settle_reply v can.ending)
+settle_does b d w v s out stop_marks can = can.grants ∙ (λ i. Ok (sym (state_settled d w v s out stop_marks can.ending can.is) i, settle_reply v can.ending))
 
 -- a worker that is idle has no instances
-pub settle_rows : (d : Data) (w v : ℕ) (s : Stand) (out : Leases) (halted : List Bool) (x : At) → slice_get (map at_of d.desks) w ≡ Some x
-    → d.rows ≡ rows_after d.rows (state_as (settled d w v s out halted)) w
-settle_rows d w v s out halted x at =
+pub settle_rows : (d : Data) (w v : ℕ) (s : Stand) (out : Leases) (stop_marks : List Bool) (x : At) → slice_get (map at_of d.desks) w ≡ Some x
+    → d.rows ≡ rows_after d.rows (state_as (settled d w v s out stop_marks)) w
+settle_rows d w v s out stop_marks x at =
     (λ i. written (store_of d.rows) d.rows (places_at (sym (set_there (map at_of d.desks) w x Idle at) i)))
     ∙ ap (λ (ws : List At). written (store_of d.rows) d.rows (places_at (slice_get ws w))) (sym (map_set at_of d.desks w desk.Idle))
 

@@ -63,25 +63,25 @@ leased_open : (workers : ℕ) (ds : List Desk) (out : Leases) → ds ≡ replica
 leased_open workers ds out d none =
     subst (AreLeased out (replicate workers model.Idle)) (sym (ap (map leased_by) d ∙ map_replicate leased_by workers Idle)) (none_leased out workers none)
 
-pub record IsFresh (b : Build) (workers : ℕ) (ss : List Stand) (ds : List Desk) (es : List Event) (halted : List Bool) (capacity : ℕ) : Type 0 where
+pub record IsFresh (b : Build) (workers : ℕ) (ss : List Stand) (ds : List Desk) (es : List Event) (stop_marks : List Bool) (capacity : ℕ) : Type 0 where
   pub stands : ss ≡ replicate (length b.graph.vertices) Waiting
   pub desks : ds ≡ replicate workers Idle
   pub events : es ≡ []
-  pub marks : halted ≡ replicate (length b.graph.vertices) false
+  pub marks : stop_marks ≡ replicate (length b.graph.vertices) false
   pub room : most_events b ≤ capacity
 
-pub kept_open : (b : Build) (first : List Row) (workers capacity : ℕ) (ss : List Stand) (ds : List Desk) (rows : List Row) (out : Leases) (es : List Event) (halted : List Bool)
-    → IsFresh b workers ss ds es halted capacity → first ≡ rows → leases out ≡ 0 → 0 < workers → workers ≤ 64
-    → IsKept (seen b first ss ds rows es) ds out halted capacity
-kept_open b first workers capacity ss ds rows out es halted fresh f none one most =
+pub kept_open : (b : Build) (first : List Row) (workers capacity : ℕ) (ss : List Stand) (ds : List Desk) (rows : List Row) (out : Leases) (es : List Event) (stop_marks : List Bool)
+    → IsFresh b workers ss ds es stop_marks capacity → first ≡ rows → leases out ≡ 0 → 0 < workers → workers ≤ 64
+    → IsKept (seen b first ss ds rows es) ds out stop_marks capacity
+kept_open b first workers capacity ss ds rows out es stop_marks fresh f none one most =
     let room = fresh.room in
-    let kept : IsKept (opened b workers rows) ds out halted capacity = record {
+    let kept : IsKept (opened b workers rows) ds out stop_marks capacity = record {
       replays = opened_replays b workers rows;
       room = room;
       leased = leased_open workers ds out fresh.desks none;
       supplies = ap (map ready_made) fresh.desks ∙ map_replicate ready_made workers Idle ∙ sym (map_replicate (needed b) workers model.Idle);
       some = omega (arith, length-replicate workers model.Idle, one);
       few = omega (arith, length-replicate workers model.Idle, most);
-      halted_are = fresh.marks ∙ sym (unmarked b.graph.vertices);
+      stop_marks_are = fresh.marks ∙ sym (unmarked b.graph.vertices);
     } in
-    subst (λ b. IsKept b ds out halted capacity) (sym (seen_open b first workers ss ds rows es fresh.stands fresh.desks fresh.events f)) kept
+    subst (λ b. IsKept b ds out stop_marks capacity) (sym (seen_open b first workers ss ds rows es fresh.stands fresh.desks fresh.events f)) kept

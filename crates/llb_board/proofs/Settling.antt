@@ -21,21 +21,21 @@ use Rattle.llb_board.proofs.Calls.{CanSettle, can_settle, settle_done}
 use Rattle.llb_board.proofs.Claiming.{data_of}
 use Rattle.llb_board.proofs.Kept.{Data, state_as, seen_as, Keeps, kept_after, settled, settle_does, settle_rows, leaves_running, supplies_settled, still_over}
 
-module _ (b : Build) (first : List Row) (ss : List Stand) (ds : List Desk) (c : CachesValue) (halted : List Bool) (es : List Event) (capacity w v : ℕ) (l : Option ℕ) (s : Stand)
-    (kept : Keeps b first (data_of ss ds c halted) es capacity) (left : left_at b (slice_get (map at_of ds) w) ≡ Ok (v, status_of s))
+module _ (b : Build) (first : List Row) (ss : List Stand) (ds : List Desk) (c : CachesValue) (stop_marks : List Bool) (es : List Event) (capacity w v : ℕ) (l : Option ℕ) (s : Stand)
+    (kept : Keeps b first (data_of ss ds c stop_marks) es capacity) (left : left_at b (slice_get (map at_of ds) w) ≡ Ok (v, status_of s))
     (leased : slice_get (map leased_by ds) w ≡ Some l) where
   -- the data behind it, with these marks
   abbrev pub after : List Bool → Data
-  after marks = settled (data_of ss ds c halted) w v s (given_back c l).out marks
+  after marks = settled (data_of ss ds c stop_marks) w v s (given_back c l).out marks
 
-  pub ends : CanSettle b (state_as (data_of ss ds c halted)) w v (status_of s)
-  ends = can_settle b (state_as (data_of ss ds c halted)) w v (status_of s) left
+  pub ends : CanSettle b (state_as (data_of ss ds c stop_marks)) w v (status_of s)
+  ends = can_settle b (state_as (data_of ss ds c stop_marks)) w v (status_of s) left
 
-  pub grants : (marks : List Bool) → settle_grant b (state_as (data_of ss ds c halted)) w ≡ Ok (state_as (after marks), settle_reply v ends.ending)
-  grants marks = settle_does b (data_of ss ds c halted) w v s (given_back c l).out marks ends
+  pub grants : (marks : List Bool) → settle_grant b (state_as (data_of ss ds c stop_marks)) w ≡ Ok (state_as (after marks), settle_reply v ends.ending)
+  grants marks = settle_does b (data_of ss ds c stop_marks) w v s (given_back c l).out marks ends
 
   pub running : slice_get (map status_of ss) v ≡ Some (Running w)
-  running = leaves_running (seen_as b first (data_of ss ds c halted) es) w v (status_of s) kept.replays ends
+  running = leaves_running (seen_as b first (data_of ss ds c stop_marks) es) w v (status_of s) kept.replays ends
 
   pub low : v < length ss
   low = omega (arith, slice_get_within (map status_of ss) v (Running w) running, length_map status_of ss)
@@ -44,12 +44,12 @@ module _ (b : Build) (first : List Row) (ss : List Stand) (ds : List Desk) (c : 
   is_out = lease_out c.out (map at_of ds) (map leased_by ds) w l kept.leased leased
 
   pub rows_stay : (marks : List Bool) → c.rows ≡ rows_after c.rows (state_as (after marks)) w
-  rows_stay marks = settle_rows (data_of ss ds c halted) w v s (given_back c l).out marks (Runs ends.x) ends.there
+  rows_stay marks = settle_rows (data_of ss ds c stop_marks) w v s (given_back c l).out marks (Runs ends.x) ends.there
 
   pub keeps : (marks : List Bool) → marks ≡ stopped b (map status_of (slice_set ss v s)) → Keeps b first (after marks) (es ++ Settle w ∷ []) capacity
   keeps marks are =
-      kept_after b first (data_of ss ds c halted) (after marks) es capacity (Settle w) (settle_reply v ends.ending) kept
-      (settle_done b (state_as (data_of ss ds c halted)) w _ (grants marks)) (record {
+      kept_after b first (data_of ss ds c stop_marks) (after marks) es capacity (Settle w) (settle_reply v ends.ending) kept
+      (settle_done b (state_as (data_of ss ds c stop_marks)) w _ (grants marks)) (record {
         same = length_set ds w desk.Idle;
         rows = rows_stay marks;
         leased = leased_settled c ds w l kept.leased leased;
@@ -59,5 +59,5 @@ module _ (b : Build) (first : List Row) (ss : List Stand) (ds : List Desk) (c : 
 
   pub stay_over : (n : ℕ) → IsGraph b.graph → AreOver b (map status_of ss) n → AreOver b (map status_of (slice_set ss v s)) n
   stay_over n graph over =
-      still_over b first (data_of ss ds c halted) (after halted) es capacity n (Settle w) (settle_reply v ends.ending) graph kept
-      (settle_done b (state_as (data_of ss ds c halted)) w _ (grants halted)) over
+      still_over b first (data_of ss ds c stop_marks) (after stop_marks) es capacity n (Settle w) (settle_reply v ends.ending) graph kept
+      (settle_done b (state_as (data_of ss ds c stop_marks)) w _ (grants stop_marks)) over

@@ -79,20 +79,20 @@ seen b first stands desks rows events = record {
   events = events;
 }
 
-pub record IsKept (b : Seen) (desks : List Desk) (out : Leases) (halted : List Bool) (capacity : ℕ) : Type 0 where
+pub record IsKept (b : Seen) (desks : List Desk) (out : Leases) (stop_marks : List Bool) (capacity : ℕ) : Type 0 where
   pub replays : Replays b
   pub room : most_events b.build ≤ capacity
   pub leased : AreLeased out b.state.workers (map leased_by desks)
   pub supplies : map ready_made desks ≡ map (needed b.build) b.state.workers
   pub some : 0 < length b.state.workers
   pub few : length b.state.workers ≤ 64
-  pub halted_are : halted ≡ stopped b.build b.state.statuses
+  pub stop_marks_are : stop_marks ≡ stopped b.build b.state.statuses
 
 -- each vertex below a number has settled or is blocked, so that none of them will be Ready again
 abbrev pub AreOver : Build → List Status → ℕ → Type 0
 AreOver b statuses n = (v : ℕ) → v < n → (is_settled (slice_get statuses v) || is_blocked b statuses v) ≡ true
 
 -- and from where on a Ready vertex is looked for
-pub record IsTracked (b : Seen) (desks : List Desk) (out : Leases) (halted : List Bool) (capacity first_open : ℕ) : Type 0 where
-  pub kept : IsKept b desks out halted capacity
+pub record IsTracked (b : Seen) (desks : List Desk) (out : Leases) (stop_marks : List Bool) (capacity first_open : ℕ) : Type 0 where
+  pub kept : IsKept b desks out stop_marks capacity
   pub over : AreOver b.build b.state.statuses first_open

@@ -46,7 +46,7 @@ pub struct Board {
     start: Caches,
     stands: Vec<Stand>,
     desks: Vec<Desk>,
-    halted: Vec<bool>,
+    stop_marks: Vec<bool>,
     first_open: u32,
     events: Events,
 }
@@ -65,7 +65,7 @@ impl Model for Board {
     ghost view = { λ b. seen b.build b.start.rows b.stands.items b.desks.items b.caches.rows b.events.list };
 
     ghost invariant = { λ b. IsTracked (seen b.build b.start.rows b.stands.items b.desks.items b.caches.rows b.events.list) b.desks.items b.caches.out
-        b.halted.items b.events.room b.first_open };
+        b.stop_marks.items b.events.room b.first_open };
 }
 
 impl Board {
@@ -122,7 +122,7 @@ impl Board {
                 start: fresh.start,
                 stands: fresh.stands,
                 desks: fresh.desks,
-                halted: fresh.halted,
+                stop_marks: fresh.stop_marks,
                 first_open: 0,
                 events: fresh.events,
             }),
@@ -159,7 +159,7 @@ impl Board {
         } = begun;
         self.caches.is_exclusive();
         let lease = lease_for(&mut self.caches, needs)?;
-        self.first_open = first_open(&self.build, &self.stands, &self.halted, self.first_open);
+        self.first_open = first_open(&self.build, &self.stands, &self.stop_marks, self.first_open);
         self.events.push_reserved(Event::Claim(w, v));
         self.stands[v as usize] = Stand::Running(w);
         self.desks[w as usize] = Desk::Runs(lease, execution);
@@ -196,7 +196,7 @@ impl Board {
         self.stands[v as usize] = stand;
         self.events.push_reserved(Event::Settle(w));
         if failed {
-            mark_stopped(&mut self.halted, &self.stands, vertices);
+            mark_stopped(&mut self.stop_marks, &self.stands, vertices);
             return Ok(Settled::Failed(v));
         }
         Ok(Settled::Done(v))
@@ -211,7 +211,7 @@ impl Board {
             Some(vertex) => is_ready(&self.stands, v, vertex),
             None => false,
         };
-        Some(look(stand, ready, is_marked(&self.halted, v)))
+        Some(look(stand, ready, is_marked(&self.stop_marks, v)))
     }
 
     /// How a worker looks. No memory.
@@ -259,7 +259,7 @@ impl Board {
     pub fn is_complete(&self) -> bool
         ensures { result ≡ is_complete self.now.build self.now.state }
     {
-        all_settled(&self.build, &self.stands, &self.halted, self.first_open)
+        all_settled(&self.build, &self.stands, &self.stop_marks, self.first_open)
     }
 
     /// The caches as they are now: each key in the order in which the first claim took it, behind those that were handed in, with its

@@ -47,13 +47,18 @@ pub(crate) fn next_claim(build: &Build, stands: &[Stand], first_open: u32) -> Op
 }
 
 /// Whether every vertex is done, failed or blocked. All are below the first open one.
-pub(crate) fn all_settled(build: &Build, stands: &[Stand], halted: &[bool], first_open: u32) -> bool
-    requires marks { halted.now ≡ stopped build.now (map status_of stands.now) }
+pub(crate) fn all_settled(
+    build: &Build,
+    stands: &[Stand],
+    stop_marks: &[bool],
+    first_open: u32,
+) -> bool
+    requires marks { stop_marks.now ≡ stopped build.now (map status_of stands.now) }
     requires over { AreOver build.now (map status_of stands.now) first_open }
     ensures { result ≡ is_complete build.now (state_of stands.now [] []) }
 {
     for v in first_open..build.vertices().len() as u32 {
-        if !is_over(stands, halted, v) {
+        if !is_over(stands, stop_marks, v) {
             return false;
         }
     }
@@ -62,8 +67,8 @@ pub(crate) fn all_settled(build: &Build, stands: &[Stand], halted: &[bool], firs
 
 /// The first vertex from one on that is not done, failed or blocked; where there is none, the number behind the last. All are below
 /// the one that the search begins at.
-pub(crate) fn first_open(build: &Build, stands: &[Stand], halted: &[bool], from: u32) -> u32
-    requires marks { halted.now ≡ stopped build.now (map status_of stands.now) }
+pub(crate) fn first_open(build: &Build, stands: &[Stand], stop_marks: &[bool], from: u32) -> u32
+    requires marks { stop_marks.now ≡ stopped build.now (map status_of stands.now) }
     requires over { AreOver build.now (map status_of stands.now) from }
     ensures over { AreOver build.now (map status_of stands.now) result }
     ensures open { result < length build.now.graph.vertices → (is_settled (slice_get (map status_of stands.now) result)
@@ -71,7 +76,7 @@ pub(crate) fn first_open(build: &Build, stands: &[Stand], halted: &[bool], from:
 {
     let count = build.vertices().len() as u32;
     for v in from..count {
-        if !is_over(stands, halted, v) {
+        if !is_over(stands, stop_marks, v) {
             return v;
         }
     }
@@ -79,14 +84,14 @@ pub(crate) fn first_open(build: &Build, stands: &[Stand], halted: &[bool], from:
 }
 
 // Whether a vertex is done, failed or blocked.
-fn is_over(stands: &[Stand], halted: &[bool], v: u32) -> bool
+fn is_over(stands: &[Stand], stop_marks: &[bool], v: u32) -> bool
     ensures { result ≡ (is_settled (slice_get (map status_of stands.now) v)
-        || (is_waiting (slice_get (map status_of stands.now) v) && unwrap_or (slice_get halted.now v) false)) }
+        || (is_waiting (slice_get (map status_of stands.now) v) && unwrap_or (slice_get stop_marks.now v) false)) }
 {
     match stand_at(stands, v) {
         Some(Stand::Done(_)) => true,
         Some(Stand::Failed(_)) => true,
-        Some(Stand::Waiting) => is_marked(halted, v),
+        Some(Stand::Waiting) => is_marked(stop_marks, v),
         Some(Stand::Running(_)) => false,
         None => false,
     }

@@ -18,7 +18,7 @@ use std::alloc::{AllocError, Global};
 pub(crate) struct Fresh {
     pub stands: Vec<Stand>,
     pub desks: Vec<Desk>,
-    pub halted: Vec<bool>,
+    pub stop_marks: Vec<bool>,
     /// The caches as they were handed in.
     pub start: Caches,
     pub events: Events,
@@ -33,7 +33,7 @@ pub(crate) fn opening(
 ) -> Result<Fresh, Memory>
     ensures stands { IfOk result (λ f. f.stands.items ≡ replicate (length build.now.graph.vertices) stand.Waiting) }
     ensures desks { IfOk result (λ f. f.desks.items ≡ replicate workers desk.Idle) }
-    ensures halted { IfOk result (λ f. f.halted.items ≡ replicate (length build.now.graph.vertices) false) }
+    ensures stop_marks { IfOk result (λ f. f.stop_marks.items ≡ replicate (length build.now.graph.vertices) false) }
     ensures start { IfOk result (λ f. f.start ≡ caches.now) }
     ensures events { IfOk result (λ f. f.events.list ≡ []) }
     ensures room { IfOk result (λ f. most_events build.now ≤ f.events.room) }
@@ -42,7 +42,7 @@ pub(crate) fn opening(
     Ok(Fresh {
         stands: waiting(alloc, count)?,
         desks: idle(alloc, workers)?,
-        halted: Vec::from_elem(alloc, false, count)?,
+        stop_marks: Vec::from_elem(alloc, false, count)?,
         start: caches.copy()?,
         events: Events::with_room(alloc, room(build))?,
     })

@@ -76,12 +76,12 @@ pub(crate) fn gathered(
 }
 
 /// Marks each vertex that has failed, or is behind one that has.
-pub(crate) fn mark_stopped(halted: &mut [bool], stands: &[Stand], vertices: &[Vertex])
-    requires { length halted.old ≡ length vertices.now }
-    ensures { halted.new ≡ by_number (next_stopped (map status_of stands.now)) [] vertices.now }
+pub(crate) fn mark_stopped(stop_marks: &mut [bool], stands: &[Stand], vertices: &[Vertex])
+    requires { length stop_marks.old ≡ length vertices.now }
+    ensures { stop_marks.new ≡ by_number (next_stopped (map status_of stands.now)) [] vertices.now }
 {
     for v in 0..vertices.len() {
-        halted[v] = is_stopped(&halted[..v], stands, v, &vertices[v]);
+        stop_marks[v] = is_stopped(&stop_marks[..v], stands, v, &vertices[v]);
     }
 }
 

@@ -7,10 +7,10 @@ use Rattle.llb_cache.specs.declared.key.Key.{Key}
 use Rattle.llb_cache.specs.declared.need.Need.{Need}
 use Rattle.llb_cache.specs.declared.need.Place.{Place}
 use Rattle.llb_cache.specs.Caches.{CachesValue, Row, Leases, Taken, place_for, taken, made_all, is_shut, is_held, leases, granted, free_lease, put, given_back, trees_of, IsCaches, IsExclusive, Has, AreApart, AreThere}
-use Rattle.llb_cache.proofs.Members.{In, in_contained, in_map, pairs_map}
-use Rattle.llb_cache.proofs.Leased.{held_by, lease_cases, lease_short, back_cases, back_short}
-use Rattle.llb_cache.proofs.Numbers.{number_within, number_free, number_next}
-use Rattle.llb_cache.proofs.Rows.{IsNext, all_grow, all_there, all_few, put_counts}
+use Rattle.llb_cache.specs.Members.{In, in_contained, in_map, pairs_map}
+use Rattle.llb_cache.specs.Leased.{held_by, lease_cases, lease_short, back_cases, back_short}
+use Rattle.llb_cache.specs.Numbers.{number_within, number_free, number_next}
+use Rattle.llb_cache.specs.Rows.{IsNext, all_grow, all_there, all_few, put_counts}
 
 -- ---- what a lease takes
 

@@ -1,8 +1,4 @@
 pub mod Free
-pub mod Rows
-pub mod Members
-pub mod Leased
-pub mod Numbers
 pub mod Kept
 pub mod Granting
 pub mod Copies

@@ -2,11 +2,12 @@
 //! of a script's commands, up to the first that is not 0, and then each mount's tree: a `d` or an `f` and the path of each entry,
 //! its mode and owner where they are not those of a new one, and a file's content.
 
+use super::told::put_entry;
 use llb_applet::{
     Command, Many, Memory, Path, ScriptFault, Setting, Text, Tree, View, read_script, run_command,
 };
 use llb_mount::Shown;
-use llb_tree::{Bytes, Entry, Meta, TreeFault};
+use llb_tree::{Entry, Meta, TreeFault};
 use std::alloc::{AllocError, AllocFailed, Global};
 use std::test::Fail;
 
@@ -252,17 +253,9 @@ fn tree_of(alloc: Global, rows: &[Row]) -> Result<Tree, Stuck> {
 }
 
 fn put(alloc: Global, tree: &mut Tree, path: &str, content: Option<&str>) -> Result<(), Stuck> {
-    let path = Path::read(alloc, path)?;
     let mode = if content.is_some() { 0o644 } else { 0o755 };
-    let Some(meta) = Meta::new(mode, 0, 0) else {
-        return Ok(());
-    };
-    match content {
-        None => tree.put_dir(&path, meta)?,
-        Some(content) => {
-            let content = Bytes::from_slice(alloc, content.as_bytes())?;
-            tree.put_file(&path, meta, content)?;
-        }
+    if let Some(meta) = Meta::new(mode, 0, 0) {
+        put_entry(alloc, tree, path, meta, content)?;
     }
     Ok(())
 }

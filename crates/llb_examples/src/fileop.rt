@@ -1,11 +1,11 @@
 //! File actions. A story is a base, a second tree and actions on the base, one after another; it is told by the answer to
 //! each action and then the entries that are left.
 
-use super::told::{count, push_path, push_tree};
+use super::told::{count, push_path, push_tree, put_entry};
 use llb_fileop::{ActFault, act, resolve};
 use llb_ops::{Action, ActionKind, ChownOpt, CopyFile, MkDir, MkFile, Rm, User, UserOpt};
-use llb_tree::{Meta, Path, Tree};
-use llb_wire::{Bytes, Many, Text};
+use llb_tree::{Meta, Tree};
+use llb_wire::{Boxed, Bytes, Many, Text};
 use std::alloc::Global;
 
 // An entry of a tree: its path, mode, owner, and the content of a file.
@@ -91,16 +91,23 @@ enum Deed {
     Copied(&'static str, &'static str, i32, Option<u32>, Allowed),
 }
 
-fn owner_of(alloc: Global, id: Option<u32>) -> Option<ChownOpt> {
+fn user_of(alloc: Global, id: u32) -> ChownOpt {
     let user = UserOpt {
-        user: Some(User::ById(id?)),
+        user: Some(User::ById(id)),
         extra: Bytes::new(Vec::new(alloc)),
     };
-    Some(ChownOpt {
+    ChownOpt {
         user: Some(user),
         group: None,
         extra: Bytes::new(Vec::new(alloc)),
-    })
+    }
+}
+
+fn owner_of(alloc: Global, id: Option<u32>) -> Result<Option<Boxed<ChownOpt>>, ActFault> {
+    match id {
+        None => Ok(None),
+        Some(id) => Ok(Some(Boxed::new(alloc, user_of(alloc, id))?)),
+    }
 }
 
 fn copy_of(
@@ -114,7 +121,7 @@ fn copy_of(
     Ok(CopyFile {
         src: Text::from_str(alloc, src)?,
         dest: Text::from_str(alloc, dest)?,
-        owner: owner_of(alloc, owner),
+        owner: owner_of(alloc, owner)?,
         mode,
         follow_symlink: false,
         dir_copy_contents: allowed.contents,
@@ -174,16 +181,8 @@ fn done(alloc: Global, deed: Deed, base: &Tree, second: &Tree) -> Result<Tree, A
 }
 
 fn put(alloc: Global, tree: &mut Tree, row: &Row) -> Result<(), ActFault> {
-    let Some(meta) = Meta::new(row.mode, row.owner, row.owner) else {
-        return Ok(());
-    };
-    let path = Path::read(alloc, row.path)?;
-    match row.content {
-        None => tree.put_dir(&path, meta)?,
-        Some(content) => {
-            let content = Bytes::from_slice(alloc, content.as_bytes())?;
-            tree.put_file(&path, meta, content)?;
-        }
+    if let Some(meta) = Meta::new(row.mode, row.owner, row.owner) {
+        put_entry(alloc, tree, row.path, meta, row.content)?;
     }
     Ok(())
 }

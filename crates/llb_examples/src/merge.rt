@@ -1,10 +1,10 @@
 //! One tree laid over another. A tree is a table of its paths, and what is laid is told in a line of text: the entries.
 
+use super::told::put_entry;
 use llb_merge::{
     Memory, at_each_path, lay, over_itself, over_the_empty_tree, under_the_empty_tree,
 };
 use llb_tree::{Entry, Meta, Path, Tree, TreeFault};
-use llb_wire::Bytes;
 use std::alloc::{AllocError, Global};
 
 // A path, the mode there, and the content of a file.
@@ -35,16 +35,9 @@ const UPPER: &[Row] = &[
 
 fn put(alloc: Global, tree: &mut Tree, row: &Row) -> Result<(), TreeFault> {
     let (path, mode, content) = *row;
-    let Some(meta) = Meta::new(mode, 0, 0) else {
-        return Ok(());
-    };
-    let path = Path::read(alloc, path)?;
-    match content {
-        None => tree.put_dir(&path, meta),
-        Some(content) => {
-            let content = Bytes::from_slice(alloc, content.as_bytes())?;
-            tree.put_file(&path, meta, content)
-        }
+    match Meta::new(mode, 0, 0) {
+        None => Ok(()),
+        Some(meta) => put_entry(alloc, tree, path, meta, content),
     }
 }
 

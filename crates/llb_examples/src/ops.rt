@@ -1,9 +1,9 @@
 //! Entries and definitions. What an op is, its canonical bytes show; and of each message once its fields.
 
 use llb_ops::{
-    Action, ActionKind, Entries, ExecOp, FileOp, Kind, Mount, Op, OpFault, SourceOp,
-    definition_is_read_again, op_is_read_again, read_definition, read_op, write_definition,
-    write_op,
+    Action, ActionKind, Entries, ExecOp, FileOp, Kind, MessageName, Mount, Op, OpFault, SourceOp,
+    definition_is_read_again, entry_has_fields, field_named, field_numbered, fields_of,
+    op_is_read_again, read_definition, read_op, rows_are_apart, write_definition, write_op,
 };
 use llb_wire::{Bytes, Memory, WireFault};
 use std::alloc::Global;
@@ -246,6 +246,7 @@ fn told(op: &Op) -> (&'static str, &'static str, usize) {
 }
 
 fn seen(alloc: Global, entry: &[u8]) -> Option<(&'static str, &'static str, usize)> {
+    entry_has_fields(entry);
     match read_op(alloc, entry) {
         Ok(op) => Some(told(&op)),
         Err(_) => None,
@@ -348,4 +349,35 @@ fn a_definition_is_its_two_entries(rt: HostRuntime) {
         Err(_) => false,
     };
     assert!(rt; both && BOTH.len() == 129);
+}
+
+// Whether the field of that number is the one of that name.
+fn is_field(message: MessageName, number: u32, name: &str) -> bool {
+    rows_are_apart(message);
+    let one = field_numbered(message, number);
+    let other = field_named(message, name.as_bytes());
+    match (one, other) {
+        (Some(one), Some(other)) => one.name == name && other.field.number == number,
+        _ => false,
+    }
+}
+
+#[test]
+fn a_field_is_found_by_its_number_and_by_its_name(rt: HostRuntime) {
+    let rows = [
+        (MessageName::Op, 4, "file"),
+        (MessageName::FileActionMkFile, 3, "data"),
+        (MessageName::Mount, 19, "TmpfsOpt"),
+    ];
+    for (message, number, name) in rows {
+        assert!(rt; is_field(message, number, name), "{name}");
+    }
+}
+
+#[test]
+fn an_input_has_two_fields(rt: HostRuntime) {
+    let unknown = field_numbered(MessageName::Input, 3).is_none();
+    let unnamed = field_named(MessageName::Input, b"digests").is_none();
+    let count = fields_of(MessageName::Input).len();
+    assert!(rt; unknown && unnamed && count == 2);
 }

@@ -1,9 +1,8 @@
 //! The rest of the tree's calls, and a path read from another one. A story is told in a line of text, as in `tree`: the
 //! answer to each step, and then the entries.
 
-use super::told::push_path;
+use super::told::{push_path, put_entry};
 use llb_tree::{Entry, Meta, Path, Tree, TreeFault};
-use llb_wire::Bytes;
 use std::alloc::{AllocError, Global};
 
 // The path of a text from another one, printed.
@@ -55,15 +54,8 @@ enum Step {
 }
 
 fn put(alloc: Global, tree: &mut Tree, path: &str, is_file: bool) -> Result<(), TreeFault> {
-    let Some(meta) = Meta::new(0o755, 0, 0) else {
-        return Ok(());
-    };
-    let path = Path::read(alloc, path)?;
-    if !is_file {
-        return tree.put_dir(&path, meta);
-    }
-    let content = Bytes::from_slice(alloc, &[])?;
-    tree.put_file(&path, meta, content)
+    let content = if is_file { Some("") } else { None };
+    put_entry(alloc, tree, path, Meta::new_dir(), content)
 }
 
 fn remove(alloc: Global, tree: &mut Tree, path: &str) -> Result<(), TreeFault> {

@@ -6,11 +6,14 @@ use std::alloc::{AllocError, Global};
 // A path, the mode there, the number of both owners, and the content of a file.
 pub type Row = (&'static str, u16, u32, Option<&'static str>);
 
-pub fn put(alloc: Global, tree: &mut Tree, row: &Row) -> Result<(), TreeFault> {
-    let (path, mode, owner, content) = *row;
-    let Some(meta) = Meta::new(mode, owner, owner) else {
-        return Ok(());
-    };
+// A directory, or a file with that content.
+pub fn put_entry(
+    alloc: Global,
+    tree: &mut Tree,
+    path: &str,
+    meta: Meta,
+    content: Option<&str>,
+) -> Result<(), TreeFault> {
     let path = Path::read(alloc, path)?;
     match content {
         None => tree.put_dir(&path, meta),
@@ -18,6 +21,14 @@ pub fn put(alloc: Global, tree: &mut Tree, row: &Row) -> Result<(), TreeFault> {
             let content = Bytes::from_slice(alloc, content.as_bytes())?;
             tree.put_file(&path, meta, content)
         }
+    }
+}
+
+pub fn put(alloc: Global, tree: &mut Tree, row: &Row) -> Result<(), TreeFault> {
+    let (path, mode, owner, content) = *row;
+    match Meta::new(mode, owner, owner) {
+        None => Ok(()),
+        Some(meta) => put_entry(alloc, tree, path, meta, content),
     }
 }
 

@@ -1,8 +1,7 @@
 //! Names, paths and trees. A story is told in a line of text: the answer to each step, and then the entries.
 
-use super::told::{entry_text, push_path, push_tree};
+use super::told::{entry_text, push_path, push_tree, put_entry};
 use llb_tree::{Meta, Name, Path, Tree, TreeFault};
-use llb_wire::Bytes;
 use std::alloc::{AllocError, Global};
 
 // The path of a text, printed.
@@ -198,16 +197,9 @@ fn put(
     mode: u16,
     content: Option<&str>,
 ) -> Result<(), TreeFault> {
-    let Some(meta) = Meta::new(mode, 7, 8) else {
-        return Ok(());
-    };
-    let path = Path::read(alloc, path)?;
-    match content {
-        None => tree.put_dir(&path, meta),
-        Some(content) => {
-            let content = Bytes::from_slice(alloc, content.as_bytes())?;
-            tree.put_file(&path, meta, content)
-        }
+    match Meta::new(mode, 7, 8) {
+        None => Ok(()),
+        Some(meta) => put_entry(alloc, tree, path, meta, content),
     }
 }
 
@@ -257,6 +249,21 @@ fn copy_told(alloc: Global) -> Result<String, TreeFault> {
     put(alloc, &mut tree, "/a", 0, None)?;
     push_tree(alloc, &mut text, &copied)?;
     Ok(text)
+}
+
+// Of a path that is missing, of a directory and of a file: whether a directory is there.
+fn directories(alloc: Global) -> Result<(bool, bool, bool), TreeFault> {
+    let mut tree = Tree::empty(alloc)?;
+    put(alloc, &mut tree, "/a", 0o700, None)?;
+    put(alloc, &mut tree, "/a/b", 0o644, Some("x"))?;
+    let (none, dir) = (Path::read(alloc, "/b")?, Path::read(alloc, "/a")?);
+    let file = Path::read(alloc, "/a/b")?;
+    Ok((tree.is_dir(&none), tree.is_dir(&dir), tree.is_dir(&file)))
+}
+
+#[test]
+fn a_directory_is_told_from_a_file(rt: HostRuntime) {
+    assert!(rt; directories(rt.alloc()) == Ok((false, true, false)));
 }
 
 fn is_told(alloc: Global, steps: &[Step], wanted: &str) -> bool {

@@ -1,8 +1,8 @@
 //! The wire: numbers, records, texts and lists, and writers that fail.
 
 use llb_wire::{
-    Bytes, Failed, Field, Many, Memory, Over, Sink, Text, Wire, WireFault, next_record, varint,
-    write_all, write_record, write_varint,
+    Bytes, Failed, Field, Many, Memory, Over, Sink, Text, Wire, WireFault, is_hex, next_record,
+    push_hex, read_hex, text_of_digest, varint, write_all, write_record, write_varint,
 };
 use std::alloc::Global;
 use std::io;
@@ -250,4 +250,37 @@ fn a_writer_that_fails_at_its_kth_write_leaves_a_front(rt: HostRuntime) {
             "{room} bytes"
         );
     }
+}
+
+// Whether bytes are written as that text, which is read as the bytes.
+fn is_written_so(alloc: Global, bytes: &[u8], wanted: &str) -> Result<bool, Memory> {
+    let mut text = String::new(alloc);
+    push_hex(alloc, &mut text, bytes)?;
+    match read_hex(alloc, wanted)? {
+        None => Ok(false),
+        Some(read) => Ok(text.as_str() == wanted && read.as_slice() == bytes),
+    }
+}
+
+#[test]
+fn bytes_are_written_in_hexadecimal(rt: HostRuntime) {
+    let rows: [(&[u8], &str); 3] = [(&[], "-"), (&[0], "00"), (&[0xAB, 1], "ab01")];
+    for (bytes, text) in rows {
+        let same = is_written_so(rt.alloc(), bytes, text) == Ok(true);
+        assert!(rt; same && is_hex(text), "{text}");
+    }
+    for text in ["", "a", "AB", "g0", "-a", "--"] {
+        assert!(rt; !is_hex(text), "{text}");
+    }
+}
+
+fn is_digest(alloc: Global, wanted: &str) -> Result<bool, Memory> {
+    let text = text_of_digest(alloc, &[0x5D; 32])?;
+    Ok(text.as_str() == wanted)
+}
+
+#[test]
+fn a_digest_has_its_algorithm_in_front(rt: HostRuntime) {
+    let wanted = "sha256:5d5d5d5d5d5d5d5d5d5d5d5d5d5d5d5d5d5d5d5d5d5d5d5d5d5d5d5d5d5d5d5d";
+    assert!(rt; is_digest(rt.alloc(), wanted) == Ok(true));
 }

@@ -5,14 +5,14 @@ use Rattle.std.specs.Prelude.{option_and_then, OnOk, OnErr}
 use Rattle.std.specs.List.{flat_map}
 use Rattle.llb_wire.specs.Digest.{digits_of}
 use Rattle.llb_tree.specs.Tree as tree
-use Rattle.llb_tree.specs.Tree.{Entry, TreeMap, MetaValue, root_meta, put_file, put_dir, remove}
+use Rattle.llb_tree.specs.Tree.{Entry, TreeMap, MetaValue, new_dir_meta, put_file, put_dir, remove, is_dir}
 use Rattle.llb_tree.specs.declared.fault.TreeFault.{TreeFault}
 use Rattle.llb_mount.specs.View.{mount_at, with_tree_of}
 use Rattle.llb_applet.specs.declared.setting.Setting.{Setting}
 use Rattle.llb_applet.specs.declared.spot.Spot.{Spot}
 use Rattle.llb_applet.specs.declared.command.Command.{Command}
 use Rattle.llb_applet.specs.declared.command.Command.TheVariants as command
-use Rattle.llb_applet.specs.Spots.{Mounts, spot_of, file_in, tree_at, entry_at, dirs_below, is_dir, is_dest}
+use Rattle.llb_applet.specs.Spots.{Mounts, spot_of, file_in, tree_at, entry_at, dirs_below, is_dest}
 use Rattle.llb_applet.specs.Spots.{with_change, with_file, without_spot, with_new_dir, with_dirs}
 use Rattle.llb_applet.specs.Commands.{path_by, spot_by, file_by, meta_there, writes, line, target_of, copied, joined, with_mode, is_kind, listing_by, run, left}
 
@@ -50,7 +50,7 @@ gone_keeps view spot = either (is_dest spot) nothing (change_keeps view spot.mou
 
 new_dir_keeps : (view : Mounts) (spot : Spot) → Keeps view (with_new_dir view spot)
 new_dir_keeps view spot =
-    either (is_dest spot || is_some (entry_at view spot)) nothing (change_keeps view spot.mount (put_dir (tree_at view spot) spot.place root_meta))
+    either (is_dest spot || is_some (entry_at view spot)) nothing (change_keeps view spot.mount (put_dir (tree_at view spot) spot.place new_dir_meta))
 
 dirs_keep : (view : Mounts) (spot : Spot) → Keeps view (with_dirs view spot)
 dirs_keep view spot =

@@ -3,10 +3,10 @@ use Rattle.std.proofs.Common.{◌≡◌, ℕ, Bool, true, false, cond, ◌⊎◌
 use Rattle.std.specs.Ordering.{eq_by_cmp}
 use Rattle.std.specs.FinMap as finite
 use Rattle.llb_wire.specs.Answer.{◌>>=◌, bind_ok}
-use Rattle.llb_ops.specs.declared.file.CopyFile.{CopyFile}
+use Rattle.llb_ops.specs.declared.actions.CopyFile.{CopyFile}
 use Rattle.llb_tree.specs.Path.{path_cmp, is_within}
 use Rattle.llb_tree.specs.PathOrder.{path_cmp-IsTotalOrder}
-use Rattle.llb_tree.specs.Meta.{MetaValue, root_meta}
+use Rattle.llb_tree.specs.Meta.{MetaValue, new_dir_meta}
 use Rattle.llb_tree.specs.Tree.{TreeMap, Entry, Dir, File, tree_at, parents, walk, dir_fits}
 use Rattle.llb_fileop.specs.Owners.{copied}
 use Rattle.llb_fileop.specs.Making.{kept_or_made, make_all}
@@ -91,14 +91,14 @@ parents_above (n ∷ goal) = (record { name = n; rest = goal; is = refl }, each_
 -- the tree that the copy lands on: below the target it is as it was
 record LandsOn (t v : TreeMap) (goal : List (List ℕ)) : Type 0 where
   below : (q : List (List ℕ)) → finite.get v (goal ++ q) ≡ finite.get t (goal ++ q)
-  others : (q : List (List ℕ)) → (finite.get v q ≡ finite.get t q) ⊎ IsMadeHere (IsAbove goal) root_meta t v q
+  others : (q : List (List ℕ)) → (finite.get v q ≡ finite.get t q) ⊎ IsMadeHere (IsAbove goal) new_dir_meta t v q
 
 lands_on : (create : Bool) (goal : List (List ℕ)) (t v : TreeMap) → parents_for create goal t ≡ Ok v → LandsOn t v goal
 lands_on false goal t v is =
     let same : t ≡ v = same_Ok (bind_ok (walk (finite.get t) goal) (λ _. Ok t) v is).2 in
     record { below = λ q. ap (λ x. finite.get x (goal ++ q)) (sym same); others = λ q. inl (ap (λ x. finite.get x q) (sym same)) }
 lands_on true goal t v is =
-    let made = made_there (IsAbove goal) root_meta (parents goal) t v (parents_above goal) is in
+    let made = made_there (IsAbove goal) new_dir_meta (parents goal) t v (parents_above goal) is in
     record {
       below = λ q. elim (made (goal ++ q)) [
         | inl same ↦ same

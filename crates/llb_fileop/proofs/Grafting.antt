@@ -9,14 +9,14 @@ use Rattle.std.specs.FinMap.Entries.{below_all}
 use Rattle.llb_wire.specs.Answer.{◌>>=◌, bind_ok}
 use Rattle.llb_tree.specs.Path.{path_cmp, is_within}
 use Rattle.llb_tree.specs.PathOrder.{path_cmp-IsTotalOrder, path_cmp-IsAntisymmetric}
-use Rattle.llb_tree.specs.Meta.{MetaValue, root_meta}
-use Rattle.llb_tree.specs.Tree.{TreeMap, Entry, Dir, File, moved, with_tree, graft, subtree, tree_at, dir_there, places_fit, parents, all_dirs, walk, dir_fits, file_fits, not_root, put_dir, IsDirAt, IsTree}
+use Rattle.llb_tree.specs.Meta.{MetaValue, new_dir_meta}
+use Rattle.llb_tree.specs.Tree.{TreeMap, Entry, Dir, File, moved, with_tree, graft, subtree, tree_at, dir_there, places_fit, parents, all_dirs, walk, dir_fits, file_fits, not_root, put_dir, IsDirAt, IsTree, is_dir}
 use Rattle.llb_tree.specs.declared.fault.TreeFault.{TreeFault}
 use Rattle.llb_tree.specs.declared.fault.TreeFault.TheVariants.{BadName, Conflict}
-use Rattle.llb_tree.proofs.Inside.{IsTree-tree_at}
-use Rattle.llb_fileop.specs.Copying.{fits, meets, is_dir, landed, all_land, land, laid_on, at_target, parents_for, copy_to}
+use Rattle.llb_tree.specs.Inside.{IsTree-tree_at}
+use Rattle.llb_fileop.specs.Copying.{fits, meets, landed, all_land, land, laid_on, at_target, parents_for, copy_to}
 use Rattle.llb_fileop.specs.Making.{kept_or_made, make_all}
-use Rattle.llb_ops.specs.declared.file.CopyFile.{CopyFile}
+use Rattle.llb_ops.specs.declared.actions.CopyFile.{CopyFile}
 use Rattle.llb_fileop.specs.Owners.{copied}
 use Rattle.llb_fileop.specs.Parts.{put, put_some, laid, land_at, placed, AgreeOn}
 use Rattle.llb_fileop.proofs.Answering.{same_Ok}
@@ -394,12 +394,12 @@ module _ (c : CopyFile) (second : TreeMap) (s place goal : List (List ℕ)) (t :
       ap (λ p. copy_to c second s p t) place_is
       ∙ ap (λ r. r >>= λ _. parents_for c.create_dest_path goal t >>= land given (at_target second s goal)) (fits-Ok goal place_short)
 
-  pub copy_made : (u : TreeMap) → c.create_dest_path ≡ true → make_all root_meta (parents goal) t ≡ Ok u → copy_to c second s place t ≡ land_at given (at_target second s goal) goal u
+  pub copy_made : (u : TreeMap) → c.create_dest_path ≡ true → make_all new_dir_meta (parents goal) t ≡ Ok u → copy_to c second s place t ≡ land_at given (at_target second s goal) goal u
   copy_made u create made =
       fits_place
       ∙ ap (λ b. parents_for b goal t >>= land given (at_target second s goal)) create
       ∙ ap (λ r. r >>= land given (at_target second s goal)) made
-      ∙ sym (ap (λ r. r >>= λ _. land given (at_target second s goal) u) (walk_after root_meta goal t u made))
+      ∙ sym (ap (λ r. r >>= λ _. land given (at_target second s goal) u) (walk_after new_dir_meta goal t u made))
 
   pub copy_kept : c.create_dest_path ≡ false → copy_to c second s place t ≡ land_at given (at_target second s goal) goal t
   copy_kept create = fits_place ∙ ap (λ b. parents_for b goal t >>= land given (at_target second s goal)) create ∙ by_walk (walk (finite.get t) goal)

@@ -5,9 +5,9 @@ use Rattle.std.specs.List.{ends_with}
 use Rattle.std.specs.FinMap as finite
 use Rattle.std.specs.FinMap.Entries.{where_key}
 use Rattle.llb_wire.specs.Answer.{◌>>=◌}
-use Rattle.llb_ops.specs.declared.file.CopyFile.{CopyFile}
+use Rattle.llb_ops.specs.declared.actions.CopyFile.{CopyFile}
 use Rattle.llb_tree.specs.Path.{path_cmp, path_of, is_within}
-use Rattle.llb_tree.specs.Tree.{TreeMap, Entry, Dir, File, parents, walk, moved, found, root_meta}
+use Rattle.llb_tree.specs.Tree.{TreeMap, Entry, Dir, File, parents, walk, moved, found, new_dir_meta, is_dir}
 use Rattle.llb_tree.specs.Meta.{MetaValue}
 use Rattle.llb_tree.specs.declared.fault.TreeFault.{TreeFault}
 use Rattle.llb_tree.specs.declared.fault.TreeFault.TheVariants.{NotFound, Conflict, BadName}
@@ -47,11 +47,6 @@ sources allow_empty second (OnePath p) = found (finite.get second p) >>= λ _. O
 sources allow_empty second (EachMatch pattern) = some_match allow_empty (matching pattern second)
 
 -- ---- the target of a source
-
-abbrev pub is_dir : Option Entry → Bool
-is_dir (Some (Dir m)) = true
-is_dir (Some (File m bytes)) = false
-is_dir None = false
 
 -- the last name of a path, of the root none
 abbrev pub last_name : List (List ℕ) → List (List ℕ)
@@ -103,7 +98,7 @@ at_target second s goal = map (moved (length s) goal) (where_key path_cmp (is_wi
 
 -- the parents of a target: they are there, or the missing ones are made
 abbrev pub parents_for : Bool → List (List ℕ) → TreeMap → Result TreeMap TreeFault
-parents_for true p t = make_all root_meta (parents p) t
+parents_for true p t = make_all new_dir_meta (parents p) t
 parents_for false p t = walk (finite.get t) p >>= λ _. Ok t
 
 abbrev pub land : (MetaValue → MetaValue) → List (List (List ℕ) × Entry) → TreeMap → Result TreeMap TreeFault

@@ -1,9 +1,9 @@
 -- What a granted copy of one source is, path by path.
 use Rattle.std.specs.Prelude.{◌≡◌, ℕ, zero, negsuc, Bool, true, false, List, ◌++◌, Some, None, Ok, ◌⊎◌}
 use Rattle.std.specs.FinMap as finite
-use Rattle.llb_ops.specs.declared.file.CopyFile.{CopyFile}
+use Rattle.llb_ops.specs.declared.actions.CopyFile.{CopyFile}
 use Rattle.llb_tree.specs.Path.{is_within}
-use Rattle.llb_tree.specs.Meta.{MetaValue, root_meta}
+use Rattle.llb_tree.specs.Meta.{MetaValue, new_dir_meta}
 use Rattle.llb_tree.specs.Tree.{TreeMap, Dir, File}
 use Rattle.llb_fileop.specs.Owners.{copied}
 use Rattle.llb_fileop.specs.Copying.{target, copy_one}
@@ -12,7 +12,7 @@ use Rattle.llb_fileop.specs.Copying.{target, copy_one}
 pub record IsMadeParent (t u : TreeMap) (goal q : List (List ℕ)) : Type 0 where
   pub above : is_within q goal ≡ true
   pub was : finite.get t q ≡ None
-  pub is : finite.get u q ≡ Some (Dir root_meta)
+  pub is : finite.get u q ≡ Some (Dir new_dir_meta)
 
 -- each entry at or below the source stands at its place, a directory that was there is as it was, and so is all else but
 -- the parents that were made

@@ -1,9 +1,9 @@
 -- The mode and the owner of what an action makes or copies.
 use Rattle.std.specs.Prelude.{ℕ, ◌-◌, ◌%◌, ℤ, zero, suc, pos, negsuc, Option, Some, None, unwrap_or}
-use Rattle.llb_ops.specs.declared.file.ChownOpt.{ChownOpt}
-use Rattle.llb_ops.specs.declared.file.UserOpt.{UserOpt}
-use Rattle.llb_ops.specs.declared.file.User.{User}
-use Rattle.llb_ops.specs.declared.file.User.TheVariants.{ByName, ById}
+use Rattle.llb_ops.specs.declared.owners.ChownOpt.{ChownOpt}
+use Rattle.llb_ops.specs.declared.owners.UserOpt.{UserOpt}
+use Rattle.llb_ops.specs.declared.owners.User.{User}
+use Rattle.llb_ops.specs.declared.owners.User.TheVariants.{ByName, ById}
 use Rattle.llb_tree.specs.Meta.{MetaValue}
 
 -- the low 12 bits of a signed number

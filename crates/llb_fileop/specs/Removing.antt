@@ -3,7 +3,7 @@ use Rattle.std.specs.Prelude.{ℕ, Bool, true, false, not, List, [], ◌∷◌, 
 use Rattle.std.specs.List.{list_any, filter}
 use Rattle.std.specs.FinMap as finite
 use Rattle.llb_wire.specs.Answer.{◌>>=◌}
-use Rattle.llb_ops.specs.declared.file.Rm.{Rm}
+use Rattle.llb_ops.specs.declared.actions.Rm.{Rm}
 use Rattle.llb_tree.specs.Path.{path_of, is_within}
 use Rattle.llb_tree.specs.Tree.{TreeMap, Entry, without, not_root}
 use Rattle.llb_tree.specs.declared.fault.TreeFault.{TreeFault}

@@ -4,7 +4,6 @@
 ghost use Rattle.std.specs.Prelude.{◌≡◌, ◌≤◌, ◌++◌, length, IsSome};
 ghost use Rattle.std.specs.FinMap as finite;
 ghost use Rattle.llb_tree.specs.Tree as trees;
-ghost use Rattle.llb_tree.specs.Tree.{root_meta};
 ghost use Rattle.llb_fileop.specs.Faults.{Gives};
 ghost use Rattle.llb_fileop.specs.Owners.{copied};
 ghost use Rattle.llb_fileop.specs.Copying.{copy, copy_one, copy_chosen, OnePath, EachMatch, target, last_name, at_target};
@@ -14,7 +13,7 @@ use crate::dest::resolve;
 use crate::fault::ActFault;
 use crate::making::make_parents;
 use crate::merging::{land_dir, land_file};
-use crate::parts::{any_matches, is_dir};
+use crate::parts::any_matches;
 use llb_glob::Pattern;
 use llb_ops::CopyFile;
 use llb_tree::{Meta, Path, Tree, TreeFault};
@@ -97,16 +96,9 @@ fn copy_one(
 {
     let goal = target(action, dest, inside, second, source, tree)?;
     if action.create_dest_path {
-        make_parents(alloc, tree, &goal, root_meta())?;
+        make_parents(alloc, tree, &goal, Meta::new_dir())?;
     }
     land(alloc, action, second, source, &goal, tree)
-}
-
-// The mode and the owner of a parent that is made.
-fn root_meta() -> Meta
-    ensures { result ≡ root_meta }
-{
-    Meta::new(0o755, 0, 0).unwrap()
 }
 
 // Where a source is copied to.
@@ -120,10 +112,10 @@ fn target(
 ) -> Result<Path, TreeFault>
     ensures { trees.Gives (λ p. p) result (placed (target action.now (dest.now, inside) second.now source.now tree.now)) }
 {
-    if action.dir_copy_contents && is_dir(second, source) {
+    if action.dir_copy_contents && second.is_dir(source) {
         return dest.copy();
     }
-    if inside || is_dir(tree, dest) {
+    if inside || tree.is_dir(dest) {
         return place_in(dest, source);
     }
     dest.copy()
@@ -153,7 +145,7 @@ fn land(
     requires there { IsSome (finite.get second.now source.now) }
     ensures { trees.Gives (λ _. tree.new) result (land_at (copied action.now.mode action.now.owner) (at_target second.now source.now goal.now) goal.now tree.old) }
 {
-    if is_dir(second, source) {
+    if second.is_dir(source) {
         let from = second.subtree(source)?;
         return land_dir(alloc, action, &from, goal, tree);
     }

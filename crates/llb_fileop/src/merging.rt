@@ -4,13 +4,13 @@
 ghost use Rattle.std.specs.Prelude.{◌≡◌, ◌≤◌, [], length, false, Ok, None, IsSome, map, IfErr};
 ghost use Rattle.std.specs.FinMap as finite;
 ghost use Rattle.llb_tree.specs.Rows.{seen};
-ghost use Rattle.llb_tree.specs.Tree.{is_memory, Gives, moved, IsDirAt, IsTree};
+ghost use Rattle.llb_tree.specs.Tree.{is_memory, Gives, moved, IsDirAt, IsTree, is_dir};
 ghost use Rattle.llb_fileop.specs.Owners.{copied};
-ghost use Rattle.llb_fileop.specs.Copying.{is_dir, landed, land, meets, at_target};
+ghost use Rattle.llb_fileop.specs.Copying.{landed, land, meets, at_target};
 ghost use Rattle.llb_fileop.specs.Parts.{put, put_some, laid, all_below, all_meet, land_at};
 
 use crate::owner::{copied, way};
-use crate::parts::{is_dir, is_there};
+use crate::parts::is_there;
 use llb_ops::CopyFile;
 use llb_tree::{Entry, Path, Tree, TreeFault};
 use std::alloc::Global;
@@ -29,7 +29,7 @@ pub fn land_file(
     requires tree { IsTree second.now }
     ensures { Gives (λ _. tree.new) result (land_at (copied action.now.mode action.now.owner) (at_target second.now source.now goal.now) goal.now tree.old) }
 {
-    if is_dir(tree, goal) {
+    if tree.is_dir(goal) {
         return Err(TreeFault::Conflict);
     }
     copy_from(action, second, source, goal, tree)
@@ -50,7 +50,7 @@ pub fn land_dir(
     if !is_there(tree, goal) {
         copy_from(action, source, &Path::root(alloc), goal, tree)?;
     }
-    if !is_dir(tree, goal) {
+    if !tree.is_dir(goal) {
         return Err(TreeFault::Conflict);
     }
     merge_at(action, source, goal, tree)

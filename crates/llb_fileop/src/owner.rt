@@ -7,9 +7,10 @@ ghost use Rattle.llb_fileop.specs.Owners.{mode_of, mode_from, number_in, id_in, 
 
 use llb_ops::{ChownOpt, CopyFile, User, UserOpt};
 use llb_tree::{Meta, Way};
+use llb_wire::Boxed;
 
 /// The mode and the owner of what an action makes.
-pub fn made(mode: i32, owner: &Option<ChownOpt>) -> Meta
+pub fn made(mode: i32, owner: &Option<Boxed<ChownOpt>>) -> Meta
     ensures { result ≡ made mode owner.now }
 {
     let uid = user_in(owner).unwrap_or(0);
@@ -66,20 +67,20 @@ fn low_bits(mode: i32) -> u16
     mode.rem_euclid(4096) as u16
 }
 
-fn user_in(owner: &Option<ChownOpt>) -> Option<u32>
+fn user_in(owner: &Option<Boxed<ChownOpt>>) -> Option<u32>
     ensures { result ≡ user_in owner.now }
 {
     match owner {
-        Some(owner) => id_in(&owner.user),
+        Some(owner) => id_in(&owner.get().user),
         None => None,
     }
 }
 
-fn group_in(owner: &Option<ChownOpt>) -> Option<u32>
+fn group_in(owner: &Option<Boxed<ChownOpt>>) -> Option<u32>
     ensures { result ≡ group_in owner.now }
 {
     match owner {
-        Some(owner) => id_in(&owner.group),
+        Some(owner) => id_in(&owner.get().group),
         None => None,
     }
 }

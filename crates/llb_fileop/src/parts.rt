@@ -5,10 +5,9 @@ ghost use Rattle.std.specs.List.{list_any};
 ghost use Rattle.std.specs.FinMap as finite;
 ghost use Rattle.llb_glob.specs.Matching.{path_matches};
 ghost use Rattle.llb_tree.specs.Tree.{Gives, IsTree};
-ghost use Rattle.llb_fileop.specs.Copying.{is_dir};
 
 use llb_glob::Pattern;
-use llb_tree::{Entry, Path, Tree, TreeFault};
+use llb_tree::{Path, Tree, TreeFault};
 
 /// Whether something stands at a path.
 pub fn is_there(tree: &Tree, path: &Path) -> bool
@@ -16,18 +15,6 @@ pub fn is_there(tree: &Tree, path: &Path) -> bool
     ensures tree { IsTree tree.now }
 {
     tree.get(path).is_some()
-}
-
-/// Whether a directory stands at a path.
-pub fn is_dir(tree: &Tree, path: &Path) -> bool
-    ensures there { result ≡ is_dir (finite.get tree.now path.now) }
-    ensures tree { IsTree tree.now }
-{
-    match tree.get(path) {
-        Some(Entry::Dir(_)) => true,
-        Some(Entry::File(..)) => false,
-        None => false,
-    }
 }
 
 /// Whether any path of a tree matches.

@@ -5,7 +5,7 @@ use Rattle.llb_ops.specs.declared.op.Op.{Op}
 use Rattle.llb_loader.specs.declared.row.Row.{Row}
 use Rattle.llb_loader.specs.declared.graph.Vertex.{Vertex}
 use Rattle.llb_loader.specs.Rows.{inputs}
-use Rattle.llb_loader.specs.Naming.{row_at}
+use Rattle.llb_loader.specs.RowLookup.{row_at}
 use Rattle.llb_loader.specs.Linking.{op_at}
 use Rattle.llb_loader.specs.Building.{IsBuilt, AreBuilt, vertex_at}
 use Rattle.llb_loader.proofs.Firsts.{below_step}

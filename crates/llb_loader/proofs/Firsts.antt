@@ -8,7 +8,7 @@ use Rattle.std.specs.Str.{bytes_eq}
 use Rattle.std.specs.Map.{update}
 use Rattle.llb_loader.specs.declared.row.Row.{Row}
 use Rattle.std.proofs.Math.Numerals.{add-one}
-use Rattle.llb_loader.specs.Naming.{row_at, Collides, IsTerminal, first_with}
+use Rattle.llb_loader.specs.RowLookup.{row_at, Collides, IsTerminal, first_with}
 
 pub bytes_same : (x y : List ℕ) → bytes_eq x y ≡ true → x ≡ y
 bytes_same x y e = (bytes_eq-Decides x y).0 e

@@ -11,7 +11,7 @@ use Rattle.llb_ops.specs.declared.op.Input.{Input}
 use Rattle.llb_loader.specs.declared.row.Row.{Row}
 use Rattle.llb_loader.specs.Rows.{inputs, InRange, HasEdge, Walk, Reached}
 use Rattle.llb_loader.specs.Rules.{IsBelow}
-use Rattle.llb_loader.specs.Naming.{row_at, first_with, other_than, row_named, rows_named, graph_of}
+use Rattle.llb_loader.specs.RowLookup.{row_at, first_with, other_than, row_named, rows_named, graph_of}
 use Rattle.llb_loader.specs.Linking.{op_at}
 use Rattle.llb_loader.proofs.Firsts.{first_cases}
 use Rattle.llb_loader.proofs.Outputs.{below_at}

@@ -9,7 +9,7 @@ use Rattle.llb_loader.specs.declared.row.Row.{Row}
 use Rattle.llb_loader.specs.declared.fault.LoadFault.{LoadFault}
 use Rattle.llb_loader.specs.Rows.{inputs}
 use Rattle.llb_loader.specs.Placing.{IsMarked}
-use Rattle.llb_loader.specs.Naming.{row_named, terminal_in}
+use Rattle.llb_loader.specs.RowLookup.{row_named, terminal_in}
 use Rattle.llb_loader.specs.Rules.{IsBelow, output_count}
 use Rattle.llb_loader.specs.Linking.{op_at, input_at, Plan, plan, links_in, input_row, ReachedRow, HasInput, outputs_there, IsBadIndex, Foremost, HasResult, IsStarted, IsNamed, IsOrdered, IsTaken, IsValid, start_in, IsPlanOf, Refuses, Refused}
 use Rattle.llb_loader.specs.Checks.{NamesAll, RefusesUnknown, RefusesFeature, RefusesRule, RefusesIndex, FitsAll, FirstBad, asked_of, count_there}

@@ -16,7 +16,7 @@ use Rattle.llb_loader.specs.declared.fault.LoadFault.TheVariants.{Definition, En
 use Rattle.llb_loader.specs.declared.fault.Feature.{Feature}
 use Rattle.llb_loader.specs.declared.fault.Rule.{Rule}
 use Rattle.llb_loader.specs.Numbering.{HasCycle, rank_in}
-use Rattle.llb_loader.specs.Naming.{row_at, AllSame, Collides, Least}
+use Rattle.llb_loader.specs.RowLookup.{row_at, AllSame, Collides, Least}
 use Rattle.llb_loader.specs.Features.{feature_of}
 use Rattle.llb_loader.specs.Rules.{MeetsAll, Breaks, BreaksFirst, rules_on}
 use Rattle.llb_loader.specs.Graph.{Numbered}

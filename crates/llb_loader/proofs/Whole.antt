@@ -20,7 +20,7 @@ use Rattle.llb_loader.specs.declared.graph.Edge.{Edge}
 use Rattle.llb_loader.specs.declared.graph.Vertex.{Vertex}
 use Rattle.llb_loader.specs.Numbering.{rank_in}
 use Rattle.llb_loader.specs.Rows.{inputs, HasEdge, Walk}
-use Rattle.llb_loader.specs.Naming.{row_at, row_named}
+use Rattle.llb_loader.specs.RowLookup.{row_at, row_named}
 use Rattle.llb_loader.specs.Features.{is_nameless, has, features, feature_of}
 use Rattle.llb_applet.specs.declared.command.Command.{Command}
 use Rattle.llb_loader.specs.Locals.{behind}

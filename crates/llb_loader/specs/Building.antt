@@ -8,7 +8,7 @@ use Rattle.llb_loader.specs.declared.graph.Vertex.{Vertex}
 use Rattle.llb_loader.specs.Rows.{inputs}
 use Rattle.llb_loader.specs.Rules.{IsBelow, step_count, output_count}
 use Rattle.llb_loader.specs.Scripts.{script_in}
-use Rattle.llb_loader.specs.Naming.{row_at}
+use Rattle.llb_loader.specs.RowLookup.{row_at}
 use Rattle.llb_loader.specs.Linking.{op_at, input_at}
 
 -- an edge of a list, and a vertex of a list

@@ -6,7 +6,7 @@ use Rattle.llb_ops.specs.declared.op.Kind.{Kind}
 use Rattle.llb_ops.specs.declared.op.Kind.TheVariants.{Exec, Source, Build, Diff}
 use Rattle.llb_ops.specs.declared.file.ActionKind.{ActionKind}
 use Rattle.llb_ops.specs.declared.file.ActionKind.TheVariants.{Copy}
-use Rattle.llb_ops.specs.declared.file.CopyFile.{CopyFile}
+use Rattle.llb_ops.specs.declared.actions.CopyFile.{CopyFile}
 use Rattle.llb_loader.specs.declared.fault.Feature.{Feature}
 use Rattle.llb_loader.specs.declared.fault.Feature.TheVariants as feature
 use Rattle.llb_loader.specs.Mounts.{secret, ssh, has_type}

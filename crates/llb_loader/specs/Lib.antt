@@ -9,7 +9,7 @@ pub mod Graph
 pub mod Numbering
 pub mod Placing
 pub mod Faults
-pub mod Naming
+pub mod RowLookup
 pub mod Locals
 pub mod Features
 pub mod Linking

@@ -12,7 +12,7 @@ use Rattle.llb_loader.specs.declared.fault.Feature.{Feature}
 use Rattle.llb_loader.specs.declared.fault.Rule.{Rule}
 use Rattle.llb_loader.specs.Rows.{Reached}
 use Rattle.llb_loader.specs.Numbering.{IsNumbering, HasCycle, rank_in}
-use Rattle.llb_loader.specs.Naming.{row_at, AllSame, Collides, Least, IsTerminal, terminal_in, row_named, graph_of}
+use Rattle.llb_loader.specs.RowLookup.{row_at, AllSame, Collides, Least, IsTerminal, terminal_in, row_named, graph_of}
 use Rattle.llb_loader.specs.Features.{feature_of}
 use Rattle.llb_loader.specs.Scripts.{script_in}
 use Rattle.llb_loader.specs.Rules.{step_count, output_count, IsBelow, MeetsRules, BreaksFirst}

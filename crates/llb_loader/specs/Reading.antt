@@ -6,7 +6,7 @@ use Rattle.llb_ops.specs.Messages.{op_of}
 use Rattle.llb_loader.specs.declared.row.Row.{Row}
 use Rattle.llb_loader.specs.declared.fault.LoadFault.{LoadFault}
 use Rattle.llb_loader.specs.declared.fault.LoadFault.TheVariants.{Entry}
-use Rattle.llb_loader.specs.Naming.{row_at}
+use Rattle.llb_loader.specs.RowLookup.{row_at}
 use Rattle.llb_loader.specs.Linking.{op_at}
 
 -- each row spells its op

@@ -15,10 +15,10 @@ use Rattle.llb_ops.specs.declared.file.Action.{Action}
 use Rattle.llb_ops.specs.declared.file.FileOp.{FileOp}
 use Rattle.llb_ops.specs.declared.file.ActionKind.{ActionKind}
 use Rattle.llb_ops.specs.declared.file.ActionKind.TheVariants.{Copy, MkFile, MkDir}
-use Rattle.llb_ops.specs.declared.file.ChownOpt.{ChownOpt}
-use Rattle.llb_ops.specs.declared.file.UserOpt.{UserOpt}
-use Rattle.llb_ops.specs.declared.file.User.{User}
-use Rattle.llb_ops.specs.declared.file.User.TheVariants.{ByName}
+use Rattle.llb_ops.specs.declared.owners.ChownOpt.{ChownOpt}
+use Rattle.llb_ops.specs.declared.owners.UserOpt.{UserOpt}
+use Rattle.llb_ops.specs.declared.owners.User.{User}
+use Rattle.llb_ops.specs.declared.owners.User.TheVariants.{ByName}
 use Rattle.llb_ops.specs.declared.merge.MergeOp.{MergeOp}
 use Rattle.llb_ops.specs.declared.source.SourceOp.{SourceOp}
 use Rattle.llb_applet.specs.declared.fault.ScriptFault.{ScriptFault}

@@ -8,8 +8,8 @@ ghost use Rattle.llb_loader.specs.Scripts.{script_in, commands_in};
 ghost use Rattle.llb_loader.specs.Linking.{op_at, input_at};
 ghost use Rattle.llb_loader.specs.Building.{IsBuildable, IsBuilt, AreBuilt, edge_at, edge_to};
 
-use crate::counts::{count_of, steps_of};
 use crate::graph::{Edge, Vertex};
+use crate::op_sizes::{count_of, steps_of};
 use crate::row::Row;
 use llb_applet::{Script, ScriptFault, read_script};
 use llb_ops::{Input, Kind, Meta, Op};

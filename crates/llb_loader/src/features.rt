@@ -11,7 +11,7 @@ ghost use Rattle.llb_loader.specs.Features.{is_nameless, copies_with, has_patter
 use crate::fault::Feature;
 use crate::mount_type::MountType;
 use llb_ops::{
-    Action, ActionKind, ChownOpt, CopyFile, ExecOp, FileOp, Kind, Mount, Op, SourceOp, User,
+    Action, ActionKind, Boxed, ChownOpt, CopyFile, ExecOp, FileOp, Kind, Mount, Op, SourceOp, User,
     UserOpt,
 };
 
@@ -166,11 +166,11 @@ fn action_by_name(action: &Action) -> bool
     }
 }
 
-fn by_name(owner: &Option<ChownOpt>) -> bool
+fn by_name(owner: &Option<Boxed<ChownOpt>>) -> bool
     ensures { result ≡ owner_by_name owner.now }
 {
     match owner {
-        Some(owner) => is_name(&owner.user) || is_name(&owner.group),
+        Some(owner) => is_name(&owner.get().user) || is_name(&owner.get().group),
         None => false,
     }
 }

@@ -6,7 +6,7 @@ ghost use Rattle.llb_loader.specs.Rules.{TakeInputs, TakesSecond, IsInput, outpu
 ghost use Rattle.llb_loader.specs.Checking.{IsFirstBroken, file_rules};
 
 use crate::fault::Rule;
-use crate::numbers::{are_outputs, is_input};
+use crate::indices::{are_outputs, is_input};
 use llb_ops::{Action, ActionKind, FileOp, Input};
 use std::alloc::{AllocError, Global};
 

@@ -3,28 +3,28 @@
 
 mod build;
 mod cache_key;
-mod caches;
+mod cache_mounts;
 mod checks;
-mod counts;
 mod digest;
 mod exec_rules;
 mod fault;
 mod features;
 mod file_rules;
 mod graph;
+mod indices;
 mod laws;
 mod linking;
 mod loading;
 mod locals;
 mod mount_type;
-mod naming;
 mod numbering;
-mod numbers;
+mod op_sizes;
 mod paths;
 mod ranks;
 mod reach;
 mod reading;
 mod row;
+mod row_lookup;
 mod rules;
 
 pub use fault::{Feature, LoadFault, Memory, Rule};

@@ -10,7 +10,7 @@ ghost use Rattle.llb_loader.specs.Checking.{IsFirstBroken, merge_rules, source_r
 use crate::exec_rules::broken_in_exec;
 use crate::fault::Rule;
 use crate::file_rules::broken_in_file;
-use crate::numbers::is_input;
+use crate::indices::is_input;
 use llb_ops::{Input, Kind, MergeInput, MergeOp, Op, SourceOp};
 use llb_wire::Memory;
 use std::alloc::Global;

@@ -6,7 +6,7 @@ use Rattle.std.specs.List.{list_any}
 use Rattle.std.specs.Ordering.{eq_by_cmp}
 use Rattle.std.specs.FinMap as finite
 use Rattle.std.specs.FinMap.Entries.{where_key, find-where_key}
-use Rattle.llb_tree.specs.Meta.{root_meta}
+use Rattle.llb_tree.specs.Meta.{new_dir_meta}
 use Rattle.llb_tree.specs.Path.{path_cmp}
 use Rattle.llb_tree.specs.PathOrder.{path_cmp-IsTotalOrder, path_cmp-IsAntisymmetric}
 use Rattle.llb_tree.specs.Tree.{Entry, Dir, File, TreeMap, Look, parents, all_dirs, walk, IsDirAt, CanStand, IsTree, empty_tree}
@@ -156,10 +156,10 @@ module _ (a b : TreeMap) (lower : IsTree a) (upper : IsTree b) where
 
 -- ---- the empty tree, and a tree over itself
 
-get-empty_tree : (q : List (List ℕ)) → finite.get empty_tree q ≡ cond (eq_by_cmp path_cmp q []) (Some (Dir root_meta)) None
+get-empty_tree : (q : List (List ℕ)) → finite.get empty_tree q ≡ cond (eq_by_cmp path_cmp q []) (Some (Dir new_dir_meta)) None
 get-empty_tree q =
-    finite.get-insert path_cmp-IsTotalOrder finite.empty [] (Dir root_meta) q
-    ∙ ap (λ o. cond (eq_by_cmp path_cmp q []) (Some (Dir root_meta)) o) (finite.get-empty path_cmp q)
+    finite.get-insert path_cmp-IsTotalOrder finite.empty [] (Dir new_dir_meta) q
+    ∙ ap (λ o. cond (eq_by_cmp path_cmp q []) (Some (Dir new_dir_meta)) o) (finite.get-empty path_cmp q)
 
 kept_same : (b : Bool) (o : Option Entry) → or_else o (cond b None o) ≡ o
 kept_same b (Some e) = refl
@@ -194,11 +194,11 @@ below_none look none p = go (parents p)
 empty_no_file : (q : List (List ℕ)) → is_file (finite.get empty_tree q) ≡ false
 empty_no_file q =
     ap is_file (get-empty_tree q)
-    ∙ elim (eq_by_cmp path_cmp q []) as (λ b. is_file (cond b (Some (Dir root_meta)) None) ≡ false) [ true ↦ refl | false ↦ refl ]
+    ∙ elim (eq_by_cmp path_cmp q []) as (λ b. is_file (cond b (Some (Dir new_dir_meta)) None) ≡ false) [ true ↦ refl | false ↦ refl ]
 
-pub lay_under_empty : (t : TreeMap) → lay t empty_tree ≡ finite.insert t [] (Dir root_meta)
-lay_under_empty t = sym (lay_only t empty_tree (finite.insert t [] (Dir root_meta)) (λ q.
-    finite.get-insert path_cmp-IsTotalOrder t [] (Dir root_meta) q
+pub lay_under_empty : (t : TreeMap) → lay t empty_tree ≡ finite.insert t [] (Dir new_dir_meta)
+lay_under_empty t = sym (lay_only t empty_tree (finite.insert t [] (Dir new_dir_meta)) (λ q.
+    finite.get-insert path_cmp-IsTotalOrder t [] (Dir new_dir_meta) q
     ∙ elim (eq_by_cmp path_cmp q [])
-    as (λ b. cond b (Some (Dir root_meta)) (finite.get t q) ≡ or_else (cond b (Some (Dir root_meta)) None) (finite.get t q)) [ true ↦ refl | false ↦ refl ]
+    as (λ b. cond b (Some (Dir new_dir_meta)) (finite.get t q) ≡ or_else (cond b (Some (Dir new_dir_meta)) None) (finite.get t q)) [ true ↦ refl | false ↦ refl ]
     ∙ (λ i. or_else (sym (get-empty_tree q) i) (cond (sym (below_none (finite.get empty_tree) empty_no_file q) i) None (finite.get t q)))))

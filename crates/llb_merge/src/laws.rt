@@ -3,7 +3,7 @@
 
 ghost use Rattle.std.specs.Prelude.{◌≡◌, List, [], ℕ};
 ghost use Rattle.std.specs.FinMap as finite;
-ghost use Rattle.llb_tree.specs.Meta.{root_meta};
+ghost use Rattle.llb_tree.specs.Meta.{new_dir_meta};
 ghost use Rattle.llb_tree.specs.Tree.{IsTree, empty_tree, Dir};
 ghost use Rattle.llb_merge.specs.Laying.{lay, lay_at};
 
@@ -28,7 +28,7 @@ pub fn over_the_empty_tree(tree: &Tree)
 
 /// A tree over which the empty one is laid is itself, but its root has the mode and the owner of the empty tree's.
 pub fn under_the_empty_tree(tree: &Tree)
-    ensures { lay tree.now empty_tree ≡ finite.insert tree.now [] (Dir root_meta) }
+    ensures { lay tree.now empty_tree ≡ finite.insert tree.now [] (Dir new_dir_meta) }
 {
     let _ = tree;
 }

@@ -11,7 +11,7 @@ use Rattle.llb_loader.specs.Graph.{LeadsBelow, IsGraph}
 use Rattle.llb_loader.specs.declared.graph.Edge.{Edge}
 use Rattle.llb_model.specs.Caches.{Store}
 use Rattle.llb_model.specs.Program.{Build, Need, Start, needs_of, step_on}
-use Rattle.llb_model.specs.State.{Status, Waiting, Running, Settled, Execution, At, Idle, Runs, State, ending_of, ending_at, ready, is_ready, is_waiting, is_failed, program_in, work_of, is_finished, ending_from, held, is_shut, held_key}
+use Rattle.llb_model.specs.State.{Status, Waiting, Running, Settled, Execution, At, Idle, Runs, State, ending_of, ending_at, ready, is_ready, is_waiting, is_failed, program_in, work_of, is_finished, ending_from, held, is_shut, held_key, is_stopped}
 use Rattle.llb_model.specs.Table.{Event, Claim, Step, Settle, Reply, claim_at, step_by, settle_with, after_settle, table}
 use Rattle.llb_model.specs.Run.{next_of, least, next_claim, or_else, chosen, is_settled, claims_of, AllAbove, AreAscending}
 use Rattle.llb_model.specs.Consistent.{IsConsistent}
@@ -19,7 +19,7 @@ use Rattle.llb_model.proofs.Lists.{inside, eq_or, get_set_same, get_set_other, g
 use Rattle.llb_model.proofs.Parts.{unfinished_some}
 use Rattle.llb_model.proofs.Events.{Answer, claim_places, claim_is, step_is, settle_is, ready_is, ready_as, claim_granted, step_granted, settle_granted}
 use Rattle.llb_model.proofs.Outcomes.{each_below}
-use Rattle.llb_model.proofs.Stopped.{is_stopped, stopped_is, stopped_there, any_stopped, stopped_cases, ready_not_stopped}
+use Rattle.llb_model.proofs.Stopped.{stopped_is, stopped_there, any_stopped, stopped_cases, ready_not_stopped}
 use Rattle.llb_model.proofs.Ready.{ready_waits}
 use Rattle.llb_model.proofs.Complete.{is_over, nothing_runs, over_by, least_some, IsLeast, progress, over_not_ready}
 

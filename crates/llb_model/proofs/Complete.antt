@@ -9,7 +9,7 @@ use Rattle.llb_loader.specs.declared.graph.Vertex.{Vertex}
 use Rattle.llb_tree.specs.Tree.{TreeMap}
 use Rattle.llb_model.specs.Program.{Build}
 use Rattle.llb_model.specs.Outcome.{Done, Failed, output_in, inputs_from, outcome, is_plain}
-use Rattle.llb_model.specs.State.{Status, Waiting, Running, Settled, Execution, At, Idle, Runs, State, ending_of, ending_at, is_ready, is_waiting, is_done, is_blocked, is_failed}
+use Rattle.llb_model.specs.State.{Status, Waiting, Running, Settled, Execution, At, Idle, Runs, State, ending_of, ending_at, is_ready, is_waiting, is_done, is_blocked, is_failed, is_stopped}
 use Rattle.llb_model.specs.Table.{Event, Claim}
 use Rattle.llb_model.specs.Run.{next_of, least, next_claim, or_else, chosen, is_settled, each, is_complete, StandsPlainly}
 use Rattle.llb_model.specs.Consistent.{IsConsistent}
@@ -17,7 +17,7 @@ use Rattle.llb_model.specs.Plain.{StandsByOutcomes}
 use Rattle.llb_model.specs.Laws.{IsAtRest}
 use Rattle.llb_model.proofs.Lists.{get_within, got_within, true_any, some_as}
 use Rattle.llb_model.proofs.Outcomes.{none_in_inputs, each_below, edge_there}
-use Rattle.llb_model.proofs.Stopped.{is_stopped, stopped_is, any_stopped, done_count, ready_not_stopped, stopped_blocked}
+use Rattle.llb_model.proofs.Stopped.{stopped_is, any_stopped, done_count, ready_not_stopped, stopped_blocked}
 use Rattle.llb_model.proofs.Ready.{ready_by_inputs, ready_waits}
 
 -- a vertex that needs nothing more: it is settled, or blocked

@@ -8,7 +8,7 @@ use Rattle.llb_cache.specs.declared.key.Key.{Key}
 use Rattle.llb_cache.specs.Key.{same_key, same_keys, key_itself}
 use Rattle.llb_cache.specs.Caches as cache
 use Rattle.llb_cache.specs.Caches.{Row, trees_of, tree_at, made}
-use Rattle.llb_cache.proofs.Rows.{same_trees, other_trees}
+use Rattle.llb_cache.specs.Rows.{same_trees, other_trees}
 use Rattle.llb_tree.specs.Tree.{TreeMap}
 use Rattle.llb_model.specs.Caches.{Place, place, place_cmp, Store, content, put}
 use Rattle.llb_model.specs.Laws.{IsDense}

@@ -4,7 +4,7 @@ use Rattle.std.specs.Prelude.{slice_get, slice_set, nat_lt}
 use Rattle.std.proofs.lemmas.Bool.{ltb-false, ltb-true}
 use Rattle.llb_cache.specs.Caches as cache
 use Rattle.llb_cache.specs.Caches.{Leases, with_lease, free_lease, before, trimmed}
-use Rattle.llb_cache.proofs.Leased.{held_by, holder, free_within, lease_cases}
+use Rattle.llb_cache.specs.Leased.{held_by, holder, free_within, lease_cases}
 use Rattle.llb_model.specs.Caches.{Place, Has}
 use Rattle.llb_model.specs.State.{Execution, At, Idle, Runs}
 use Rattle.llb_model.specs.Leases.{AreLeased, LeasedHoldsAs, ClaimLeases, ClaimWithout, StepKeepsLease, SettleGivesBack, SettleWithout}

@@ -11,7 +11,7 @@ use Rattle.llb_loader.specs.declared.graph.Vertex.{Vertex}
 use Rattle.llb_model.specs.declared.fault.VertexFault.{VertexFault}
 use Rattle.llb_model.specs.Program.{Build, Start}
 use Rattle.llb_model.specs.Outcome.{Ending, Done, Failed, Blocked, output_in, inputs_from, outcome_on, ending_in, outcome, is_plain}
-use Rattle.llb_model.specs.State.{Status, Waiting, Running, Settled, State, ending_of, ending_at, ready, is_ready, is_waiting, is_failed, next_stopped, stopped, is_blocked}
+use Rattle.llb_model.specs.State.{Status, Waiting, Running, Settled, State, ending_of, ending_at, ready, is_ready, is_waiting, is_failed, next_stopped, stopped, is_blocked, is_stopped}
 use Rattle.llb_model.specs.Consistent.{IsConsistent}
 use Rattle.llb_model.specs.Plain.{StandsByOutcomes}
 use Rattle.llb_model.proofs.Lists.{some_of, get_take, get_within, got_within, Each_of, each_unit, each_both, any_true, some_as}
@@ -21,10 +21,6 @@ use Rattle.llb_model.proofs.Outcomes.{inputs_none, each_below, HasOutputs, plain
 use Rattle.llb_model.proofs.Plain.{ending_settled, ending_plain}
 
 -- ---- the list of stopped vertices
-
--- whether a vertex has failed, or is behind one that has
-abbrev pub is_stopped : Build → List Status → ℕ → Bool
-is_stopped b statuses k = unwrap_or (slice_get (stopped b statuses) k) false
 
 pub stopped_next : (b : Build) (statuses : List Status) (k : ℕ) (v : Vertex) → slice_get b.graph.vertices k ≡ Some v
     → slice_get (stopped b statuses) k ≡ Some (next_stopped statuses (take k (stopped b statuses)) v)

@@ -101,7 +101,7 @@ is_failed (Some (Failed f)) = true
 is_failed (Some (Done trees)) = false
 is_failed None = false
 
--- a vertex has failed, or is behind one that has
+-- a vertex is stopped: it has failed, or is behind one that has
 abbrev pub next_stopped : List Status → List Bool → Vertex → Bool
 next_stopped statuses before v =
     is_failed (ending_at statuses (length before)) || list_any (λ (e : Edge). unwrap_or (slice_get before e.vertex) false) v.inputs
@@ -110,9 +110,12 @@ next_stopped statuses before v =
 abbrev pub stopped : Build → List Status → List Bool
 stopped b statuses = by_number (next_stopped statuses) [] b.graph.vertices
 
--- a vertex waits behind one that has failed
+abbrev pub is_stopped : Build → List Status → ℕ → Bool
+is_stopped b statuses v = unwrap_or (slice_get (stopped b statuses) v) false
+
+-- a vertex is blocked: it is stopped, and waits
 abbrev pub is_blocked : Build → List Status → ℕ → Bool
-is_blocked b statuses v = is_waiting (slice_get statuses v) && unwrap_or (slice_get (stopped b statuses) v) false
+is_blocked b statuses v = is_waiting (slice_get statuses v) && is_stopped b statuses v
 
 -- what a worker runs, if anything
 abbrev pub runs : Option At → Option Execution

@@ -20,7 +20,7 @@ meta_fields =
     (both (string 3 refl refl empty_utf8)
     (both (string 4 refl refl empty_utf8) end refl) refl) refl) refl
 
-abbrev meta_made : List (List ℕ) × (List (List ℕ) × (List ℕ × (List ℕ × Unit {0}))) → List ℕ → Meta
+abbrev pub meta_made : List (List ℕ) × (List (List ℕ) × (List ℕ × (List ℕ × Unit {0}))) → List ℕ → Meta
 meta_made a extra = record { args = a.0; env = a.1.0; cwd = a.1.1.0; user = a.1.1.1.0; extra = extra }
 
 pub meta_returns : Returns meta_of meta_bytes
@@ -31,7 +31,7 @@ abbrev tmpfs_opt_fields : FieldOf tmpfs_opt_shape TmpfsOpt (ℤ × Unit {0})
 tmpfs_opt_fields =
     both (numeric 1 int64 from_signed int64_recodes refl refl) end refl
 
-abbrev tmpfs_opt_made : ℤ × Unit {0} → List ℕ → TmpfsOpt
+abbrev pub tmpfs_opt_made : ℤ × Unit {0} → List ℕ → TmpfsOpt
 tmpfs_opt_made a extra = record { size = a.0; extra = extra }
 
 pub tmpfs_opt_returns : Returns tmpfs_opt_of tmpfs_opt_bytes
@@ -43,7 +43,7 @@ cache_opt_fields =
     both (string 1 refl refl empty_utf8)
     (both (numeric 2 int32 from_signed int32_recodes refl refl) end refl) refl
 
-abbrev cache_opt_made : List ℕ × (ℤ × Unit {0}) → List ℕ → CacheOpt
+abbrev pub cache_opt_made : List ℕ × (ℤ × Unit {0}) → List ℕ → CacheOpt
 cache_opt_made a extra = record { id = a.0; sharing = a.1.0; extra = extra }
 
 pub cache_opt_returns : Returns cache_opt_of cache_opt_bytes
@@ -61,7 +61,7 @@ mount_fields =
     (both (message 19 tmpfs_opt_of tmpfs_opt_bytes tmpfs_opt_returns refl refl)
     (both (message 20 cache_opt_of cache_opt_bytes cache_opt_returns refl refl) end refl) refl) refl) refl) refl) refl) refl) refl
 
-abbrev mount_made : ℤ × (List ℕ × (List ℕ × (ℤ × (Bool × (ℤ × (Option TmpfsOpt × (Option CacheOpt × Unit {0}))))))) → List ℕ → Mount
+abbrev pub mount_made : ℤ × (List ℕ × (List ℕ × (ℤ × (Bool × (ℤ × (Option TmpfsOpt × (Option CacheOpt × Unit {0}))))))) → List ℕ → Mount
 mount_made a extra = record { input = a.0; selector = a.1.0; dest = a.1.1.0; output = a.1.1.1.0; readonly = a.1.1.1.1.0; mount_type = a.1.1.1.1.1.0; tmpfs_opt = a.1.1.1.1.1.1.0; cache_opt = a.1.1.1.1.1.1.1.0; extra = extra }
 
 pub mount_returns : Returns mount_of mount_bytes
@@ -76,7 +76,7 @@ exec_op_fields =
     (both (numeric 4 int32 from_signed int32_recodes refl refl)
     (both (strings 5 refl refl) end refl) refl) refl) refl) refl
 
-abbrev exec_op_made : Option Meta × (List Mount × (ℤ × (ℤ × (List (List ℕ) × Unit {0})))) → List ℕ → ExecOp
+abbrev pub exec_op_made : Option Meta × (List Mount × (ℤ × (ℤ × (List (List ℕ) × Unit {0})))) → List ℕ → ExecOp
 exec_op_made a extra = record { meta = a.0; mounts = a.1.0; network = a.1.1.0; security = a.1.1.1.0; secretenv = a.1.1.1.1.0; extra = extra }
 
 pub exec_op_returns : Returns exec_op_of exec_op_bytes

@@ -202,7 +202,7 @@ all_good : (shape : Shape) (rs : List Record) → AllByRecursion (IsWritten shap
 all_good shape [] h k = tt
 all_good shape (r ∷ rs) h k = (h.0 k.0, all_good shape rs h.1 k.1)
 
-message_parts : {shape : Shape} {A M : Type 0} (f : FieldOf shape M A) (make : A → List ℕ → M) (rs : List Record) (m : M) → message_read f make rs ≡ Ok m
+pub message_parts : {shape : Shape} {A M : Type 0} (f : FieldOf shape M A) (make : A → List ℕ → M) (rs : List Record) (m : M) → message_read f make rs ≡ Ok m
     → (a : A) × (f.read rs ≡ Ok a) × (f.within rs ≡ true) × (make a (unnamed shape rs) ≡ m)
 message_parts {shape} f make rs m e =
     let a = bind_ok (f.read rs) (λ a. cond (f.within rs) (Ok (make a (unnamed shape rs))) (Err OverLimit)) m e in
@@ -235,7 +235,7 @@ fields_again {shape} f make rs a named good e w small =
 abbrev pub message_run : {shape : Shape} {A M : Type 0} → FieldOf shape M A → (A → List ℕ → M) → List Record → Result M OpFault
 message_run {shape} f make rs = f.run rs (λ a. if f.within rs then Ok (make a (unnamed shape rs)) else Err OverLimit)
 
-run_parts : {shape : Shape} {A M : Type 0} (f : FieldOf shape M A) (make : A → List ℕ → M) (r : Result (List Record) OpFault) → (r >>= message_run f make) ≡ (r >>= message_read f make)
+pub run_parts : {shape : Shape} {A M : Type 0} (f : FieldOf shape M A) (make : A → List ℕ → M) (r : Result (List Record) OpFault) → (r >>= message_run f make) ≡ (r >>= message_read f make)
 run_parts {shape} f make (Ok rs) = f.runs rs (λ a. if f.within rs then Ok (make a (unnamed shape rs)) else Err OverLimit)
 run_parts f make (Err d) = refl
 

@@ -1,4 +1,5 @@
 pub mod Split
+pub mod Forms
 pub mod Texts
 pub mod EntriesIn
 pub mod Admission
@@ -24,3 +25,11 @@ pub mod Sizes
 pub mod Within
 pub mod Spelled
 pub mod DefinitionTrips
+pub mod Tells
+pub mod Told
+pub mod Shorter
+pub mod ExecFields
+pub mod FileFields
+pub mod SourceFields
+pub mod OpFields
+pub mod TableRows

@@ -13,7 +13,7 @@ abbrev merge_input_fields : FieldOf merge_input_shape MergeInput (ℤ × Unit {0
 merge_input_fields =
     both (numeric 1 int64 from_signed int64_recodes refl refl) end refl
 
-abbrev merge_input_made : ℤ × Unit {0} → List ℕ → MergeInput
+abbrev pub merge_input_made : ℤ × Unit {0} → List ℕ → MergeInput
 merge_input_made a extra = record { input = a.0; extra = extra }
 
 pub merge_input_returns : Returns merge_input_of merge_input_bytes
@@ -24,7 +24,7 @@ abbrev merge_op_fields : FieldOf merge_op_shape MergeOp (List MergeInput × Unit
 merge_op_fields =
     both (messages 1 merge_input_of merge_input_bytes merge_input_returns refl refl) end refl
 
-abbrev merge_op_made : List MergeInput × Unit {0} → List ℕ → MergeOp
+abbrev pub merge_op_made : List MergeInput × Unit {0} → List ℕ → MergeOp
 merge_op_made a extra = record { inputs = a.0; extra = extra }
 
 pub merge_op_returns : Returns merge_op_of merge_op_bytes

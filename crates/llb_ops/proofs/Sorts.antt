@@ -203,7 +203,7 @@ message_written shape write n m range named =
 pub message_short : {M : Type 0} (read : List ℕ → Result M OpFault) (write : M → List ℕ) (n : ℕ) (m : M) → ((bytes : List ℕ) × (read bytes ≡ Ok m)) → Returns read write → IsShort (bytes_part n (write m)) → read (write m) ≡ Ok m
 message_short read write n m from returns short = returns from.0 m from.1 (payload_short n (write m) short)
 
-one_from : {M : Type 0} (read : List ℕ → Result M OpFault) (xs : List Record) (m : M) (b : Bool) → eqb (length xs) 0 ≡ b → one read xs ≡ Ok (Some m) → (bytes : List ℕ) × (read bytes ≡ Ok m)
+pub one_from : {M : Type 0} (read : List ℕ → Result M OpFault) (xs : List Record) (m : M) (b : Bool) → eqb (length xs) 0 ≡ b → one read xs ≡ Ok (Some m) → (bytes : List ℕ) × (read bytes ≡ Ok m)
 unfolding one
 one_from read xs m true e h = absurd (let k = rw e at h in none_some m k) where
   none_some : {M : Type 0} (m : M) → ok_of {A = Option M} None ≡ ok_of (Some m) → ⊥

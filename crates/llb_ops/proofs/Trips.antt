@@ -15,14 +15,14 @@ use Rattle.llb_ops.specs.declared.file.FileOp.{FileOp}
 use Rattle.llb_ops.specs.declared.file.Action.{Action}
 use Rattle.llb_ops.specs.declared.file.ActionKind.{ActionKind}
 use Rattle.llb_ops.specs.declared.file.ActionKind.TheVariants as action
-use Rattle.llb_ops.specs.declared.file.MkFile.{MkFile}
-use Rattle.llb_ops.specs.declared.file.MkDir.{MkDir}
-use Rattle.llb_ops.specs.declared.file.CopyFile.{CopyFile}
-use Rattle.llb_ops.specs.declared.file.Rm.{Rm}
-use Rattle.llb_ops.specs.declared.file.ChownOpt.{ChownOpt}
-use Rattle.llb_ops.specs.declared.file.UserOpt.{UserOpt}
-use Rattle.llb_ops.specs.declared.file.User.{User}
-use Rattle.llb_ops.specs.declared.file.User.TheVariants.{ByName, ById}
+use Rattle.llb_ops.specs.declared.actions.MkFile.{MkFile}
+use Rattle.llb_ops.specs.declared.actions.MkDir.{MkDir}
+use Rattle.llb_ops.specs.declared.actions.CopyFile.{CopyFile}
+use Rattle.llb_ops.specs.declared.actions.Rm.{Rm}
+use Rattle.llb_ops.specs.declared.owners.ChownOpt.{ChownOpt}
+use Rattle.llb_ops.specs.declared.owners.UserOpt.{UserOpt}
+use Rattle.llb_ops.specs.declared.owners.User.{User}
+use Rattle.llb_ops.specs.declared.owners.User.TheVariants.{ByName, ById}
 use Rattle.llb_ops.specs.Records.{int64, int32, uint32, flag, number, joined, is_member, one_of, message_of}
 use Rattle.llb_ops.specs.Messages.{input_shape, input_of, users, user_of, user_opt_shape, user_opt_of, chown_opt_shape, chown_opt_of, mk_file_shape, mk_file_of, mk_dir_shape, mk_dir_of, copy_file_shape, copy_file_of, copy_file_with, rm_shape, rm_of, action_shape, action_kinds, action_kind_of, action_of, file_op_shape, file_op_of, exec_op_of, source_op_of, merge_op_of, op_shape, kinds, kind_of, op_message_of, op_of, action_in, chown_opt_in, copy_file_in, file_op_in, input_in, mk_dir_in, mk_file_in, op_in, rm_in, user_opt_in}
 use Rattle.llb_ops.specs.Limits.{entry_limit}
@@ -41,7 +41,7 @@ use Rattle.llb_ops.proofs.Choices.{choice}
 abbrev input_fields : FieldOf input_shape Input (List ℕ × (ℤ × Unit {0}))
 input_fields = both (string 1 refl refl empty_utf8) (both (numeric 2 int64 from_signed int64_recodes refl refl) end refl) refl
 
-abbrev input_made : List ℕ × (ℤ × Unit {0}) → List ℕ → Input
+abbrev pub input_made : List ℕ × (ℤ × Unit {0}) → List ℕ → Input
 input_made a extra = record { digest = a.0; index = a.1.0; extra = extra }
 
 pub input_returns : Returns input_of input_bytes
@@ -50,42 +50,45 @@ input_returns = returns_by input_fields input_made input_of input_bytes refl (λ
 
 -- ---- users and groups
 
-abbrev user_record : User → Record
+abbrev pub user_record : User → Record
 user_record (ByName name) = bytes_part 1 name
 user_record (ById id) = number_part 2 id
 
-user_text : (a : User) → (user_record a).text ≡ user_bytes a
+pub user_text : (a : User) → (user_record a).text ≡ user_bytes a
 unfolding user_bytes set_bytes set_number
 user_text (ByName name) = refl
 user_text (ById id) = refl
 
-user_own : (a : User) → is_member users (user_record a) ≡ true
+pub user_own : (a : User) → is_member users (user_record a) ≡ true
 user_own (ByName name) = refl
 user_own (ById id) = refl
 
 -- what is known of a user that was read
-abbrev UserRead : User → Type 0
+abbrev pub UserRead : User → Type 0
 UserRead (ByName name) = Unit {0}
 UserRead (ById id) = id < 2 ^ 32
 
-user_cases : (first : Bool) (bytes : List ℕ) (v : ℕ) (a : User) → cond {A = Result User OpFault} first (Ok (ByName bytes)) (Ok (ById (uint32 v))) ≡ Ok a → UserRead a
+pub user_cases : (first : Bool) (bytes : List ℕ) (v : ℕ) (a : User) → cond {A = Result User OpFault} first (Ok (ByName bytes)) (Ok (ById (uint32 v))) ≡ Ok a → UserRead a
 user_cases true bytes v a e = subst UserRead (ok_is (ByName bytes) a e) tt
 user_cases false bytes v a e = let small : uint32 v < 2 ^ 32 = omega arith in subst UserRead (ok_is (ById (uint32 v)) a e) small
 
-user_written : (a : User) → UserRead a → IsWritten user_opt_shape (user_record a)
+pub user_written : (a : User) → UserRead a → IsWritten user_opt_shape (user_record a)
 user_written (ByName name) h = bytes_written user_opt_shape 1 name refl refl refl
 user_written (ById id) h = λ short. number_written user_opt_shape 2 id refl refl (omega (arith, h))
 
-user_again : (a : User) → UserRead a → one_of users user_of (user_record a ∷ []) ≡ Ok (Some a)
+pub user_again : (a : User) → UserRead a → one_of users user_of (user_record a ∷ []) ≡ Ok (Some a)
 user_again (ByName name) h = ap (λ b. Ok (Some (ByName b))) (append-nil name)
 user_again (ById id) h = let same : uint32 id ≡ id = omega (arith, h) in ap (λ v. Ok (Some (ById v))) same
 
-abbrev user_opt_fields : FieldOf user_opt_shape UserOpt (Option User × Unit {0})
-user_opt_fields = both (choice users user_of user_record user_bytes user_text user_own
+abbrev pub user_choice : FieldOf user_opt_shape UserOpt (Option User)
+user_choice = choice users user_of user_record user_bytes user_text user_own
     (λ n xs a good e. user_written a (user_cases (n == 1) (joined xs) (number xs) a e))
-    (λ n xs a good e short. user_again a (user_cases (n == 1) (joined xs) (number xs) a e))) end refl
+    (λ n xs a good e short. user_again a (user_cases (n == 1) (joined xs) (number xs) a e))
 
-abbrev user_opt_made : Option User × Unit {0} → List ℕ → UserOpt
+abbrev user_opt_fields : FieldOf user_opt_shape UserOpt (Option User × Unit {0})
+user_opt_fields = both user_choice end refl
+
+abbrev pub user_opt_made : Option User × Unit {0} → List ℕ → UserOpt
 user_opt_made a extra = record { user = a.0; extra = extra }
 
 pub user_opt_returns : Returns user_opt_of user_opt_bytes
@@ -95,7 +98,7 @@ user_opt_returns = returns_by user_opt_fields user_opt_made user_opt_of user_opt
 abbrev chown_opt_fields : FieldOf chown_opt_shape ChownOpt (Option UserOpt × (Option UserOpt × Unit {0}))
 chown_opt_fields = both (message 1 user_opt_of user_opt_bytes user_opt_returns refl refl) (both (message 2 user_opt_of user_opt_bytes user_opt_returns refl refl) end refl) refl
 
-abbrev chown_opt_made : Option UserOpt × (Option UserOpt × Unit {0}) → List ℕ → ChownOpt
+abbrev pub chown_opt_made : Option UserOpt × (Option UserOpt × Unit {0}) → List ℕ → ChownOpt
 chown_opt_made a extra = record { user = a.0; group = a.1.0; extra = extra }
 
 pub chown_opt_returns : Returns chown_opt_of chown_opt_bytes
@@ -112,7 +115,7 @@ mk_file_fields =
     (both (message 4 chown_opt_of chown_opt_bytes chown_opt_returns refl refl)
     (both (numeric 5 int64 from_signed int64_recodes refl refl) end refl) refl) refl) refl) refl
 
-abbrev mk_file_made : List ℕ × (ℤ × (List ℕ × (Option ChownOpt × (ℤ × Unit {0})))) → List ℕ → MkFile
+abbrev pub mk_file_made : List ℕ × (ℤ × (List ℕ × (Option ChownOpt × (ℤ × Unit {0})))) → List ℕ → MkFile
 mk_file_made a extra = record { path = a.0; mode = a.1.0; body = a.1.1.0; owner = a.1.1.1.0; timestamp = a.1.1.1.1.0; extra = extra }
 
 pub mk_file_returns : Returns mk_file_of mk_file_bytes
@@ -127,7 +130,7 @@ mk_dir_fields =
     (both (message 4 chown_opt_of chown_opt_bytes chown_opt_returns refl refl)
     (both (numeric 5 int64 from_signed int64_recodes refl refl) end refl) refl) refl) refl) refl
 
-abbrev mk_dir_made : List ℕ × (ℤ × (Bool × (Option ChownOpt × (ℤ × Unit {0})))) → List ℕ → MkDir
+abbrev pub mk_dir_made : List ℕ × (ℤ × (Bool × (Option ChownOpt × (ℤ × Unit {0})))) → List ℕ → MkDir
 mk_dir_made a extra = record { path = a.0; mode = a.1.0; make_parents = a.1.1.0; owner = a.1.1.1.0; timestamp = a.1.1.1.1.0; extra = extra }
 
 pub mk_dir_returns : Returns mk_dir_of mk_dir_bytes
@@ -150,7 +153,7 @@ copy_file_fields =
     (both (strings 12 refl refl)
     (both (strings 13 refl refl) end refl) refl) refl) refl) refl) refl) refl) refl) refl) refl) refl) refl) refl
 
-abbrev copy_file_made : List ℕ × (List ℕ × (Option ChownOpt × (ℤ × (Bool × (Bool × (Bool × (Bool × (Bool × (Bool × (ℤ × (List (List ℕ) × (List (List ℕ) × Unit {0})))))))))))) → List ℕ → CopyFile
+abbrev pub copy_file_made : List ℕ × (List ℕ × (Option ChownOpt × (ℤ × (Bool × (Bool × (Bool × (Bool × (Bool × (Bool × (ℤ × (List (List ℕ) × (List (List ℕ) × Unit {0})))))))))))) → List ℕ → CopyFile
 copy_file_made a extra = record { src = a.0; dest = a.1.0; owner = a.1.1.0; mode = a.1.1.1.0; follow_symlink = a.1.1.1.1.0; dir_copy_contents = a.1.1.1.1.1.0; attempt_unpack_docker_compatibility = a.1.1.1.1.1.1.0; create_dest_path = a.1.1.1.1.1.1.1.0; allow_wildcard = a.1.1.1.1.1.1.1.1.0; allow_empty_wildcard = a.1.1.1.1.1.1.1.1.1.0; timestamp = a.1.1.1.1.1.1.1.1.1.1.0; include_patterns = a.1.1.1.1.1.1.1.1.1.1.1.0; exclude_patterns = a.1.1.1.1.1.1.1.1.1.1.1.1.0; extra = extra }
 
 pub copy_file_returns : Returns copy_file_of copy_file_bytes
@@ -163,27 +166,27 @@ rm_fields =
     (both (numeric 2 flag bit flag_recodes refl refl)
     (both (numeric 3 flag bit flag_recodes refl refl) end refl) refl) refl
 
-abbrev rm_made : List ℕ × (Bool × (Bool × Unit {0})) → List ℕ → Rm
+abbrev pub rm_made : List ℕ × (Bool × (Bool × Unit {0})) → List ℕ → Rm
 rm_made a extra = record { path = a.0; allow_not_found = a.1.0; allow_wildcard = a.1.1.0; extra = extra }
 
 pub rm_returns : Returns rm_of rm_bytes
 unfolding message_of rm_in rm_bytes
 rm_returns = returns_by rm_fields rm_made rm_of rm_bytes refl (λ bytes. refl) (λ a extra. refl)
 
-abbrev action_record : ActionKind → Record
+abbrev pub action_record : ActionKind → Record
 action_record (action.Copy m) = bytes_part 4 (copy_file_bytes m)
 action_record (action.MkFile m) = bytes_part 5 (mk_file_bytes m)
 action_record (action.MkDir m) = bytes_part 6 (mk_dir_bytes m)
 action_record (action.Rm m) = bytes_part 7 (rm_bytes m)
 
-action_text : (a : ActionKind) → (action_record a).text ≡ action_kind_bytes a
+pub action_text : (a : ActionKind) → (action_record a).text ≡ action_kind_bytes a
 unfolding action_kind_bytes set_bytes
 action_text (action.Copy m) = refl
 action_text (action.MkFile m) = refl
 action_text (action.MkDir m) = refl
 action_text (action.Rm m) = refl
 
-action_own : (a : ActionKind) → is_member action_kinds (action_record a) ≡ true
+pub action_own : (a : ActionKind) → is_member action_kinds (action_record a) ≡ true
 action_own (action.Copy m) = refl
 action_own (action.MkFile m) = refl
 action_own (action.MkDir m) = refl
@@ -211,28 +214,31 @@ action_cases false false false bytes a e = of_message ActionRead rm_of (λ m. ac
 pub action_from : (n : ℕ) (xs : List Record) (a : ActionKind) → action_kind_of n xs ≡ Ok a → ActionRead a
 action_from n xs a e = action_cases (n == 4) (n == 5) (n == 6) (joined xs) a e
 
-action_written : (a : ActionKind) → IsWritten action_shape (action_record a)
+pub action_written : (a : ActionKind) → IsWritten action_shape (action_record a)
 action_written (action.Copy m) = bytes_written action_shape 4 (copy_file_bytes m) refl refl refl
 action_written (action.MkFile m) = bytes_written action_shape 5 (mk_file_bytes m) refl refl refl
 action_written (action.MkDir m) = bytes_written action_shape 6 (mk_dir_bytes m) refl refl refl
 action_written (action.Rm m) = bytes_written action_shape 7 (rm_bytes m) refl refl refl
 
-action_again : (a : ActionKind) → ActionRead a → IsShort (action_record a) → one_of action_kinds action_kind_of (action_record a ∷ []) ≡ Ok (Some a)
+pub action_again : (a : ActionKind) → ActionRead a → IsShort (action_record a) → one_of action_kinds action_kind_of (action_record a ∷ []) ≡ Ok (Some a)
 action_again (action.Copy m) h short = rw (append-nil (copy_file_bytes m), message_short copy_file_of copy_file_bytes 4 m h copy_file_returns short) refl
 action_again (action.MkFile m) h short = rw (append-nil (mk_file_bytes m), message_short mk_file_of mk_file_bytes 5 m h mk_file_returns short) refl
 action_again (action.MkDir m) h short = rw (append-nil (mk_dir_bytes m), message_short mk_dir_of mk_dir_bytes 6 m h mk_dir_returns short) refl
 action_again (action.Rm m) h short = rw (append-nil (rm_bytes m), message_short rm_of rm_bytes 7 m h rm_returns short) refl
+
+abbrev pub action_choice : FieldOf action_shape Action (Option ActionKind)
+action_choice = choice action_kinds action_kind_of action_record action_kind_bytes action_text action_own
+    (λ n xs a good e. action_written a)
+    (λ n xs a good e short. action_again a (action_from n xs a e) short)
 
 abbrev action_fields : FieldOf action_shape Action (ℤ × (ℤ × (ℤ × (Option ActionKind × Unit {0}))))
 action_fields =
     both (numeric 1 int64 from_signed int64_recodes refl refl)
     (both (numeric 2 int64 from_signed int64_recodes refl refl)
     (both (numeric 3 int64 from_signed int64_recodes refl refl)
-    (both (choice action_kinds action_kind_of action_record action_kind_bytes action_text action_own
-    (λ n xs a good e. action_written a)
-    (λ n xs a good e short. action_again a (action_from n xs a e) short)) end refl) refl) refl) refl
+    (both action_choice end refl) refl) refl) refl
 
-abbrev action_made : ℤ × (ℤ × (ℤ × (Option ActionKind × Unit {0}))) → List ℕ → Action
+abbrev pub action_made : ℤ × (ℤ × (ℤ × (Option ActionKind × Unit {0}))) → List ℕ → Action
 action_made a extra = record { input = a.0; secondary_input = a.1.0; output = a.1.1.0; kind = a.1.1.1.0; extra = extra }
 
 pub action_returns : Returns action_of action_bytes
@@ -242,7 +248,7 @@ action_returns = returns_by action_fields action_made action_of action_bytes ref
 abbrev file_op_fields : FieldOf file_op_shape FileOp (List Action × Unit {0})
 file_op_fields = both (messages 2 action_of action_bytes action_returns refl refl) end refl
 
-abbrev file_op_made : List Action × Unit {0} → List ℕ → FileOp
+abbrev pub file_op_made : List Action × Unit {0} → List ℕ → FileOp
 file_op_made a extra = record { actions = a.0; extra = extra }
 
 pub file_op_returns : Returns file_op_of file_op_bytes
@@ -251,7 +257,7 @@ file_op_returns = returns_by file_op_fields file_op_made file_op_of file_op_byte
 
 -- ---- ops
 
-abbrev kind_record : Kind → Record
+abbrev pub kind_record : Kind → Record
 kind_record (Exec m) = bytes_part 2 (exec_op_bytes m)
 kind_record (Source m) = bytes_part 3 (source_op_bytes m)
 kind_record (File m) = bytes_part 4 (file_op_bytes m)
@@ -259,7 +265,7 @@ kind_record (Build bytes) = bytes_part 5 bytes
 kind_record (Merge m) = bytes_part 6 (merge_op_bytes m)
 kind_record (Diff bytes) = bytes_part 7 bytes
 
-kind_text : (a : Kind) → (kind_record a).text ≡ kind_bytes a
+pub kind_text : (a : Kind) → (kind_record a).text ≡ kind_bytes a
 unfolding kind_bytes set_bytes
 kind_text (Exec m) = refl
 kind_text (Source m) = refl
@@ -268,7 +274,7 @@ kind_text (Build bytes) = refl
 kind_text (Merge m) = refl
 kind_text (Diff bytes) = refl
 
-kind_own : (a : Kind) → is_member kinds (kind_record a) ≡ true
+pub kind_own : (a : Kind) → is_member kinds (kind_record a) ≡ true
 kind_own (Exec m) = refl
 kind_own (Source m) = refl
 kind_own (File m) = refl
@@ -298,7 +304,7 @@ pub kind_from : (n : ℕ) (xs : List Record) (a : Kind) → kind_of n xs ≡ Ok 
 unfolding kind_of
 kind_from n xs a e = kind_cases (n == 2) (n == 3) (n == 4) (n == 5) (n == 6) (joined xs) a e
 
-kind_written : (a : Kind) → IsWritten op_shape (kind_record a)
+pub kind_written : (a : Kind) → IsWritten op_shape (kind_record a)
 kind_written (Exec m) = bytes_written op_shape 2 (exec_op_bytes m) refl refl refl
 kind_written (Source m) = bytes_written op_shape 3 (source_op_bytes m) refl refl refl
 kind_written (File m) = bytes_written op_shape 4 (file_op_bytes m) refl refl refl
@@ -306,7 +312,7 @@ kind_written (Build bytes) = bytes_written op_shape 5 bytes refl refl refl
 kind_written (Merge m) = bytes_written op_shape 6 (merge_op_bytes m) refl refl refl
 kind_written (Diff bytes) = bytes_written op_shape 7 bytes refl refl refl
 
-kind_again : (bytes : List ℕ) (a : Kind) → KindRead bytes a → IsShort (kind_record a) → one_of kinds kind_of (kind_record a ∷ []) ≡ Ok (Some a)
+pub kind_again : (bytes : List ℕ) (a : Kind) → KindRead bytes a → IsShort (kind_record a) → one_of kinds kind_of (kind_record a ∷ []) ≡ Ok (Some a)
 unfolding kind_of
 kind_again bytes (Exec m) h short = rw (append-nil (exec_op_bytes m), message_short exec_op_of exec_op_bytes 2 m (bytes, h) exec_op_returns short) refl
 kind_again bytes (Source m) h short = rw (append-nil (source_op_bytes m), message_short source_op_of source_op_bytes 3 m (bytes, h) source_op_returns short) refl
@@ -315,14 +321,17 @@ kind_again bytes (Build held) h short = ap (λ b. Ok (Some (Build b))) (append-n
 kind_again bytes (Merge m) h short = rw (append-nil (merge_op_bytes m), message_short merge_op_of merge_op_bytes 6 m (bytes, h) merge_op_returns short) refl
 kind_again bytes (Diff held) h short = ap (λ b. Ok (Some (Diff b))) (append-nil held)
 
+abbrev pub kind_choice : FieldOf op_shape Op (Option Kind)
+kind_choice = choice kinds kind_of kind_record kind_bytes kind_text kind_own
+    (λ n xs a good e. kind_written a)
+    (λ n xs a good e short. kind_again (joined xs) a (kind_from n xs a e) short)
+
 abbrev op_fields : FieldOf op_shape Op (List Input × (Option Kind × Unit {0}))
 op_fields =
     both (messages 1 input_of input_bytes input_returns refl refl)
-    (both (choice kinds kind_of kind_record kind_bytes kind_text kind_own
-    (λ n xs a good e. kind_written a)
-    (λ n xs a good e short. kind_again (joined xs) a (kind_from n xs a e) short)) end refl) refl
+    (both kind_choice end refl) refl
 
-abbrev op_made : List Input × (Option Kind × Unit {0}) → List ℕ → Op
+abbrev pub op_made : List Input × (Option Kind × Unit {0}) → List ℕ → Op
 op_made a extra = record { inputs = a.0; kind = a.1.0; extra = extra }
 
 pub op_message_returns : Returns op_message_of op_bytes
@@ -330,7 +339,7 @@ unfolding message_of op_in op_bytes
 op_message_returns = returns_by op_fields op_made op_message_of op_bytes refl (λ bytes. refl) (λ a extra. refl)
 
 -- an entry that stands for an op is short enough
-entry_cases : (b : Bool) (r : Result Op OpFault) (op : Op) → cond b (Err OverLimit) r ≡ Ok op → r ≡ Ok op
+pub entry_cases : (b : Bool) (r : Result Op OpFault) (op : Op) → cond b (Err OverLimit) r ≡ Ok op → r ≡ Ok op
 entry_cases true r op e = absurd cc
 entry_cases false r op e = e
 

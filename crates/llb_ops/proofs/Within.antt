@@ -16,7 +16,7 @@ use Rattle.llb_ops.specs.declared.file.FileOp.{FileOp}
 use Rattle.llb_ops.specs.declared.file.Action.{Action}
 use Rattle.llb_ops.specs.declared.file.ActionKind.{ActionKind}
 use Rattle.llb_ops.specs.declared.file.ActionKind.TheVariants as action
-use Rattle.llb_ops.specs.declared.file.CopyFile.{CopyFile}
+use Rattle.llb_ops.specs.declared.actions.CopyFile.{CopyFile}
 use Rattle.llb_ops.specs.declared.exec.ExecOp.{ExecOp}
 use Rattle.llb_ops.specs.declared.exec.Meta.{Meta}
 use Rattle.llb_ops.specs.declared.merge.MergeOp.{MergeOp}

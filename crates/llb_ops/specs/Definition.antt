@@ -5,14 +5,14 @@ use Rattle.llb_wire.specs.Answer.{◌>>=◌}
 use Rattle.llb_wire.specs.Records.{Record}
 use Rattle.llb_ops.specs.declared.fault.OpFault.{OpFault}
 use Rattle.llb_ops.specs.declared.fault.OpFault.TheVariants.{OverLimit}
-use Rattle.llb_ops.specs.declared.shape.Form.TheVariants.{Bytes}
+use Rattle.llb_ops.specs.declared.table.MessageName.TheVariants as message
+use Rattle.llb_ops.specs.Table.{shape_of}
 use Rattle.llb_ops.specs.Limits.{definition_limit, entries_limit, entry_limit}
 use Rattle.llb_ops.specs.Records.{Shape, records_from, all, payloads}
 use Rattle.llb_ops.specs.Writing.{each_field}
 
--- def, repeated; metadata and Source, which are not looked into
 abbrev pub definition_shape : Shape
-definition_shape = (1, Bytes) ∷ (2, Bytes) ∷ (3, Bytes) ∷ []
+definition_shape = shape_of message.Definition
 
 -- no entry is too long
 abbrev pub are_short : List (List ℕ) → Bool

@@ -1,5 +1,6 @@
 pub mod Faults
 pub mod Limits
+pub mod Table
 pub mod Records
 pub mod Attributes
 pub mod Messages
@@ -7,3 +8,4 @@ pub mod Writing
 pub mod Within
 pub mod Definition
 pub mod Laws
+pub mod Fields

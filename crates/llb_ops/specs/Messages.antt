@@ -1,11 +1,11 @@
--- What each message is of its records, with its row of fields (`ops.proto` of BuildKit). The order of the lines is the
+-- What each message is of its records, with its fields of the table (`ops.proto` of BuildKit). The order of the lines is the
 -- order of the faults: the records, the message fields by their numbers, the limits.
 use Rattle.std.specs.Prelude.{ℕ, List, [], ◌∷◌, length, Option, Result, Ok, Err, nat_lt, ◌==◌, if◌then◌else◌}
 use Rattle.llb_wire.specs.Answer.{◌>>=◌}
 use Rattle.llb_wire.specs.Records.{Record}
 use Rattle.llb_ops.specs.declared.fault.OpFault.{OpFault}
 use Rattle.llb_ops.specs.declared.fault.OpFault.TheVariants.{OverLimit}
-use Rattle.llb_ops.specs.declared.shape.Form.TheVariants.{Number, Bytes, Text}
+use Rattle.llb_ops.specs.declared.table.MessageName.TheVariants as message
 use Rattle.llb_ops.specs.declared.op.Op.{Op}
 use Rattle.llb_ops.specs.declared.op.Kind.{Kind}
 use Rattle.llb_ops.specs.declared.op.Kind.TheVariants.{Exec, Source, File, Build, Merge, Diff}
@@ -14,14 +14,14 @@ use Rattle.llb_ops.specs.declared.file.FileOp.{FileOp}
 use Rattle.llb_ops.specs.declared.file.Action.{Action}
 use Rattle.llb_ops.specs.declared.file.ActionKind.{ActionKind}
 use Rattle.llb_ops.specs.declared.file.ActionKind.TheVariants as action
-use Rattle.llb_ops.specs.declared.file.MkFile.{MkFile}
-use Rattle.llb_ops.specs.declared.file.MkDir.{MkDir}
-use Rattle.llb_ops.specs.declared.file.CopyFile.{CopyFile}
-use Rattle.llb_ops.specs.declared.file.Rm.{Rm}
-use Rattle.llb_ops.specs.declared.file.ChownOpt.{ChownOpt}
-use Rattle.llb_ops.specs.declared.file.UserOpt.{UserOpt}
-use Rattle.llb_ops.specs.declared.file.User.{User}
-use Rattle.llb_ops.specs.declared.file.User.TheVariants.{ByName, ById}
+use Rattle.llb_ops.specs.declared.actions.MkFile.{MkFile}
+use Rattle.llb_ops.specs.declared.actions.MkDir.{MkDir}
+use Rattle.llb_ops.specs.declared.actions.CopyFile.{CopyFile}
+use Rattle.llb_ops.specs.declared.actions.Rm.{Rm}
+use Rattle.llb_ops.specs.declared.owners.ChownOpt.{ChownOpt}
+use Rattle.llb_ops.specs.declared.owners.UserOpt.{UserOpt}
+use Rattle.llb_ops.specs.declared.owners.User.{User}
+use Rattle.llb_ops.specs.declared.owners.User.TheVariants.{ByName, ById}
 use Rattle.llb_ops.specs.declared.exec.ExecOp.{ExecOp}
 use Rattle.llb_ops.specs.declared.exec.Meta.{Meta}
 use Rattle.llb_ops.specs.declared.exec.Mount.{Mount}
@@ -31,13 +31,13 @@ use Rattle.llb_ops.specs.declared.merge.MergeOp.{MergeOp}
 use Rattle.llb_ops.specs.declared.merge.MergeInput.{MergeInput}
 use Rattle.llb_ops.specs.declared.source.SourceOp.{SourceOp}
 use Rattle.llb_ops.specs.declared.source.AttributeEntry.{AttributeEntry}
+use Rattle.llb_ops.specs.Table.{shape_of}
 use Rattle.llb_ops.specs.Limits.{entry_limit}
 use Rattle.llb_ops.specs.Attributes.{settled}
 use Rattle.llb_ops.specs.Records.{Shape, message_of, all, payload, payloads, number, flag, uint32, int32, int64, joined, one, each, one_of, within_limits, unnamed}
 
--- digest, index
 abbrev pub input_shape : Shape
-input_shape = (1, Text) ∷ (2, Number) ∷ []
+input_shape = shape_of message.Input
 
 unfoldable pub input_in : List Record → Result Input OpFault
 input_in rs = Ok (record { digest = payload (all 1 rs); index = int64 (number (all 2 rs)); extra = unnamed input_shape rs })
@@ -45,9 +45,8 @@ input_in rs = Ok (record { digest = payload (all 1 rs); index = int64 (number (a
 abbrev pub input_of : List ℕ → Result Input OpFault
 input_of = message_of input_shape input_in
 
--- byName, byID
 abbrev pub user_opt_shape : Shape
-user_opt_shape = (1, Bytes) ∷ (2, Number) ∷ []
+user_opt_shape = shape_of message.UserOpt
 
 abbrev pub users : List ℕ
 users = 1 ∷ 2 ∷ []
@@ -63,9 +62,8 @@ user_opt_in rs = do
 abbrev pub user_opt_of : List ℕ → Result UserOpt OpFault
 user_opt_of = message_of user_opt_shape user_opt_in
 
--- user, group
 abbrev pub chown_opt_shape : Shape
-chown_opt_shape = (1, Bytes) ∷ (2, Bytes) ∷ []
+chown_opt_shape = shape_of message.ChownOpt
 
 unfoldable pub chown_opt_in : List Record → Result ChownOpt OpFault
 chown_opt_in rs = do
@@ -76,9 +74,8 @@ chown_opt_in rs = do
 abbrev pub chown_opt_of : List ℕ → Result ChownOpt OpFault
 chown_opt_of = message_of chown_opt_shape chown_opt_in
 
--- path, mode, data, owner, timestamp
 abbrev pub mk_file_shape : Shape
-mk_file_shape = (1, Text) ∷ (2, Number) ∷ (3, Bytes) ∷ (4, Bytes) ∷ (5, Number) ∷ []
+mk_file_shape = shape_of message.FileActionMkFile
 
 unfoldable pub mk_file_in : List Record → Result MkFile OpFault
 mk_file_in rs = do
@@ -95,9 +92,8 @@ mk_file_in rs = do
 abbrev pub mk_file_of : List ℕ → Result MkFile OpFault
 mk_file_of = message_of mk_file_shape mk_file_in
 
--- path, mode, makeParents, owner, timestamp
 abbrev pub mk_dir_shape : Shape
-mk_dir_shape = (1, Text) ∷ (2, Number) ∷ (3, Number) ∷ (4, Bytes) ∷ (5, Number) ∷ []
+mk_dir_shape = shape_of message.FileActionMkDir
 
 unfoldable pub mk_dir_in : List Record → Result MkDir OpFault
 mk_dir_in rs = do
@@ -114,10 +110,8 @@ mk_dir_in rs = do
 abbrev pub mk_dir_of : List ℕ → Result MkDir OpFault
 mk_dir_of = message_of mk_dir_shape mk_dir_in
 
--- src, dest, owner, mode, followSymlink, dirCopyContents, attemptUnpackDockerCompatibility, createDestPath, allowWildcard,
--- allowEmptyWildcard, timestamp, include_patterns and exclude_patterns, both repeated
 abbrev pub copy_file_shape : Shape
-copy_file_shape = (1, Text) ∷ (2, Text) ∷ (3, Bytes) ∷ (4, Number) ∷ (5, Number) ∷ (6, Number) ∷ (7, Number) ∷ (8, Number) ∷ (9, Number) ∷ (10, Number) ∷ (11, Number) ∷ (12, Text) ∷ (13, Text) ∷ []
+copy_file_shape = shape_of message.FileActionCopy
 
 -- what a copy is of its records, but for the owner
 unfoldable pub copy_file_with : List Record → Option ChownOpt → CopyFile
@@ -146,9 +140,8 @@ copy_file_in rs = do
 abbrev pub copy_file_of : List ℕ → Result CopyFile OpFault
 copy_file_of = message_of copy_file_shape copy_file_in
 
--- path, allowNotFound, allowWildcard
 abbrev pub rm_shape : Shape
-rm_shape = (1, Text) ∷ (2, Number) ∷ (3, Number) ∷ []
+rm_shape = shape_of message.FileActionRm
 
 unfoldable pub rm_in : List Record → Result Rm OpFault
 rm_in rs = Ok (record {
@@ -161,9 +154,8 @@ rm_in rs = Ok (record {
 abbrev pub rm_of : List ℕ → Result Rm OpFault
 rm_of = message_of rm_shape rm_in
 
--- input, secondaryInput, output, copy, mkfile, mkdir, rm
 abbrev pub action_shape : Shape
-action_shape = (1, Number) ∷ (2, Number) ∷ (3, Number) ∷ (4, Bytes) ∷ (5, Bytes) ∷ (6, Bytes) ∷ (7, Bytes) ∷ []
+action_shape = shape_of message.FileAction
 
 abbrev pub action_kinds : List ℕ
 action_kinds = 4 ∷ 5 ∷ 6 ∷ 7 ∷ []
@@ -189,9 +181,8 @@ action_in rs = do
 abbrev pub action_of : List ℕ → Result Action OpFault
 action_of = message_of action_shape action_in
 
--- actions, repeated
 abbrev pub file_op_shape : Shape
-file_op_shape = (2, Bytes) ∷ []
+file_op_shape = shape_of message.FileOp
 
 unfoldable pub file_op_in : List Record → Result FileOp OpFault
 file_op_in rs = do
@@ -201,9 +192,8 @@ file_op_in rs = do
 abbrev pub file_op_of : List ℕ → Result FileOp OpFault
 file_op_of = message_of file_op_shape file_op_in
 
--- args and env, both repeated; cwd, user
 abbrev pub meta_shape : Shape
-meta_shape = (1, Text) ∷ (2, Text) ∷ (3, Text) ∷ (4, Text) ∷ []
+meta_shape = shape_of message.Meta
 
 unfoldable pub meta_in : List Record → Result Meta OpFault
 meta_in rs = if within_limits (1 ∷ 2 ∷ []) rs then Ok (record {
@@ -217,9 +207,8 @@ meta_in rs = if within_limits (1 ∷ 2 ∷ []) rs then Ok (record {
 abbrev pub meta_of : List ℕ → Result Meta OpFault
 meta_of = message_of meta_shape meta_in
 
--- size
 abbrev pub tmpfs_opt_shape : Shape
-tmpfs_opt_shape = (1, Number) ∷ []
+tmpfs_opt_shape = shape_of message.TmpfsOpt
 
 unfoldable pub tmpfs_opt_in : List Record → Result TmpfsOpt OpFault
 tmpfs_opt_in rs = Ok (record {
@@ -230,9 +219,8 @@ tmpfs_opt_in rs = Ok (record {
 abbrev pub tmpfs_opt_of : List ℕ → Result TmpfsOpt OpFault
 tmpfs_opt_of = message_of tmpfs_opt_shape tmpfs_opt_in
 
--- ID, sharing
 abbrev pub cache_opt_shape : Shape
-cache_opt_shape = (1, Text) ∷ (2, Number) ∷ []
+cache_opt_shape = shape_of message.CacheOpt
 
 unfoldable pub cache_opt_in : List Record → Result CacheOpt OpFault
 cache_opt_in rs = Ok (record {
@@ -244,9 +232,8 @@ cache_opt_in rs = Ok (record {
 abbrev pub cache_opt_of : List ℕ → Result CacheOpt OpFault
 cache_opt_of = message_of cache_opt_shape cache_opt_in
 
--- input, selector, dest, output, readonly, mountType, TmpfsOpt, cacheOpt
 abbrev pub mount_shape : Shape
-mount_shape = (1, Number) ∷ (2, Text) ∷ (3, Text) ∷ (4, Number) ∷ (5, Number) ∷ (6, Number) ∷ (19, Bytes) ∷ (20, Bytes) ∷ []
+mount_shape = shape_of message.Mount
 
 unfoldable pub mount_in : List Record → Result Mount OpFault
 mount_in rs = do
@@ -267,9 +254,8 @@ mount_in rs = do
 abbrev pub mount_of : List ℕ → Result Mount OpFault
 mount_of = message_of mount_shape mount_in
 
--- meta; mounts, repeated; network, security; secretenv, repeated
 abbrev pub exec_op_shape : Shape
-exec_op_shape = (1, Bytes) ∷ (2, Bytes) ∷ (3, Number) ∷ (4, Number) ∷ (5, Bytes) ∷ []
+exec_op_shape = shape_of message.ExecOp
 
 unfoldable pub exec_op_in : List Record → Result ExecOp OpFault
 exec_op_in rs = do
@@ -287,9 +273,8 @@ exec_op_in rs = do
 abbrev pub exec_op_of : List ℕ → Result ExecOp OpFault
 exec_op_of = message_of exec_op_shape exec_op_in
 
--- input
 abbrev pub merge_input_shape : Shape
-merge_input_shape = (1, Number) ∷ []
+merge_input_shape = shape_of message.MergeInput
 
 unfoldable pub merge_input_in : List Record → Result MergeInput OpFault
 merge_input_in rs = Ok (record {
@@ -300,9 +285,8 @@ merge_input_in rs = Ok (record {
 abbrev pub merge_input_of : List ℕ → Result MergeInput OpFault
 merge_input_of = message_of merge_input_shape merge_input_in
 
--- inputs, repeated
 abbrev pub merge_op_shape : Shape
-merge_op_shape = (1, Bytes) ∷ []
+merge_op_shape = shape_of message.MergeOp
 
 unfoldable pub merge_op_in : List Record → Result MergeOp OpFault
 merge_op_in rs = do
@@ -315,9 +299,8 @@ merge_op_in rs = do
 abbrev pub merge_op_of : List ℕ → Result MergeOp OpFault
 merge_op_of = message_of merge_op_shape merge_op_in
 
--- key, value
 abbrev pub attribute_entry_shape : Shape
-attribute_entry_shape = (1, Text) ∷ (2, Text) ∷ []
+attribute_entry_shape = shape_of message.AttributeEntry
 
 unfoldable pub attribute_entry_in : List Record → Result AttributeEntry OpFault
 attribute_entry_in rs = Ok (record { key = payload (all 1 rs); value = payload (all 2 rs); extra = unnamed attribute_entry_shape rs })
@@ -325,9 +308,8 @@ attribute_entry_in rs = Ok (record { key = payload (all 1 rs); value = payload (
 abbrev pub attribute_entry_of : List ℕ → Result AttributeEntry OpFault
 attribute_entry_of = message_of attribute_entry_shape attribute_entry_in
 
--- identifier; attrs, a map
 abbrev pub source_op_shape : Shape
-source_op_shape = (1, Text) ∷ (2, Bytes) ∷ []
+source_op_shape = shape_of message.SourceOp
 
 unfoldable pub source_op_in : List Record → Result SourceOp OpFault
 source_op_in rs = do
@@ -341,9 +323,8 @@ source_op_in rs = do
 abbrev pub source_op_of : List ℕ → Result SourceOp OpFault
 source_op_of = message_of source_op_shape source_op_in
 
--- inputs, repeated; exec, source, file, build, merge, diff
 abbrev pub op_shape : Shape
-op_shape = (1, Bytes) ∷ (2, Bytes) ∷ (3, Bytes) ∷ (4, Bytes) ∷ (5, Bytes) ∷ (6, Bytes) ∷ (7, Bytes) ∷ []
+op_shape = shape_of message.Op
 
 abbrev pub kinds : List ℕ
 kinds = 2 ∷ 3 ∷ 4 ∷ 5 ∷ 6 ∷ 7 ∷ []

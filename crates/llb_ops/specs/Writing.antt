@@ -13,14 +13,14 @@ use Rattle.llb_ops.specs.declared.file.FileOp.{FileOp}
 use Rattle.llb_ops.specs.declared.file.Action.{Action}
 use Rattle.llb_ops.specs.declared.file.ActionKind.{ActionKind}
 use Rattle.llb_ops.specs.declared.file.ActionKind.TheVariants as action
-use Rattle.llb_ops.specs.declared.file.MkFile.{MkFile}
-use Rattle.llb_ops.specs.declared.file.MkDir.{MkDir}
-use Rattle.llb_ops.specs.declared.file.CopyFile.{CopyFile}
-use Rattle.llb_ops.specs.declared.file.Rm.{Rm}
-use Rattle.llb_ops.specs.declared.file.ChownOpt.{ChownOpt}
-use Rattle.llb_ops.specs.declared.file.UserOpt.{UserOpt}
-use Rattle.llb_ops.specs.declared.file.User.{User}
-use Rattle.llb_ops.specs.declared.file.User.TheVariants.{ByName, ById}
+use Rattle.llb_ops.specs.declared.actions.MkFile.{MkFile}
+use Rattle.llb_ops.specs.declared.actions.MkDir.{MkDir}
+use Rattle.llb_ops.specs.declared.actions.CopyFile.{CopyFile}
+use Rattle.llb_ops.specs.declared.actions.Rm.{Rm}
+use Rattle.llb_ops.specs.declared.owners.ChownOpt.{ChownOpt}
+use Rattle.llb_ops.specs.declared.owners.UserOpt.{UserOpt}
+use Rattle.llb_ops.specs.declared.owners.User.{User}
+use Rattle.llb_ops.specs.declared.owners.User.TheVariants.{ByName, ById}
 use Rattle.llb_ops.specs.declared.exec.ExecOp.{ExecOp}
 use Rattle.llb_ops.specs.declared.exec.Meta.{Meta}
 use Rattle.llb_ops.specs.declared.exec.Mount.{Mount}

@@ -5,42 +5,45 @@ ghost use Rattle.llb_ops.specs.Records.{views, texts_fit};
 ghost use Rattle.llb_ops.specs.Messages.{copy_file_shape, copy_file_with};
 
 use crate::fault::OpFault;
-use crate::file::{ChownOpt, CopyFile, MkDir, MkFile, Rm};
 use crate::message::{Message, one};
+use crate::owners::ChownOpt;
 use crate::records::{
     Record, each_text, last_bytes, last_flag, last_int32, last_int64, last_text, unnamed,
     within_limits,
 };
-use crate::shape::{Form, Named};
+use crate::table::MessageName;
 use crate::writing::{put_bytes, put_each_text, put_extra, put_flag, put_message, put_signed};
-use llb_wire::Memory;
+use llb_wire::{Boxed, Bytes, Many, Memory, Text};
 use std::alloc::Global;
 
-const MK_FILE: [Named; 5] = [
-    (1, Form::Text),
-    (2, Form::Number),
-    (3, Form::Bytes),
-    (4, Form::Bytes),
-    (5, Form::Number),
-];
+/// `FileActionMkFile`: `body` is the message's `data`.
+#[derive(Drop)]
+pub struct MkFile {
+    pub path: Text,
+    pub mode: i32,
+    pub body: Bytes,
+    pub owner: Option<Boxed<ChownOpt>>,
+    pub timestamp: i64,
+    pub extra: Bytes,
+}
 
 impl Message for MkFile {
     ghost use Rattle.llb_ops.specs.Messages.{mk_file_shape, mk_file_in};
 
     ghost shape = { mk_file_shape };
 
-    fn named() -> &'static [Named] {
-        &MK_FILE
+    fn name() -> MessageName {
+        MessageName::FileActionMkFile
     }
 
     ghost reading = { mk_file_in };
 
     #[tactic(auto, unfolding(crate::specs::Messages::mk_file_in))]
     fn read(alloc: Global, records: &[Record<'_>]) -> Result<MkFile, OpFault> {
-        let owner = one::<ChownOpt>(alloc, records, 4)?;
-        let path = last_text(alloc, &MK_FILE, records, 1)?;
+        let owner = one::<Boxed<ChownOpt>>(alloc, records, 4)?;
+        let path = last_text(alloc, MessageName::FileActionMkFile, records, 1)?;
         let body = last_bytes(alloc, records, 3)?;
-        let extra = unnamed(alloc, &MK_FILE, records)?;
+        let extra = unnamed(alloc, MessageName::FileActionMkFile, records)?;
         Ok(MkFile {
             path,
             mode: last_int32(records, 2),
@@ -68,30 +71,33 @@ impl Message for MkFile {
     }
 }
 
-const MK_DIR: [Named; 5] = [
-    (1, Form::Text),
-    (2, Form::Number),
-    (3, Form::Number),
-    (4, Form::Bytes),
-    (5, Form::Number),
-];
+/// `FileActionMkDir`.
+#[derive(Drop)]
+pub struct MkDir {
+    pub path: Text,
+    pub mode: i32,
+    pub make_parents: bool,
+    pub owner: Option<Boxed<ChownOpt>>,
+    pub timestamp: i64,
+    pub extra: Bytes,
+}
 
 impl Message for MkDir {
     ghost use Rattle.llb_ops.specs.Messages.{mk_dir_shape, mk_dir_in};
 
     ghost shape = { mk_dir_shape };
 
-    fn named() -> &'static [Named] {
-        &MK_DIR
+    fn name() -> MessageName {
+        MessageName::FileActionMkDir
     }
 
     ghost reading = { mk_dir_in };
 
     #[tactic(auto, unfolding(crate::specs::Messages::mk_dir_in))]
     fn read(alloc: Global, records: &[Record<'_>]) -> Result<MkDir, OpFault> {
-        let owner = one::<ChownOpt>(alloc, records, 4)?;
-        let path = last_text(alloc, &MK_DIR, records, 1)?;
-        let extra = unnamed(alloc, &MK_DIR, records)?;
+        let owner = one::<Boxed<ChownOpt>>(alloc, records, 4)?;
+        let path = last_text(alloc, MessageName::FileActionMkDir, records, 1)?;
+        let extra = unnamed(alloc, MessageName::FileActionMkDir, records)?;
         Ok(MkDir {
             path,
             mode: last_int32(records, 2),
@@ -119,37 +125,41 @@ impl Message for MkDir {
     }
 }
 
-const COPY_FILE: [Named; 13] = [
-    (1, Form::Text),
-    (2, Form::Text),
-    (3, Form::Bytes),
-    (4, Form::Number),
-    (5, Form::Number),
-    (6, Form::Number),
-    (7, Form::Number),
-    (8, Form::Number),
-    (9, Form::Number),
-    (10, Form::Number),
-    (11, Form::Number),
-    (12, Form::Text),
-    (13, Form::Text),
-];
+/// `FileActionCopy`.
+#[derive(Drop)]
+pub struct CopyFile {
+    pub src: Text,
+    pub dest: Text,
+    pub owner: Option<Boxed<ChownOpt>>,
+    /// -1 leaves each entry its mode.
+    pub mode: i32,
+    pub follow_symlink: bool,
+    pub dir_copy_contents: bool,
+    pub attempt_unpack_docker_compatibility: bool,
+    pub create_dest_path: bool,
+    pub allow_wildcard: bool,
+    pub allow_empty_wildcard: bool,
+    pub timestamp: i64,
+    pub include_patterns: Many<Text>,
+    pub exclude_patterns: Many<Text>,
+    pub extra: Bytes,
+}
 
 // A copy of its records, but for the owner.
 #[tactic(auto, unfolding(crate::specs::Messages::copy_file_with))]
 fn copy_file_with(
     alloc: Global,
     records: &[Record<'_>],
-    owner: Option<ChownOpt>,
+    owner: Option<Boxed<ChownOpt>>,
 ) -> Result<CopyFile, Memory>
     requires { texts_fit copy_file_shape (views records.now) ≡ true }
     ensures { IfOk result (λ m. m ≡ copy_file_with (views records.now) owner) }
 {
-    let src = last_text(alloc, &COPY_FILE, records, 1)?;
-    let dest = last_text(alloc, &COPY_FILE, records, 2)?;
-    let include_patterns = each_text(alloc, &COPY_FILE, records, 12)?;
-    let exclude_patterns = each_text(alloc, &COPY_FILE, records, 13)?;
-    let extra = unnamed(alloc, &COPY_FILE, records)?;
+    let src = last_text(alloc, MessageName::FileActionCopy, records, 1)?;
+    let dest = last_text(alloc, MessageName::FileActionCopy, records, 2)?;
+    let include_patterns = each_text(alloc, MessageName::FileActionCopy, records, 12)?;
+    let exclude_patterns = each_text(alloc, MessageName::FileActionCopy, records, 13)?;
+    let extra = unnamed(alloc, MessageName::FileActionCopy, records)?;
     Ok(CopyFile {
         src,
         dest,
@@ -173,15 +183,15 @@ impl Message for CopyFile {
 
     ghost shape = { copy_file_shape };
 
-    fn named() -> &'static [Named] {
-        &COPY_FILE
+    fn name() -> MessageName {
+        MessageName::FileActionCopy
     }
 
     ghost reading = { copy_file_in };
 
     #[tactic(auto, unfolding(crate::specs::Messages::copy_file_in))]
     fn read(alloc: Global, records: &[Record<'_>]) -> Result<CopyFile, OpFault> {
-        let owner = one::<ChownOpt>(alloc, records, 3)?;
+        let owner = one::<Boxed<ChownOpt>>(alloc, records, 3)?;
         if !within_limits(&[12, 13], records) {
             return Err(OpFault::OverLimit);
         }
@@ -213,23 +223,30 @@ impl Message for CopyFile {
     }
 }
 
-const RM: [Named; 3] = [(1, Form::Text), (2, Form::Number), (3, Form::Number)];
+/// `FileActionRm`.
+#[derive(Drop)]
+pub struct Rm {
+    pub path: Text,
+    pub allow_not_found: bool,
+    pub allow_wildcard: bool,
+    pub extra: Bytes,
+}
 
 impl Message for Rm {
     ghost use Rattle.llb_ops.specs.Messages.{rm_shape, rm_in};
 
     ghost shape = { rm_shape };
 
-    fn named() -> &'static [Named] {
-        &RM
+    fn name() -> MessageName {
+        MessageName::FileActionRm
     }
 
     ghost reading = { rm_in };
 
     #[tactic(auto, unfolding(crate::specs::Messages::rm_in))]
     fn read(alloc: Global, records: &[Record<'_>]) -> Result<Rm, OpFault> {
-        let path = last_text(alloc, &RM, records, 1)?;
-        let extra = unnamed(alloc, &RM, records)?;
+        let path = last_text(alloc, MessageName::FileActionRm, records, 1)?;
+        let extra = unnamed(alloc, MessageName::FileActionRm, records)?;
         Ok(Rm {
             path,
             allow_not_found: last_flag(records, 2),

@@ -10,7 +10,8 @@ ghost use Rattle.llb_ops.specs.Laws.{AreReadAgain};
 
 use crate::fault::OpFault;
 use crate::records::{Record, next_part};
-use crate::shape::{DEFINITION_LIMIT, ENTRIES_LIMIT, ENTRY_LIMIT, Form, Named};
+use crate::shape::{DEFINITION_LIMIT, ENTRIES_LIMIT, ENTRY_LIMIT};
+use crate::table::MessageName;
 use crate::writing::put_each_bytes;
 use llb_wire::{Bytes, Memory};
 use std::alloc::Global;
@@ -58,8 +59,6 @@ impl Entries {
     }
 }
 
-const DEFINITION: [Named; 3] = [(1, Form::Bytes), (2, Form::Bytes), (3, Form::Bytes)];
-
 // The count, and whether none is too long, with one record more.
 fn with_record(count: usize, short: bool, part: &Record<'_>) -> (usize, bool)
     requires { count < 67_108_864 }
@@ -80,7 +79,7 @@ fn tally(bytes: &[u8]) -> Result<(usize, bool), OpFault>
     let mut rest = bytes;
     let mut count = 0;
     let mut short = true;
-    while let Some(front) = next_part(&DEFINITION, rest)? {
+    while let Some(front) = next_part(MessageName::Definition, rest)? {
         let (with_it, all_short) = with_record(count, short, &front.record);
         count = with_it;
         short = all_short;
@@ -106,7 +105,7 @@ fn gathered(alloc: Global, bytes: &[u8]) -> Result<Vec<Bytes>, OpFault>
 {
     let mut entries = Vec::new(alloc);
     let mut rest = bytes;
-    while let Some(front) = next_part(&DEFINITION, rest)? {
+    while let Some(front) = next_part(MessageName::Definition, rest)? {
         put_entry(alloc, &mut entries, &front.record)?;
         rest = front.after;
     }

@@ -6,7 +6,7 @@ use crate::records::{
     Record, each_bytes, each_text, last_flag, last_int32, last_int64, last_text, unnamed,
     within_limits,
 };
-use crate::shape::{Form, Named};
+use crate::table::MessageName;
 use crate::writing::{
     put_bytes, put_each_bytes, put_each_text, put_extra, put_flag, put_message, put_messages,
     put_signed,
@@ -68,21 +68,13 @@ pub struct CacheOpt {
     pub extra: Bytes,
 }
 
-const EXEC_OP: [Named; 5] = [
-    (1, Form::Bytes),
-    (2, Form::Bytes),
-    (3, Form::Number),
-    (4, Form::Number),
-    (5, Form::Bytes),
-];
-
 impl Message for ExecOp {
     ghost use Rattle.llb_ops.specs.Messages.{exec_op_shape, exec_op_in};
 
     ghost shape = { exec_op_shape };
 
-    fn named() -> &'static [Named] {
-        &EXEC_OP
+    fn name() -> MessageName {
+        MessageName::ExecOp
     }
 
     ghost reading = { exec_op_in };
@@ -95,7 +87,7 @@ impl Message for ExecOp {
             return Err(OpFault::OverLimit);
         }
         let secretenv = each_bytes(alloc, records, 5)?;
-        let extra = unnamed(alloc, &EXEC_OP, records)?;
+        let extra = unnamed(alloc, MessageName::ExecOp, records)?;
         Ok(ExecOp {
             meta,
             mounts,
@@ -123,20 +115,13 @@ impl Message for ExecOp {
     }
 }
 
-const META: [Named; 4] = [
-    (1, Form::Text),
-    (2, Form::Text),
-    (3, Form::Text),
-    (4, Form::Text),
-];
-
 impl Message for Meta {
     ghost use Rattle.llb_ops.specs.Messages.{meta_shape, meta_in};
 
     ghost shape = { meta_shape };
 
-    fn named() -> &'static [Named] {
-        &META
+    fn name() -> MessageName {
+        MessageName::Meta
     }
 
     ghost reading = { meta_in };
@@ -146,11 +131,11 @@ impl Message for Meta {
         if !within_limits(&[1, 2], records) {
             return Err(OpFault::OverLimit);
         }
-        let args = each_text(alloc, &META, records, 1)?;
-        let env = each_text(alloc, &META, records, 2)?;
-        let cwd = last_text(alloc, &META, records, 3)?;
-        let user = last_text(alloc, &META, records, 4)?;
-        let extra = unnamed(alloc, &META, records)?;
+        let args = each_text(alloc, MessageName::Meta, records, 1)?;
+        let env = each_text(alloc, MessageName::Meta, records, 2)?;
+        let cwd = last_text(alloc, MessageName::Meta, records, 3)?;
+        let user = last_text(alloc, MessageName::Meta, records, 4)?;
+        let extra = unnamed(alloc, MessageName::Meta, records)?;
         Ok(Meta {
             args,
             env,
@@ -176,24 +161,13 @@ impl Message for Meta {
     }
 }
 
-const MOUNT: [Named; 8] = [
-    (1, Form::Number),
-    (2, Form::Text),
-    (3, Form::Text),
-    (4, Form::Number),
-    (5, Form::Number),
-    (6, Form::Number),
-    (19, Form::Bytes),
-    (20, Form::Bytes),
-];
-
 impl Message for Mount {
     ghost use Rattle.llb_ops.specs.Messages.{mount_shape, mount_in};
 
     ghost shape = { mount_shape };
 
-    fn named() -> &'static [Named] {
-        &MOUNT
+    fn name() -> MessageName {
+        MessageName::Mount
     }
 
     ghost reading = { mount_in };
@@ -202,9 +176,9 @@ impl Message for Mount {
     fn read(alloc: Global, records: &[Record<'_>]) -> Result<Mount, OpFault> {
         let tmpfs_opt = one::<TmpfsOpt>(alloc, records, 19)?;
         let cache_opt = one::<CacheOpt>(alloc, records, 20)?;
-        let selector = last_text(alloc, &MOUNT, records, 2)?;
-        let dest = last_text(alloc, &MOUNT, records, 3)?;
-        let extra = unnamed(alloc, &MOUNT, records)?;
+        let selector = last_text(alloc, MessageName::Mount, records, 2)?;
+        let dest = last_text(alloc, MessageName::Mount, records, 3)?;
+        let extra = unnamed(alloc, MessageName::Mount, records)?;
         Ok(Mount {
             input: last_int64(records, 1),
             selector,
@@ -238,22 +212,20 @@ impl Message for Mount {
     }
 }
 
-const TMPFS_OPT: [Named; 1] = [(1, Form::Number)];
-
 impl Message for TmpfsOpt {
     ghost use Rattle.llb_ops.specs.Messages.{tmpfs_opt_shape, tmpfs_opt_in};
 
     ghost shape = { tmpfs_opt_shape };
 
-    fn named() -> &'static [Named] {
-        &TMPFS_OPT
+    fn name() -> MessageName {
+        MessageName::TmpfsOpt
     }
 
     ghost reading = { tmpfs_opt_in };
 
     #[tactic(auto, unfolding(crate::specs::Messages::tmpfs_opt_in))]
     fn read(alloc: Global, records: &[Record<'_>]) -> Result<TmpfsOpt, OpFault> {
-        let extra = unnamed(alloc, &TMPFS_OPT, records)?;
+        let extra = unnamed(alloc, MessageName::TmpfsOpt, records)?;
         Ok(TmpfsOpt {
             size: last_int64(records, 1),
             extra,
@@ -273,23 +245,21 @@ impl Message for TmpfsOpt {
     }
 }
 
-const CACHE_OPT: [Named; 2] = [(1, Form::Text), (2, Form::Number)];
-
 impl Message for CacheOpt {
     ghost use Rattle.llb_ops.specs.Messages.{cache_opt_shape, cache_opt_in};
 
     ghost shape = { cache_opt_shape };
 
-    fn named() -> &'static [Named] {
-        &CACHE_OPT
+    fn name() -> MessageName {
+        MessageName::CacheOpt
     }
 
     ghost reading = { cache_opt_in };
 
     #[tactic(auto, unfolding(crate::specs::Messages::cache_opt_in))]
     fn read(alloc: Global, records: &[Record<'_>]) -> Result<CacheOpt, OpFault> {
-        let id = last_text(alloc, &CACHE_OPT, records, 1)?;
-        let extra = unnamed(alloc, &CACHE_OPT, records)?;
+        let id = last_text(alloc, MessageName::CacheOpt, records, 1)?;
+        let extra = unnamed(alloc, MessageName::CacheOpt, records)?;
         Ok(CacheOpt {
             id,
             sharing: last_int32(records, 2),

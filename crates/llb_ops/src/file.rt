@@ -3,12 +3,13 @@
 ghost use Rattle.std.specs.Prelude.{◌≡◌, ◌==◌, Ok, IfOk, length};
 ghost use Rattle.llb_ops.specs.Faults.{Gives};
 
+use crate::actions::{CopyFile, MkDir, MkFile, Rm};
 use crate::fault::OpFault;
 use crate::message::{Member, Message, each, joined_message, one_of};
 use crate::records::{Record, last_int64, unnamed, within_limits};
-use crate::shape::{Form, Named};
+use crate::table::MessageName;
 use crate::writing::{put_extra, put_messages, put_one_of, put_set_bytes, put_signed};
-use llb_wire::{Bytes, Many, Memory, Text};
+use llb_wire::{Bytes, Memory};
 use std::alloc::Global;
 use std::marker::Model;
 use std::sync::Arc;
@@ -44,79 +45,6 @@ pub enum ActionKind {
     MkFile(MkFile),
     MkDir(MkDir),
     Rm(Rm),
-}
-
-/// `FileActionCopy`.
-#[derive(Drop)]
-pub struct CopyFile {
-    pub src: Text,
-    pub dest: Text,
-    pub owner: Option<ChownOpt>,
-    /// -1 leaves each entry its mode.
-    pub mode: i32,
-    pub follow_symlink: bool,
-    pub dir_copy_contents: bool,
-    pub attempt_unpack_docker_compatibility: bool,
-    pub create_dest_path: bool,
-    pub allow_wildcard: bool,
-    pub allow_empty_wildcard: bool,
-    pub timestamp: i64,
-    pub include_patterns: Many<Text>,
-    pub exclude_patterns: Many<Text>,
-    pub extra: Bytes,
-}
-
-/// `FileActionMkFile`: `body` is the message's `data`.
-#[derive(Drop)]
-pub struct MkFile {
-    pub path: Text,
-    pub mode: i32,
-    pub body: Bytes,
-    pub owner: Option<ChownOpt>,
-    pub timestamp: i64,
-    pub extra: Bytes,
-}
-
-/// `FileActionMkDir`.
-#[derive(Drop)]
-pub struct MkDir {
-    pub path: Text,
-    pub mode: i32,
-    pub make_parents: bool,
-    pub owner: Option<ChownOpt>,
-    pub timestamp: i64,
-    pub extra: Bytes,
-}
-
-/// `FileActionRm`.
-#[derive(Drop)]
-pub struct Rm {
-    pub path: Text,
-    pub allow_not_found: bool,
-    pub allow_wildcard: bool,
-    pub extra: Bytes,
-}
-
-/// The owner that made or copied entries get.
-#[derive(Drop)]
-pub struct ChownOpt {
-    pub user: Option<UserOpt>,
-    pub group: Option<UserOpt>,
-    pub extra: Bytes,
-}
-
-/// A user or a group.
-#[derive(Drop)]
-pub struct UserOpt {
-    pub user: Option<User>,
-    pub extra: Bytes,
-}
-
-/// By name (the joined payloads of a message that is not looked into) or by number.
-#[derive(Drop)]
-pub enum User {
-    ByName(Bytes),
-    ById(u32),
 }
 
 impl Model for Actions {
@@ -176,15 +104,13 @@ impl FileOp {
     }
 }
 
-const FILE_OP: [Named; 1] = [(2, Form::Bytes)];
-
 impl Message for FileOp {
     ghost use Rattle.llb_ops.specs.Messages.{file_op_shape, file_op_in};
 
     ghost shape = { file_op_shape };
 
-    fn named() -> &'static [Named] {
-        &FILE_OP
+    fn name() -> MessageName {
+        MessageName::FileOp
     }
 
     ghost reading = { file_op_in };
@@ -195,7 +121,7 @@ impl Message for FileOp {
         if !within_limits(&[2], records) {
             return Err(OpFault::OverLimit);
         }
-        let extra = unnamed(alloc, &FILE_OP, records)?;
+        let extra = unnamed(alloc, MessageName::FileOp, records)?;
         let actions = Actions::new(alloc, actions.into_vec())?;
         Ok(FileOp { actions, extra })
     }
@@ -213,23 +139,13 @@ impl Message for FileOp {
     }
 }
 
-const ACTION: [Named; 7] = [
-    (1, Form::Number),
-    (2, Form::Number),
-    (3, Form::Number),
-    (4, Form::Bytes),
-    (5, Form::Bytes),
-    (6, Form::Bytes),
-    (7, Form::Bytes),
-];
-
 impl Message for Action {
     ghost use Rattle.llb_ops.specs.Messages.{action_shape, action_in};
 
     ghost shape = { action_shape };
 
-    fn named() -> &'static [Named] {
-        &ACTION
+    fn name() -> MessageName {
+        MessageName::FileAction
     }
 
     ghost reading = { action_in };
@@ -237,7 +153,7 @@ impl Message for Action {
     #[tactic(auto, unfolding(crate::specs::Messages::action_in))]
     fn read(alloc: Global, records: &[Record<'_>]) -> Result<Action, OpFault> {
         let kind = one_of::<ActionKind>(alloc, records, &ACTION_KINDS)?;
-        let extra = unnamed(alloc, &ACTION, records)?;
+        let extra = unnamed(alloc, MessageName::FileAction, records)?;
         Ok(Action {
             input: last_int64(records, 1),
             secondary_input: last_int64(records, 2),

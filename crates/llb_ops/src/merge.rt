@@ -3,7 +3,7 @@
 use crate::fault::OpFault;
 use crate::message::{Message, each};
 use crate::records::{Record, last_int64, unnamed, within_limits};
-use crate::shape::{Form, Named};
+use crate::table::MessageName;
 use crate::writing::{put_extra, put_messages, put_signed};
 use llb_wire::{Bytes, Many, Memory};
 use std::alloc::Global;
@@ -22,15 +22,13 @@ pub struct MergeInput {
     pub extra: Bytes,
 }
 
-const MERGE_OP: [Named; 1] = [(1, Form::Bytes)];
-
 impl Message for MergeOp {
     ghost use Rattle.llb_ops.specs.Messages.{merge_op_shape, merge_op_in};
 
     ghost shape = { merge_op_shape };
 
-    fn named() -> &'static [Named] {
-        &MERGE_OP
+    fn name() -> MessageName {
+        MessageName::MergeOp
     }
 
     ghost reading = { merge_op_in };
@@ -41,7 +39,7 @@ impl Message for MergeOp {
         if !within_limits(&[1], records) {
             return Err(OpFault::OverLimit);
         }
-        let extra = unnamed(alloc, &MERGE_OP, records)?;
+        let extra = unnamed(alloc, MessageName::MergeOp, records)?;
         Ok(MergeOp { inputs, extra })
     }
 
@@ -58,22 +56,20 @@ impl Message for MergeOp {
     }
 }
 
-const MERGE_INPUT: [Named; 1] = [(1, Form::Number)];
-
 impl Message for MergeInput {
     ghost use Rattle.llb_ops.specs.Messages.{merge_input_shape, merge_input_in};
 
     ghost shape = { merge_input_shape };
 
-    fn named() -> &'static [Named] {
-        &MERGE_INPUT
+    fn name() -> MessageName {
+        MessageName::MergeInput
     }
 
     ghost reading = { merge_input_in };
 
     #[tactic(auto, unfolding(crate::specs::Messages::merge_input_in))]
     fn read(alloc: Global, records: &[Record<'_>]) -> Result<MergeInput, OpFault> {
-        let extra = unnamed(alloc, &MERGE_INPUT, records)?;
+        let extra = unnamed(alloc, MessageName::MergeInput, records)?;
         Ok(MergeInput {
             input: last_int64(records, 1),
             extra,

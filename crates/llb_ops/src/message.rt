@@ -4,11 +4,12 @@ ghost use Rattle.std.specs.Prelude.{◌≡◌, List, ℕ, Result, IfOk, true};
 ghost use Rattle.llb_wire.specs.Records.{Record as Read};
 ghost use Rattle.llb_ops.specs.declared.fault.OpFault.{OpFault};
 ghost use Rattle.llb_ops.specs.Faults.{Gives};
+ghost use Rattle.llb_ops.specs.Table.{shape_of};
 ghost use Rattle.llb_ops.specs.Records.{Shape, views, all, texts_fit, message_of, joined as joined_of, one as one_rule, each as each_rule, one_of as one_of_rule};
 
 use crate::fault::OpFault;
 use crate::records::{Record, chosen, count, joined, lone_payload, parts, room_for, since};
-use crate::shape::Named;
+use crate::table::MessageName;
 use llb_wire::{Boxed, Many, Memory};
 use std::alloc::Global;
 
@@ -16,8 +17,8 @@ use std::alloc::Global;
 pub trait Message: Drop {
     ghost shape: { Shape };
 
-    fn named() -> &'static [Named]
-        ensures { result.now ≡ shape };
+    fn name() -> MessageName
+        ensures { shape_of result ≡ shape };
 
     ghost reading: { List Read → Result Self OpFault };
 
@@ -29,6 +30,28 @@ pub trait Message: Drop {
 
     fn write(&self, alloc: Global) -> Result<Vec<u8>, Memory>
         ensures { IfOk result (λ v. v.items ≡ writing self.now) };
+}
+
+/// A message in a place of its own.
+impl<M: Message> Message for Boxed<M> {
+    ghost shape = { M.shape };
+
+    fn name() -> MessageName {
+        M::name()
+    }
+
+    ghost reading = { M.reading };
+
+    fn read(alloc: Global, records: &[Record<'_>]) -> Result<Boxed<M>, OpFault> {
+        let message = M::read(alloc, records)?;
+        Ok(Boxed::new(alloc, message)?)
+    }
+
+    ghost writing = { M.writing };
+
+    fn write(&self, alloc: Global) -> Result<Vec<u8>, Memory> {
+        self.get().write(alloc)
+    }
 }
 
 /// A member of a oneof: what the one of a number is of its records, and its canonical bytes.
@@ -49,7 +72,7 @@ pub trait Member: Drop {
 pub fn read_message<M: Message>(alloc: Global, bytes: &[u8]) -> Result<M, OpFault>
     ensures { Gives (λ m. m) result (message_of M.shape M.reading bytes.now) }
 {
-    let records = parts(alloc, M::named(), bytes)?;
+    let records = parts(alloc, M::name(), bytes)?;
     M::read(alloc, &records)
 }
 
@@ -66,18 +89,6 @@ pub fn joined_message<M: Message>(
     }
     let bytes = joined(alloc, records, number)?;
     read_message(alloc, &bytes)
-}
-
-/// A joined message in a place of its own.
-pub fn boxed_message<M: Message>(
-    alloc: Global,
-    records: &[Record<'_>],
-    number: u32,
-) -> Result<Boxed<M>, OpFault>
-    ensures { Gives (λ m. m) result (message_of M.shape M.reading (joined_of (all number (views records.now)))) }
-{
-    let message = joined_message::<M>(alloc, records, number)?;
-    Ok(Boxed::new(alloc, message)?)
 }
 
 /// A message that stands once: its payloads, one behind the other.

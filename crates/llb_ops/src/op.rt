@@ -11,10 +11,11 @@ use crate::exec::ExecOp;
 use crate::fault::OpFault;
 use crate::file::FileOp;
 use crate::merge::MergeOp;
-use crate::message::{Member, Message, boxed_message, each, joined_message, one_of, read_message};
+use crate::message::{Member, Message, each, joined_message, one_of, read_message};
 use crate::records::{Record, joined, last_int64, last_text, unnamed, within_limits};
-use crate::shape::{ENTRY_LIMIT, Form, Named};
+use crate::shape::ENTRY_LIMIT;
 use crate::source::SourceOp;
+use crate::table::MessageName;
 use crate::writing::{put_bytes, put_extra, put_messages, put_one_of, put_set_bytes, put_signed};
 use llb_wire::{Boxed, Bytes, Many, Memory, Text};
 use std::alloc::Global;
@@ -49,23 +50,21 @@ pub struct Input {
     pub extra: Bytes,
 }
 
-const INPUT: [Named; 2] = [(1, Form::Text), (2, Form::Number)];
-
 impl Message for Input {
     ghost use Rattle.llb_ops.specs.Messages.{input_shape, input_in};
 
     ghost shape = { input_shape };
 
-    fn named() -> &'static [Named] {
-        &INPUT
+    fn name() -> MessageName {
+        MessageName::Input
     }
 
     ghost reading = { input_in };
 
     #[tactic(auto, unfolding(crate::specs::Messages::input_in))]
     fn read(alloc: Global, records: &[Record<'_>]) -> Result<Input, OpFault> {
-        let digest = last_text(alloc, &INPUT, records, 1)?;
-        let extra = unnamed(alloc, &INPUT, records)?;
+        let digest = last_text(alloc, MessageName::Input, records, 1)?;
+        let extra = unnamed(alloc, MessageName::Input, records)?;
         Ok(Input {
             digest,
             index: last_int64(records, 2),
@@ -97,8 +96,8 @@ impl Member for Kind {
     #[tactic(auto, unfolding(crate::specs::Messages::kind_of))]
     fn read(alloc: Global, number: u32, records: &[Record<'_>]) -> Result<Kind, OpFault> {
         match number {
-            2 => Ok(Kind::Exec(boxed_message(alloc, records, number)?)),
-            3 => Ok(Kind::Source(boxed_message(alloc, records, number)?)),
+            2 => Ok(Kind::Exec(joined_message(alloc, records, number)?)),
+            3 => Ok(Kind::Source(joined_message(alloc, records, number)?)),
             4 => Ok(Kind::File(joined_message(alloc, records, number)?)),
             5 => Ok(Kind::Build(Bytes::new(joined(alloc, records, number)?))),
             6 => Ok(Kind::Merge(joined_message(alloc, records, number)?)),
@@ -114,8 +113,8 @@ impl Member for Kind {
     fn write(&self, alloc: Global) -> Result<Vec<u8>, Memory> {
         let mut out = Vec::new(alloc);
         match self {
-            Kind::Exec(op) => put_set_bytes(&mut out, 2, &op.get().write(alloc)?)?,
-            Kind::Source(op) => put_set_bytes(&mut out, 3, &op.get().write(alloc)?)?,
+            Kind::Exec(op) => put_set_bytes(&mut out, 2, &op.write(alloc)?)?,
+            Kind::Source(op) => put_set_bytes(&mut out, 3, &op.write(alloc)?)?,
             Kind::File(op) => put_set_bytes(&mut out, 4, &op.write(alloc)?)?,
             Kind::Build(bytes) => put_set_bytes(&mut out, 5, bytes.as_slice())?,
             Kind::Merge(op) => put_set_bytes(&mut out, 6, &op.write(alloc)?)?,
@@ -125,23 +124,13 @@ impl Member for Kind {
     }
 }
 
-const OP: [Named; 7] = [
-    (1, Form::Bytes),
-    (2, Form::Bytes),
-    (3, Form::Bytes),
-    (4, Form::Bytes),
-    (5, Form::Bytes),
-    (6, Form::Bytes),
-    (7, Form::Bytes),
-];
-
 impl Message for Op {
     ghost use Rattle.llb_ops.specs.Messages.{op_shape, op_in};
 
     ghost shape = { op_shape };
 
-    fn named() -> &'static [Named] {
-        &OP
+    fn name() -> MessageName {
+        MessageName::Op
     }
 
     ghost reading = { op_in };
@@ -153,7 +142,7 @@ impl Message for Op {
         if !within_limits(&[1], records) {
             return Err(OpFault::OverLimit);
         }
-        let extra = unnamed(alloc, &OP, records)?;
+        let extra = unnamed(alloc, MessageName::Op, records)?;
         Ok(Op {
             inputs,
             kind,

@@ -1,23 +1,28 @@
 //! Owners of what a file action makes: users and groups by what they are of their records, and their canonical bytes.
 
 use crate::fault::OpFault;
-use crate::file::{ChownOpt, User, UserOpt};
 use crate::message::{Member, Message, one, one_of};
 use crate::records::{Record, joined, last_uint32, unnamed};
-use crate::shape::{Form, Named};
+use crate::table::MessageName;
 use crate::writing::{put_extra, put_message, put_one_of, put_set_bytes, put_set_number};
 use llb_wire::{Bytes, Memory};
 use std::alloc::Global;
 
-const CHOWN_OPT: [Named; 2] = [(1, Form::Bytes), (2, Form::Bytes)];
+/// The owner that made or copied entries get.
+#[derive(Drop)]
+pub struct ChownOpt {
+    pub user: Option<UserOpt>,
+    pub group: Option<UserOpt>,
+    pub extra: Bytes,
+}
 
 impl Message for ChownOpt {
     ghost use Rattle.llb_ops.specs.Messages.{chown_opt_shape, chown_opt_in};
 
     ghost shape = { chown_opt_shape };
 
-    fn named() -> &'static [Named] {
-        &CHOWN_OPT
+    fn name() -> MessageName {
+        MessageName::ChownOpt
     }
 
     ghost reading = { chown_opt_in };
@@ -26,7 +31,7 @@ impl Message for ChownOpt {
     fn read(alloc: Global, records: &[Record<'_>]) -> Result<ChownOpt, OpFault> {
         let user = one::<UserOpt>(alloc, records, 1)?;
         let group = one::<UserOpt>(alloc, records, 2)?;
-        let extra = unnamed(alloc, &CHOWN_OPT, records)?;
+        let extra = unnamed(alloc, MessageName::ChownOpt, records)?;
         Ok(ChownOpt { user, group, extra })
     }
 
@@ -44,7 +49,12 @@ impl Message for ChownOpt {
     }
 }
 
-const USER_OPT: [Named; 2] = [(1, Form::Bytes), (2, Form::Number)];
+/// A user or a group.
+#[derive(Drop)]
+pub struct UserOpt {
+    pub user: Option<User>,
+    pub extra: Bytes,
+}
 
 const USERS: [u32; 2] = [1, 2];
 
@@ -53,8 +63,8 @@ impl Message for UserOpt {
 
     ghost shape = { user_opt_shape };
 
-    fn named() -> &'static [Named] {
-        &USER_OPT
+    fn name() -> MessageName {
+        MessageName::UserOpt
     }
 
     ghost reading = { user_opt_in };
@@ -62,7 +72,7 @@ impl Message for UserOpt {
     #[tactic(auto, unfolding(crate::specs::Messages::user_opt_in))]
     fn read(alloc: Global, records: &[Record<'_>]) -> Result<UserOpt, OpFault> {
         let user = one_of::<User>(alloc, records, &USERS)?;
-        let extra = unnamed(alloc, &USER_OPT, records)?;
+        let extra = unnamed(alloc, MessageName::UserOpt, records)?;
         Ok(UserOpt { user, extra })
     }
 
@@ -77,6 +87,13 @@ impl Message for UserOpt {
         put_extra(&mut out, &self.extra)?;
         Ok(out)
     }
+}
+
+/// By name (the joined payloads of a message that is not looked into) or by number.
+#[derive(Drop)]
+pub enum User {
+    ByName(Bytes),
+    ById(u32),
 }
 
 impl Member for User {

@@ -6,10 +6,12 @@ ghost use Rattle.std.specs.Str.{IsUtf8, is_utf8};
 ghost use Rattle.llb_wire.specs.Records.{record_of};
 ghost use Rattle.llb_ops.specs.Faults.{Gives};
 ghost use Rattle.llb_ops.specs.declared.shape.Form.TheVariants as form;
+ghost use Rattle.llb_ops.specs.Table.{shape_of};
 ghost use Rattle.llb_ops.specs.Records.{view, views, form_of, wire_fits, records_from, Starts, texts_fit, text_fits, parts as parts_of, all as all_of, last_of, number as number_of, payload as payload_of, payloads, uint32, int32, int64, flag, joined as joined_of, unnamed as unnamed_of, chosen as chosen_of, since as since_of, is_member as is_member_of, is_other as is_other_of, member as member_of, within_limits as within_limits_of};
 
 use crate::fault::OpFault;
-use crate::shape::{FIELD_LIMIT, Form, Named};
+use crate::shape::{FIELD_LIMIT, Form};
+use crate::table::{MessageName, field_numbered};
 use llb_wire::{Bytes, Field, Many, Memory, Text, Wire, next_record};
 use std::alloc::Global;
 use std::str::{from_utf8, from_utf8_unchecked};
@@ -32,17 +34,20 @@ pub struct Front<'a> {
 }
 
 /// The form of the field of that number, where the message names it.
-fn form(shape: &[Named], number: u32) -> Option<Form>
-    ensures { result ≡ form_of shape.now number }
+fn form(message: MessageName, number: u32) -> Option<Form>
+    ensures { result ≡ form_of (shape_of message) number }
 {
-    shape.iter().find(|n| n.0 == number).map(|n| n.1)
+    match field_numbered(message, number) {
+        Some(row) => Some(row.field.kind.form()),
+        None => None,
+    }
 }
 
 /// The record has the wire type of its field, where the message names it.
-fn fits(shape: &[Named], field: &Field) -> bool
-    ensures { result ≡ wire_fits (form_of shape.now field.now.number) field.now.wire }
+fn fits(message: MessageName, field: &Field) -> bool
+    ensures { result ≡ wire_fits (form_of (shape_of message) field.now.number) field.now.wire }
 {
-    match (form(shape, field.number), field.wire) {
+    match (form(message, field.number), field.wire) {
         (None, _) => true,
         (Some(Form::Number), Wire::Varint) => true,
         (Some(Form::Number), _) => false,
@@ -71,13 +76,13 @@ fn front_of<'a>(bytes: &'a [u8], field: &Field) -> Front<'a>
 
 /// The record at the front of a message's bytes, and the bytes after it: `None` at the end. A field that the message
 /// names has its wire type.
-pub fn next_part<'a>(shape: &[Named], bytes: &'a [u8]) -> Result<Option<Front<'a>>, OpFault>
-    ensures { Starts shape.now bytes.now result }
+pub fn next_part<'a>(message: MessageName, bytes: &'a [u8]) -> Result<Option<Front<'a>>, OpFault>
+    ensures { Starts (shape_of message) bytes.now result }
 {
     let Some(field) = next_record(bytes, 0)? else {
         return Ok(None);
     };
-    if !fits(shape, &field) {
+    if !fits(message, &field) {
         return Err(OpFault::WrongWireType);
     }
     Ok(Some(front_of(bytes, &field)))
@@ -86,14 +91,14 @@ pub fn next_part<'a>(shape: &[Named], bytes: &'a [u8]) -> Result<Option<Front<'a
 /// The records of a message from left to right.
 pub fn split<'a>(
     alloc: Global,
-    shape: &[Named],
+    message: MessageName,
     bytes: &'a [u8],
 ) -> Result<Vec<Record<'a>>, OpFault>
-    ensures { Gives (λ v. views v.items) result (records_from shape.now 0 bytes.now) }
+    ensures { Gives (λ v. views v.items) result (records_from (shape_of message) 0 bytes.now) }
 {
     let mut records = Vec::new(alloc);
     let mut rest = bytes;
-    while let Some(front) = next_part(shape, rest)? {
+    while let Some(front) = next_part(message, rest)? {
         records.push(front.record)?;
         rest = front.after;
     }
@@ -110,20 +115,20 @@ fn is_text(bytes: &[u8]) -> bool
     }
 }
 
-fn text_is_utf8(shape: &[Named], part: &Record<'_>) -> bool
-    ensures { result ≡ text_fits shape.now (view part.now) }
+fn text_is_utf8(message: MessageName, part: &Record<'_>) -> bool
+    ensures { result ≡ text_fits (shape_of message) (view part.now) }
 {
-    match form(shape, part.number) {
+    match form(message, part.number) {
         Some(Form::Text) => is_text(part.payload),
         _ => true,
     }
 }
 
-fn texts_are_utf8(shape: &[Named], records: &[Record<'_>]) -> bool
-    ensures { result ≡ texts_fit shape.now (views records.now) }
+fn texts_are_utf8(message: MessageName, records: &[Record<'_>]) -> bool
+    ensures { result ≡ texts_fit (shape_of message) (views records.now) }
 {
     for record in records {
-        if !text_is_utf8(shape, record) {
+        if !text_is_utf8(message, record) {
             return false;
         }
     }
@@ -134,14 +139,14 @@ fn texts_are_utf8(shape: &[Named], records: &[Record<'_>]) -> bool
 #[tactic(auto, unfolding(crate::specs::Records::parts))]
 pub fn parts<'a>(
     alloc: Global,
-    shape: &[Named],
+    message: MessageName,
     bytes: &'a [u8],
 ) -> Result<Vec<Record<'a>>, OpFault>
-    ensures gives { Gives (λ v. views v.items) result (parts_of shape.now bytes.now) }
-    ensures texts { IfOk result (λ v. texts_fit shape.now (views v.items) ≡ true) }
+    ensures gives { Gives (λ v. views v.items) result (parts_of (shape_of message) bytes.now) }
+    ensures texts { IfOk result (λ v. texts_fit (shape_of message) (views v.items) ≡ true) }
 {
-    let records = split(alloc, shape, bytes)?;
-    if !texts_are_utf8(shape, &records) {
+    let records = split(alloc, message, bytes)?;
+    if !texts_are_utf8(message, &records) {
         return Err(OpFault::NotUtf8);
     }
     Ok(records)
@@ -211,12 +216,12 @@ pub fn last_bytes(alloc: Global, records: &[Record<'_>], number: u32) -> Result<
 /// A text, which was found to be UTF-8 when the records were read.
 pub fn last_text(
     alloc: Global,
-    shape: &[Named],
+    message: MessageName,
     records: &[Record<'_>],
     number: u32,
 ) -> Result<Text, Memory>
-    requires named { form_of shape.now number ≡ Some form.Text }
-    requires texts { texts_fit shape.now (views records.now) ≡ true }
+    requires named { form_of (shape_of message) number ≡ Some form.Text }
+    requires texts { texts_fit (shape_of message) (views records.now) ≡ true }
     ensures { IfOk result (λ t. t ≡ payload_of (all_of number (views records.now))) }
 {
     let payload = last_payload(records, number);
@@ -246,12 +251,12 @@ pub fn room_for<T: Drop>(
 /// The texts of a field that is repeated, in order.
 pub fn each_text(
     alloc: Global,
-    shape: &[Named],
+    message: MessageName,
     records: &[Record<'_>],
     number: u32,
 ) -> Result<Many<Text>, Memory>
-    requires named { form_of shape.now number ≡ Some form.Text }
-    requires texts { texts_fit shape.now (views records.now) ≡ true }
+    requires named { form_of (shape_of message) number ≡ Some form.Text }
+    requires texts { texts_fit (shape_of message) (views records.now) ≡ true }
     ensures { IfOk result (λ ts. ts ≡ payloads (all_of number (views records.now))) }
 {
     let mut items = room_for(alloc, records, number)?;
@@ -347,19 +352,19 @@ pub fn since<'r, 'a>(records: &'r [Record<'a>], members: &[u32], number: u32) ->
     rest
 }
 
-fn is_unnamed(shape: &[Named], part: &Record<'_>) -> bool
-    ensures { result ≡ is_none (form_of shape.now part.now.number) }
+fn is_unnamed(message: MessageName, part: &Record<'_>) -> bool
+    ensures { result ≡ is_none (form_of (shape_of message) part.now.number) }
 {
-    form(shape, part.number).is_none()
+    form(message, part.number).is_none()
 }
 
 /// The fields that the message doesn't name, as they stand.
-pub fn unnamed(alloc: Global, shape: &[Named], records: &[Record<'_>]) -> Result<Bytes, Memory>
-    ensures { IfOk result (λ b. b ≡ unnamed_of shape.now (views records.now)) }
+pub fn unnamed(alloc: Global, message: MessageName, records: &[Record<'_>]) -> Result<Bytes, Memory>
+    ensures { IfOk result (λ b. b ≡ unnamed_of (shape_of message) (views records.now)) }
 {
     let mut out = Vec::new(alloc);
     for record in records {
-        if is_unnamed(shape, record) {
+        if is_unnamed(message, record) {
             out.extend_from_slice(record.text)?;
         }
     }

@@ -1,5 +1,4 @@
-//! The rows of the table of messages: which fields a message names, and how their payloads are read.
-//! What a message is of its fields stands beside the message.
+//! How the payloads of fields are read, and how much may stand in a definition.
 
 /// How the payload of a named field is read.
 #[derive(Clone, Copy)]
@@ -11,9 +10,6 @@ pub enum Form {
     /// Bytes in UTF-8.
     Text,
 }
-
-/// A field that a message names: its number, and its form.
-pub type Named = (u32, Form);
 
 /// How many bytes a definition may have.
 pub const DEFINITION_LIMIT: usize = 67_108_864;

@@ -7,7 +7,7 @@ ghost use Rattle.llb_ops.specs.Writing.{attribute_entry_bytes, messages_field};
 use crate::fault::OpFault;
 use crate::message::{Message, each};
 use crate::records::{Record, last_text, unnamed, within_limits};
-use crate::shape::{Form, Named};
+use crate::table::MessageName;
 use crate::writing::{put_bytes, put_extra, put_set_bytes};
 use indexmap::IndexMap;
 use llb_wire::{Bytes, Many, Memory, Text};
@@ -86,24 +86,22 @@ impl Attributes {
     }
 }
 
-const ATTRIBUTE_ENTRY: [Named; 2] = [(1, Form::Text), (2, Form::Text)];
-
 impl Message for AttributeEntry {
     ghost use Rattle.llb_ops.specs.Messages.{attribute_entry_shape, attribute_entry_in};
 
     ghost shape = { attribute_entry_shape };
 
-    fn named() -> &'static [Named] {
-        &ATTRIBUTE_ENTRY
+    fn name() -> MessageName {
+        MessageName::AttributeEntry
     }
 
     ghost reading = { attribute_entry_in };
 
     #[tactic(auto, unfolding(crate::specs::Messages::attribute_entry_in))]
     fn read(alloc: Global, records: &[Record<'_>]) -> Result<AttributeEntry, OpFault> {
-        let key = last_text(alloc, &ATTRIBUTE_ENTRY, records, 1)?;
-        let value = last_text(alloc, &ATTRIBUTE_ENTRY, records, 2)?;
-        let extra = unnamed(alloc, &ATTRIBUTE_ENTRY, records)?;
+        let key = last_text(alloc, MessageName::AttributeEntry, records, 1)?;
+        let value = last_text(alloc, MessageName::AttributeEntry, records, 2)?;
+        let extra = unnamed(alloc, MessageName::AttributeEntry, records)?;
         Ok(AttributeEntry { key, value, extra })
     }
 
@@ -139,15 +137,13 @@ fn put_attributes(alloc: Global, out: &mut Vec<u8>, attrs: &Attributes) -> Resul
     Ok(())
 }
 
-const SOURCE_OP: [Named; 2] = [(1, Form::Text), (2, Form::Bytes)];
-
 impl Message for SourceOp {
     ghost use Rattle.llb_ops.specs.Messages.{source_op_shape, source_op_in};
 
     ghost shape = { source_op_shape };
 
-    fn named() -> &'static [Named] {
-        &SOURCE_OP
+    fn name() -> MessageName {
+        MessageName::SourceOp
     }
 
     ghost reading = { source_op_in };
@@ -159,8 +155,8 @@ impl Message for SourceOp {
             return Err(OpFault::OverLimit);
         }
         let attrs = Attributes::settled(alloc, entries)?;
-        let identifier = last_text(alloc, &SOURCE_OP, records, 1)?;
-        let extra = unnamed(alloc, &SOURCE_OP, records)?;
+        let identifier = last_text(alloc, MessageName::SourceOp, records, 1)?;
+        let extra = unnamed(alloc, MessageName::SourceOp, records)?;
         Ok(SourceOp {
             identifier,
             attrs,

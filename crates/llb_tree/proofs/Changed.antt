@@ -13,10 +13,10 @@ use Rattle.llb_tree.specs.Meta.{MetaValue}
 use Rattle.llb_tree.specs.Tree.{Entry, Dir, File, Look, TreeMap, parents, all_dirs, file_fits, without, with_tree, tree_at, height, IsTree}
 use Rattle.llb_tree.specs.Nodes.{look_in, set_look, dir_look, file_look, IsWhole}
 use Rattle.llb_tree.specs.Falls.{height_le, le_height}
-use Rattle.llb_tree.proofs.Walks.{walk-cons}
-use Rattle.llb_tree.proofs.Within.{within_split, within-append, within_itself, cmp-append}
+use Rattle.llb_tree.specs.Inside.{walk-cons}
+use Rattle.llb_tree.specs.Within.{within_split, within-append, within_itself, cmp-append}
 use Rattle.llb_tree.proofs.Outside.{get-without}
-use Rattle.llb_tree.proofs.Inside.{walk_below, get-tree_at}
+use Rattle.llb_tree.specs.Inside.{walk_below, get-tree_at}
 use Rattle.llb_tree.proofs.Grafted.{get_inside, get_outside}
 
 -- a fact of all paths is one of those at or below a path and one of the others

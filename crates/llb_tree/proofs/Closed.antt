@@ -9,7 +9,7 @@ use Rattle.llb_tree.specs.Meta.{MetaValue, IsMeta}
 use Rattle.llb_tree.specs.Path.{path_cmp, IsPath}
 use Rattle.llb_tree.specs.PathOrder.{path_cmp-IsTotalOrder, path_cmp-IsAntisymmetric}
 use Rattle.llb_tree.specs.Tree.{Entry, Dir, File, Look, TreeMap, parents, all_dirs, walk, file_fits, IsDirAt, CanStand, IsTree}
-use Rattle.llb_tree.proofs.Walks.{walk-cons}
+use Rattle.llb_tree.specs.Inside.{walk-cons}
 
 tied : (o : Ordering) → is_eq o ≡ true → o ≡ Equal
 tied Less e = absurd (true≢false (sym e))

@@ -3,13 +3,13 @@ use Rattle.std.proofs.Common.{◌≡◌, ◌≢◌, ℕ, ◌+◌, ◌-◌, ◌�
 use Rattle.std.specs.FinMap as finite
 use Rattle.llb_wire.specs.Spelling.{AreBytes}
 use Rattle.llb_tree.specs.Path.{path_cmp, IsPath}
-use Rattle.llb_tree.specs.Meta.{MetaValue, IsMeta, root_meta}
+use Rattle.llb_tree.specs.Meta.{MetaValue, IsMeta, new_dir_meta}
 use Rattle.llb_tree.specs.Tree.{TreeMap, Entry, Dir, walk, file_fits, dir_fits, found, dir_there, places_fit, put_file, put_dir, remove, graft, subtree, with_tree, empty_tree, IsTree}
 use Rattle.llb_tree.specs.Nodes.{look_in, set_look, dir_look, file_look, IsWhole}
 use Rattle.llb_tree.proofs.Walks.{put_dir-Ok, put_file-Ok}
 use Rattle.llb_tree.proofs.Closed.{IsTree-insert_dir, IsTree-insert_file, IsTree-empty, get-insert_cases}
 use Rattle.llb_tree.proofs.Outside.{remove-Ok, IsTree-removed}
-use Rattle.llb_tree.proofs.Inside.{IsTree-tree_at, subtree-Ok}
+use Rattle.llb_tree.specs.Inside.{IsTree-tree_at, subtree-Ok}
 use Rattle.llb_tree.proofs.Grafted.{IsTree-with_tree, graft-Ok, get_inside}
 use Rattle.llb_tree.proofs.Changed.{dir_put, file_put, taken_away, tree_put, tree_taken, whole_set, deep_from, height_from}
 
@@ -67,7 +67,7 @@ taking t sub d n p whole there le short is =
 
 pub IsWhole-empty : (t : TreeMap) → t ≡ empty_tree → IsWhole t 0
 IsWhole-empty t is = subst (λ s. IsWhole s 0) (sym is) (record {
-  tree = IsTree-empty root_meta (record { mode = omega arith; uid = omega arith; gid = omega arith });
-  deep = height_from empty_tree 0 (λ q. get-insert_cases (λ o. is_some o ≡ true → length q ≤ 0) finite.empty [] (Dir root_meta) q (λ root there. let e = ap length root in omega arith) (λ there. absurd (let e = sym (ap is_some (finite.get-empty path_cmp q)) ∙ there in cc)));
+  tree = IsTree-empty new_dir_meta (record { mode = omega arith; uid = omega arith; gid = omega arith });
+  deep = height_from empty_tree 0 (λ q. get-insert_cases (λ o. is_some o ≡ true → length q ≤ 0) finite.empty [] (Dir new_dir_meta) q (λ root there. let e = ap length root in omega arith) (λ there. absurd (let e = sym (ap is_some (finite.get-empty path_cmp q)) ∙ there in cc)));
   short = omega arith;
 })

@@ -15,10 +15,10 @@ use Rattle.llb_tree.specs.Tree.{Entry, Dir, File, Look, TreeMap, parents, all_di
 use Rattle.llb_tree.specs.declared.fault.TreeFault.{TreeFault}
 use Rattle.llb_tree.specs.declared.fault.TreeFault.TheVariants.{BadName}
 use Rattle.llb_wire.specs.Answer.{◌>>=◌}
-use Rattle.llb_tree.proofs.Walks.{walk-cons}
-use Rattle.llb_tree.proofs.Within.{within_split, within-append, cmp-append}
+use Rattle.llb_tree.specs.Inside.{walk-cons}
+use Rattle.llb_tree.specs.Within.{within_split, within-append, cmp-append}
 use Rattle.llb_tree.proofs.Outside.{get-without, walk_beside}
-use Rattle.llb_tree.proofs.Inside.{Pair}
+use Rattle.llb_tree.specs.Inside.{Pair}
 
 tied : (o : Ordering) → is_eq o ≡ true → o ≡ Equal
 tied Less t = absurd (true≢false (sym t))

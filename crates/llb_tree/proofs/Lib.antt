@@ -6,9 +6,7 @@ pub mod NameTests
 pub mod Searching
 pub mod Reading
 pub mod Joined
-pub mod Within
 pub mod Outside
-pub mod Inside
 pub mod Listed
 pub mod Grafted
 pub mod Mapped

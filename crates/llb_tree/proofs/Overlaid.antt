@@ -9,7 +9,7 @@ use Rattle.llb_tree.specs.Tree.{Entry, Dir, File, TreeMap, Look, meta_in, parent
 use Rattle.llb_tree.specs.Falls.{height_le, le_height}
 use Rattle.llb_tree.specs.Overlay.{is_file, below_file, WayValue, is_mode, given, over, laid_over, over_at}
 use Rattle.llb_tree.specs.Laying.{IsWay, owner_fits}
-use Rattle.llb_tree.proofs.Walks.{map-map, walk-cons}
+use Rattle.llb_tree.specs.Inside.{map-map, walk-cons}
 use Rattle.llb_tree.proofs.Closed.{walk_more}
 
 pub below_file-cons : (look : Look) (n : List ℕ) (p : List (List ℕ)) → below_file look (n ∷ p) ≡ (is_file (look []) || below_file (λ q. look (n ∷ q)) p)

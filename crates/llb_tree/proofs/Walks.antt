@@ -3,16 +3,9 @@ use Rattle.std.proofs.Common.{◌≡◌, ◌≢◌, ℕ, zero, suc, ◌+◌, ◌
 use Rattle.llb_tree.specs.declared.fault.TreeFault.{TreeFault}
 use Rattle.llb_tree.specs.Meta.{MetaValue}
 use Rattle.llb_tree.specs.Tree.{Entry, Dir, File, Look, TreeMap, parents, all_dirs, walk, file_fits, dir_fits, put_file, put_dir}
+use Rattle.llb_tree.specs.Inside.{walk-cons}
 use Rattle.llb_wire.specs.Answer.{◌>>=◌}
 use Rattle.std.specs.FinMap as finite
-
-pub map-map : {A B C : Type 0} (g : B → C) (f : A → B) (xs : List A) → map g (map f xs) ≡ map (λ x. g (f x)) xs
-map-map g f [] = refl
-map-map g f (x ∷ xs) = ap (λ ys. g (f x) ∷ ys) (map-map g f xs)
-
--- the root first, and then the rest below the first name
-pub walk-cons : (look : Look) (n : List ℕ) (p : List (List ℕ)) → walk look (n ∷ p) ≡ all_dirs (look [] ∷ map (λ q. look (n ∷ q)) (parents p))
-walk-cons look n p = ap (λ ys. all_dirs (look [] ∷ ys)) (map-map look (λ q. n ∷ q) (parents p))
 
 -- from the i-th name on
 abbrev pub walk_from : Look → List (List ℕ) → ℕ → Result (Unit {0}) TreeFault

@@ -2,7 +2,10 @@ pub mod Faults
 pub mod Path
 pub mod PathOrder
 pub mod Meta
+pub mod Modes
 pub mod Tree
+pub mod Within
+pub mod Inside
 pub mod Nodes
 pub mod Looks
 pub mod Falls

@@ -1,7 +1,7 @@
 -- A tree as a map from paths to entries: what makes it a tree, the walk over the parents of a path, and the edits, each
 -- the map after it or the first fault. Nothing here knows how a tree is kept.
 use denote.Param.Weighed.{most}
-use Rattle.std.specs.Prelude.{◌≡◌, ℕ, List, [], ◌∷◌, ◌++◌, ◌==◌, ◌+◌, ◌&&◌, nat_lt, if◌then◌else◌, length, drop, map, Option, Some, None, IsSome, not, Result, Ok, Err, refl}
+use Rattle.std.specs.Prelude.{◌≡◌, ℕ, Bool, true, false, List, [], ◌∷◌, ◌++◌, ◌==◌, ◌+◌, ◌&&◌, nat_lt, if◌then◌else◌, length, drop, map, Option, Some, None, IsSome, not, Result, Ok, Err, refl}
 use Rattle.std.specs.List.{flat_map}
 use Rattle.std.specs.FinMap as finite
 use Rattle.std.specs.FinMap.{FinMap}
@@ -10,7 +10,7 @@ use Rattle.std.specs.Coded.{Coded, code_by, coded×, coded_ℕ, coded_list, code
 use Rattle.llb_wire.specs.Answer.{◌>>=◌}
 use Rattle.llb_wire.specs.Spelling.{AreBytes}
 use Rattle.llb_tree.specs.Path.{path_cmp, IsPath, is_within}
-pub use Rattle.llb_tree.specs.Meta.{MetaValue, IsMeta, root_meta}
+pub use Rattle.llb_tree.specs.Meta.{MetaValue, IsMeta, new_dir_meta}
 pub use Rattle.llb_tree.specs.Faults.{is_memory, Gives, MemoryLast}
 use Rattle.llb_tree.specs.declared.fault.TreeFault.{TreeFault}
 use Rattle.llb_tree.specs.declared.fault.TreeFault.TheVariants.{NotFound, NotDir, IsDir, Conflict, Root, BadName}
@@ -144,7 +144,13 @@ graft t p other = walk (finite.get t) p >>= λ _. places_fit p (finite.keys othe
 
 -- the tree of a root directory 0755 0:0 alone
 abbrev pub empty_tree : TreeMap
-empty_tree = finite.insert finite.empty [] (Dir root_meta)
+empty_tree = finite.insert finite.empty [] (Dir new_dir_meta)
+
+-- whether what stands at a path is a directory
+abbrev pub is_dir : Option Entry → Bool
+is_dir None = false
+is_dir (Some (Dir m)) = true
+is_dir (Some (File m content)) = false
 
 -- a directory stands at the path
 abbrev pub IsDirAt : Look → List (List ℕ) → Type 0

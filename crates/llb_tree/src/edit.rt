@@ -7,8 +7,8 @@ ghost use Rattle.std.specs.Arc.{arc_value};
 ghost use Rattle.std.specs.FinMap as finite;
 ghost use Rattle.llb_tree.specs.Nodes.{AreSorted, Sets, pair_of, place, set_look};
 
+use crate::name::Name;
 use crate::node::{Child, Kind, Node, place_of};
-use crate::path::Name;
 use std::alloc::{AllocError, Global};
 use std::sync::Arc;
 

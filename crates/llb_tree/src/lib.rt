@@ -1,5 +1,5 @@
 //! A tree is a map from paths to entries, and each call on it is one look or one change of the map. Here are names and
-//! paths with the reading of a path from a text, the mode and the owner of an entry, and the tree. Nothing here knows an
+//! paths with the reading of a path from a text, the mode and the owner of an entry, modes as they are written, and the tree. Nothing here knows an
 //! operation or a file system.
 #![tactic(auto)]
 
@@ -9,6 +9,9 @@ mod fault;
 mod fits;
 mod listing;
 mod meta;
+mod mode;
+mod name;
+mod names;
 mod node;
 mod overlay;
 mod overlay_in_place;
@@ -20,8 +23,11 @@ mod way;
 pub use fault::TreeFault;
 pub use llb_wire::{Bytes, Text};
 pub use meta::Meta;
+pub use mode::Mode;
+pub use name::Name;
+pub use names::Names;
 pub use node::{Child, Entry, Node};
-pub use path::{Name, Names, Path};
+pub use path::Path;
 pub use tree::Tree;
 pub use walk::Walk;
 pub use way::Way;

@@ -8,8 +8,10 @@ ghost use Rattle.llb_tree.specs.Tree as base;
 ghost use Rattle.llb_tree.specs.Tree.{Gives, MemoryLast, list, name_below};
 
 use crate::fault::TreeFault;
+use crate::name::Name;
+use crate::names::Names;
 use crate::node::{Child, Entry, Kind, Node};
-use crate::path::{Name, Names, Path};
+use crate::path::Path;
 use crate::tree::Tree;
 use std::alloc::Global;
 

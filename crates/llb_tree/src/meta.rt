@@ -2,7 +2,7 @@
 //! its three numbers. Nothing here takes memory.
 
 ghost use Rattle.std.specs.Prelude.{◌≡◌, ◌≤◌, ◌↔◌, IsTrue};
-ghost use Rattle.llb_tree.specs.Meta.{IsMeta, meta_of, root_meta};
+ghost use Rattle.llb_tree.specs.Meta.{IsMeta, meta_of, new_dir_meta};
 
 use std::marker::Model;
 
@@ -39,9 +39,9 @@ impl Meta {
         }
     }
 
-    // A directory that is made with no mode of its own: 0755 0:0.
-    pub(crate) fn root() -> Meta
-        ensures { result ≡ root_meta }
+    /// Those of a directory that is made where none are given: 0755 0:0.
+    pub fn new_dir() -> Meta
+        ensures { result ≡ new_dir_meta }
     {
         Meta {
             mode: 0o755,

@@ -9,7 +9,7 @@ ghost use Rattle.llb_tree.specs.Nodes.{AreSorted, dir_look, file_look, pair_of, 
 
 use crate::fault::TreeFault;
 use crate::meta::Meta;
-use crate::path::Name;
+use crate::name::Name;
 use llb_wire::Bytes;
 use std::alloc::{AllocError, Global};
 use std::marker::Model;

@@ -12,9 +12,9 @@ ghost use Rattle.llb_tree.specs.Laying.{Lays, IsLaid, AreLaid, puts, TakesFirst,
 
 use crate::edit::own;
 use crate::fault::TreeFault;
+use crate::name::Name;
 use crate::node::{Child, Kind, Node, place_of};
 use crate::overlay::{dressed, lay_node};
-use crate::path::Name;
 use crate::tree::Tree;
 use crate::way::Way;
 use std::alloc::{AllocError, Global};

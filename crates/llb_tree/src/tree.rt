@@ -5,13 +5,14 @@
 ghost use Rattle.std.specs.Prelude.{◌≡◌, ◌++◌, ℕ, List, Ok, Err, MatchResult, IfOk, IfErr, OnOk, OnErr, false, option_map};
 ghost use Rattle.std.specs.FinMap as finite;
 ghost use Rattle.llb_tree.specs.Path.{is_within};
-ghost use Rattle.llb_tree.specs.Tree.{is_memory, Gives, MemoryLast, IsTree, empty_tree, put_file, put_dir, remove, subtree, graft, dir_there, file_fits, dir_fits, found};
+ghost use Rattle.llb_tree.specs.Tree.{is_memory, Gives, MemoryLast, IsTree, empty_tree, put_file, put_dir, remove, subtree, graft, is_dir, dir_there, file_fits, dir_fits, found};
 ghost use Rattle.llb_tree.specs.Nodes.{seen};
 
 use crate::fault::TreeFault;
 use crate::meta::Meta;
+use crate::name::Name;
 use crate::node::{Entry, Node};
-use crate::path::{Name, Path};
+use crate::path::Path;
 use llb_wire::Bytes;
 use std::alloc::Global;
 use std::marker::Model;
@@ -90,7 +91,7 @@ impl Tree {
     pub fn empty(alloc: Global) -> Result<Tree, TreeFault>
         ensures { Gives (λ t. t) result (Ok empty_tree) }
     {
-        let root = Node::empty_dir(alloc, Meta::root())?;
+        let root = Node::empty_dir(alloc, Meta::new_dir())?;
         Ok(Tree {
             root,
             depth: 0,
@@ -111,6 +112,18 @@ impl Tree {
         ensures tree { IsTree self.now }
     {
         self.root.get(path.names())
+    }
+
+    /// Whether a directory stands at a path. Takes no memory.
+    pub fn is_dir(&self, path: &Path) -> bool
+        ensures there { result ≡ is_dir (finite.get self.now path.now) }
+        ensures tree { IsTree self.now }
+    {
+        match self.get(path) {
+            Some(Entry::Dir(_)) => true,
+            Some(Entry::File(..)) => false,
+            None => false,
+        }
     }
 
     /// A law: the root is a directory, and so is each proper prefix of a path that is there; and each entry can stand at

@@ -11,15 +11,17 @@ use Rattle.std.specs.Fmt.{decimal}
 use Rattle.std.specs.Cmp.Lexicographic.{pointwise, bytes_decides}
 use Rattle.hex.specs.Hex.{encode_with, lower_digits}
 use Rattle.llb_wire.specs.Spelling.{AreBytes}
+use Rattle.llb_wire.specs.Hexadecimal.{hex_text, is_lower, is_hex}
 use Rattle.llb_tree.specs.Path.{is_name, IsPath, parts_of}
 use Rattle.llb_tree.specs.Meta.{MetaValue, IsMeta, meta_of}
+use Rattle.llb_tree.specs.Modes.{is_octal_digit, octal, mode_of}
 use Rattle.llb_tree.specs.Tree.{Dir, File}
-use Rattle.llb_treetext.specs.TreeText.{octal, meta_text, content_text, path_text, row_text, line_of}
+use Rattle.llb_treetext.specs.TreeText.{mode_text, meta_text, path_text, row_text, line_of}
 use Rattle.llb_treetext.specs.Reading.{IsRow, Begins}
 use Rattle.llb_treetext.specs.Lines.{Spells}
 use Rattle.llb_treetext.specs.declared.parts.Parts.{Parts}
 use Rattle.std.specs.Option.{option_map}
-use Rattle.llb_treetext.specs.Fields.{Fields, on, cut_at, is_octal, octal_digit, four_digits, mode_in, number_from, decimal_in, meta_in, is_lower, is_content, are_names, is_path, dir_parts, file_parts, parts_in, parts_seen, parts_from, row_from}
+use Rattle.llb_treetext.specs.Fields.{Fields, on, cut_at, mode_in, number_from, decimal_in, meta_in, are_names, is_path, dir_parts, file_parts, parts_in, parts_seen, parts_from, row_from}
 use Rattle.llb_treetext.proofs.Written.{by_kind, path_joined, grouped, parts_are, row_from_is}
 use Rattle.llb_treetext.proofs.Rows.{Pair, dir_is_row, file_is_row}
 
@@ -46,19 +48,19 @@ cut_gives c text a b is =
 
 -- ---- the mode and the owners
 
-octal_bounds : (b : ℕ) → is_octal b ≡ true → (48 ≤ b) × (b ≤ 55)
+octal_bounds : (b : ℕ) → is_octal_digit b ≡ true → (48 ≤ b) × (b ≤ 55)
 octal_bounds b is = let both = and_parts (nat_le 48 b) (nat_le b 55) is in (leb-true 48 b both.0, leb-true b 55 both.1)
 
-four : (text : List ℕ) (m : ℕ) → list_all is_octal text ≡ true → four_digits text ≡ Some m → (text ≡ octal m) × (m ≤ 4095)
-four (a ∷ b ∷ c ∷ d ∷ []) m all is =
-    let one = and_parts (is_octal a) _ all in
-    let two = and_parts (is_octal b) _ one.1 in
-    let three = and_parts (is_octal c) _ two.1 in
-    let last = and_parts (is_octal d) _ three.1 in
-    digits (octal_bounds a one.0) (octal_bounds b two.0) (octal_bounds c three.0) (octal_bounds d last.0) (some_is _ m is)
+four : (text : List ℕ) (m : ℕ) → length text ≡ 4 → list_all is_octal_digit text ≡ true → octal text ≡ m → (text ≡ mode_text m) × (m ≤ 4095)
+four (a ∷ b ∷ c ∷ d ∷ []) m long all is =
+    let one = and_parts (is_octal_digit a) _ all in
+    let two = and_parts (is_octal_digit b) _ one.1 in
+    let three = and_parts (is_octal_digit c) _ two.1 in
+    let last = and_parts (is_octal_digit d) _ three.1 in
+    digits (octal_bounds a one.0) (octal_bounds b two.0) (octal_bounds c three.0) (octal_bounds d last.0) (omega (arith, is))
   where
-    digits : (48 ≤ a) × (a ≤ 55) → (48 ≤ b) × (b ≤ 55) → (48 ≤ c) × (c ≤ 55) → (48 ≤ d) × (d ≤ 55) → octal_digit a * 512 + octal_digit b * 64 + octal_digit c * 8 + octal_digit d ≡ m
-        → (a ∷ b ∷ c ∷ d ∷ [] ≡ octal m) × (m ≤ 4095)
+    digits : (48 ≤ a) × (a ≤ 55) → (48 ≤ b) × (b ≤ 55) → (48 ≤ c) × (c ≤ 55) → (48 ≤ d) × (d ≤ 55) → (a - 48) * 512 + (b - 48) * 64 + (c - 48) * 8 + (d - 48) ≡ m
+        → (a ∷ b ∷ c ∷ d ∷ [] ≡ mode_text m) × (m ≤ 4095)
     digits (la, ha) (lb, hb) (lc, hc) (ld, hd) is =
         let w : (48 + m / 512 ≡ a) = omega (arith, is, la, ha, lb, hb, lc, hc, ld, hd) in
         let x : (48 + m / 64 % 8 ≡ b) = omega (arith, is, la, ha, lb, hb, lc, hc, ld, hd) in
@@ -68,11 +70,18 @@ four (a ∷ b ∷ c ∷ d ∷ []) m all is =
               ∙ sym (λ i. decimal_digit (m / 512) (omega (arith, w, ha)) i ++ (decimal_digit (m / 64 % 8) (omega arith) i ++ (decimal_digit (m / 8 % 8) (omega arith) i ++ decimal_digit (m % 8) (omega arith) i))),
           omega (arith, w, ha),
         )
-four [] m all is = absurd cc
-four (a ∷ []) m all is = absurd cc
-four (a ∷ b ∷ []) m all is = absurd cc
-four (a ∷ b ∷ c ∷ []) m all is = absurd cc
-four (a ∷ b ∷ c ∷ d ∷ e ∷ text) m all is = absurd cc
+four [] m long all is = absurd (omega (arith, long))
+four (a ∷ []) m long all is = absurd (omega (arith, long))
+four (a ∷ b ∷ []) m long all is = absurd (omega (arith, long))
+four (a ∷ b ∷ c ∷ []) m long all is = absurd (omega (arith, long))
+four (a ∷ b ∷ c ∷ d ∷ e ∷ text) m long all is = absurd (omega (arith, long))
+
+mode_gives : (text : List ℕ) (m : ℕ) → mode_in text ≡ Some m → (text ≡ mode_text m) × (m ≤ 4095)
+mode_gives text m is =
+    let long = cond_some (length text == 4) (mode_of text) m is in
+    let spelled = cond_some (nat_le 1 (length text) && nat_le (length text) 4 && list_all is_octal_digit text) (Some (octal text)) m long.1 in
+    let all = and_parts _ (list_all is_octal_digit text) spelled.0 in
+    four text m (eqb-true (length text) 4 long.0) all.1 (some_is (octal text) m spelled.1)
 
 number_small : (n : ℕ) (text : List ℕ) (k : ℕ) → n < 2 ^ 32 → number_from n text ≡ Some k → k < 2 ^ 32
 unfolding number_from
@@ -97,11 +106,11 @@ meta_gives mode uid gid m small u g is = go (nat_lt 4095 mode) is
         let own : record { mode = mode; uid = uid; gid = gid } ≡ m = some_is _ m is in
         (subst IsMeta own (record { mode = small; uid = u; gid = g }), sym (ap (λ (v : MetaValue). v.mode) own), sym (ap (λ (v : MetaValue). v.uid) own), sym (ap (λ (v : MetaValue). v.gid) own))
 
-meta_written : (m : MetaValue) → IsMeta m → (text a t b u c rest : List ℕ) → text ≡ a ++ 32 ∷ t → t ≡ b ++ 32 ∷ u → u ≡ c ++ 32 ∷ rest → a ≡ octal m.mode → b ≡ decimal m.uid → c ≡ decimal m.gid → text ≡ meta_text m ++ rest
+meta_written : (m : MetaValue) → IsMeta m → (text a t b u c rest : List ℕ) → text ≡ a ++ 32 ∷ t → t ≡ b ++ 32 ∷ u → u ≡ c ++ 32 ∷ rest → a ≡ mode_text m.mode → b ≡ decimal m.uid → c ≡ decimal m.gid → text ≡ meta_text m ++ rest
 meta_written m is text a t b u c rest one two three mode uid gid =
     let back : u ≡ decimal m.gid ++ 32 ∷ rest = three ∙ ap (λ w. w ++ 32 ∷ rest) gid in
     let middle : t ≡ decimal m.uid ++ 32 ∷ (decimal m.gid ++ 32 ∷ rest) = two ∙ (λ i. uid i ++ 32 ∷ back i) in
-    let front : text ≡ octal m.mode ++ 32 ∷ (decimal m.uid ++ 32 ∷ (decimal m.gid ++ 32 ∷ rest)) = one ∙ (λ i. mode i ++ 32 ∷ middle i) in
+    let front : text ≡ mode_text m.mode ++ 32 ∷ (decimal m.uid ++ 32 ∷ (decimal m.gid ++ 32 ∷ rest)) = one ∙ (λ i. mode i ++ 32 ∷ middle i) in
     front ∙ sym (grouped m is rest)
 
 pub meta_in_gives : (text : List ℕ) (x : MetaValue × List ℕ) → meta_in text ≡ Some x → IsMeta x.0 × (text ≡ meta_text x.0 ++ x.1)
@@ -113,14 +122,13 @@ meta_in_gives text x is =
     let (uid, uid_is, is) = on_some (decimal_in u.0) _ x is in
     let (gid, gid_is, is) = on_some (decimal_in g.0) _ x is in
     let (meta, meta_is, is) = on_some (meta_of mode uid gid) _ x is in
-    let octal_is = cond_some (list_all is_octal m.0) (four_digits m.0) mode mode_is in
-    let o = four m.0 mode octal_is.0 octal_is.1 in
+    let o = mode_gives m.0 mode mode_is in
     let d = decimal_gives u.0 uid uid_is in
     let e = decimal_gives g.0 gid gid_is in
     let v = meta_gives mode uid gid meta o.1 d.1 e.1 meta_is in
     let own : (meta, g.1) ≡ x = some_is (meta, g.1) x is in
     let text_is = meta_written meta v.0 text m.0 m.1 u.0 u.1 g.0 g.1 (cut_gives 32 text m.0 m.1 cut_m) (cut_gives 32 m.1 u.0 u.1 cut_u) (cut_gives 32 u.1 g.0 g.1 cut_g)
-    (o.0 ∙ ap octal (sym v.1)) (d.0 ∙ ap decimal (sym v.2)) (e.0 ∙ ap decimal (sym v.3)) in
+    (o.0 ∙ ap mode_text (sym v.1)) (d.0 ∙ ap decimal (sym v.2)) (e.0 ∙ ap decimal (sym v.3)) in
     (subst (λ (y : MetaValue × List ℕ). IsMeta y.0) own v.0, subst (λ (y : MetaValue × List ℕ). text ≡ meta_text y.0 ++ y.1) own text_is)
 
 -- ---- the content
@@ -179,12 +187,12 @@ digits_give (a ∷ b ∷ digits) all even =
       λ i. (ap (λ n. get_or lower_digits n 0) high ∙ k_is) i ∷ (ap (λ n. get_or lower_digits n 0) low ∙ j_is) i ∷ same i,
     )
 
-content_given : (digits content : List ℕ) → AreBytes content → encode_with lower_digits content ≡ digits → not (length digits == 0) ≡ true → (content : List ℕ) × AreBytes content × (digits ≡ content_text content)
+content_given : (digits content : List ℕ) → AreBytes content → encode_with lower_digits content ≡ digits → not (length digits == 0) ≡ true → (content : List ℕ) × AreBytes content × (digits ≡ hex_text content)
 unfolding encode_with
 content_given digits [] bytes same some = absurd (true≢false (sym some ∙ ap (λ t. not t) (eq-eqb (length digits) 0 (ap length (sym same)))))
 content_given digits (b ∷ content) bytes same some = (b ∷ content, bytes, sym same)
 
-content_gives : (digits : List ℕ) → is_content digits ≡ true → (content : List ℕ) × AreBytes content × (digits ≡ content_text content)
+content_gives : (digits : List ℕ) → is_hex digits ≡ true → (content : List ℕ) × AreBytes content × (digits ≡ hex_text content)
 content_gives digits is =
     elim (or_parts (pointwise nat_eq digits (codes "-")) _ is) [
       | inl dash ↦ ([], tt, (bytes_decides digits (codes "-")).0 dash)
@@ -231,9 +239,9 @@ dir_gives line m path x meta text is =
 
 file_gives : (line : List ℕ) (m : MetaValue) (digits path : List ℕ) (x : Fields) → IsMeta m → line ≡ codes "f " ++ (meta_text m ++ (digits ++ 32 ∷ path)) → file_parts m digits path ≡ Some x → IsLineOf line x
 file_gives line m digits path x meta text is =
-    let tests = cond_some (is_content digits && is_path path && not (nat_lt (length path) 2)) (Some (m, Some digits, path)) x is in
+    let tests = cond_some (is_hex digits && is_path path && not (nat_lt (length path) 2)) (Some (m, Some digits, path)) x is in
     let all = and_parts _ (not (nat_lt (length path) 2)) tests.0 in
-    let both = and_parts (is_content digits) (is_path path) all.0 in
+    let both = and_parts (is_hex digits) (is_path path) all.0 in
     let (content, bytes, own) = content_gives digits both.0 in
     let (p, stands, same) = path_gives path both.1 in
     let named : p ≢ [] = λ at. true≢false (sym all.1 ∙ ap (λ t. not (nat_lt (length t) 2)) (same ∙ ap path_text at)) in

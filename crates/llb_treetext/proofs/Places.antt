@@ -6,9 +6,9 @@ use Rattle.std.proofs.lemmas.List.Elements.{All-nil, All-cons, All-head, All-tai
 use Rattle.std.specs.Ordering.{is_lt}
 use Rattle.std.specs.FinMap as finite
 use Rattle.llb_tree.specs.Path.{is_name, IsPath, path_cmp}
-use Rattle.llb_tree.specs.Meta.{MetaValue, IsMeta, root_meta}
+use Rattle.llb_tree.specs.Meta.{MetaValue, IsMeta, new_dir_meta}
 use Rattle.llb_tree.specs.Tree.{Entry, Dir, File, Look, TreeMap, parents, all_dirs, walk, IsDirAt, CanStand, IsTree, empty_tree}
-use Rattle.llb_tree.proofs.Within.{between, within_split}
+use Rattle.llb_tree.specs.Within.{between, within_split}
 use Rattle.llb_treetext.specs.TreeText.{names_text, path_text, line_of}
 use Rattle.llb_treetext.specs.Reading.{IsRow, IsFault, comes_next}
 use Rattle.llb_treetext.specs.Fields.{Fields, parts_seen, parts_from, trail}
@@ -218,7 +218,7 @@ root_of m = finite.insert empty_tree [] (Dir m)
 module _ (m : MetaValue) (is : IsMeta m) where
   only_root : (q : List (List ℕ)) (e : Entry) → finite.get (root_of m) q ≡ Some e → q ≡ []
   only_root q e = get-insert_cases (λ o. o ≡ Some e → q ≡ []) empty_tree [] (Dir m) q (λ same own. same)
-      (get-insert_cases (λ o. o ≡ Some e → q ≡ []) finite.empty [] (Dir root_meta) q (λ same own. same)
+      (get-insert_cases (λ o. o ≡ Some e → q ≡ []) finite.empty [] (Dir new_dir_meta) q (λ same own. same)
       (λ there. let none : ◌≡◌ {A = Option Entry} None (Some e) = sym (finite.get-empty path_cmp q) ∙ there in absurd cc))
 
   root_there : finite.get (root_of m) [] ≡ Some (Dir m)

@@ -10,7 +10,7 @@ use Rattle.std.specs.FinMap as finite
 use Rattle.std.specs.FinMap.Entries.{by_order}
 use Rattle.llb_tree.specs.Path.{path_cmp}
 use Rattle.llb_tree.specs.PathOrder.{path_cmp-IsTotalOrder, path_cmp-IsAntisymmetric}
-use Rattle.llb_tree.specs.Meta.{MetaValue, root_meta}
+use Rattle.llb_tree.specs.Meta.{MetaValue, new_dir_meta}
 use Rattle.llb_tree.specs.Tree.{Entry, Dir, File, Look, TreeMap, parents, all_dirs, walk, dir_fits, file_fits, IsDirAt, CanStand, IsTree, empty_tree}
 use Rattle.llb_tree.specs.Faults as base
 use Rattle.llb_tree.specs.declared.fault.TreeFault.{TreeFault}
@@ -209,7 +209,7 @@ module _ (m : MetaValue) where
   pub root_entries : finite.entries (finite.insert empty_tree [] (Dir m)) ≡ ([], Dir m) ∷ []
   root_entries =
       finite.entries-insert path_cmp-IsTotalOrder empty_tree [] (Dir m)
-      ∙ ap (finite.put path_cmp [] (Dir m)) (finite.entries-insert path_cmp-IsTotalOrder finite.empty [] (Dir root_meta) ∙ ap (finite.put path_cmp [] (Dir root_meta)) none_empty)
+      ∙ ap (finite.put path_cmp [] (Dir m)) (finite.entries-insert path_cmp-IsTotalOrder finite.empty [] (Dir new_dir_meta) ∙ ap (finite.put path_cmp [] (Dir new_dir_meta)) none_empty)
 
   pub root_front : (p : List (List ℕ)) (o : Option (List ℕ)) (t : TreeMap) (bytes later : List ℕ) → IsRow (p, entry_of m o) → bytes ≡ line_of (p, entry_of m o) ++ later → p ≡ [] → finite.insert empty_tree [] (Dir m) ≡ t → IsTree t → IsFront bytes t later
   root_front p o t bytes later row begins at is tree = record {

@@ -16,13 +16,15 @@ use Rattle.std.specs.Cmp.Lexicographic.{pointwise}
 use Rattle.hex.specs.Hex.{encode_with, encode_lower, lower_digits, hex_digit_value, decode_of, IsBytes}
 use Rattle.hex.proofs.HexLemmas.{length-encode_with, decode_of-encode_lower, IsAscii-encode_with, IsDigits-lower_digits}
 use Rattle.llb_wire.specs.Spelling.{AreBytes}
+use Rattle.llb_wire.specs.Hexadecimal.{hex_text, is_lower, is_hex, bytes_in}
 use Rattle.llb_tree.specs.Path.{is_name, is_name_byte, IsPath, joined, path_of}
 use Rattle.llb_tree.specs.Meta.{MetaValue, IsMeta, meta_of}
+use Rattle.llb_tree.specs.Modes.{is_octal_digit, octal}
 use Rattle.llb_tree.specs.Tree.{Entry, Dir, File}
-use Rattle.llb_treetext.specs.TreeText.{octal, meta_text, content_text, names_text, path_text, row_text}
+use Rattle.llb_treetext.specs.TreeText.{mode_text, meta_text, names_text, path_text, row_text}
 use Rattle.llb_treetext.specs.Reading.{IsRow}
 use Rattle.llb_treetext.specs.Fields as fields
-use Rattle.llb_treetext.specs.Fields.{Fields, on, cut_at, octal_digit, is_octal, is_lower, four_digits, mode_in, decimal_in, is_content, are_names, is_path, dir_parts, file_parts, parts_in, parts_from, content_in, dir_in, file_in, row_from, row_in}
+use Rattle.llb_treetext.specs.Fields.{Fields, on, cut_at, mode_in, decimal_in, are_names, is_path, dir_parts, file_parts, parts_in, parts_from, dir_in, file_in, row_from, row_in}
 use Rattle.llb_treetext.proofs.Names.{name-IsUtf8, passes_tests, from_space}
 use Rattle.llb_treetext.proofs.Numbers.{decimal_written}
 use Rattle.llb_treetext.proofs.Paths.{reads_back, parts_joined}
@@ -81,22 +83,22 @@ decimal_solid n small = decimal_by_steps (λ n ds. Solid ds)
     (λ n ds le solid. All-append (λ b. 33 ≤ b) ds ((48 + n % 10) ∷ []) solid (All-cons (λ b. 33 ≤ b) (48 + n % 10) [] (omega arith) (All-nil (λ b. 33 ≤ b)))) n small
 
 module _ (m : ℕ) (small : m ≤ 4095) where
-  octal_is : octal m ≡ (48 + m / 512) ∷ (48 + m / 64 % 8) ∷ (48 + m / 8 % 8) ∷ (48 + m % 8) ∷ []
+  octal_is : mode_text m ≡ (48 + m / 512) ∷ (48 + m / 64 % 8) ∷ (48 + m / 8 % 8) ∷ (48 + m % 8) ∷ []
   octal_is = λ i. decimal_digit (m / 512) (omega arith) i ++ (decimal_digit (m / 64 % 8) (omega arith) i ++ (decimal_digit (m / 8 % 8) (omega arith) i ++ decimal_digit (m % 8) (omega arith) i))
 
-  octal_value : octal_digit (48 + m / 512) * 512 + octal_digit (48 + m / 64 % 8) * 64 + octal_digit (48 + m / 8 % 8) * 8 + octal_digit (48 + m % 8) ≡ m
+  octal_value : octal ((48 + m / 512) ∷ (48 + m / 64 % 8) ∷ (48 + m / 8 % 8) ∷ (48 + m % 8) ∷ []) ≡ m
   octal_value = omega arith
 
-  octal_byte : (k : ℕ) → k < 8 → is_octal (48 + k) ≡ true
+  octal_byte : (k : ℕ) → k < 8 → is_octal_digit (48 + k) ≡ true
   octal_byte k lt = λ i. le-leb 48 (48 + k) (omega arith) i && le-leb (48 + k) 55 (omega arith) i
 
-  all_octal : list_all is_octal ((48 + m / 512) ∷ (48 + m / 64 % 8) ∷ (48 + m / 8 % 8) ∷ (48 + m % 8) ∷ []) ≡ true
+  all_octal : list_all is_octal_digit ((48 + m / 512) ∷ (48 + m / 64 % 8) ∷ (48 + m / 8 % 8) ∷ (48 + m % 8) ∷ []) ≡ true
   all_octal = λ i. octal_byte (m / 512) (omega arith) i && (octal_byte (m / 64 % 8) (omega arith) i && (octal_byte (m / 8 % 8) (omega arith) i && (octal_byte (m % 8) (omega arith) i && true)))
 
-  mode_is : mode_in (octal m) ≡ Some m
-  mode_is = ap mode_in octal_is ∙ ap (λ t. cond t (four_digits ((48 + m / 512) ∷ (48 + m / 64 % 8) ∷ (48 + m / 8 % 8) ∷ (48 + m % 8) ∷ [])) None) all_octal ∙ ap (λ v. Some v) octal_value
+  mode_is : mode_in (mode_text m) ≡ Some m
+  mode_is = ap mode_in octal_is ∙ ap (λ t. cond t (Some (octal ((48 + m / 512) ∷ (48 + m / 64 % 8) ∷ (48 + m / 8 % 8) ∷ (48 + m % 8) ∷ []))) None) all_octal ∙ ap (λ v. Some v) octal_value
 
-  octal_solid : Solid (octal m)
+  octal_solid : Solid (mode_text m)
   octal_solid =
       All-append (λ b. 33 ≤ b) (decimal (m / 512)) (decimal (m / 64 % 8) ++ (decimal (m / 8 % 8) ++ decimal (m % 8))) (decimal_solid (m / 512) (omega arith))
       (All-append (λ b. 33 ≤ b) (decimal (m / 64 % 8)) (decimal (m / 8 % 8) ++ decimal (m % 8)) (decimal_solid (m / 64 % 8) (omega arith))
@@ -111,11 +113,11 @@ module _ (m : MetaValue) (is : IsMeta m) where
       le_not : (a b : ℕ) → b ≤ a → nat_lt a b ≡ false
       le_not a b le = le-ltb a b le
 
-  pub grouped : (rest : List ℕ) → meta_text m ++ rest ≡ octal m.mode ++ 32 ∷ (decimal m.uid ++ 32 ∷ (decimal m.gid ++ 32 ∷ rest))
+  pub grouped : (rest : List ℕ) → meta_text m ++ rest ≡ mode_text m.mode ++ 32 ∷ (decimal m.uid ++ 32 ∷ (decimal m.gid ++ 32 ∷ rest))
   grouped rest =
-      append_assoc (octal m.mode) (32 ∷ (decimal m.uid ++ (32 ∷ (decimal m.gid ++ 32 ∷ [])))) rest
-      ∙ ap (λ x. octal m.mode ++ 32 ∷ x) (append_assoc (decimal m.uid) (32 ∷ (decimal m.gid ++ 32 ∷ [])) rest)
-      ∙ ap (λ x. octal m.mode ++ 32 ∷ (decimal m.uid ++ 32 ∷ x)) (append_assoc (decimal m.gid) (32 ∷ []) rest)
+      append_assoc (mode_text m.mode) (32 ∷ (decimal m.uid ++ (32 ∷ (decimal m.gid ++ 32 ∷ [])))) rest
+      ∙ ap (λ x. mode_text m.mode ++ 32 ∷ x) (append_assoc (decimal m.uid) (32 ∷ (decimal m.gid ++ 32 ∷ [])) rest)
+      ∙ ap (λ x. mode_text m.mode ++ 32 ∷ (decimal m.uid ++ 32 ∷ x)) (append_assoc (decimal m.gid) (32 ∷ []) rest)
 
   pub meta_is : (rest : List ℕ) → fields.meta_in (meta_text m ++ rest) ≡ Some (m, rest)
   meta_is rest =
@@ -123,10 +125,10 @@ module _ (m : MetaValue) (is : IsMeta m) where
       let gid = decimal_solid m.gid (omega (arith, is.gid)) in
       ap fields.meta_in (grouped rest)
       ∙ ap (λ o. on o (λ a. on (cut_at 32 a.1) (λ u. on (cut_at 32 u.1) (λ g. on (mode_in a.0) (λ mode. on (decimal_in u.0) (λ uid. on (decimal_in g.0) (λ gid. on (meta_of mode uid gid) (λ meta. Some (meta, g.1)))))))))
-      (word (octal m.mode) (decimal m.uid ++ 32 ∷ (decimal m.gid ++ 32 ∷ rest)) (octal_solid m.mode is.mode))
-      ∙ ap (λ o. on o (λ u. on (cut_at 32 u.1) (λ g. on (mode_in (octal m.mode)) (λ mode. on (decimal_in u.0) (λ uid. on (decimal_in g.0) (λ gid. on (meta_of mode uid gid) (λ meta. Some (meta, g.1))))))))
+      (word (mode_text m.mode) (decimal m.uid ++ 32 ∷ (decimal m.gid ++ 32 ∷ rest)) (octal_solid m.mode is.mode))
+      ∙ ap (λ o. on o (λ u. on (cut_at 32 u.1) (λ g. on (mode_in (mode_text m.mode)) (λ mode. on (decimal_in u.0) (λ uid. on (decimal_in g.0) (λ gid. on (meta_of mode uid gid) (λ meta. Some (meta, g.1))))))))
       (word (decimal m.uid) (decimal m.gid ++ 32 ∷ rest) uid)
-      ∙ ap (λ o. on o (λ g. on (mode_in (octal m.mode)) (λ mode. on (decimal_in (decimal m.uid)) (λ uid. on (decimal_in g.0) (λ gid. on (meta_of mode uid gid) (λ meta. Some (meta, g.1)))))))
+      ∙ ap (λ o. on o (λ g. on (mode_in (mode_text m.mode)) (λ mode. on (decimal_in (decimal m.uid)) (λ uid. on (decimal_in g.0) (λ gid. on (meta_of mode uid gid) (λ meta. Some (meta, g.1)))))))
       (word (decimal m.gid) rest gid)
       ∙ ap (λ o. on o (λ mode. on (decimal_in (decimal m.uid)) (λ uid. on (decimal_in (decimal m.gid)) (λ gid. on (meta_of mode uid gid) (λ meta. Some (meta, rest)))))) (mode_is m.mode is.mode)
       ∙ ap (λ o. on o (λ uid. on (decimal_in (decimal m.gid)) (λ gid. on (meta_of m.mode uid gid) (λ meta. Some (meta, rest))))) (decimal_written m.uid is.uid)
@@ -163,7 +165,7 @@ encode_solid (b ∷ content) bytes =
     (All-cons (λ b. 33 ≤ b) (get_or lower_digits (b % 16) 0) (encode_with lower_digits content) (digit_solid _ (b % 16) (IsDigits-lower_digits (b % 16) (omega arith)))
     (encode_solid content bytes.1))
 
-content_solid : (content : List ℕ) → AreBytes content → Solid (content_text content)
+content_solid : (content : List ℕ) → AreBytes content → Solid (hex_text content)
 content_solid [] bytes = All-cons (λ b. 33 ≤ b) 45 [] (omega arith) (All-nil (λ b. 33 ≤ b))
 content_solid (b ∷ content) bytes = encode_solid (b ∷ content) bytes
 
@@ -175,7 +177,7 @@ no_dash b content = and_false (nat_eq (get_or lower_digits (b / 16) 0) 45)
     and_false true = refl
     and_false false = refl
 
-content_is : (content : List ℕ) → AreBytes content → content_in (content_text content) ≡ Some content
+content_is : (content : List ℕ) → AreBytes content → bytes_in (hex_text content) ≡ Some content
 content_is [] bytes = refl
 content_is (b ∷ content) bytes = ap (λ t. cond t (Some []) (result_ok (decode_of (encode_lower (b ∷ content))))) (no_dash b content) ∙ ap result_ok (decode_of-encode_lower (b ∷ content) (byte_at (b ∷ content) bytes))
 
@@ -220,7 +222,7 @@ encode_lower_all (b ∷ content) bytes =
     let small : b < 256 = bytes.0 in
     λ i. digit_lower 16 (b / 16) refl (omega arith) i && (digit_lower 16 (b % 16) refl (omega arith) i && encode_lower_all content bytes.1 i)
 
-is_content_text : (content : List ℕ) → AreBytes content → is_content (content_text content) ≡ true
+is_content_text : (content : List ℕ) → AreBytes content → is_hex (hex_text content) ≡ true
 is_content_text [] bytes = refl
 is_content_text (b ∷ content) bytes =
     let long = length-encode_with lower_digits (b ∷ content) in
@@ -252,7 +254,7 @@ long_path (n ∷ p) path named = omega (arith, some_name n (All-head (λ name. i
 dir_is : (m : MetaValue) (p : List (List ℕ)) → IsPath p → dir_in m (path_text p) ≡ Some (p, Dir m)
 dir_is m p path = ap (λ o. on o (λ q. Some (q, Dir m))) (path_is p path)
 
-file_is : (m : MetaValue) (content : List ℕ) (p : List (List ℕ)) → AreBytes content → IsPath p → file_in m (content_text content) (path_text p) ≡ Some (p, File m content)
+file_is : (m : MetaValue) (content : List ℕ) (p : List (List ℕ)) → AreBytes content → IsPath p → file_in m (hex_text content) (path_text p) ≡ Some (p, File m content)
 file_is m content p bytes path =
     ap (λ o. on o (λ c. on (result_ok (path_of (path_text p))) (λ q. Some (q, File m c)))) (content_is content bytes)
     ∙ ap (λ o. on o (λ q. Some (q, File m content))) (path_is p path)
@@ -268,9 +270,9 @@ one_solid c le = All-cons (λ b. 33 ≤ b) c [] le (All-nil (λ b. 33 ≤ b))
 dir_parts_are : (m : MetaValue) (p : List (List ℕ)) → IsPath p → dir_parts m (path_text p) ≡ Some (m, None, path_text p)
 dir_parts_are m p path = ap (λ t. cond {A = Option Fields} t (Some (m, None, path_text p)) None) (is_path_text p path)
 
-file_parts_are : (m : MetaValue) (content : List ℕ) (p : List (List ℕ)) → AreBytes content → IsPath p → p ≢ [] → file_parts m (content_text content) (path_text p) ≡ Some (m, Some (content_text content), path_text p)
+file_parts_are : (m : MetaValue) (content : List ℕ) (p : List (List ℕ)) → AreBytes content → IsPath p → p ≢ [] → file_parts m (hex_text content) (path_text p) ≡ Some (m, Some (hex_text content), path_text p)
 file_parts_are m content p bytes path named =
-    (λ i. cond {A = Option Fields} (is_content_text content bytes i && is_path_text p path i && not (le-ltb (length (path_text p)) 2 (long_path p path named) i)) (Some (m, Some (content_text content), path_text p)) None)
+    (λ i. cond {A = Option Fields} (is_content_text content bytes i && is_path_text p path i && not (le-ltb (length (path_text p)) 2 (long_path p path named) i)) (Some (m, Some (hex_text content), path_text p)) None)
 
 -- the parts of the line of an entry
 pub parts_are : (row : List (List ℕ) × Entry) → IsRow row → parts_in (row_text row) ≡ Some (parts_from row)
@@ -279,9 +281,9 @@ parts_are (p, Dir m) is =
     ∙ ap (λ o. on o (λ (m : MetaValue × List ℕ). dir_parts m.0 m.1)) (meta_is m is.stands.meta (path_text p))
     ∙ dir_parts_are m p is.stands.path
 parts_are (p, File m content) is =
-    ap (λ o. on o by_kind) (word (102 ∷ []) (meta_text m ++ (content_text content ++ 32 ∷ path_text p)) (one_solid 102 (omega arith)))
-    ∙ ap (λ o. on o (λ (m : MetaValue × List ℕ). on (cut_at 32 m.1) (λ c. file_parts m.0 c.0 c.1))) (meta_is m is.stands.meta (content_text content ++ 32 ∷ path_text p))
-    ∙ ap (λ o. on o (λ (c : List ℕ × List ℕ). file_parts m c.0 c.1)) (word (content_text content) (path_text p) (content_solid content is.stands.bytes))
+    ap (λ o. on o by_kind) (word (102 ∷ []) (meta_text m ++ (hex_text content ++ 32 ∷ path_text p)) (one_solid 102 (omega arith)))
+    ∙ ap (λ o. on o (λ (m : MetaValue × List ℕ). on (cut_at 32 m.1) (λ c. file_parts m.0 c.0 c.1))) (meta_is m is.stands.meta (hex_text content ++ 32 ∷ path_text p))
+    ∙ ap (λ o. on o (λ (c : List ℕ × List ℕ). file_parts m c.0 c.1)) (word (hex_text content) (path_text p) (content_solid content is.stands.bytes))
     ∙ file_parts_are m content p is.stands.bytes is.stands.path (λ at. let one = (is.root at).1 in absurd cc)
 
 -- the entry of the line of an entry
@@ -308,14 +310,14 @@ words_plain w rest solid plain = All-append (λ b. 32 ≤ b) w (32 ∷ rest) (so
 
 meta_plain : (m : MetaValue) (rest : List ℕ) → IsMeta m → Plain rest → Plain (meta_text m ++ rest)
 meta_plain m rest is plain = subst Plain (sym (grouped m is rest))
-    (words_plain (octal m.mode) (decimal m.uid ++ 32 ∷ (decimal m.gid ++ 32 ∷ rest)) (octal_solid m.mode is.mode)
+    (words_plain (mode_text m.mode) (decimal m.uid ++ 32 ∷ (decimal m.gid ++ 32 ∷ rest)) (octal_solid m.mode is.mode)
     (words_plain (decimal m.uid) (decimal m.gid ++ 32 ∷ rest) (decimal_solid m.uid (omega (arith, is.uid))) (words_plain (decimal m.gid) rest (decimal_solid m.gid (omega (arith, is.gid))) plain)))
 
 pub row_plain : (row : List (List ℕ) × Entry) → IsRow row → Plain (row_text row)
 row_plain (p, Dir m) is = words_plain (100 ∷ []) (meta_text m ++ path_text p) (one_solid 100 (omega arith)) (meta_plain m (path_text p) is.stands.meta (path_plain p is.stands.path))
 row_plain (p, File m content) is =
-    words_plain (102 ∷ []) (meta_text m ++ (content_text content ++ 32 ∷ path_text p)) (one_solid 102 (omega arith))
-    (meta_plain m (content_text content ++ 32 ∷ path_text p) is.stands.meta (words_plain (content_text content) (path_text p) (content_solid content is.stands.bytes) (path_plain p is.stands.path)))
+    words_plain (102 ∷ []) (meta_text m ++ (hex_text content ++ 32 ∷ path_text p)) (one_solid 102 (omega arith))
+    (meta_plain m (hex_text content ++ 32 ∷ path_text p) is.stands.meta (words_plain (hex_text content) (path_text p) (content_solid content is.stands.bytes) (path_plain p is.stands.path)))
 
 one_text : (c : ℕ) → c < 128 → IsUtf8 (c ∷ [])
 one_text c lt = IsUtf8-from_ascii (c ∷ []) (IsAscii-cons c [] lt IsAscii-nil)
@@ -336,7 +338,7 @@ path_utf8 (n ∷ p) path = names_utf8 (n ∷ p) path.named
 words_utf8 : (w rest : List ℕ) → IsUtf8 w → IsUtf8 rest → IsUtf8 (w ++ 32 ∷ rest)
 words_utf8 w rest one other = IsUtf8-append w (32 ∷ rest) one (IsUtf8-append (32 ∷ []) rest (one_text 32 (omega arith)) other)
 
-octal_utf8 : (m : ℕ) → m ≤ 4095 → IsUtf8 (octal m)
+octal_utf8 : (m : ℕ) → m ≤ 4095 → IsUtf8 (mode_text m)
 octal_utf8 m small =
     IsUtf8-append (decimal (m / 512)) (decimal (m / 64 % 8) ++ (decimal (m / 8 % 8) ++ decimal (m % 8))) (decimal_utf8 (m / 512) (omega arith))
     (IsUtf8-append (decimal (m / 64 % 8)) (decimal (m / 8 % 8) ++ decimal (m % 8)) (decimal_utf8 (m / 64 % 8) (omega arith))
@@ -344,7 +346,7 @@ octal_utf8 m small =
 
 meta_utf8 : (m : MetaValue) (rest : List ℕ) → IsMeta m → IsUtf8 rest → IsUtf8 (meta_text m ++ rest)
 meta_utf8 m rest is other = subst IsUtf8 (sym (grouped m is rest))
-    (words_utf8 (octal m.mode) (decimal m.uid ++ 32 ∷ (decimal m.gid ++ 32 ∷ rest)) (octal_utf8 m.mode is.mode)
+    (words_utf8 (mode_text m.mode) (decimal m.uid ++ 32 ∷ (decimal m.gid ++ 32 ∷ rest)) (octal_utf8 m.mode is.mode)
     (words_utf8 (decimal m.uid) (decimal m.gid ++ 32 ∷ rest) (decimal_utf8 m.uid (omega (arith, is.uid))) (words_utf8 (decimal m.gid) rest (decimal_utf8 m.gid (omega (arith, is.gid))) other)))
 
 digit_low : (c d : ℕ) → hex_digit_value c ≡ Some d → c < 128
@@ -372,12 +374,12 @@ digit_ascii k = by_cases (nat_lt k 16) refl
     by_cases true t = digit_low _ k (IsDigits-lower_digits k (ltb-true k 16 t))
     by_cases false t = subst (λ v. v < 128) (sym (get_or_past lower_digits k 0 (ltb-false k 16 t))) (omega arith)
 
-content_utf8 : (content : List ℕ) → AreBytes content → IsUtf8 (content_text content)
+content_utf8 : (content : List ℕ) → AreBytes content → IsUtf8 (hex_text content)
 content_utf8 [] bytes = one_text 45 (omega arith)
 content_utf8 (b ∷ content) bytes = IsUtf8-from_ascii (encode_lower (b ∷ content)) (IsAscii-encode_with lower_digits (b ∷ content) digit_ascii)
 
 pub row_utf8 : (row : List (List ℕ) × Entry) → IsRow row → IsUtf8 (row_text row)
 row_utf8 (p, Dir m) is = words_utf8 (100 ∷ []) (meta_text m ++ path_text p) (one_text 100 (omega arith)) (meta_utf8 m (path_text p) is.stands.meta (path_utf8 p is.stands.path))
 row_utf8 (p, File m content) is =
-    words_utf8 (102 ∷ []) (meta_text m ++ (content_text content ++ 32 ∷ path_text p)) (one_text 102 (omega arith))
-    (meta_utf8 m (content_text content ++ 32 ∷ path_text p) is.stands.meta (words_utf8 (content_text content) (path_text p) (content_utf8 content is.stands.bytes) (path_utf8 p is.stands.path)))
+    words_utf8 (102 ∷ []) (meta_text m ++ (hex_text content ++ 32 ∷ path_text p)) (one_text 102 (omega arith))
+    (meta_utf8 m (hex_text content ++ 32 ∷ path_text p) is.stands.meta (words_utf8 (hex_text content) (path_text p) (content_utf8 content is.stands.bytes) (path_utf8 p is.stands.path)))

@@ -5,11 +5,12 @@ use Rattle.std.specs.Option.{option_map}
 use Rattle.std.specs.Fmt.{decimal}
 use Rattle.std.specs.Cmp.Lexicographic.{pointwise}
 use Rattle.std.specs.Result.{result_ok}
-use Rattle.hex.specs.Hex.{decode_of}
 use Rattle.llb_tree.specs.Path.{is_name, parts_of, path_of}
+use Rattle.llb_wire.specs.Hexadecimal.{hex_text, is_hex, bytes_in}
 use Rattle.llb_tree.specs.Meta.{MetaValue, meta_of}
+use Rattle.llb_tree.specs.Modes.{mode_of}
 use Rattle.llb_tree.specs.Tree.{Entry, Dir, File}
-use Rattle.llb_treetext.specs.TreeText.{content_text, path_text}
+use Rattle.llb_treetext.specs.TreeText.{path_text}
 use Rattle.llb_treetext.specs.declared.parts.Parts.{Parts}
 use Rattle.llb_treetext.specs.declared.row.Row.{Row}
 
@@ -22,19 +23,9 @@ on (Some x) f = f x
 abbrev pub cut_at : ℕ → List ℕ → Option (List ℕ × List ℕ)
 cut_at c text = if nat_lt (position_or_len (λ b. nat_eq b c) text) (length text) then Some (before_first (λ b. nat_eq b c) text, after_first (λ b. nat_eq b c) text) else None
 
-abbrev pub is_octal : ℕ → Bool
-is_octal b = nat_le 48 b && nat_le b 55
-
-abbrev pub octal_digit : ℕ → ℕ
-octal_digit b = (b - 48) % 8
-
-abbrev pub four_digits : List ℕ → Option ℕ
-four_digits (a ∷ b ∷ c ∷ d ∷ []) = Some (octal_digit a * 512 + octal_digit b * 64 + octal_digit c * 8 + octal_digit d)
-four_digits text = None
-
 -- four octal digits
 abbrev pub mode_in : List ℕ → Option ℕ
-mode_in text = if list_all is_octal text then four_digits text else None
+mode_in text = if length text == 4 then mode_of text else None
 
 -- decimal digits behind a number
 unfoldable pub number_from : ℕ → List ℕ → Option ℕ
@@ -49,14 +40,6 @@ decimal_in text = on (number_from 0 text) (λ n. if pointwise nat_eq text (decim
 abbrev pub meta_in : List ℕ → Option (MetaValue × List ℕ)
 meta_in text = on (cut_at 32 text) (λ m. on (cut_at 32 m.1) (λ u. on (cut_at 32 u.1) (λ g.
     on (mode_in m.0) (λ mode. on (decimal_in u.0) (λ uid. on (decimal_in g.0) (λ gid. on (meta_of mode uid gid) (λ meta. Some (meta, g.1))))))))
-
--- a hexadecimal digit that is not upper-case
-abbrev pub is_lower : ℕ → Bool
-is_lower b = (nat_le 48 b && nat_le b 57) || (nat_le 97 b && nat_le b 102)
-
--- a dash, or pairs of such digits
-abbrev pub is_content : List ℕ → Bool
-is_content digits = pointwise nat_eq digits (codes "-") || (not (length digits == 0) && (length digits % 2 == 0) && list_all is_lower digits)
 
 -- at most 128 names between slashes
 abbrev pub are_names : List ℕ → Bool
@@ -79,7 +62,7 @@ dir_parts m path = if is_path path then Some (m, None, path) else None
 
 -- the root is no file
 abbrev pub file_parts : MetaValue → List ℕ → List ℕ → Option Fields
-file_parts m digits path = if is_content digits && is_path path && not (nat_lt (length path) 2) then Some (m, Some digits, path) else None
+file_parts m digits path = if is_hex digits && is_path path && not (nat_lt (length path) 2) then Some (m, Some digits, path) else None
 
 -- the parts of a line
 abbrev pub parts_in : List ℕ → Option Fields
@@ -91,7 +74,7 @@ parts_in line = on (cut_at 32 line) (λ k. on (meta_in k.1) (λ m.
 -- the parts of an entry's line
 abbrev pub parts_from : List (List ℕ) × Entry → Fields
 parts_from (p, Dir m) = (m, None, path_text p)
-parts_from (p, File m content) = (m, Some (content_text content), path_text p)
+parts_from (p, File m content) = (m, Some (hex_text content), path_text p)
 
 -- the names of a path's text, a slash before each
 abbrev pub trail : List ℕ → List ℕ
@@ -105,15 +88,11 @@ entry_of m (Some content) = File m content
 abbrev pub pair_of : Row → List (List ℕ) × Entry
 pair_of r = (r.path, entry_of r.meta r.content)
 
--- the bytes of hexadecimal digits, none of a dash
-abbrev pub content_in : List ℕ → Option (List ℕ)
-content_in digits = if pointwise nat_eq digits (codes "-") then Some [] else result_ok (decode_of digits)
-
 abbrev pub dir_in : MetaValue → List ℕ → Option (List (List ℕ) × Entry)
 dir_in m path = on (result_ok (path_of path)) (λ p. Some (p, Dir m))
 
 abbrev pub file_in : MetaValue → List ℕ → List ℕ → Option (List (List ℕ) × Entry)
-file_in m digits path = on (content_in digits) (λ content. on (result_ok (path_of path)) (λ p. Some (p, File m content)))
+file_in m digits path = on (bytes_in digits) (λ content. on (result_ok (path_of path)) (λ p. Some (p, File m content)))
 
 -- the entry of parts
 abbrev pub row_from : Fields → Option (List (List ℕ) × Entry)

@@ -3,20 +3,15 @@ use Rattle.std.specs.Prelude.{ℕ, ◌/◌, ◌%◌, List, [], ◌∷◌, ◌++�
 use Rattle.std.specs.List.{flat_map}
 use Rattle.std.specs.Fmt.{decimal}
 use Rattle.std.specs.FinMap as finite
-use Rattle.hex.specs.Hex.{encode_lower}
+use Rattle.llb_wire.specs.Hexadecimal.{hex_text}
 use Rattle.llb_tree.specs.Tree.{Entry, Dir, File, MetaValue, TreeMap}
 
 -- four octal digits
-abbrev pub octal : ℕ → List ℕ
-octal mode = decimal (mode / 512) ++ (decimal (mode / 64 % 8) ++ (decimal (mode / 8 % 8) ++ decimal (mode % 8)))
+abbrev pub mode_text : ℕ → List ℕ
+mode_text mode = decimal (mode / 512) ++ (decimal (mode / 64 % 8) ++ (decimal (mode / 8 % 8) ++ decimal (mode % 8)))
 
 abbrev pub meta_text : MetaValue → List ℕ
-meta_text m = octal m.mode ++ (codes " " ++ (decimal m.uid ++ (codes " " ++ (decimal m.gid ++ codes " "))))
-
--- hexadecimal digits, a dash for none
-abbrev pub content_text : List ℕ → List ℕ
-content_text [] = codes "-"
-content_text (b ∷ content) = encode_lower (b ∷ content)
+meta_text m = mode_text m.mode ++ (codes " " ++ (decimal m.uid ++ (codes " " ++ (decimal m.gid ++ codes " "))))
 
 -- a slash before each name, one alone for the root
 abbrev pub names_text : List (List ℕ) → List ℕ
@@ -29,7 +24,7 @@ path_text (n ∷ p) = names_text (n ∷ p)
 -- the line of an entry, without its end
 abbrev pub row_text : List (List ℕ) × Entry → List ℕ
 row_text (p, Dir m) = codes "d " ++ (meta_text m ++ path_text p)
-row_text (p, File m content) = codes "f " ++ (meta_text m ++ (content_text content ++ (codes " " ++ path_text p)))
+row_text (p, File m content) = codes "f " ++ (meta_text m ++ (hex_text content ++ (codes " " ++ path_text p)))
 
 abbrev pub line_of : List (List ℕ) × Entry → List ℕ
 line_of e = row_text e ++ codes "\n"

@@ -9,7 +9,7 @@ ghost use Rattle.llb_treetext.specs.Faults.{Gives};
 use crate::fault::TextFault;
 use crate::line::entry_line;
 use llb_tree::Tree;
-use llb_wire::{Memory, Text};
+use llb_wire::{Memory, Text, text_of_digest};
 use sha2::{Digest, Sha256};
 use std::alloc::Global;
 
@@ -33,8 +33,6 @@ fn hash(alloc: Global, tree: &Tree) -> Result<[u8; 32], Memory>
 pub fn tree_digest(alloc: Global, tree: &Tree) -> Result<Text, TextFault>
     ensures { Gives (λ t. t) result (Ok (digest_text (tree_text tree.now))) }
 {
-    let digits = hex::encode(alloc, hash(alloc, tree)?)?;
-    let mut text = String::from_str(alloc, "sha256:")?;
-    text.push_str(digits.as_str())?;
-    Ok(Text::new(text))
+    let text = text_of_digest(alloc, &hash(alloc, tree)?)?;
+    Ok(text)
 }

@@ -2,9 +2,10 @@
 
 ghost use Rattle.std.specs.Prelude.{◌≡◌, ◌++◌, IfOk, OnOk, string_bytes};
 ghost use Rattle.llb_tree.specs.Rows.{seen};
-ghost use Rattle.llb_treetext.specs.TreeText.{meta_text, content_text, names_text, path_text, row_text, line_of};
+ghost use Rattle.llb_treetext.specs.TreeText.{meta_text, names_text, path_text, row_text, line_of};
 
 use llb_tree::{Entry, Meta, Name, Path};
+use llb_wire::push_hex;
 use std::alloc::{AllocError, Global};
 
 // The mode in four octal digits, the user and the group.
@@ -41,19 +42,6 @@ fn push_path(line: &mut String, path: &Path) -> Result<(), AllocError>
     push_names(line, path.names())
 }
 
-// The content in hexadecimal digits, and a dash for none.
-fn push_content(alloc: Global, line: &mut String, content: &[u8]) -> Result<(), AllocError>
-    ensures { OnOk result (string_bytes line.new ≡ string_bytes line.old ++ content_text content.now) }
-{
-    if content.is_empty() {
-        line.push_str("-")?;
-        return Ok(());
-    }
-    let digits = hex::encode(alloc, content)?;
-    line.push_str(digits.as_str())?;
-    Ok(())
-}
-
 // The line of an entry, without its end.
 pub(crate) fn row_text(alloc: Global, path: &Path, entry: &Entry<'_>) -> Result<String, AllocError>
     ensures { IfOk result (λ s. string_bytes s ≡ row_text (path.now, seen entry.now)) }
@@ -67,7 +55,7 @@ pub(crate) fn row_text(alloc: Global, path: &Path, entry: &Entry<'_>) -> Result<
         Entry::File(meta, content) => {
             line.push_str("f ")?;
             line.push_str(meta_line(alloc, *meta)?.as_str())?;
-            push_content(alloc, &mut line, content.as_slice())?;
+            push_hex(alloc, &mut line, content.as_slice())?;
             line.push_str(" ")?;
         }
     }

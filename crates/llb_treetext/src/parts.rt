@@ -3,13 +3,13 @@
 
 ghost use Rattle.std.specs.Prelude.{◌≡◌, ◌↔◌, nat_eq, IsTrue, position};
 ghost use Rattle.std.specs.Fmt.{decimal};
-ghost use Rattle.std.specs.List.{list_all};
 ghost use Rattle.std.specs.Option.{option_map};
-ghost use Rattle.llb_treetext.specs.Fields.{cut_at, octal_digit, is_octal, is_lower, mode_in, number_from, decimal_in, meta_in, is_content, are_names, is_path};
+ghost use Rattle.llb_treetext.specs.Fields.{cut_at, mode_in, number_from, decimal_in, meta_in, are_names, is_path};
 ghost use Rattle.llb_treetext.specs.Fields.{parts_seen, dir_parts, file_parts, parts_in, trail};
 ghost use Rattle.llb_treetext.specs.Lines.{Spells, BeginsWith};
 
-use llb_tree::{Meta, Name};
+use llb_tree::{Meta, Mode, Name};
+use llb_wire::is_hex;
 
 // A line's mode and owners, the digits of a file's content, and the text of the path.
 #[derive(Clone, Copy)]
@@ -39,31 +39,14 @@ fn cut(text: &str) -> Option<(&str, &str)>
     text.split_once(' ')
 }
 
-// Whether all are octal digits.
-fn are_octal(text: &[u8]) -> bool
-    ensures { result ≡ list_all is_octal text.now }
-{
-    text.iter().all(|b| *b >= b'0' && *b <= b'7')
-}
-
-// The number that four octal digits are.
-fn mode_of(text: &str) -> Option<u16>
+// The mode that four octal digits are.
+fn mode_of(text: &str) -> Option<Mode>
     ensures { result ≡ mode_in text.now }
 {
-    if !are_octal(text.as_bytes()) {
+    if text.len() != 4 {
         return None;
     }
-    match text.as_bytes() {
-        [a, b, c, d] => Some(digit(*a) * 512 + digit(*b) * 64 + digit(*c) * 8 + digit(*d)),
-        _ => None,
-    }
-}
-
-// The value of an octal digit; that of any other byte is of no account.
-fn digit(byte: u8) -> u16
-    ensures { result ≡ octal_digit byte }
-{
-    (byte.saturating_sub(b'0') % 8) as u16
+    Mode::read(text)
 }
 
 // The number that decimal digits are; what other bytes are is of no account.
@@ -118,28 +101,9 @@ fn front(text: &str) -> Option<(Meta, &str)>
     let (mode, rest) = cut(text)?;
     let (uid, rest) = cut(rest)?;
     let (gid, rest) = cut(rest)?;
-    let meta = Meta::new(mode_of(mode)?, decimal_of(uid)?, decimal_of(gid)?)?;
+    let mode = mode_of(mode)?;
+    let meta = Meta::new(mode.bits(), decimal_of(uid)?, decimal_of(gid)?)?;
     Some((meta, rest))
-}
-
-// Whether all are hexadecimal digits, none upper-case.
-fn are_lower(digits: &[u8]) -> bool
-    ensures { result ≡ list_all is_lower digits.now }
-{
-    digits
-        .iter()
-        .all(|b| *b >= b'0' && *b <= b'9' || *b >= b'a' && *b <= b'f')
-}
-
-// Whether digits are content as it is written.
-fn is_content(digits: &str) -> bool
-    ensures { result ≡ is_content digits.now }
-{
-    let bytes = digits.as_bytes();
-    if bytes == b"-".as_slice() {
-        return true;
-    }
-    !bytes.is_empty() && bytes.len() % 2 == 0 && are_lower(bytes)
 }
 
 // Whether there are names between slashes, at most 128.
@@ -205,7 +169,7 @@ fn dir_parts(meta: Meta, path: &str) -> Option<Parts<'_>>
 fn file_parts<'a>(meta: Meta, digits: &'a str, path: &'a str) -> Option<Parts<'a>>
     ensures { option_map parts_seen result ≡ file_parts meta digits.now path.now }
 {
-    if !is_content(digits) {
+    if !is_hex(digits) {
         return None;
     }
     if !is_path(path) {

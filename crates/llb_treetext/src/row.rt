@@ -7,12 +7,11 @@ ghost use Rattle.llb_tree.specs.Path.{path_of};
 ghost use Rattle.llb_tree.specs.Tree.{Entry as TreeEntry};
 ghost use Rattle.llb_treetext.specs.TreeText.{line_of};
 ghost use Rattle.llb_treetext.specs.Reading.{IsRow, Begins};
-ghost use Rattle.llb_treetext.specs.Fields.{content_in, dir_in, file_in, row_from, parts_seen, pair_of};
+ghost use Rattle.llb_treetext.specs.Fields.{dir_in, file_in, row_from, parts_seen, pair_of};
 
 use crate::parts::{Parts, next_parts};
-use hex::FromHexError;
 use llb_tree::{Meta, Path, TreeFault};
-use llb_wire::{Bytes, Memory};
+use llb_wire::{Bytes, Memory, read_hex};
 use std::alloc::Global;
 
 // What a line is read as.
@@ -21,20 +20,6 @@ pub(crate) struct Row {
     pub path: Path,
     pub meta: Meta,
     pub content: Option<Bytes>,
-}
-
-// The bytes of hexadecimal digits, and none of a dash.
-fn content_of(alloc: Global, digits: &str) -> Result<Option<Bytes>, Memory>
-    ensures { IfOk result (λ o. option_map (λ b. b) o ≡ content_in digits.now) }
-{
-    if digits == "-" {
-        return Ok(Some(Bytes::new(Vec::new(alloc))));
-    }
-    match hex::decode(alloc, digits.as_bytes()) {
-        Ok(content) => Ok(Some(Bytes::new(content))),
-        Err(FromHexError::OutOfMemory) => Err(Memory),
-        Err(_) => Ok(None),
-    }
 }
 
 // The path that a text reads as.
@@ -66,7 +51,7 @@ fn dir_row(alloc: Global, meta: Meta, path: &str) -> Result<Option<Row>, Memory>
 fn file_row(alloc: Global, meta: Meta, digits: &str, path: &str) -> Result<Option<Row>, Memory>
     ensures { IfOk result (λ o. option_map pair_of o ≡ file_in meta digits.now path.now) }
 {
-    let Some(content) = content_of(alloc, digits)? else {
+    let Some(content) = read_hex(alloc, digits)? else {
         return Ok(None);
     };
     match path_of(alloc, path)? {

@@ -7,3 +7,4 @@ pub mod Sink
 pub use Rattle.std.specs.Io.KnownBytes.{Appends, Keeps}
 pub mod Hashing
 pub mod Digest
+pub mod Hexadecimal

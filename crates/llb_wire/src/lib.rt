@@ -1,12 +1,13 @@
 //! Bytes are records: the wire format of Protocol Buffers, read and written one record at a time.
-//! Here too are what every crate above needs: byte strings and texts that own their memory, the
-//! want of memory, and sinks that take bytes. Nothing here knows a message.
+//! Here too are what every crate above needs: byte strings and texts that own their memory, bytes as texts
+//! have them, the want of memory, and sinks that take bytes. Nothing here knows a message.
 #![tactic(auto)]
 
 mod boxed;
 mod bytes;
 mod fault;
 mod field;
+mod hexadecimal;
 mod laws;
 mod many;
 mod reading;
@@ -18,6 +19,7 @@ pub use boxed::Boxed;
 pub use bytes::Bytes;
 pub use fault::{Memory, WireFault};
 pub use field::{Field, Wire};
+pub use hexadecimal::{is_hex, push_hex, read_hex, text_of_digest};
 pub use laws::{spells_one_list, walk_meets_what_is_spelled};
 pub use many::Many;
 pub use reading::{next_record, varint};

@@ -10,7 +10,7 @@ use Rattle.llb_model.specs.Caches.{no_instances}
 use Rattle.llb_model.specs.Kept.{store_of}
 use Rattle.llb_model.specs.Program.{Build}
 use Rattle.llb_model.specs.Outcome.{Ending, Done, Failed, outcome, output_in}
-use Rattle.llb_model.specs.State.{Status, Waiting, Running, Settled, State, Opening, opening, ending_of, ending_at, is_done, is_failed}
+use Rattle.llb_model.specs.State.{Status, Waiting, Running, Settled, State, Opening, opening, ending_of, ending_at, is_done, is_failed, is_stopped}
 use Rattle.llb_model.specs.Table.{Event, Reply, table}
 use Rattle.llb_model.specs.Run.{run, chosen, is_complete, StandsPlainly}
 use Rattle.llb_model.specs.Consistent.{IsConsistent}
@@ -20,7 +20,7 @@ use Rattle.llb_model.proofs.Events.{Answer}
 use Rattle.llb_model.proofs.Runs.{run_none, run_first}
 use Rattle.llb_model.proofs.Outcomes.{each_below, edge_there}
 use Rattle.llb_model.proofs.Consistent.{opening_consistent, run_consistent}
-use Rattle.llb_model.proofs.Stopped.{is_stopped, stopped_there, stopped_cases, done_count}
+use Rattle.llb_model.proofs.Stopped.{stopped_there, stopped_cases, done_count}
 use Rattle.llb_model.proofs.Complete.{is_over, over_by, each_true, complete_is_none}
 use Rattle.llb_board.specs.Board.{Seen, Replays, opened}
 use Rattle.llbm.proofs.Reaching.{none_fails}

@@ -4,4 +4,4 @@ use Rattle.llb_board.proofs.Stopped.{MarkedSoFar}
 use Rattle.llb_board.proofs.ready.mark_stopped.Given as goal
 
 abbrev pub invariant-loop-v : goal.invariant-loop-v
-invariant-loop-v l = MarkedSoFar (map status_of l.stands) l.vertices l.v l.halted
+invariant-loop-v l = MarkedSoFar (map status_of l.stands) l.vertices l.v l.stop_marks

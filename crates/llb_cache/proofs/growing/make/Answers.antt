@@ -1,5 +1,5 @@
 use Rattle.std.proofs.Common.{sym, ◌∙◌, arith}
-use Rattle.llb_cache.proofs.Rows.{instance_made, instance_there}
+use Rattle.llb_cache.specs.Rows.{instance_made, instance_there}
 use Rattle.llb_cache.proofs.growing.make.Goals as goal
 
 pub returns-then-number-len-clause-rows : goal.returns-then-number-len-clause-rows

@@ -1,5 +1,5 @@
 use Rattle.std.proofs.Common.{sym, ◌∙◌}
-use Rattle.llb_cache.proofs.Rows.{tree_put}
+use Rattle.llb_cache.specs.Rows.{tree_put}
 use Rattle.llb_cache.proofs.growing.set_at.Goals as goal
 
 pub returns-in-Some : goal.returns-in-Some

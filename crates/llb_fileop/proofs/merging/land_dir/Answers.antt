@@ -1,8 +1,8 @@
 use Rattle.std.proofs.Common.{◌≡◌, [], map, subst, sym, ap, ◌∙◌, Ok, None, is_some, true≢false, true, false}
 use Rattle.std.specs.FinMap as finite
-use Rattle.llb_tree.specs.Tree.{Gives, moved}
+use Rattle.llb_tree.specs.Tree.{Gives, moved, is_dir}
 use Rattle.llb_fileop.specs.Owners.{copied}
-use Rattle.llb_fileop.specs.Copying.{land, is_dir}
+use Rattle.llb_fileop.specs.Copying.{land}
 use Rattle.llb_fileop.specs.Parts.{land_at, put_some, laid}
 use Rattle.llb_fileop.proofs.Answering.{none_there}
 use Rattle.llb_fileop.proofs.Grafting.{dir_refused, walks_there, dir_made, dir_is_made}

@@ -1,7 +1,7 @@
 use Rattle.std.proofs.Common.{◌≡◌, ◌≢◌, ℕ, true, false, Option, None, sym, ◌∙◌, ap}
 use Rattle.std.specs.Option.{is_some}
 use Rattle.llb_ops.specs.declared.op.Input.{Input}
-use Rattle.llb_loader.specs.Naming.{row_named}
+use Rattle.llb_loader.specs.RowLookup.{row_named}
 use Rattle.llb_loader.specs.Linking.{input_at}
 use Rattle.llb_loader.proofs.Firsts.{below_step}
 use Rattle.llb_loader.proofs.Parts.{input_read}

@@ -2,7 +2,7 @@ use Rattle.std.proofs.Common.{◌≡◌, true, false, IsTrue, inr, sym, subst}
 use Rattle.std.proofs.lemmas.Result.{err_from_is_err_and, MatchResult-weaker}
 use Rattle.llb_loader.specs.declared.fault.LoadFault.{LoadFault}
 use Rattle.llb_loader.specs.Linking.{Refused}
-use Rattle.llb_loader.specs.Naming.{AllSame}
+use Rattle.llb_loader.specs.RowLookup.{AllSame}
 use Rattle.llb_loader.proofs.linking.link.Goals as goal
 
 pub returns-in_err-index-clause-refused : goal.returns-in_err-index-clause-refused

@@ -8,7 +8,7 @@ use Rattle.llb_loader.specs.declared.fault.LoadFault.TheVariants.{Cycle}
 use Rattle.llb_loader.specs.Rows.{lists, inputs, InRange}
 use Rattle.llb_loader.specs.Placing.{IsMarked}
 use Rattle.llb_loader.specs.Numbering.{IsNumbering, HasCycle}
-use Rattle.llb_loader.specs.Naming.{rows_named}
+use Rattle.llb_loader.specs.RowLookup.{rows_named}
 use Rattle.llb_loader.specs.Features.{feature_of}
 use Rattle.llb_loader.specs.Rules.{output_count, MeetsRules}
 use Rattle.llb_loader.specs.Linking.{Plan, plan, op_at, links_in, ReachedRow, IsOrdered, IsTaken, IsValid, IsWhole}

@@ -7,7 +7,7 @@ use Rattle.llb_ops.specs.declared.op.Input.{Input}
 use Rattle.llb_loader.specs.declared.fault.LoadFault.TheVariants.{UnknownDigest}
 use Rattle.llb_loader.specs.Rows.{lists, InRange, Reached}
 use Rattle.llb_loader.specs.Placing.{IsMarked}
-use Rattle.llb_loader.specs.Naming.{graph_of, rows_named, row_named}
+use Rattle.llb_loader.specs.RowLookup.{graph_of, rows_named, row_named}
 use Rattle.llb_loader.specs.Linking.{plan, op_at, IsStarted, ReachedRow}
 use Rattle.llb_loader.specs.Checks.{NamesAll, RefusesUnknown}
 use Rattle.llb_loader.proofs.Plans.{in_range, named_below}

@@ -6,7 +6,7 @@ use Rattle.llb_ops.specs.declared.op.Op.{Op}
 use Rattle.llb_loader.specs.declared.graph.Vertex.{Vertex}
 use Rattle.llb_loader.specs.declared.graph.Edge.{Edge}
 use Rattle.llb_loader.specs.Rows.{lists, inputs, InRange}
-use Rattle.llb_loader.specs.Naming.{rows_named}
+use Rattle.llb_loader.specs.RowLookup.{rows_named}
 use Rattle.llb_loader.specs.Rules.{IsBelow}
 use Rattle.llb_loader.specs.Graph.{Numbered}
 use Rattle.llb_loader.specs.Linking.{Plan, plan, links_in, op_at, input_at, IsWhole, numbered_of}

@@ -2,7 +2,7 @@ use Rattle.std.proofs.Common.{◌≡◌, ℕ, ◌<◌, length, Ok}
 use Rattle.std.specs.List.{All}
 use Rattle.llb_ops.specs.Messages.{op_of}
 use Rattle.llb_ops.specs.Within.{IsWithinLimits}
-use Rattle.llb_loader.specs.Naming.{row_at}
+use Rattle.llb_loader.specs.RowLookup.{row_at}
 use Rattle.llb_loader.specs.Linking.{op_at}
 use Rattle.llb_loader.proofs.reading.ops_of.Given as goal
 

@@ -1,6 +1,7 @@
 use Rattle.std.proofs.Common.{true, false, eq-eqb, ap, ◌++◌, ◌∷◌, [], ◌∙◌}
 use Rattle.std.proofs.lemmas.Bool.{ne_eqb}
 use Rattle.std.proofs.lemmas.Str.{IsUtf8-from_is_utf8}
+use Rattle.llb_ops.specs.Table.{shape_of}
 use Rattle.llb_ops.proofs.Texts.{text_at}
 use Rattle.llb_ops.proofs.Pushed.{payloads_more}
 use Rattle.llb_ops.proofs.records.each_text.Goals as goal
@@ -8,7 +9,7 @@ use Rattle.llb_ops.proofs.records.each_text.Goals.{then-record-number+in_ok-text
 
 pub from_utf8_unchecked-requires : goal.from_utf8_unchecked-requires
 from_utf8_unchecked-requires c =
-    IsUtf8-from_is_utf8 _ (text_at c.args.shape.now c.args.number c.args.records.now c.loop-record.record-index _ c.loop-record-test.true c.if-record-number.true c.requires.named c.requires.texts)
+    IsUtf8-from_is_utf8 _ (text_at (shape_of c.args.message) c.args.number c.args.records.now c.loop-record.record-index _ c.loop-record-test.true c.if-record-number.true c.requires.named c.requires.texts)
 
 pub loop-record-preserved : goal.loop-record-preserved
 loop-record-preserved c =

@@ -1,6 +1,7 @@
 use Rattle.std.proofs.Common.{◌≡◌, ◌++◌, ◌∷◌, [], Ok, ◌∙◌, ap, sym}
 use Rattle.std.proofs.lemmas.Result.{err_from_is_err_and}
 use Rattle.std.proofs.lemmas.List.{map_push}
+use Rattle.llb_ops.specs.Table.{shape_of}
 use Rattle.llb_ops.specs.Records.{views, view, records_from, IsFront}
 use Rattle.llb_ops.proofs.Split.{with_front, goes_on, is_done}
 use Rattle.llb_ops.proofs.records.split.Goals as goal
@@ -12,11 +13,11 @@ returns-in_err-front c =
 
 pub loop-records-preserved : goal.loop-records-preserved
 loop-records-preserved c =
-    let front : IsFront c.args.shape.now c.loop-records.rest.now c.in-Some.front = rw c.in-Some.is at c.in_ok-front.ensures in
+    let front : IsFront (shape_of c.args.message) c.loop-records.rest.now c.in-Some.front = rw c.in-Some.is at c.in_ok-front.ensures in
     let items : views c.push.new.self.items ≡ views c.loop-records.records.items ++ view c.in-Some.front.record ∷ [] = rw c.in_ok-push.ensures.items (map_push _ c.loop-records.records.items c.in-Some.front.record) in
-    rw items (goes_on c.args.shape.now (views c.loop-records.records.items) (view c.in-Some.front.record) c.loop-records.rest.now c.in-Some.front.after.now _ front.reads c.loop-records.invariant)
+    rw items (goes_on (shape_of c.args.message) (views c.loop-records.records.items) (view c.in-Some.front.record) c.loop-records.rest.now c.in-Some.front.after.now _ front.reads c.loop-records.invariant)
 
 pub returns : goal.returns
 returns c =
-    let none : records_from c.args.shape.now 0 c.loop-records.rest.now ≡ Ok [] = rw c.in_default.is at c.in_ok-front.ensures in
-    is_done c.args.shape.now (views c.loop-records.records.items) c.loop-records.rest.now _ none c.loop-records.invariant
+    let none : records_from (shape_of c.args.message) 0 c.loop-records.rest.now ≡ Ok [] = rw c.in_default.is at c.in_ok-front.ensures in
+    is_done (shape_of c.args.message) (views c.loop-records.records.items) c.loop-records.rest.now _ none c.loop-records.invariant

@@ -34,7 +34,7 @@ wants : (c : In_ok-vertex) → claim_may_want (claim_of c.args.self.now c.args.w
     ≡ claim_may_want (unless_shut (needs_of c.in_ok-vertex.vertex.now) (shut_key c.self.inside.caches.out (needs_of c.in_ok-vertex.vertex.now)))
 wants c =
     let b = c.self.inside in
-    let same = same_held b.build b.start.rows b.stands.items b.desks.items b.caches b.halted.items b.events.list b.events.room c.self.invariant.kept in
+    let same = same_held b.build b.start.rows b.stands.items b.desks.items b.caches b.stop_marks.items b.events.list b.events.room c.self.invariant.kept in
     ap (λ (n : Seen). claim_may_want (claim_of n c.args.w c.args.v)) (sym c.self.view_is)
     ∙ claim_wants (seen b.build b.start.rows b.stands.items b.desks.items b.caches.rows b.events.list) c.args.w c.args.v c.in_ok-vertex.vertex.now b.caches
     (can c) same
@@ -48,7 +48,7 @@ returns-in_err-wanted-clause-gives c =
     let p = (goal.at.returns-in_err-wanted-clause-gives c).In_ok-vertex in
     let b = c.self.inside in
     let e = c.in_err-wanted.field-0.0 in
-    let same = same_held b.build b.start.rows b.stands.items b.desks.items b.caches b.halted.items b.events.list b.events.room c.self.invariant.kept in
+    let same = same_held b.build b.start.rows b.stands.items b.desks.items b.caches b.stop_marks.items b.events.list b.events.room c.self.invariant.kept in
     let refused : claim_memory e ≡ false → claim_of c.args.self.now c.args.w c.args.v ≡ Err e
     = λ known. ap (λ (n : Seen). claim_of n c.args.w c.args.v) (sym c.self.view_is)
     ∙ claim_held (seen b.build b.start.rows b.stands.items b.desks.items b.caches.rows b.events.list) c.args.w c.args.v c.in_ok-vertex.vertex.now b.caches e
@@ -78,7 +78,7 @@ returns-in_err-lease-clause-last c =
 
 abbrev May : After-is_exclusive → Type 0
 May c = let b = c.self.inside in
-    MayClaim b.build b.start.rows b.stands.items b.desks.items b.caches b.halted.items b.events.list b.events.room c.args.w c.args.v c.in_ok-vertex.vertex.now
+    MayClaim b.build b.start.rows b.stands.items b.desks.items b.caches b.stop_marks.items b.events.list b.events.room c.args.w c.args.v c.in_ok-vertex.vertex.now
 
 may : (c : After-is_exclusive) → CanClaim c.self.inside.build (state_of c.self.inside.stands.items c.self.inside.desks.items c.self.inside.caches.rows)
     c.args.w c.args.v
@@ -99,32 +99,32 @@ pub lease_for-requires-clause-differ : goal.lease_for-requires-clause-differ
 lease_for-requires-clause-differ c =
     let path = goal.at.lease_for-requires-clause-differ c in
     let b = c.self.inside in
-    differ b.build b.start.rows b.stands.items b.desks.items b.caches b.halted.items b.events.list b.events.room c.args.w c.args.v c.in_ok-vertex.vertex.now
+    differ b.build b.start.rows b.stands.items b.desks.items b.caches b.stop_marks.items b.events.list b.events.room c.args.w c.args.v c.in_ok-vertex.vertex.now
     (may path.After-is_exclusive (can path.In_ok-vertex)) (begun_as c.in_ok-begun.begun) (begins path.After-is_exclusive)
 
 pub lease_for-requires-clause-few : goal.lease_for-requires-clause-few
 lease_for-requires-clause-few c =
     let b = c.self.inside in
-    few_out b.build b.start.rows b.stands.items b.desks.items b.caches b.halted.items b.events.list b.events.room c.self.invariant.kept
+    few_out b.build b.start.rows b.stands.items b.desks.items b.caches b.stop_marks.items b.events.list b.events.room c.self.invariant.kept
 
 -- ---- the lease is taken
 
 -- the worker may claim the vertex, and this is what the claim begins
 record Granted (c : In_ok-lease) : Type 0 where
   may : MayClaim c.self.inside.build c.self.inside.start.rows c.self.inside.stands.items c.self.inside.desks.items c.self.inside.caches
-      c.self.inside.halted.items
+      c.self.inside.stop_marks.items
       c.self.inside.events.list c.self.inside.events.room c.args.w c.args.v c.in_ok-vertex.vertex.now
   begins : begun c.self.inside.build c.self.inside.caches c.args.w c.args.v c.in_ok-vertex.vertex.now
       (inputs_from (ending_at (map status_of c.self.inside.stands.items)) c.in_ok-vertex.vertex.now.inputs) ≡ Ok (begun_as c.in_ok-begun.begun)
 
 did_so : (c : In_ok-lease) (g : Granted c) → Did c.self.inside.build c.self.inside.start.rows c.self.inside.stands.items c.self.inside.desks.items
     c.self.inside.caches
-    c.self.inside.halted.items c.self.inside.events.list c.self.inside.events.room c.args.w c.args.v c.in_ok-vertex.vertex.now g.may
+    c.self.inside.stop_marks.items c.self.inside.events.list c.self.inside.events.room c.args.w c.args.v c.in_ok-vertex.vertex.now g.may
     (begun_as c.in_ok-begun.begun) g.begins
     c.in_ok-lease.lease c.in_ok-begun.begun.execution (claim_reply c.in_ok-begun.begun.job) c.lease_for.new.caches
 did_so c g =
     let b = c.self.inside in
-    did b.build b.start.rows b.stands.items b.desks.items b.caches b.halted.items b.events.list b.events.room c.args.w c.args.v c.in_ok-vertex.vertex.now g.may
+    did b.build b.start.rows b.stands.items b.desks.items b.caches b.stop_marks.items b.events.list b.events.room c.args.w c.args.v c.in_ok-vertex.vertex.now g.may
     (begun_as c.in_ok-begun.begun) g.begins
     c.in_ok-lease.lease c.in_ok-begun.begun.execution c.lease_for.new.caches _ c.in_ok-wanted.ensures.gives refl c.in_ok-lease.ensures.gives
     c.in_ok-begun.ensures.supplies
@@ -132,7 +132,7 @@ did_so c g =
 -- the data behind it
 abbrev after : In_ok-lease → Data
 after c = let b = c.self.inside in
-    claimed (data_of b.stands.items b.desks.items b.caches b.halted.items) c.args.w c.args.v c.in_ok-lease.lease c.in_ok-begun.begun.execution
+    claimed (data_of b.stands.items b.desks.items b.caches b.stop_marks.items) c.args.w c.args.v c.in_ok-lease.lease c.in_ok-begun.begun.execution
     c.lease_for.new.caches
 
 pub push_reserved-requires : goal.push_reserved-requires
@@ -140,7 +140,7 @@ push_reserved-requires c =
     let path = goal.at.push_reserved-requires c in
     let b = c.self.inside in
     let d = did_so path.In_ok-lease (record { may = may path.After-is_exclusive (can path.In_ok-vertex); begins = begins path.After-is_exclusive }) in
-    has_room (seen b.build b.start.rows b.stands.items b.desks.items b.caches.rows b.events.list) b.desks.items b.caches.out b.halted.items b.events.room
+    has_room (seen b.build b.start.rows b.stands.items b.desks.items b.caches.rows b.events.list) b.desks.items b.caches.out b.stop_marks.items b.events.room
     (Claim c.args.w c.args.v) _
     c.self.invariant.kept (claim_done b.build (state_of b.stands.items b.desks.items b.caches.rows) c.args.w c.args.v _ d.grants)
 
@@ -163,7 +163,7 @@ invariant_of-self-2 c =
     let path = goal.at.invariant_of-self-2 c in
     let b = c.self.inside in
     let d = did_so path.In_ok-lease (record { may = may path.After-is_exclusive (can path.In_ok-vertex); begins = begins path.After-is_exclusive }) in
-    let before = data_of b.stands.items b.desks.items b.caches b.halted.items in
+    let before = data_of b.stands.items b.desks.items b.caches b.stop_marks.items in
     record {
       kept = rw (c.push_reserved.ensures.list, c.push_reserved.ensures.room) d.keeps;
       over = still_over b.build b.start.rows before (after path.In_ok-lease) b.events.list b.events.room c.first_open-self-inside.result
@@ -181,7 +181,7 @@ returns-clause-gives c =
     let new = after path.In_ok-lease in
     let r = claim_reply c.in_ok-begun.begun.job in
     ap (λ (n : Seen). claim_of n c.args.w c.args.v) (sym c.self.view_is)
-    ∙ recorded_as b.build b.start.rows (data_of b.stands.items b.desks.items b.caches b.halted.items) new b.events.list (Claim c.args.w c.args.v) claim_fault
+    ∙ recorded_as b.build b.start.rows (data_of b.stands.items b.desks.items b.caches b.stop_marks.items) new b.events.list (Claim c.args.w c.args.v) claim_fault
     _ r d.grants
     (length_set b.desks.items c.args.w (desk.Runs c.in_ok-lease.lease c.in_ok-begun.begun.execution)) d.rows
     ∙ (λ i. Ok (seen b.build b.start.rows new.stands new.desks new.rows (sym c.push_reserved.ensures.list i), r))

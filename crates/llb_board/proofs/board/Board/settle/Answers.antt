@@ -41,38 +41,38 @@ Can c = let b = c.self.inside in
 
 abbrev can : (c : In_ok-v) → Can c
 can c = let b = c.self.inside in
-    ends b.build b.start.rows b.stands.items b.desks.items b.caches b.halted.items b.events.list b.events.room c.args.w c.in_ok-v.v c.in_ok-v.lease
+    ends b.build b.start.rows b.stands.items b.desks.items b.caches b.stop_marks.items b.events.list b.events.room c.args.w c.in_ok-v.v c.in_ok-v.lease
     c.in_ok-v.stand
     c.self.invariant.kept (is_left c) (is_leased c)
 
 -- the data behind it, with these marks
 abbrev data_with : In_ok-v → List Bool → Data
 data_with c marks = let b = c.self.inside in
-    after b.build b.start.rows b.stands.items b.desks.items b.caches b.halted.items b.events.list b.events.room c.args.w c.in_ok-v.v c.in_ok-v.lease
+    after b.build b.start.rows b.stands.items b.desks.items b.caches b.stop_marks.items b.events.list b.events.room c.args.w c.in_ok-v.v c.in_ok-v.lease
     c.in_ok-v.stand
     c.self.invariant.kept (is_left c) (is_leased c) marks
 
 granted : (c : In_ok-v) → settle_grant c.self.inside.build (state_of c.self.inside.stands.items c.self.inside.desks.items c.self.inside.caches.rows) c.args.w
-    ≡ Ok (state_as (data_with c c.self.inside.halted.items), settle_reply c.in_ok-v.v (can c).ending)
+    ≡ Ok (state_as (data_with c c.self.inside.stop_marks.items), settle_reply c.in_ok-v.v (can c).ending)
 granted c = let b = c.self.inside in
-    grants b.build b.start.rows b.stands.items b.desks.items b.caches b.halted.items b.events.list b.events.room c.args.w c.in_ok-v.v c.in_ok-v.lease
+    grants b.build b.start.rows b.stands.items b.desks.items b.caches b.stop_marks.items b.events.list b.events.room c.args.w c.in_ok-v.v c.in_ok-v.lease
     c.in_ok-v.stand
-    c.self.invariant.kept (is_left c) (is_leased c) b.halted.items
+    c.self.invariant.kept (is_left c) (is_leased c) b.stop_marks.items
 
 answered : (c : In_ok-v) → settle_of c.args.self.now c.args.w
     ≡ Ok (
-      seen_as c.self.inside.build c.self.inside.start.rows (data_with c c.self.inside.halted.items) (c.self.inside.events.list ++ Settle c.args.w ∷ []),
+      seen_as c.self.inside.build c.self.inside.start.rows (data_with c c.self.inside.stop_marks.items) (c.self.inside.events.list ++ Settle c.args.w ∷ []),
       settle_reply c.in_ok-v.v (can c).ending,
     )
 answered c =
     let b = c.self.inside in
     ap (λ (n : Seen). settle_of n c.args.w) (sym c.self.view_is)
-    ∙ recorded_as b.build b.start.rows (data_of b.stands.items b.desks.items b.caches b.halted.items) (data_with c b.halted.items) b.events.list
+    ∙ recorded_as b.build b.start.rows (data_of b.stands.items b.desks.items b.caches b.stop_marks.items) (data_with c b.stop_marks.items) b.events.list
     (Settle c.args.w) settle_fault _
     (settle_reply c.in_ok-v.v (can c).ending) (granted c) (length_set b.desks.items c.args.w desk.Idle)
-    (rows_stay b.build b.start.rows b.stands.items b.desks.items b.caches b.halted.items b.events.list b.events.room c.args.w c.in_ok-v.v c.in_ok-v.lease
+    (rows_stay b.build b.start.rows b.stands.items b.desks.items b.caches b.stop_marks.items b.events.list b.events.room c.args.w c.in_ok-v.v c.in_ok-v.lease
     c.in_ok-v.stand
-    c.self.invariant.kept (is_left c) (is_leased c) b.halted.items)
+    c.self.invariant.kept (is_left c) (is_leased c) b.stop_marks.items)
 
 -- ---- what the board's type keeps
 
@@ -80,14 +80,14 @@ keeps_with : (c : In_ok-v) (marks : List Bool) → marks ≡ stopped c.self.insi
     (map status_of (slice_set c.self.inside.stands.items c.in_ok-v.v c.in_ok-v.stand))
     → Keeps c.self.inside.build c.self.inside.start.rows (data_with c marks) (c.self.inside.events.list ++ Settle c.args.w ∷ []) c.self.inside.events.room
 keeps_with c marks are = let b = c.self.inside in
-    keeps b.build b.start.rows b.stands.items b.desks.items b.caches b.halted.items b.events.list b.events.room c.args.w c.in_ok-v.v c.in_ok-v.lease
+    keeps b.build b.start.rows b.stands.items b.desks.items b.caches b.stop_marks.items b.events.list b.events.room c.args.w c.in_ok-v.v c.in_ok-v.lease
     c.in_ok-v.stand
     c.self.invariant.kept (is_left c) (is_leased c) marks are
 
 over_so : (c : In_ok-v) → IsGraph c.self.inside.build.graph
     → AreOver c.self.inside.build (map status_of (slice_set c.self.inside.stands.items c.in_ok-v.v c.in_ok-v.stand)) c.self.inside.first_open
 over_so c graph = let b = c.self.inside in
-    stay_over b.build b.start.rows b.stands.items b.desks.items b.caches b.halted.items b.events.list b.events.room c.args.w c.in_ok-v.v c.in_ok-v.lease
+    stay_over b.build b.start.rows b.stands.items b.desks.items b.caches b.stop_marks.items b.events.list b.events.room c.args.w c.in_ok-v.v c.in_ok-v.lease
     c.in_ok-v.stand
     c.self.invariant.kept (is_left c) (is_leased c) b.first_open graph c.self.invariant.over
 
@@ -97,7 +97,7 @@ pub give_back-requires : goal.give_back-requires
 give_back-requires c =
     let p = (goal.at.give_back-requires c).In_ok-v in
     let b = c.self.inside in
-    is_out b.build b.start.rows b.stands.items b.desks.items b.caches b.halted.items b.events.list b.events.room c.args.w c.in_ok-v.v c.in_ok-v.lease
+    is_out b.build b.start.rows b.stands.items b.desks.items b.caches b.stop_marks.items b.events.list b.events.room c.args.w c.in_ok-v.v c.in_ok-v.lease
     c.in_ok-v.stand
     c.self.invariant.kept (is_left p) (is_leased p)
 
@@ -108,7 +108,7 @@ index_mut-requires c =
     let len : vec_len b.stands ≡ length b.stands.items = search rules in
     omega (
       arith,
-      low b.build b.start.rows b.stands.items b.desks.items b.caches b.halted.items b.events.list b.events.room c.args.w c.in_ok-v.v
+      low b.build b.start.rows b.stands.items b.desks.items b.caches b.stop_marks.items b.events.list b.events.room c.args.w c.in_ok-v.v
           c.in_ok-v.lease c.in_ok-v.stand
           c.self.invariant.kept (is_left p) (is_leased p),
       len,
@@ -117,7 +117,7 @@ index_mut-requires c =
 pub push_reserved-requires : goal.push_reserved-requires
 push_reserved-requires c =
     let b = c.self.inside in
-    has_room (seen b.build b.start.rows b.stands.items b.desks.items b.caches.rows b.events.list) b.desks.items b.caches.out b.halted.items b.events.room
+    has_room (seen b.build b.start.rows b.stands.items b.desks.items b.caches.rows b.events.list) b.desks.items b.caches.out b.stop_marks.items b.events.room
     (Settle c.args.w) _
     c.self.invariant.kept
     (settle_done b.build (state_of b.stands.items b.desks.items b.caches.rows) c.args.w _ (granted (goal.at.push_reserved-requires c).In_ok-v))
@@ -125,7 +125,7 @@ push_reserved-requires c =
 pub mark_stopped-requires : goal.mark_stopped-requires
 mark_stopped-requires c =
     let b = c.self.inside in
-    ap length c.deref_mut-then-failed.ensures.value ∙ ap length c.self.invariant.kept.halted_are
+    ap length c.deref_mut-then-failed.ensures.value ∙ ap length c.self.invariant.kept.stop_marks_are
     ∙ stopped_length b.build (map status_of b.stands.items) ∙ ap length (sym c.vertices-vertices.ensures.all)
 
 pub invariant_of-self-then-failed : goal.invariant_of-self-then-failed
@@ -134,18 +134,18 @@ invariant_of-self-then-failed c =
     let b = c.self.inside in
     let ss = b.stands.items in
     let new = slice_set ss c.in_ok-v.v c.in_ok-v.stand in
-    let marks : c.mark_stopped.new.halted ≡ stopped b.build (map status_of new)
+    let marks : c.mark_stopped.new.stop_marks ≡ stopped b.build (map status_of new)
     = c.mark_stopped.ensures ∙ (λ i. by_number (next_stopped (map status_of (c.deref.ensures.value i))) [] (c.vertices-vertices.ensures.all i)) in
-    let same : length c.mark_stopped.new.halted ≡ length b.halted.items
+    let same : length c.mark_stopped.new.stop_marks ≡ length b.stop_marks.items
     = ap length marks ∙ stopped_length b.build (map status_of new)
-    ∙ sym (ap length c.self.invariant.kept.halted_are ∙ stopped_length b.build (map status_of ss)) in
-    let marked : take b.halted.len (c.mark_stopped.new.halted ++ drop (length c.mark_stopped.new.halted) b.halted.items) ≡ c.mark_stopped.new.halted
-    = whole_written b.halted.len c.mark_stopped.new.halted b.halted.items same (search rules) in
+    ∙ sym (ap length c.self.invariant.kept.stop_marks_are ∙ stopped_length b.build (map status_of ss)) in
+    let marked : take b.stop_marks.len (c.mark_stopped.new.stop_marks ++ drop (length c.mark_stopped.new.stop_marks) b.stop_marks.items) ≡ c.mark_stopped.new.stop_marks
+    = whole_written b.stop_marks.len c.mark_stopped.new.stop_marks b.stop_marks.items same (search rules) in
     record {
       kept = rw (c.push_reserved.ensures.list, c.push_reserved.ensures.room)
-          (kept_written b.build b.start.rows (data_with p c.mark_stopped.new.halted) _ _ b.events.room
-          (λ i. record { stands = new; desks = desks_are p i; rows = (c.give_back.ensures i).rows; out = (c.give_back.ensures i).out; halted = marked i })
-          (keeps_with p c.mark_stopped.new.halted marks));
+          (kept_written b.build b.start.rows (data_with p c.mark_stopped.new.stop_marks) _ _ b.events.room
+          (λ i. record { stands = new; desks = desks_are p i; rows = (c.give_back.ensures i).rows; out = (c.give_back.ensures i).out; stop_marks = marked i })
+          (keeps_with p c.mark_stopped.new.stop_marks marks));
       over = over_so p c.vertices-vertices.ensures.graph;
     }
 
@@ -164,22 +164,22 @@ pub invariant_of-self-else-failed : goal.invariant_of-self-else-failed
 invariant_of-self-else-failed c =
     let p = (goal.at.invariant_of-self-else-failed c).In_ok-v in
     let b = c.self.inside in
-    let runs = running b.build b.start.rows b.stands.items b.desks.items b.caches b.halted.items b.events.list b.events.room c.args.w c.in_ok-v.v
+    let runs = running b.build b.start.rows b.stands.items b.desks.items b.caches b.stop_marks.items b.events.list b.events.room c.args.w c.in_ok-v.v
     c.in_ok-v.lease c.in_ok-v.stand
     c.self.invariant.kept (is_left p) (is_leased p) in
     let stays = marks_kept b.build b.stands.items c.in_ok-v.v c.in_ok-v.stand (Running c.args.w) runs refl
     (sym c.has_failed-failed.ensures ∙ c.if-failed.false) in
     record {
       kept = rw (c.push_reserved.ensures.list, c.push_reserved.ensures.room)
-          (kept_written b.build b.start.rows (data_with p b.halted.items) _ _ b.events.room
+          (kept_written b.build b.start.rows (data_with p b.stop_marks.items) _ _ b.events.room
           (λ i. record {
             stands = slice_set b.stands.items c.in_ok-v.v c.in_ok-v.stand;
             desks = desks_are p i;
             rows = (c.give_back.ensures i).rows;
             out = (c.give_back.ensures i).out;
-            halted = b.halted.items;
+            stop_marks = b.stop_marks.items;
           })
-          (keeps_with p b.halted.items (c.self.invariant.kept.halted_are ∙ sym stays)));
+          (keeps_with p b.stop_marks.items (c.self.invariant.kept.stop_marks_are ∙ sym stays)));
       over = over_so p c.vertices-vertices.ensures.graph;
     }
 

@@ -12,7 +12,7 @@ push_reserved-requires c =
     let b = c.self.inside in
     let does = step_does b.build b.stands.items b.desks.items c.step_at.new.desks b.caches.rows c.step_at.new.caches.rows c.args.w (step_reply c.in_ok-stepped.stepped)
     (rw c.deref_mut.ensures.value at c.in_ok-stepped.ensures.gives) in
-    has_room (seen b.build b.start.rows b.stands.items b.desks.items b.caches.rows b.events.list) b.desks.items b.caches.out b.halted.items b.events.room (Step c.args.w) _
+    has_room (seen b.build b.start.rows b.stands.items b.desks.items b.caches.rows b.events.list) b.desks.items b.caches.out b.stop_marks.items b.events.room (Step c.args.w) _
     c.self.invariant.kept (step_done _ _ c.args.w _ does)
 
 pub invariant_of-self-2 : goal.invariant_of-self-2
@@ -26,20 +26,20 @@ invariant_of-self-2 c =
     (step_does b.build b.stands.items ds new b.caches.rows rows c.args.w r (rw c.deref_mut.ensures.value at c.in_ok-stepped.ensures.gives)) in
     let supplies = rw c.deref_mut.ensures.value at c.in_ok-stepped.ensures.supplies in
     let same = same_length ds new supplies in
-    let before : Data = record { stands = b.stands.items; desks = ds; rows = b.caches.rows; out = b.caches.out; halted = b.halted.items } in
-    let after : Data = record { stands = b.stands.items; desks = new; rows = rows; out = c.step_at.new.caches.out; halted = b.halted.items } in
+    let before : Data = record { stands = b.stands.items; desks = ds; rows = b.caches.rows; out = b.caches.out; stop_marks = b.stop_marks.items } in
+    let after : Data = record { stands = b.stands.items; desks = new; rows = rows; out = c.step_at.new.caches.out; stop_marks = b.stop_marks.items } in
     let kept = kept_after b.build b.start.rows before after b.events.list b.events.room (Step c.args.w) r c.self.invariant.kept granted
     (record {
       same = same;
       rows = c.in_ok-stepped.ensures.rows;
       leased = c.in_ok-stepped.ensures.leased;
       supplies = supplies_stepped b.build b.stands.items ds new b.caches.rows rows c.args.w r c.self.invariant.kept.supplies granted supplies;
-      marks = c.self.invariant.kept.halted_are;
+      marks = c.self.invariant.kept.stop_marks_are;
     }) in
     let written : take b.desks.len (new ++ drop (length new) ds) ≡ new = whole_written b.desks.len new ds same (search rules) in
     record {
       kept = rw (c.push_reserved.ensures.list, c.push_reserved.ensures.room)
-          (subst (λ (l : List Desk). IsKept (seen b.build b.start.rows b.stands.items l rows (b.events.list ++ Step c.args.w ∷ [])) l c.step_at.new.caches.out b.halted.items b.events.room)
+          (subst (λ (l : List Desk). IsKept (seen b.build b.start.rows b.stands.items l rows (b.events.list ++ Step c.args.w ∷ [])) l c.step_at.new.caches.out b.stop_marks.items b.events.room)
           (sym written) kept);
       over = c.self.invariant.over;
     }

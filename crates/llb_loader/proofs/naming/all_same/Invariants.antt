@@ -1,6 +1,0 @@
-use Rattle.std.proofs.Common.{◌≡◌, ℕ, ◌<◌}
-use Rattle.llb_loader.specs.Naming.{row_at}
-use Rattle.llb_loader.proofs.naming.all_same.Given as goal
-
-abbrev pub invariant-loop-row : goal.invariant-loop-row
-invariant-loop-row l = (k : ℕ) → k < l.row-index → row_at l.rows k ≡ row_at l.rows 0

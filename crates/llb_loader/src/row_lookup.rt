@@ -1,0 +1,123 @@
+//! Which rows are distinct, and which row a digest text names. Look-ups by digest go through an index; the terminal's own
+//! digest names nothing.
+
+ghost use Rattle.std.specs.Prelude.{◌≡◌, ◌<◌, ◌≤◌, ◌↔◌, ℕ, false, length, map, IfOk, IfErr, IsTrue};
+ghost use Rattle.std.specs.List.{filter_map};
+ghost use Rattle.llb_loader.specs.Faults.{is_memory};
+ghost use Rattle.llb_loader.specs.RowLookup.{AllSame, Collides, IsIndex, IsTerminal, terminal_in, row_named, rows_named, graph_of, RefusesCollision};
+ghost use Rattle.llb_loader.specs.Rows.{lists};
+
+use crate::fault::LoadFault;
+use crate::row::Row;
+use indexmap::IndexMap;
+use llb_ops::Op;
+use llb_wire::Text;
+use std::alloc::{AllocError, Global};
+
+/// Whether there are fewer than two distinct rows.
+pub(crate) fn all_same(rows: &[Row]) -> bool
+    ensures { IsTrue result ↔ AllSame rows.now }
+{
+    for row in rows {
+        if !same(row, &rows[0]) {
+            return false;
+        }
+    }
+    true
+}
+
+fn same(row: &Row, other: &Row) -> bool
+    ensures { IsTrue result ↔ (row.now ≡ other.now) }
+{
+    row.digest.same(&other.digest) && row.bytes.same(&other.bytes)
+}
+
+/// The first row of each digest text, where no two rows of one digest differ.
+pub(crate) fn index_of<'a>(
+    alloc: Global,
+    rows: &'a [Row],
+) -> Result<IndexMap<&'a str, usize>, LoadFault>
+    requires { length rows.now ≤ 65_536 }
+    ensures index { IfOk result (λ index. IsIndex rows.now index) }
+    ensures apart { IfOk result (λ index. (k : ℕ) → ¬ Collides rows.now k) }
+    ensures refused { IfErr result (λ e. is_memory e ≡ false → RefusesCollision rows.now e) }
+{
+    let mut index: IndexMap<&'a str, usize> = IndexMap::new(alloc);
+    for (k, row) in rows.iter().enumerate() {
+        let digest = row.digest.as_str();
+        let Some(first) = index.get(digest) else {
+            index.insert(digest, k)?;
+            continue;
+        };
+        if !rows[*first].bytes.same(&row.bytes) {
+            return Err(LoadFault::Collision(k as u32));
+        }
+    }
+    Ok(index)
+}
+
+/// The terminal: the first row with the last row's digest text.
+pub(crate) fn terminal_of(rows: &[Row], index: &IndexMap<&str, usize>) -> usize
+    requires some { 0 < length rows.now }
+    requires index { IsIndex rows.now index.now }
+    requires apart { (k : ℕ) → ¬ Collides rows.now k }
+    ensures terminal { IsTerminal rows.now result }
+    ensures found { result ≡ terminal_in rows.now }
+{
+    match index.get(rows[rows.len() - 1].digest.as_str()) {
+        Some(row) => *row,
+        None => 0,
+    }
+}
+
+/// The row that a digest text names, if it names one.
+pub(crate) fn row_of(
+    rows: &[Row],
+    index: &IndexMap<&str, usize>,
+    terminal: usize,
+    digest: &Text,
+) -> Option<usize>
+    requires { IsIndex rows.now index.now }
+    ensures { result ≡ row_named rows.now terminal digest.now }
+{
+    let row = *index.get(digest.as_str())?;
+    if row == terminal { None } else { Some(row) }
+}
+
+/// The rows that the op's inputs name.
+pub(crate) fn rows_of(
+    alloc: Global,
+    rows: &[Row],
+    index: &IndexMap<&str, usize>,
+    terminal: usize,
+    op: &Op,
+) -> Result<Vec<usize>, AllocError>
+    requires { IsIndex rows.now index.now }
+    ensures { IfOk result (λ named. named.items ≡ rows_named rows.now terminal op.now) }
+{
+    let mut named = Vec::with_capacity(alloc, op.inputs.len())?;
+    for input in op.inputs.as_slice() {
+        if let Some(row) = row_of(rows, index, terminal, &input.digest) {
+            named.push(row)?;
+        }
+    }
+    Ok(named)
+}
+
+/// What each row names.
+pub(crate) fn links_of(
+    alloc: Global,
+    rows: &[Row],
+    index: &IndexMap<&str, usize>,
+    terminal: usize,
+    ops: &[Op],
+) -> Result<Vec<Vec<usize>>, AllocError>
+    requires { IsIndex rows.now index.now }
+    ensures { IfOk result (λ links. lists links.items ≡ graph_of rows.now terminal ops.now) }
+{
+    let mut links = Vec::with_capacity(alloc, ops.len())?;
+    for op in ops {
+        links.push(rows_of(alloc, rows, index, terminal, op)?)?;
+    }
+    Ok(links)
+}

@@ -1,0 +1,107 @@
+-- The fields of a message as its bytes have them one behind the other, and when they are those of canonical bytes: by the table
+-- (`ops.proto` of BuildKit) and the encoding guide of Protocol Buffers ("Message Structure", "Field Presence", "Oneofs", "Maps").
+use Rattle.std.specs.Prelude.{◌≡◌, ℕ, ◌<◌, ◌≤◌, ◌^◌, List, ◌++◌, length, Option, Some, None, Ok, Bool, true, false, is_none, nat_lt, ◌==◌, ◌&&◌, ◌||◌, not, if◌then◌else◌}
+use Rattle.std.specs.List.{AllByRecursion}
+use Rattle.std.specs.Str.{is_utf8}
+use Rattle.std.specs.Int.{w64, cast_unsigned}
+use Rattle.llb_wire.specs.Records.{Record}
+use Rattle.llb_ops.specs.declared.table.MessageName.{MessageName}
+use Rattle.llb_ops.specs.declared.table.MessageName.TheVariants as named
+use Rattle.llb_ops.specs.declared.table.FieldKind.{FieldKind}
+use Rattle.llb_ops.specs.declared.table.FieldKind.TheVariants.{Int64, Int32, Uint32, Enum, Bool as Flag, String, Bytes, Message}
+use Rattle.llb_ops.specs.declared.table.NamedField.{NamedField}
+use Rattle.llb_ops.specs.declared.op.Op.{Op}
+use Rattle.llb_ops.specs.Limits.{entry_limit}
+use Rattle.llb_ops.specs.Table.{Row, rows_of, by_number, shape_of}
+use Rattle.llb_ops.specs.Records.{form_of, parts, int32, int64, uint32, flag}
+use Rattle.llb_ops.specs.Messages.{op_of}
+use Rattle.llb_ops.specs.Writing.{bit, set_number, set_bytes, op_bytes}
+
+-- fields with their rows of the table, a number as its varint spells it; the extra bytes stand behind all
+pub data Fields : Type 0 where
+  extra : List ℕ → Fields
+  number : Row → ℕ → Fields → Fields
+  bytes : Row → List ℕ → Fields → Fields
+  message : Row → Fields → Fields → Fields
+
+-- the bytes of fields, each in its shortest spelling
+abbrev pub bytes_of : Fields → List ℕ
+bytes_of (extra more) = more
+bytes_of (number row v rest) = set_number row.1.number v ++ bytes_of rest
+bytes_of (bytes row held rest) = set_bytes row.1.number held ++ bytes_of rest
+bytes_of (message row inner rest) = set_bytes row.1.number (bytes_of inner) ++ bytes_of rest
+
+-- ---- by the table
+
+-- Behind the field `last`: numbers ascend, and only a repeated field stands again. `set` says that a member of the oneof stands
+-- already, and then no other may.
+abbrev pub may_follow : ℕ → Bool → NamedField → Bool
+may_follow last set f = (nat_lt last f.number || (f.repeated && (last == f.number))) && not (f.member && set)
+
+pub record IsNext (m : MessageName) (last : ℕ) (set : Bool) (row : Row) : Type 0 where
+  pub known : by_number row.1.number (rows_of m) ≡ Some row
+  pub follows : may_follow last set row.1 ≡ true
+
+-- a value that is 0 or empty stands only where it says that the field is there, or in an entry of a map
+abbrev pub may_be_empty : NamedField → Bool
+may_be_empty f = f.member || f.repeated || f.of_entry
+
+-- a number as a field of the kind spells it: signed ones in two's complement of 64 bits
+abbrev pub IsNumberOf : FieldKind → ℕ → Type 0
+IsNumberOf Int64 v = cast_unsigned w64 (int64 v) ≡ v
+IsNumberOf Int32 v = cast_unsigned w64 (int32 v) ≡ v
+IsNumberOf Uint32 v = uint32 v ≡ v
+IsNumberOf Enum v = cast_unsigned w64 (int32 v) ≡ v
+IsNumberOf Flag v = bit (flag v) ≡ v
+IsNumberOf String v = ⊥
+IsNumberOf Bytes v = ⊥
+IsNumberOf (Message m) v = ⊥
+
+abbrev pub IsBytesOf : FieldKind → List ℕ → Type 0
+IsBytesOf Int64 held = ⊥
+IsBytesOf Int32 held = ⊥
+IsBytesOf Uint32 held = ⊥
+IsBytesOf Enum held = ⊥
+IsBytesOf Flag held = ⊥
+IsBytesOf String held = is_utf8 held ≡ true
+IsBytesOf Bytes held = Unit {0}
+IsBytesOf (Message m) held = ⊥
+
+-- bytes that are read as records of fields that the message doesn't name
+pub record AreUnnamed (m : MessageName) (more : List ℕ) : Type 0 where
+  pub records : List Record
+  pub read : parts (shape_of m) more ≡ Ok records
+  pub unnamed : AllByRecursion (λ r. is_none (form_of (shape_of m) r.number) ≡ true) records
+
+-- the fields of a message in canonical bytes, behind the field `last` and with or without a member of the oneof before
+abbrev pub AreFields : MessageName → ℕ → Bool → Fields → Type 0
+AreFields m last set (extra more) = AreUnnamed m more
+AreFields m last set (number row v rest) =
+    IsNext m last set row × IsNumberOf row.1.kind v × (not (v == 0) || may_be_empty row.1 ≡ true) × AreFields m row.1.number (set || row.1.member) rest
+AreFields m last set (bytes row held rest) =
+    IsNext m last set row × IsBytesOf row.1.kind held × (not (length held == 0) || may_be_empty row.1 ≡ true) × AreFields m row.1.number (set || row.1.member) rest
+AreFields m last set (message row inner rest) =
+    IsNext m last set row × ((sub : MessageName) × (row.1.kind ≡ Message sub) × AreFields sub 0 false inner) × AreFields m row.1.number (set || row.1.member) rest
+
+-- ---- entries of a map
+
+-- the same without the empty keys and values of entries, whose bytes have both
+abbrev pub without_empty : Fields → Fields
+without_empty (extra more) = extra more
+without_empty (number row v rest) = number row v (without_empty rest)
+without_empty (bytes row held rest) = if row.1.of_entry && (length held == 0) then without_empty rest else bytes row held (without_empty rest)
+without_empty (message row inner rest) = message row (without_empty inner) (without_empty rest)
+
+-- ---- the law
+
+-- an op's canonical bytes are fields of the message Op; and without empty keys and values they are no more, and read as the op too
+pub record HasFields (op : Op) : Type 0 where
+  pub fields : Fields
+  pub are : AreFields named.Op 0 false fields
+  pub written : op_bytes op ≡ bytes_of fields
+  pub shorter : length (bytes_of (without_empty fields)) ≤ length (op_bytes op)
+  pub read : length (bytes_of (without_empty fields)) ≤ entry_limit → op_of (bytes_of (without_empty fields)) ≡ Ok op
+
+-- each op that the bytes are read as
+abbrev pub EntryHasFields : List ℕ → Type 0
+EntryHasFields entry = (op : Op) → op_of entry ≡ Ok op → HasFields op

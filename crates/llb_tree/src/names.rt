@@ -1,0 +1,35 @@
+//! The names in a directory.
+
+ghost use Rattle.std.specs.Prelude.{◌≡◌};
+
+use crate::name::Name;
+use std::marker::Model;
+
+/// Names in the order of their bytes, as a directory has them. Contracts see the list of them.
+#[derive(Drop)]
+pub struct Names {
+    names: Vec<Name>,
+}
+
+impl Model for Names {
+    ghost use Rattle.std.specs.Prelude.{ℕ, List};
+
+    ghost Value = { List (List ℕ) };
+
+    ghost view = { λ n. n.names.items };
+}
+
+impl Names {
+    pub(crate) fn new(names: Vec<Name>) -> Names
+        ensures { result ≡ names.items }
+    {
+        Names { names }
+    }
+
+    /// The names, one after another.
+    pub fn as_slice(&self) -> &[Name]
+        ensures { result.now ≡ self.now }
+    {
+        self.names.as_slice()
+    }
+}

@@ -1,0 +1,23 @@
+-- Bytes as they are written in texts: lower-case hexadecimal, two digits a byte, and a dash for none.
+use Rattle.std.specs.Prelude.{ℕ, ◌%◌, ◌==◌, ◌&&◌, ◌||◌, not, nat_le, nat_eq, Bool, if◌then◌else◌, List, [], ◌∷◌, length, codes, Option, Some}
+use Rattle.std.specs.List.{list_all}
+use Rattle.std.specs.Cmp.Lexicographic.{pointwise}
+use Rattle.std.specs.Result.{result_ok}
+use Rattle.hex.specs.Hex.{encode_lower, decode_of}
+
+-- the text of bytes
+abbrev pub hex_text : List ℕ → List ℕ
+hex_text [] = codes "-"
+hex_text (b ∷ bytes) = encode_lower (b ∷ bytes)
+
+-- a hexadecimal digit that is not upper-case
+abbrev pub is_lower : ℕ → Bool
+is_lower b = (nat_le 48 b && nat_le b 57) || (nat_le 97 b && nat_le b 102)
+
+-- a dash, or pairs of such digits
+abbrev pub is_hex : List ℕ → Bool
+is_hex text = pointwise nat_eq text (codes "-") || (not (length text == 0) && (length text % 2 == 0) && list_all is_lower text)
+
+-- the bytes of a dash or of pairs of digits
+abbrev pub bytes_in : List ℕ → Option (List ℕ)
+bytes_in text = if pointwise nat_eq text (codes "-") then Some [] else result_ok (decode_of text)

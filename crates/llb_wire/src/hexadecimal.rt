@@ -1,0 +1,75 @@
+//! Bytes in texts: lower-case hexadecimal, and a dash for none; and the text of a digest.
+
+ghost use Rattle.std.specs.Prelude.{◌≡◌, ◌++◌, IfOk, OnOk, codes, string_bytes};
+ghost use Rattle.std.specs.List.{list_all};
+ghost use Rattle.std.specs.Option.{option_map};
+ghost use Rattle.hex.specs.Hex.{encode_lower};
+ghost use Rattle.llb_wire.specs.Hexadecimal.{hex_text, is_lower, is_hex, bytes_in};
+
+use crate::bytes::Bytes;
+use crate::fault::Memory;
+use crate::text::Text;
+use hex::FromHexError;
+use std::alloc::{AllocError, Global};
+
+// How many bytes the text of a digest has.
+const DIGEST_LENGTH: usize = 71;
+
+/// Puts the lower-case hexadecimal digits of bytes behind a text, `-` where there are none.
+pub fn push_hex(alloc: Global, text: &mut String, bytes: &[u8]) -> Result<(), AllocError>
+    ensures { OnOk result (string_bytes text.new ≡ string_bytes text.old ++ hex_text bytes.now) }
+{
+    if bytes.is_empty() {
+        text.push_str("-")?;
+        return Ok(());
+    }
+    let digits = hex::encode(alloc, bytes)?;
+    text.push_str(digits.as_str())?;
+    Ok(())
+}
+
+// Whether all are hexadecimal digits, none upper-case.
+fn are_lower(digits: &[u8]) -> bool
+    ensures { result ≡ list_all is_lower digits.now }
+{
+    digits
+        .iter()
+        .all(|b| *b >= b'0' && *b <= b'9' || *b >= b'a' && *b <= b'f')
+}
+
+/// Whether a text is what `push_hex` writes: `-`, or pairs of lower-case hexadecimal digits, at least one.
+pub fn is_hex(text: &str) -> bool
+    ensures { result ≡ is_hex text.now }
+{
+    let digits = text.as_bytes();
+    if digits == b"-".as_slice() {
+        return true;
+    }
+    !digits.is_empty() && digits.len() % 2 == 0 && are_lower(digits)
+}
+
+/// The bytes of pairs of hexadecimal digits, and none of `-`; `None` where the text is neither. Takes upper-case digits
+/// too: `is_hex` tells the texts that are written so.
+pub fn read_hex(alloc: Global, text: &str) -> Result<Option<Bytes>, Memory>
+    ensures { IfOk result (λ o. option_map (λ b. b) o ≡ bytes_in text.now) }
+{
+    if text == "-" {
+        return Ok(Some(Bytes::new(Vec::new(alloc))));
+    }
+    match hex::decode(alloc, text.as_bytes()) {
+        Ok(bytes) => Ok(Some(Bytes::new(bytes))),
+        Err(FromHexError::OutOfMemory) => Err(Memory),
+        Err(_) => Ok(None),
+    }
+}
+
+/// The text of a SHA-256 digest: `sha256:` and its 64 lower-case hexadecimal digits.
+pub fn text_of_digest(alloc: Global, digest: &[u8; 32]) -> Result<Text, Memory>
+    ensures { IfOk result (λ text. text ≡ codes "sha256:" ++ encode_lower digest.now) }
+{
+    let digits = hex::encode(alloc, digest)?;
+    let mut text = String::with_capacity(alloc, DIGEST_LENGTH)?;
+    text.push_str("sha256:")?;
+    text.push_str(digits.as_str())?;
+    Ok(Text::new(text))
+}
