@@ -101,4 +101,3 @@ exec_op_told =
 pub exec_op_has : HasFrom name.ExecOp exec_op_of exec_op_bytes exec_op_bytes
 unfolding message_of exec_op_in exec_op_bytes
 exec_op_has = has_by exec_op_told exec_op_made exec_op_of exec_op_bytes exec_op_bytes (λ entry. refl) (λ a more. refl) (λ a more. refl)
-

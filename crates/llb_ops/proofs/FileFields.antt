@@ -178,4 +178,3 @@ file_op_told =
 pub file_op_has : HasFrom name.FileOp file_op_of file_op_bytes file_op_bytes
 unfolding message_of file_op_in file_op_bytes
 file_op_has = has_by file_op_told file_op_made file_op_of file_op_bytes file_op_bytes (λ entry. refl) (λ a more. refl) (λ a more. refl)
-

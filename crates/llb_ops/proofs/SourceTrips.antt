@@ -50,10 +50,10 @@ pub was_read : (es : List AttributeEntry) (a : List Held) → settled es ≡ a �
     → AllByRecursion (IsRead attribute_entry_of) (map entry_of a)
 was_read es a is h =
     all_entries a (subst (λ (ps : List Held). AllByRecursion (λ p. IsRead attribute_entry_of (entry_of p)) ps) is (settled_hold (IsRead attribute_entry_of) es h)) where
-  all_entries : (ps : List Held) → AllByRecursion (λ p. IsRead attribute_entry_of (entry_of p)) ps
-      → AllByRecursion (IsRead attribute_entry_of) (map entry_of ps)
-  all_entries [] h = tt
-  all_entries (p ∷ ps) h = (h.0, all_entries ps h.1)
+      all_entries : (ps : List Held) → AllByRecursion (λ p. IsRead attribute_entry_of (entry_of p)) ps
+          → AllByRecursion (IsRead attribute_entry_of) (map entry_of ps)
+      all_entries [] h = tt
+      all_entries (p ∷ ps) h = (h.0, all_entries ps h.1)
 
 -- entries that are written so, whichever way their keys and values are
 pub attributes_back : (write : AttributeEntry → List ℕ) (n : ℕ) (xs : List Record) (a : List Held) → Returns attribute_entry_of write

@@ -199,9 +199,9 @@ pub tells_read_items : (m : MessageName) (last : ℕ) (set : Bool) (row : Row) (
     → Tells m last set row.1.number set (spelled (some_strings row.1.number items)) (spelled (some_strings row.1.number items))
 tells_read_items m last set row xs items holds h good e =
     tells_items m last set row items h (subst (λ (bs : List (List ℕ)). AllByRecursion (IsBytesOf row.1.kind) bs) (ok_is (payloads xs) items e) (each_holds xs good)) where
-  each_holds : (xs : List Record) → AllByRecursion (IsOf (shape_of m) row.1.number) xs → AllByRecursion (IsBytesOf row.1.kind) (payloads xs)
-  each_holds [] good = tt
-  each_holds (x ∷ xs) good = (holds x.payload (text_of (shape_of m) row.1.number x good.0), each_holds xs good.1)
+      each_holds : (xs : List Record) → AllByRecursion (IsOf (shape_of m) row.1.number) xs → AllByRecursion (IsBytesOf row.1.kind) (payloads xs)
+      each_holds [] good = tt
+      each_holds (x ∷ xs) good = (holds x.payload (text_of (shape_of m) row.1.number x good.0), each_holds xs good.1)
 
 abbrev pub told_items : (m : MessageName) {W : Type 0} (last : ℕ) (set : Bool) (row : Row) → Holds m row → IsRepeated m last set row
     → is_number row.1.number ≡ true → wire_fits (form_of (shape_of m) row.1.number) wire.Len ≡ true → Told m W (List (List ℕ)) last set row.1.number set

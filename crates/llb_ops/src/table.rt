@@ -151,18 +151,18 @@ const ATTRIBUTE_ENTRY: [FieldRow; 2] = [
     of_entry!("value", 2, FieldKind::String),
 ];
 
-const FILE_OP: [FieldRow; 1] = [each!(
-    "actions",
-    2,
-    FieldKind::Message(MessageName::FileAction)
-)];
+const FILE_OP: [FieldRow; 1] = [each!("actions", 2, FieldKind::Message(MessageName::FileAction))];
 
 const FILE_ACTION: [FieldRow; 7] = [
     once!("input", 1, FieldKind::Int64),
     once!("secondaryInput", 2, FieldKind::Int64),
     once!("output", 3, FieldKind::Int64),
     member!("copy", 4, FieldKind::Message(MessageName::FileActionCopy)),
-    member!("mkfile", 5, FieldKind::Message(MessageName::FileActionMkFile)),
+    member!(
+        "mkfile",
+        5,
+        FieldKind::Message(MessageName::FileActionMkFile)
+    ),
     member!("mkdir", 6, FieldKind::Message(MessageName::FileActionMkDir)),
     member!("rm", 7, FieldKind::Message(MessageName::FileActionRm)),
 ];
@@ -248,11 +248,7 @@ const CACHE_OPT: [FieldRow; 2] = [
     once!("sharing", 2, FieldKind::Enum),
 ];
 
-const MERGE_OP: [FieldRow; 1] = [each!(
-    "inputs",
-    1,
-    FieldKind::Message(MessageName::MergeInput)
-)];
+const MERGE_OP: [FieldRow; 1] = [each!("inputs", 1, FieldKind::Message(MessageName::MergeInput))];
 
 const MERGE_INPUT: [FieldRow; 1] = [once!("input", 1, FieldKind::Int64)];
 
