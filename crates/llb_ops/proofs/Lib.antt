@@ -33,3 +33,4 @@ pub mod FileFields
 pub mod SourceFields
 pub mod OpFields
 pub mod TableRows
+pub mod Unnamed

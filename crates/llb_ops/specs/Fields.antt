@@ -1,7 +1,7 @@
 -- The fields of a message as its bytes have them one behind the other, and when they are those of canonical bytes: by the table
 -- (`ops.proto` of BuildKit) and the encoding guide of Protocol Buffers ("Message Structure", "Field Presence", "Oneofs", "Maps").
-use Rattle.std.specs.Prelude.{◌≡◌, ℕ, ◌<◌, ◌≤◌, ◌^◌, List, ◌++◌, length, Option, Some, None, Ok, Bool, true, false, is_none, nat_lt, ◌==◌, ◌&&◌, ◌||◌, not, if◌then◌else◌}
-use Rattle.std.specs.List.{AllByRecursion}
+use Rattle.std.specs.Prelude.{◌≡◌, ℕ, ◌<◌, ◌≤◌, ◌^◌, List, ◌++◌, length, Option, Some, None, Result, Ok, Err, Bool, true, false, is_none, nat_lt, ◌==◌, ◌&&◌, ◌||◌, not, if◌then◌else◌}
+use Rattle.std.specs.List.{AllByRecursion, list_all}
 use Rattle.std.specs.Str.{is_utf8}
 use Rattle.std.specs.Int.{w64, cast_unsigned}
 use Rattle.llb_wire.specs.Records.{Record}
@@ -11,6 +11,7 @@ use Rattle.llb_ops.specs.declared.table.FieldKind.{FieldKind}
 use Rattle.llb_ops.specs.declared.table.FieldKind.TheVariants.{Int64, Int32, Uint32, Enum, Bool as Flag, String, Bytes, Message}
 use Rattle.llb_ops.specs.declared.table.NamedField.{NamedField}
 use Rattle.llb_ops.specs.declared.op.Op.{Op}
+use Rattle.llb_ops.specs.declared.fault.OpFault.{OpFault}
 use Rattle.llb_ops.specs.Limits.{entry_limit}
 use Rattle.llb_ops.specs.Table.{Row, rows_of, by_number, shape_of}
 use Rattle.llb_ops.specs.Records.{form_of, parts, int32, int64, uint32, flag}
@@ -72,6 +73,14 @@ pub record AreUnnamed (m : MessageName) (more : List ℕ) : Type 0 where
   pub records : List Record
   pub read : parts (shape_of m) more ≡ Ok records
   pub unnamed : AllByRecursion (λ r. is_none (form_of (shape_of m) r.number) ≡ true) records
+
+-- whether they are
+abbrev pub only_unnamed : MessageName → Result (List Record) OpFault → Bool
+only_unnamed m (Ok records) = list_all (λ r. is_none (form_of (shape_of m) r.number)) records
+only_unnamed m (Err f) = false
+
+unfoldable pub are_unnamed : MessageName → List ℕ → Bool
+are_unnamed m more = only_unnamed m (parts (shape_of m) more)
 
 -- the fields of a message in canonical bytes, behind the field `last` and with or without a member of the oneof before
 abbrev pub AreFields : MessageName → ℕ → Bool → Fields → Type 0

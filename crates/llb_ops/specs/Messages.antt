@@ -31,7 +31,7 @@ use Rattle.llb_ops.specs.declared.merge.MergeOp.{MergeOp}
 use Rattle.llb_ops.specs.declared.merge.MergeInput.{MergeInput}
 use Rattle.llb_ops.specs.declared.source.SourceOp.{SourceOp}
 use Rattle.llb_ops.specs.declared.source.AttributeEntry.{AttributeEntry}
-use Rattle.llb_ops.specs.Table.{shape_of}
+use Rattle.llb_ops.specs.Table.{shape_of, members_of, repeated_of}
 use Rattle.llb_ops.specs.Limits.{entry_limit}
 use Rattle.llb_ops.specs.Attributes.{settled}
 use Rattle.llb_ops.specs.Records.{Shape, message_of, all, payload, payloads, number, flag, uint32, int32, int64, joined, one, each, one_of, within_limits, unnamed}
@@ -49,7 +49,7 @@ abbrev pub user_opt_shape : Shape
 user_opt_shape = shape_of message.UserOpt
 
 abbrev pub users : List ℕ
-users = 1 ∷ 2 ∷ []
+users = members_of message.UserOpt
 
 abbrev pub user_of : ℕ → List Record → Result User OpFault
 user_of n rs = if n == 1 then Ok (ByName (joined rs)) else Ok (ById (uint32 (number rs)))
@@ -135,7 +135,7 @@ copy_file_with rs owner = record {
 unfoldable pub copy_file_in : List Record → Result CopyFile OpFault
 copy_file_in rs = do
   owner ← one chown_opt_of (all 3 rs)
-  if within_limits (12 ∷ 13 ∷ []) rs then Ok (copy_file_with rs owner) else Err OverLimit
+  if within_limits (repeated_of message.FileActionCopy) rs then Ok (copy_file_with rs owner) else Err OverLimit
 
 abbrev pub copy_file_of : List ℕ → Result CopyFile OpFault
 copy_file_of = message_of copy_file_shape copy_file_in
@@ -158,7 +158,7 @@ abbrev pub action_shape : Shape
 action_shape = shape_of message.FileAction
 
 abbrev pub action_kinds : List ℕ
-action_kinds = 4 ∷ 5 ∷ 6 ∷ 7 ∷ []
+action_kinds = members_of message.FileAction
 
 abbrev pub action_kind_of : ℕ → List Record → Result ActionKind OpFault
 action_kind_of n rs =
@@ -187,7 +187,7 @@ file_op_shape = shape_of message.FileOp
 unfoldable pub file_op_in : List Record → Result FileOp OpFault
 file_op_in rs = do
   actions ← each action_of (all 2 rs)
-  if within_limits (2 ∷ []) rs then Ok (record { actions = actions; extra = unnamed file_op_shape rs }) else Err OverLimit
+  if within_limits (repeated_of message.FileOp) rs then Ok (record { actions = actions; extra = unnamed file_op_shape rs }) else Err OverLimit
 
 abbrev pub file_op_of : List ℕ → Result FileOp OpFault
 file_op_of = message_of file_op_shape file_op_in
@@ -196,7 +196,7 @@ abbrev pub meta_shape : Shape
 meta_shape = shape_of message.Meta
 
 unfoldable pub meta_in : List Record → Result Meta OpFault
-meta_in rs = if within_limits (1 ∷ 2 ∷ []) rs then Ok (record {
+meta_in rs = if within_limits (repeated_of message.Meta) rs then Ok (record {
   args = payloads (all 1 rs);
   env = payloads (all 2 rs);
   cwd = payload (all 3 rs);
@@ -261,7 +261,7 @@ unfoldable pub exec_op_in : List Record → Result ExecOp OpFault
 exec_op_in rs = do
   meta ← one meta_of (all 1 rs)
   mounts ← each mount_of (all 2 rs)
-  if within_limits (2 ∷ 5 ∷ []) rs then Ok (record {
+  if within_limits (repeated_of message.ExecOp) rs then Ok (record {
     meta = meta;
     mounts = mounts;
     network = int32 (number (all 3 rs));
@@ -291,7 +291,7 @@ merge_op_shape = shape_of message.MergeOp
 unfoldable pub merge_op_in : List Record → Result MergeOp OpFault
 merge_op_in rs = do
   inputs ← each merge_input_of (all 1 rs)
-  if within_limits (1 ∷ []) rs then Ok (record {
+  if within_limits (repeated_of message.MergeOp) rs then Ok (record {
     inputs = inputs;
     extra = unnamed merge_op_shape rs;
   }) else Err OverLimit
@@ -314,7 +314,7 @@ source_op_shape = shape_of message.SourceOp
 unfoldable pub source_op_in : List Record → Result SourceOp OpFault
 source_op_in rs = do
   entries ← each attribute_entry_of (all 2 rs)
-  if within_limits (2 ∷ []) rs then Ok (record {
+  if within_limits (repeated_of message.SourceOp) rs then Ok (record {
     identifier = payload (all 1 rs);
     attrs = settled entries;
     extra = unnamed source_op_shape rs;
@@ -327,7 +327,7 @@ abbrev pub op_shape : Shape
 op_shape = shape_of message.Op
 
 abbrev pub kinds : List ℕ
-kinds = 2 ∷ 3 ∷ 4 ∷ 5 ∷ 6 ∷ 7 ∷ []
+kinds = members_of message.Op
 
 unfoldable pub kind_of : ℕ → List Record → Result Kind OpFault
 kind_of n rs =
@@ -342,7 +342,7 @@ unfoldable pub op_in : List Record → Result Op OpFault
 op_in rs = do
   inputs ← each input_of (all 1 rs)
   kind ← one_of kinds kind_of rs
-  if within_limits (1 ∷ []) rs then Ok (record { inputs = inputs; kind = kind; extra = unnamed op_shape rs }) else Err OverLimit
+  if within_limits (repeated_of message.Op) rs then Ok (record { inputs = inputs; kind = kind; extra = unnamed op_shape rs }) else Err OverLimit
 
 abbrev pub op_message_of : List ℕ → Result Op OpFault
 op_message_of = message_of op_shape op_in

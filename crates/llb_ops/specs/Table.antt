@@ -1,6 +1,6 @@
 -- The table of messages: the fields that each message names (`ops.proto` of BuildKit), by name, number and kind, in ascending order of
 -- their numbers. A field of the kind `Bytes` is bytes, or a message that is not looked into; an entry of the map `attrs` is a message of its own.
-use Rattle.std.specs.Prelude.{◌≡◌, ℕ, List, [], ◌∷◌, map, find, codes, Option, Some, true, false, nat_eq, ◌==◌}
+use Rattle.std.specs.Prelude.{◌≡◌, ℕ, List, [], ◌∷◌, map, find, filter, codes, Option, Some, true, false, nat_eq, ◌==◌}
 use Rattle.std.specs.List.{AllByRecursion}
 use Rattle.std.specs.Cmp.Lexicographic.{pointwise}
 use Rattle.llb_ops.specs.declared.shape.Form.{Form}
@@ -188,3 +188,10 @@ form_of_kind (Message m) = form.Bytes
 -- the numbers of a message's fields, and their forms
 abbrev pub shape_of : MessageName → List (ℕ × Form)
 shape_of m = map (λ r. (r.1.number, form_of_kind r.1.kind)) (rows_of m)
+
+-- the numbers of the members of a message's oneof, and of its repeated fields
+abbrev pub members_of : MessageName → List ℕ
+members_of m = map (λ r. r.1.number) (filter (λ r. r.1.member) (rows_of m))
+
+abbrev pub repeated_of : MessageName → List ℕ
+repeated_of m = map (λ r. r.1.number) (filter (λ r. r.1.repeated) (rows_of m))

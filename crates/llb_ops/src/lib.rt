@@ -27,6 +27,8 @@ pub use llb_wire::{Boxed, Bytes, Text};
 pub use merge::{MergeInput, MergeOp};
 pub use op::{Input, Kind, Op, op_is_read_again, op_is_read_of_records, read_op, write_op};
 pub use owners::{ChownOpt, User, UserOpt};
+pub use records::are_unnamed;
+pub use shape::{DEFINITION_LIMIT, ENTRIES_LIMIT, ENTRY_LIMIT, FIELD_LIMIT};
 pub use source::{Attribute, Attributes, SourceOp};
 pub use table::{
     FieldKind, FieldRow, MessageName, NamedField, field_named, field_numbered, fields_of,

@@ -7,6 +7,7 @@ ghost use Rattle.llb_wire.specs.Records.{record_of};
 ghost use Rattle.llb_ops.specs.Faults.{Gives};
 ghost use Rattle.llb_ops.specs.declared.shape.Form.TheVariants as form;
 ghost use Rattle.llb_ops.specs.Table.{shape_of};
+ghost use Rattle.llb_ops.specs.Fields.{are_unnamed};
 ghost use Rattle.llb_ops.specs.Records.{view, views, form_of, wire_fits, records_from, Starts, texts_fit, text_fits, parts as parts_of, all as all_of, last_of, number as number_of, payload as payload_of, payloads, uint32, int32, int64, flag, joined as joined_of, unnamed as unnamed_of, chosen as chosen_of, since as since_of, is_member as is_member_of, is_other as is_other_of, member as member_of, within_limits as within_limits_of};
 
 use crate::fault::OpFault;
@@ -356,6 +357,25 @@ fn is_unnamed(message: MessageName, part: &Record<'_>) -> bool
     ensures { result ≡ is_none (form_of (shape_of message) part.now.number) }
 {
     form(message, part.number).is_none()
+}
+
+/// Bytes are the records of fields that the message doesn't name, and nothing else.
+pub fn are_unnamed(message: MessageName, bytes: &[u8]) -> bool
+    ensures { result ≡ are_unnamed message bytes.now }
+{
+    let mut rest = bytes;
+    loop {
+        match next_part(message, rest) {
+            Err(_) => return false,
+            Ok(None) => return true,
+            Ok(Some(front)) => {
+                if !is_unnamed(message, &front.record) {
+                    return false;
+                }
+                rest = front.after;
+            }
+        }
+    }
 }
 
 /// The fields that the message doesn't name, as they stand.
