@@ -5,6 +5,8 @@
 #[cfg(test)]
 mod applet;
 #[cfg(test)]
+mod asm;
+#[cfg(test)]
 mod cache;
 #[cfg(test)]
 mod cache_mounts;

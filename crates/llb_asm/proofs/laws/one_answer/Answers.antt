@@ -1,0 +1,5 @@
+use Rattle.llb_asm.proofs.Unique as law
+use Rattle.llb_asm.proofs.laws.one_answer.Goals as goal
+
+pub returns : goal.returns
+returns c = law.one_answer c.args.text.now

@@ -1,0 +1,5 @@
+pub mod Values
+pub mod Lines
+pub mod Line
+pub mod Reading
+pub mod Running

@@ -1,0 +1,128 @@
+-- One line in an entry: what it adds to the message at hand, or why it is refused.
+use Rattle.std.specs.Prelude.{ℕ, ◌+◌, ◌-◌, ◌==◌, ◌&&◌, ◌||◌, not, nat_lt, nat_le, nat_eq, if◌then◌else◌, Bool, true, false, List, [], ◌∷◌, length, take, drop, position, codes, slice_get, Option, Some, None, Result, Ok, Err, option_map}
+use Rattle.std.specs.Str.{is_utf8}
+use Rattle.llb_wire.specs.Answer.{◌>>=◌}
+use Rattle.llb_ops.specs.declared.table.MessageName.{MessageName}
+use Rattle.llb_ops.specs.declared.table.FieldKind.{FieldKind}
+use Rattle.llb_ops.specs.declared.table.FieldKind.TheVariants as kind
+use Rattle.llb_ops.specs.declared.table.NamedField.{NamedField}
+use Rattle.llb_ops.specs.Limits.{field_limit}
+use Rattle.llb_ops.specs.Table.{Row, row_named}
+use Rattle.llb_ops.specs.Writing.{set_number, set_bytes}
+use Rattle.llb_ops.specs.Fields.{may_follow, may_be_empty, are_unnamed}
+use Rattle.llb_asm.specs.declared.fault.Rule.TheVariants.{Syntax, UnknownField, Order, BadValue, OverLimit}
+use Rattle.llb_asm.specs.declared.line.Refusal.{Refusal}
+use Rattle.llb_asm.specs.declared.line.Refusal.TheVariants.{Breaks, UnknownLabel}
+use Rattle.llb_asm.specs.declared.line.Here.{Here}
+use Rattle.llb_asm.specs.declared.line.Held.{Held}
+use Rattle.llb_asm.specs.declared.line.Held.TheVariants.{Record, Opens}
+use Rattle.llb_asm.specs.declared.line.Item.{Item}
+use Rattle.llb_asm.specs.Values.{is_text, number_in, string_in, bytes_spelled, label_in}
+
+abbrev pub or_else : {A : Type 0} → Refusal → Option A → Result A Refusal
+or_else e None = Err e
+or_else e (Some x) = Ok x
+
+abbrev pub guard : Refusal → Bool → Result (Unit {0}) Refusal
+guard e true = Ok tt
+guard e false = Err e
+
+-- ---- the name and the value of an item, with one space between them
+
+abbrev pub parted_at : List ℕ → Option ℕ → Option (List ℕ × List ℕ)
+parted_at line None = None
+parted_at line (Some at) = Some (take at line, drop 1 (drop at line))
+
+unfoldable pub parted : List ℕ → Option (List ℕ × List ℕ)
+parted line = if is_utf8 line then parted_at line (position (λ b. nat_eq b 32) line) else None
+
+-- ---- values
+
+-- a value that is 0 or empty adds nothing where it is not written
+abbrev pub number_record : NamedField → ℕ → Held
+number_record f v = Record (if (v == 0) && not (may_be_empty f) then [] else set_number f.number v)
+
+abbrev pub bytes_record : NamedField → List ℕ → Held
+bytes_record f held = Record (if (length held == 0) && not (may_be_empty f) then [] else set_bytes f.number held)
+
+-- the text of the digest of an earlier entry
+abbrev pub labelled : List (List ℕ) → ℕ → Result (List ℕ) Refusal
+labelled labels k = or_else UnknownLabel (slice_get labels k)
+
+-- a label where a digest is wanted, else a string between quotes
+abbrev pub digest_or_string : List (List ℕ) → Option ℕ → List ℕ → Result (List ℕ) Refusal
+digest_or_string labels (Some k) text = labelled labels k
+digest_or_string labels None text = or_else (Breaks BadValue) (string_in text)
+
+abbrev pub string_of : List (List ℕ) → List ℕ → List ℕ → Result (List ℕ) Refusal
+string_of labels name text = digest_or_string labels (if is_text name (codes "digest") then label_in text else None) text
+
+abbrev pub labelled_record : List (List ℕ) → NamedField → ℕ → Result Held Refusal
+labelled_record labels f k = labelled labels k >>= λ s. Ok (bytes_record f s)
+
+abbrev pub string_record : List (List ℕ) → Row → List ℕ → Result Held Refusal
+string_record labels row text = string_of labels row.0 text >>= λ s. Ok (bytes_record row.1 s)
+
+-- what the value of a field is spelled as
+abbrev pub held_by : List (List ℕ) → Row → FieldKind → List ℕ → Result Held Refusal
+held_by labels row (kind.Message m) text = if is_text text (codes "{") then Ok (Opens row.1.number m) else Err (Breaks BadValue)
+held_by labels row kind.String text = string_record labels row text
+held_by labels row kind.Bytes text = or_else (Breaks BadValue) (option_map (bytes_record row.1) (bytes_spelled text))
+held_by labels row kind.Int64 text = or_else (Breaks BadValue) (option_map (number_record row.1) (number_in kind.Int64 text))
+held_by labels row kind.Int32 text = or_else (Breaks BadValue) (option_map (number_record row.1) (number_in kind.Int32 text))
+held_by labels row kind.Uint32 text = or_else (Breaks BadValue) (option_map (number_record row.1) (number_in kind.Uint32 text))
+held_by labels row kind.Enum text = or_else (Breaks BadValue) (option_map (number_record row.1) (number_in kind.Enum text))
+held_by labels row kind.Bool text = or_else (Breaks BadValue) (option_map (number_record row.1) (number_in kind.Bool text))
+
+unfoldable pub held_in : List (List ℕ) → Row → List ℕ → Result Held Refusal
+held_in labels row text = held_by labels row row.1.kind text
+
+-- ---- where a line stands: the message, its last field, whether a member of its oneof is set, and how often the last field stood
+
+-- at the front of a message
+abbrev pub inside : MessageName → Here
+inside m = record { message = m; last = 0; set = false; count = 0; ended = false }
+
+-- behind one more field
+abbrev pub behind : Here → NamedField → Here
+behind here f = record {
+  message = here.message;
+  last = f.number;
+  set = here.set || f.member;
+  count = if here.last == f.number then here.count + 1 else 1;
+  ended = false;
+}
+
+-- behind the extra bytes, where nothing more may stand
+abbrev pub at_end : Here → Here
+at_end here = record { message = here.message; last = here.last; set = here.set; count = here.count; ended = true }
+
+-- a repeated field has no more items than its limit
+abbrev pub has_room : Here → NamedField → Bool
+has_room here f = not ((here.last == f.number) && nat_le field_limit here.count)
+
+abbrev pub follows : Here → NamedField → Bool
+follows here f = not here.ended && may_follow here.last here.set f
+
+-- ---- the tests of a line, in their order
+
+-- the bytes of fields that the message doesn't name
+abbrev pub extra_in : Here → List ℕ → Result Item Refusal
+extra_in here text = do
+  _ ← guard (Breaks Order) (not here.ended)
+  bytes ← or_else (Breaks BadValue) (bytes_spelled text)
+  _ ← guard (Breaks BadValue) (are_unnamed here.message bytes)
+  Ok (record { next = at_end here; held = Record bytes })
+
+abbrev pub field_in : List (List ℕ) → Here → List ℕ × List ℕ → Result Item Refusal
+field_in labels here p = do
+  row ← or_else (Breaks UnknownField) (row_named here.message p.0)
+  _ ← guard (Breaks Order) (follows here row.1)
+  held ← held_in labels row p.1
+  _ ← guard (Breaks OverLimit) (has_room here row.1)
+  Ok (record { next = behind here row.1; held = held })
+
+unfoldable pub line_in : List (List ℕ) → Here → List ℕ → Result Item Refusal
+line_in labels here line = do
+  p ← or_else (Breaks Syntax) (parted line)
+  if is_text p.0 (codes "extra") then extra_in here p.1 else field_in labels here p

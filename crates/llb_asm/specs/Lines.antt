@@ -1,0 +1,36 @@
+-- The lines of a text that are looked at.
+use Rattle.std.specs.Prelude.{ℕ, ◌+◌, ◌==◌, ◌&&◌, ◌||◌, not, nat_eq, Bool, true, false, if◌then◌else◌, List, [], ◌∷◌, drop, reverse, filter, map}
+use Rattle.std.specs.List.{slice_split}
+use Rattle.std.specs.Str.{is_utf8}
+
+-- spaces, tabs and carriage returns
+abbrev pub is_blank : ℕ → Bool
+is_blank b = (b == 32) || (b == 9) || (b == 13)
+
+-- a line without those at its front, at its end, and at both
+abbrev pub without_front : List ℕ → List ℕ
+without_front [] = []
+without_front (b ∷ line) = if is_blank b then without_front line else b ∷ line
+
+abbrev pub without_end : List ℕ → List ℕ
+without_end line = reverse (without_front (reverse line))
+
+unfoldable pub stripped : List ℕ → List ℕ
+stripped line = without_end (without_front line)
+
+-- empty lines and comments
+abbrev pub is_dropped : List ℕ → Bool
+is_dropped [] = true
+is_dropped (b ∷ line) = (b == 35) && is_utf8 (b ∷ line)
+
+-- a line with its number
+abbrev pub Line : Type 0
+Line = ℕ × List ℕ
+
+abbrev pub numbered : ℕ → List (List ℕ) → List Line
+numbered n [] = []
+numbered n (line ∷ lines) = (n, stripped line) ∷ numbered (n + 1) lines
+
+-- the lines that are left, with their numbers from 1
+unfoldable pub kept : List ℕ → List Line
+kept text = filter (λ l. not (is_dropped l.1)) (numbered 1 (slice_split (λ b. nat_eq b 10) text))

@@ -1,0 +1,256 @@
+-- Which lines are the items of a message and the entries of a definition, what they stand for, and which line is the first that is
+-- refused. Nothing here knows how lines are read.
+use Rattle.std.specs.Prelude.{◌≡◌, ◌≢◌, ◌≤◌, ℕ, ◌+◌, ◌==◌, ◌&&◌, ◌⊎◌, nat_lt, nat_le, nat_eq, Bool, true, false, if◌then◌else◌, List, [], ◌∷◌, ◌++◌, length, map, codes, Option, Some, None, Result, Ok, Err}
+use Rattle.llb_wire.specs.Answer.{◌>>=◌}
+use Rattle.llb_wire.specs.Digest.{digest_text}
+use Rattle.llb_wire.specs.Spelling.{varint_text, tag_text}
+use Rattle.llb_wire.specs.declared.field.Wire.TheVariants as wire
+use Rattle.llb_ops.specs.declared.fault.OpFault.{OpFault}
+use Rattle.llb_ops.specs.declared.op.Op.{Op}
+use Rattle.llb_ops.specs.declared.table.MessageName.{MessageName}
+use Rattle.llb_ops.specs.declared.table.MessageName.TheVariants as named
+use Rattle.llb_ops.specs.Limits.{definition_limit, entries_limit, entry_limit}
+use Rattle.llb_ops.specs.Messages.{op_of}
+use Rattle.llb_ops.specs.Writing.{set_bytes, op_bytes}
+use Rattle.llb_ops.specs.Definition.{definition_bytes}
+use Rattle.llb_asm.specs.declared.fault.AsmFault.{AsmFault}
+use Rattle.llb_asm.specs.declared.fault.AsmFault.TheVariants as fault
+use Rattle.llb_asm.specs.declared.fault.Rule.TheVariants.{Syntax, BadValue, OverLimit, Unclosed}
+use Rattle.llb_asm.specs.declared.line.Refusal.{Refusal}
+use Rattle.llb_asm.specs.declared.line.Refusal.TheVariants.{Breaks, UnknownLabel}
+use Rattle.llb_asm.specs.declared.line.Here.{Here}
+use Rattle.llb_asm.specs.declared.line.Held.{Held}
+use Rattle.llb_asm.specs.declared.line.Held.TheVariants.{Record, Opens}
+use Rattle.llb_asm.specs.declared.line.Item.{Item}
+use Rattle.llb_asm.specs.declared.entry.Begun.{Begun}
+use Rattle.llb_asm.specs.declared.entry.Begun.TheVariants.{Raw, Structured}
+use Rattle.llb_asm.specs.Values.{is_text, bytes_spelled}
+use Rattle.llb_asm.specs.Lines.{Line, kept}
+use Rattle.llb_asm.specs.Line.{or_else, guard, parted, inside, line_in}
+
+-- ---- limits
+
+-- how long a record with a payload of that length is
+abbrev pub record_length : ℕ → ℕ → ℕ
+record_length number size = length (tag_text number wire.Len) + (length (varint_text size) + size)
+
+-- an entry of that length behind these is within the limits of a definition
+abbrev pub is_within : List (List ℕ) → ℕ → Bool
+is_within earlier size = nat_le size entry_limit && nat_le (length (definition_bytes earlier) + record_length 1 size) definition_limit
+
+-- ---- the message at hand
+
+-- where the next line stands in it, its bytes so far, and whether the entry is within the limits where it has so many, all messages closed
+pub record Hand : Type 0 where
+  pub here : Here
+  pub bytes : List ℕ
+  pub room : ℕ → Bool
+
+-- how many bytes a line adds
+abbrev pub added : Held → ℕ
+added (Record bytes) = length bytes
+added (Opens number m) = record_length number 0
+
+-- what a line adds, within the limits
+abbrev pub item_at : List (List ℕ) → Hand → List ℕ → Result Item Refusal
+item_at labels hand line = do
+  i ← line_in labels hand.here line
+  _ ← guard (Breaks OverLimit) (hand.room (length hand.bytes + added i.held))
+  Ok i
+
+-- behind some more bytes, and in a message
+abbrev pub beyond : Hand → Here → List ℕ → Hand
+beyond hand next bytes = record { here = next; bytes = hand.bytes ++ bytes; room = hand.room }
+
+abbrev pub within : Hand → ℕ → MessageName → Hand
+within hand number sub = record { here = inside sub; bytes = []; room = λ size. hand.room (length hand.bytes + record_length number size) }
+
+-- ---- the items of a message
+
+-- with the lines that spell them: each a line with its record, or a message between an opening line and a closing one. The last one
+-- may be a message that is not closed yet.
+pub data Items : Type 0 where
+  done : Items
+  single : List ℕ → Here → List ℕ → Items → Items
+  nested : List ℕ → Here → ℕ → MessageName → Items → Items → Items
+  unclosed : List ℕ → Here → ℕ → MessageName → Items → Items
+
+abbrev pub closing : List ℕ
+closing = codes "}"
+
+abbrev pub lines_of : Items → List (List ℕ)
+lines_of done = []
+lines_of (single line next bytes rest) = line ∷ lines_of rest
+lines_of (nested line next number sub inner rest) = line ∷ (lines_of inner ++ (closing ∷ lines_of rest))
+lines_of (unclosed line next number sub inner) = line ∷ lines_of inner
+
+-- the records, where a message that is not closed is taken as closed
+abbrev pub records_of : Items → List ℕ
+records_of done = []
+records_of (single line next bytes rest) = bytes ++ records_of rest
+records_of (nested line next number sub inner rest) = set_bytes number (records_of inner) ++ records_of rest
+records_of (unclosed line next number sub inner) = set_bytes number (records_of inner)
+
+abbrev pub IsWhole : Items → Type 0
+IsWhole done = Unit {0}
+IsWhole (single line next bytes rest) = IsWhole rest
+IsWhole (nested line next number sub inner rest) = IsWhole rest
+IsWhole (unclosed line next number sub inner) = ⊥
+
+abbrev pub item : Here → Held → Item
+item next held = record { next = next; held = held }
+
+-- each line adds its item to the message at hand
+abbrev pub Fits : List (List ℕ) → Hand → Items → Type 0
+Fits labels hand done = Unit {0}
+Fits labels hand (single line next bytes rest) = (item_at labels hand line ≡ Ok (item next (Record bytes))) × Fits labels (beyond hand next bytes) rest
+Fits labels hand (nested line next number sub inner rest) =
+    (item_at labels hand line ≡ Ok (item next (Opens number sub))) × Fits labels (within hand number sub) inner × IsWhole inner
+    × Fits labels (beyond hand next (set_bytes number (records_of inner))) rest
+Fits labels hand (unclosed line next number sub inner) = (item_at labels hand line ≡ Ok (item next (Opens number sub))) × Fits labels (within hand number sub) inner
+
+-- the message at hand behind some items
+abbrev pub at_hand : Hand → Items → Hand
+at_hand hand done = hand
+at_hand hand (single line next bytes rest) = at_hand (beyond hand next bytes) rest
+at_hand hand (nested line next number sub inner rest) = at_hand (beyond hand next (set_bytes number (records_of inner))) rest
+at_hand hand (unclosed line next number sub inner) = at_hand (within hand number sub) inner
+
+-- ---- the entries of a text
+
+-- how an entry begins: `raw` and its bytes, or `op {`
+abbrev pub begun_by : List ℕ → Option (List ℕ × List ℕ) → Result Begun Refusal
+begun_by line None = Err (Breaks Syntax)
+begun_by line (Some p) =
+    if is_text line (codes "op {") then Ok Structured
+    else if is_text p.0 (codes "raw") then (or_else (Breaks BadValue) (bytes_spelled p.1) >>= λ bytes. Ok (Raw bytes))
+    else Err (Breaks Syntax)
+
+abbrev pub begun_size : Begun → ℕ
+begun_size (Raw bytes) = length bytes
+begun_size Structured = 0
+
+unfoldable pub begun_in : List (List ℕ) → List ℕ → Result Begun Refusal
+begun_in earlier line = do
+  b ← begun_by line (parted line)
+  _ ← guard (Breaks OverLimit) (nat_lt (length earlier) entries_limit && is_within earlier (begun_size b))
+  Ok b
+
+-- the canonical bytes of the op that the records are, within the limits
+abbrev pub canonical_in : List (List ℕ) → Result Op OpFault → Result (List ℕ) Refusal
+canonical_in earlier (Err f) = Err (Breaks OverLimit)
+canonical_in earlier (Ok op) = if is_within earlier (length (op_bytes op)) then Ok (op_bytes op) else Err (Breaks OverLimit)
+
+unfoldable pub entry_in : List (List ℕ) → List ℕ → Result (List ℕ) Refusal
+entry_in earlier records = canonical_in earlier (op_of records)
+
+abbrev pub labels_of : List (List ℕ) → List (List ℕ)
+labels_of earlier = map digest_text earlier
+
+-- what is kept of entries: the texts of their digests, and how many bytes a definition of them has
+pub record IsKept (entries labels : List (List ℕ)) (size : ℕ) : Type 0 where
+  pub digests : labels ≡ labels_of entries
+  pub bytes : size ≡ length (definition_bytes entries)
+  pub small : size ≤ definition_limit
+
+-- an op at its front
+abbrev pub outermost : List (List ℕ) → Hand
+outermost earlier = record { here = inside named.Op; bytes = []; room = is_within earlier }
+
+-- the entries with the lines that spell them; the last one may be an op that is not closed yet
+pub data Entries : Type 0 where
+  none : Entries
+  raw : List ℕ → List ℕ → Entries → Entries
+  op : List ℕ → Items → List ℕ → Entries → Entries
+  open_op : List ℕ → Items → Entries
+
+abbrev pub text_of : Entries → List (List ℕ)
+text_of none = []
+text_of (raw line bytes rest) = line ∷ text_of rest
+text_of (op line items entry rest) = line ∷ (lines_of items ++ (closing ∷ text_of rest))
+text_of (open_op line items) = line ∷ lines_of items
+
+abbrev pub entries_of : Entries → List (List ℕ)
+entries_of none = []
+entries_of (raw line bytes rest) = bytes ∷ entries_of rest
+entries_of (op line items entry rest) = entry ∷ entries_of rest
+entries_of (open_op line items) = []
+
+abbrev pub AreClosed : Entries → Type 0
+AreClosed none = Unit {0}
+AreClosed (raw line bytes rest) = AreClosed rest
+AreClosed (op line items entry rest) = AreClosed rest
+AreClosed (open_op line items) = ⊥
+
+-- each line has its place behind the entries before it
+abbrev pub AreEntries : List (List ℕ) → Entries → Type 0
+AreEntries earlier none = Unit {0}
+AreEntries earlier (raw line bytes rest) = (begun_in earlier line ≡ Ok (Raw bytes)) × AreEntries (earlier ++ bytes ∷ []) rest
+AreEntries earlier (op line items entry rest) =
+    (begun_in earlier line ≡ Ok Structured) × Fits (labels_of earlier) (outermost earlier) items × IsWhole items
+    × (entry_in earlier (records_of items) ≡ Ok entry) × AreEntries (earlier ++ entry ∷ []) rest
+AreEntries earlier (open_op line items) = (begun_in earlier line ≡ Ok Structured) × Fits (labels_of earlier) (outermost earlier) items
+
+-- the lines stand for these entries
+pub record StandsFor (lines : List Line) (entries : List (List ℕ)) : Type 0 where
+  pub parts : Entries
+  pub are : AreEntries [] parts
+  pub closed : AreClosed parts
+  pub text : map (λ l. l.1) lines ≡ text_of parts
+  pub same : entries ≡ entries_of parts
+
+-- ---- the first line that is refused
+
+-- a line is refused in an op: it closes the op, which is past the limits, or it adds nothing to the message at hand
+abbrev pub IsRefusedIn : List (List ℕ) → Items → List ℕ → Refusal → Type 0
+IsRefusedIn earlier items line e =
+    ((line ≡ closing) × IsWhole items × (entry_in earlier (records_of items) ≡ Err e))
+    ⊎ ((line ≢ closing) × (item_at (labels_of earlier) (at_hand (outermost earlier) items) line ≡ Err e))
+
+-- a line behind some entries is refused
+abbrev pub IsRefused : List (List ℕ) → Entries → List ℕ → Refusal → Type 0
+IsRefused earlier none line e = begun_in earlier line ≡ Err e
+IsRefused earlier (raw l bytes rest) line e = IsRefused (earlier ++ bytes ∷ []) rest line e
+IsRefused earlier (op l items entry rest) line e = IsRefused (earlier ++ entry ∷ []) rest line e
+IsRefused earlier (open_op l items) line e = IsRefusedIn earlier items line e
+
+-- the lines before it are those of entries, and it is refused
+pub record StopsAt (lines : List Line) (n : ℕ) (e : Refusal) : Type 0 where
+  pub before : List Line
+  pub line : List ℕ
+  pub after : List Line
+  pub split : lines ≡ before ++ (n, line) ∷ after
+  pub parts : Entries
+  pub are : AreEntries [] parts
+  pub text : map (λ l. l.1) before ≡ text_of parts
+  pub refused : IsRefused [] parts line e
+
+-- all lines are those of entries, and an op is not closed
+pub record EndsOpen (lines : List Line) (n : ℕ) : Type 0 where
+  pub before : List Line
+  pub line : List ℕ
+  pub split : lines ≡ before ++ (n, line) ∷ []
+  pub parts : Entries
+  pub are : AreEntries [] parts
+  pub text : map (λ l. l.1) lines ≡ text_of parts
+  pub not_closed : ¬ AreClosed parts
+
+abbrev pub FaultAt : List Line → ℕ → Refusal → Type 0
+FaultAt lines n e = StopsAt lines n e ⊎ (EndsOpen lines n × (e ≡ Breaks Unclosed))
+
+-- what a text is assembled to
+abbrev pub Assembles : List ℕ → Result (List (List ℕ)) AsmFault → Type 0
+Assembles text (Ok entries) = StandsFor (kept text) entries
+Assembles text (Err (fault.Line n rule)) = FaultAt (kept text) n (Breaks rule)
+Assembles text (Err (fault.UnknownLabel n)) = FaultAt (kept text) n UnknownLabel
+Assembles text (Err fault.Memory) = Unit {0}
+Assembles text (Err fault.Write) = ⊥
+
+abbrev pub at_line : ℕ → Refusal → ℕ × Refusal
+at_line n e = (n, e)
+
+-- a text stands for one list of entries at most, or it has one first fault, and never both
+pub record HasOneAnswer (text : List ℕ) : Type 0 where
+  pub entries : (a b : List (List ℕ)) → StandsFor (kept text) a → StandsFor (kept text) b → a ≡ b
+  pub apart : (a : List (List ℕ)) (n : ℕ) (e : Refusal) → StandsFor (kept text) a → ¬ FaultAt (kept text) n e
+  pub faults : (n : ℕ) (d : Refusal) (m : ℕ) (e : Refusal) → FaultAt (kept text) n d → FaultAt (kept text) m e → at_line n d ≡ at_line m e

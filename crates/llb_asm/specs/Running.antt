@@ -1,0 +1,141 @@
+-- How lines are read, one after another, with the messages that are open. Only the code and the proofs know it.
+use Rattle.std.specs.Prelude.{◌≡◌, ℕ, ◌+◌, Bool, List, [], ◌∷◌, ◌++◌, length, Option, Some, None, Result, Ok, Err, option_map, reverse, if◌then◌else◌}
+use Rattle.llb_wire.specs.Answer.{◌>>=◌}
+use Rattle.llb_ops.specs.declared.table.MessageName.TheVariants as named
+use Rattle.llb_ops.specs.Writing.{set_bytes}
+use Rattle.llb_asm.specs.declared.fault.AsmFault.{AsmFault}
+use Rattle.llb_asm.specs.declared.fault.AsmFault.TheVariants as fault
+use Rattle.llb_asm.specs.declared.fault.Rule.TheVariants.{Unclosed}
+use Rattle.llb_asm.specs.declared.line.Refusal.{Refusal}
+use Rattle.llb_asm.specs.declared.line.Refusal.TheVariants.{Breaks, UnknownLabel}
+use Rattle.llb_asm.specs.declared.line.Here.{Here}
+use Rattle.llb_asm.specs.declared.line.Held.{Held}
+use Rattle.llb_asm.specs.declared.line.Held.TheVariants.{Record, Opens}
+use Rattle.llb_asm.specs.declared.line.Item.{Item}
+use Rattle.llb_asm.specs.declared.entry.Begun.{Begun}
+use Rattle.llb_asm.specs.declared.entry.Begun.TheVariants.{Raw, Structured}
+use Rattle.llb_asm.specs.declared.open.Frame.{Frame}
+use Rattle.llb_asm.specs.declared.open.Open.{Open}
+use Rattle.llb_asm.specs.declared.open.Closed.{Closed}
+use Rattle.llb_asm.specs.declared.open.Closed.TheVariants.{Whole, Still}
+use Rattle.llb_asm.specs.declared.assembling.Progress.{Progress as Reached}
+use Rattle.llb_asm.specs.Values.{is_text}
+use Rattle.llb_asm.specs.Lines.{Line}
+use Rattle.llb_asm.specs.Line.{inside}
+use Rattle.llb_asm.specs.Reading.{Hand, closing, record_length, is_within, item_at, begun_in, entry_in, labels_of}
+
+-- ---- an op that is open
+
+-- the message at hand and its bytes, and the messages that it is in, the innermost first
+pub record Seen : Type 0 where
+  pub here : Here
+  pub bytes : List ℕ
+  pub below : List Frame
+
+abbrev pub seen : Open → Seen
+seen s = record { here = s.here; bytes = s.bytes; below = reverse s.below }
+
+abbrev pub at_front : Seen
+at_front = record { here = inside named.Op; bytes = []; below = [] }
+
+-- whether the entry has room for so many bytes of the message at hand
+abbrev pub room_in : (ℕ → Bool) → List Frame → ℕ → Bool
+room_in room [] size = room size
+room_in room (f ∷ below) size = room_in room below (length f.bytes + record_length f.number size)
+
+abbrev pub hand_of : (ℕ → Bool) → Seen → Hand
+hand_of room s = record { here = s.here; bytes = s.bytes; room = room_in room s.below }
+
+-- an item more
+abbrev pub with_held : Seen → Here → Held → Seen
+with_held s next (Record bytes) = record { here = next; bytes = s.bytes ++ bytes; below = s.below }
+with_held s next (Opens number sub) = record { here = inside sub; bytes = []; below = record { here = next; number = number; bytes = s.bytes } ∷ s.below }
+
+abbrev pub with_item : Seen → Item → Seen
+with_item s i = with_held s i.next i.held
+
+-- the message at hand ends: with it the op and its records, or the next message outwards is at hand
+pub data Ending : Type 0 where
+  whole : List ℕ → Ending
+  still : Seen → Ending
+
+abbrev pub closing_on : List ℕ → List Frame → Ending
+closing_on bytes [] = whole bytes
+closing_on bytes (f ∷ below) = still (record { here = f.here; bytes = f.bytes ++ set_bytes f.number bytes; below = below })
+
+abbrev pub closing_of : Seen → Ending
+closing_of s = closing_on s.bytes s.below
+
+abbrev pub ended : Closed → Ending
+ended (Whole bytes) = whole bytes
+ended (Still s) = still (seen s)
+
+-- ---- the text
+
+-- the entries that are whole, and the op that is open
+pub record Progress : Type 0 where
+  pub earlier : List (List ℕ)
+  pub current : Option Seen
+
+abbrev pub between : List (List ℕ) → Progress
+between earlier = record { earlier = earlier; current = None }
+
+abbrev pub amid : List (List ℕ) → Seen → Progress
+amid earlier s = record { earlier = earlier; current = Some s }
+
+abbrev pub with_begun : List (List ℕ) → Begun → Progress
+with_begun earlier (Raw bytes) = between (earlier ++ bytes ∷ [])
+with_begun earlier Structured = amid earlier at_front
+
+abbrev pub progress_of : List (List ℕ) → Option Open → Progress
+progress_of earlier current = record { earlier = earlier; current = option_map seen current }
+
+abbrev pub so_far : Reached → Progress
+so_far p = progress_of p.earlier p.current
+
+abbrev pub progresses : Result Reached Refusal → Result Progress Refusal
+progresses (Ok p) = Ok (so_far p)
+progresses (Err e) = Err e
+
+-- the message at hand ends
+abbrev pub closed_on : List (List ℕ) → List ℕ → List Frame → Result Progress Refusal
+closed_on earlier bytes [] = entry_in earlier bytes >>= λ entry. Ok (between (earlier ++ entry ∷ []))
+closed_on earlier bytes (f ∷ below) = Ok (amid earlier (record { here = f.here; bytes = f.bytes ++ set_bytes f.number bytes; below = below }))
+
+abbrev pub step_in : List (List ℕ) → Seen → List ℕ → Result Progress Refusal
+step_in earlier s line =
+    if is_text line closing then closed_on earlier s.bytes s.below
+    else (item_at (labels_of earlier) (hand_of (is_within earlier) s) line >>= λ i. Ok (amid earlier (with_item s i)))
+
+abbrev pub step_on : List (List ℕ) → Option Seen → List ℕ → Result Progress Refusal
+step_on earlier None line = begun_in earlier line >>= λ b. Ok (with_begun earlier b)
+step_on earlier (Some s) line = step_in earlier s line
+
+abbrev pub step_of : Progress → List ℕ → Result Progress Refusal
+step_of p line = step_on p.earlier p.current line
+
+-- behind the last line, of that number
+abbrev pub finish : ℕ → List (List ℕ) → Option Seen → Result (List (List ℕ)) (ℕ × Refusal)
+finish n earlier None = Ok earlier
+finish n earlier (Some s) = Err (n, Breaks Unclosed)
+
+abbrev pub next : ℕ → (Progress → Result (List (List ℕ)) (ℕ × Refusal)) → Result Progress Refusal → Result (List (List ℕ)) (ℕ × Refusal)
+next n go (Ok p) = go p
+next n go (Err e) = Err (n, e)
+
+unfoldable pub run_from : ℕ → Progress → List Line → Result (List (List ℕ)) (ℕ × Refusal)
+run_from last p [] = finish last p.earlier p.current
+run_from last p (l ∷ lines) = next l.0 (λ q. run_from l.0 q lines) (step_of p l.1)
+
+-- want of memory aside, that is what is answered
+abbrev pub Gives : Result (List (List ℕ)) AsmFault → Result (List (List ℕ)) (ℕ × Refusal) → Type 0
+Gives (Ok entries) r = r ≡ Ok entries
+Gives (Err (fault.Line n rule)) r = r ≡ Err (n, Breaks rule)
+Gives (Err (fault.UnknownLabel n)) r = r ≡ Err (n, UnknownLabel)
+Gives (Err fault.Memory) r = Unit {0}
+Gives (Err fault.Write) r = ⊥
+
+-- the fault of a line that is refused
+abbrev pub fault_at : ℕ → Refusal → AsmFault
+fault_at n (Breaks rule) = fault.Line n rule
+fault_at n UnknownLabel = fault.UnknownLabel n

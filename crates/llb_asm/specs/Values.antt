@@ -1,0 +1,194 @@
+-- How the value of a field is spelled: what a text stands for, and the one text that is written for a value.
+use Rattle.std.specs.Prelude.{◌≡◌, ◌≢◌, ◌<◌, ◌≤◌, ℕ, ◌-◌, ◌+◌, ◌*◌, ◌^◌, ◌==◌, ◌&&◌, ◌||◌, not, nat_lt, nat_le, nat_eq, if◌then◌else◌, Bool, true}
+use Rattle.std.specs.Prelude.{false, List, [], ◌∷◌, ◌++◌, length, codes, Option, Some, None, option_map}
+use Rattle.std.specs.List.{list_all, flat_map}
+use Rattle.std.specs.Str.{is_utf8}
+use Rattle.std.specs.Cmp.Lexicographic.{pointwise}
+use Rattle.std.specs.Str.Parse.{digits_value}
+use Rattle.std.specs.Fmt.{decimal}
+use denote.Ref.{Bor}
+use Rattle.hex.specs.Hex.{encode_lower}
+use Rattle.llb_wire.specs.Hexadecimal.{is_hex, bytes_in, is_lower, hex_text}
+use Rattle.llb_wire.specs.Spelling.{AreBytes}
+use Rattle.llb_ops.specs.Fields.{IsNumberOf}
+use Rattle.llb_ops.specs.declared.table.FieldKind.{FieldKind}
+use Rattle.llb_ops.specs.declared.table.FieldKind.TheVariants.{Int64, Int32, Uint32, Enum, Bool as Flag, String, Bytes, Message}
+
+abbrev pub is_text : List ℕ → List ℕ → Bool
+is_text a b = pointwise nat_eq a b
+
+-- what a value is where it passes a test
+abbrev pub where_so : {A : Type 0} → Bool → A → Option A
+where_so true x = Some x
+where_so false x = None
+
+abbrev pub then_in : {A B : Type 0} → Option A → (A → Option B) → Option B
+then_in None f = None
+then_in (Some x) f = f x
+
+-- ---- numbers, as a varint has them: negative ones in two's complement of 64 bits
+
+abbrev pub is_digit : ℕ → Bool
+is_digit b = nat_le 48 b && nat_le b 57
+
+-- the number that decimal digits are, at least one of them
+unfoldable pub magnitude : List ℕ → Option ℕ
+magnitude text = where_so (not (length text == 0) && list_all is_digit text) (digits_value 10 text)
+
+-- as a 64-bit number holds it: the greatest one for all that are greater
+abbrev pub capped : ℕ → ℕ
+capped n = if nat_lt n (2 ^ 64) then n else 2 ^ 64 - 1
+
+abbrev pub below : ℕ → ℕ → Option ℕ
+below limit n = where_so (nat_lt n limit) n
+
+abbrev pub negated : ℕ → ℕ → Option ℕ
+negated limit n = where_so (nat_lt 0 n && nat_le n limit) (2 ^ 64 - n)
+
+-- of numbers from minus the limit up to below the limit
+unfoldable pub signed_in : ℕ → List ℕ → Option ℕ
+signed_in limit [] = None
+signed_in limit (b ∷ text) = if b == 45 then then_in (magnitude text) (negated limit) else then_in (magnitude (b ∷ text)) (below limit)
+
+abbrev pub flag_in : List ℕ → Option ℕ
+flag_in text = if is_text text (codes "true") then Some 1 else where_so (is_text text (codes "false")) 0
+
+abbrev pub number_in : FieldKind → List ℕ → Option ℕ
+number_in Int64 text = signed_in (2 ^ 63) text
+number_in Int32 text = signed_in (2 ^ 31) text
+number_in Uint32 text = then_in (magnitude text) (below (2 ^ 32))
+number_in Enum text = signed_in (2 ^ 31) text
+number_in Flag text = flag_in text
+number_in String text = None
+number_in Bytes text = None
+number_in (Message m) text = None
+
+abbrev pub signed_text : ℕ → List ℕ
+signed_text v = if nat_lt v (2 ^ 63) then decimal v else 45 ∷ decimal (2 ^ 64 - v)
+
+abbrev pub flag_text : ℕ → List ℕ
+flag_text v = if v == 0 then codes "false" else codes "true"
+
+abbrev pub number_text : FieldKind → ℕ → List ℕ
+number_text Int64 v = signed_text v
+number_text Int32 v = signed_text v
+number_text Uint32 v = signed_text v
+number_text Enum v = signed_text v
+number_text Flag v = flag_text v
+number_text String v = []
+number_text Bytes v = []
+number_text (Message m) v = []
+
+-- ---- strings, between quotes
+
+-- what stands before: nothing that is open, a backslash, `\x`, or that and a digit of this value
+pub data Escape : Type 0 where
+  closed : Escape
+  backslash : Escape
+  first : Escape
+  second : ℕ → Escape
+
+abbrev pub digit_of : ℕ → ℕ
+digit_of b = if nat_le b 57 then b - 48 else b - 87
+
+abbrev pub after_it : ℕ → Option (List ℕ) → Option (List ℕ)
+after_it b text = option_map (λ t. b ∷ t) text
+
+-- the string whose spelling goes on so, up to a quote at the end: `\"`, `\\`, and `\x` with two digits up to 7f are one byte
+unfoldable pub string_from : Escape → List ℕ → Option (List ℕ)
+string_from e [] = None
+string_from closed (b ∷ text) =
+    if b == 34 then where_so (length text == 0) []
+    else if b == 92 then string_from backslash text
+    else after_it b (string_from closed text)
+string_from backslash (b ∷ text) =
+    if (b == 34) || (b == 92) then after_it b (string_from closed text)
+    else if b == 120 then string_from first text
+    else None
+string_from first (b ∷ text) = if is_lower b && nat_lt (digit_of b) 8 then string_from (second (digit_of b)) text else None
+string_from (second d) (b ∷ text) = if is_lower b then after_it (16 * d + digit_of b) (string_from closed text) else None
+
+-- what a digit is, and two of them
+abbrev pub lower_digit : ℕ → Option ℕ
+lower_digit b = where_so (is_lower b) (digit_of b)
+
+abbrev pub escape_of : ℕ → ℕ → Option ℕ
+escape_of a b = where_so (is_lower a && is_lower b && nat_lt (digit_of a) 8) (16 * digit_of a + digit_of b)
+
+-- behind what stands before, a text goes on to the byte that is spelled there and the text behind it, or it spells no string
+abbrev pub Continues : Escape → List ℕ → Option (ℕ × Bor (List ℕ)) → Type 0
+Continues e text None = string_from e text ≡ None
+Continues e text (Some x) = (string_from e text ≡ after_it x.0 (string_from closed x.1.now)) × (length x.1.now < length text)
+
+-- a text leads to what its first byte is, as it is spelled, and the text behind it; or it spells no byte there
+abbrev pub Leads : List ℕ → Option (ℕ × Bor (List ℕ)) → Type 0
+Leads text None = (text ≢ 34 ∷ []) → string_from closed text ≡ None
+Leads text (Some x) = (string_from closed text ≡ after_it x.0 (string_from closed x.1.now)) × (length x.1.now < length text)
+
+unfoldable pub string_in : List ℕ → Option (List ℕ)
+string_in [] = None
+string_in (b ∷ text) = if b == 34 then string_from closed text else None
+
+-- a byte as it is written: quotes, backslashes and control characters escaped
+abbrev pub escaped : ℕ → List ℕ
+escaped b =
+    if (b == 34) || (b == 92) then 92 ∷ b ∷ []
+    else if nat_lt b 32 || (b == 127) then 92 ∷ 120 ∷ encode_lower (b ∷ [])
+    else b ∷ []
+
+unfoldable pub string_text : List ℕ → List ℕ
+string_text s = 34 ∷ (flat_map escaped s ++ 34 ∷ [])
+
+-- ---- bytes, in lower-case hexadecimal, `-` for none
+
+unfoldable pub bytes_spelled : List ℕ → Option (List ℕ)
+bytes_spelled text = if is_hex text then bytes_in text else None
+
+-- ---- the label of an entry: `%` and its number
+
+unfoldable pub label_in : List ℕ → Option ℕ
+label_in [] = None
+label_in (b ∷ text) = if b == 37 then magnitude text else None
+
+abbrev pub label_text : ℕ → List ℕ
+label_text k = 37 ∷ decimal k
+
+-- ---- what is written is read again
+
+-- each text that is written for a value is read as the value, and a string's is no label
+pub record ValuesAreReadBack : Type 0 where
+  pub number_back : (kind : FieldKind) (v : ℕ) → IsNumberOf kind v → number_in kind (number_text kind v) ≡ Some v
+  pub string_back : (s : List ℕ) → string_in (string_text s) ≡ Some s
+  pub bytes_back : (b : List ℕ) → AreBytes b → bytes_spelled (hex_text b) ≡ Some b
+  pub label_back : (k : ℕ) → k < 2 ^ 64 → label_in (label_text k) ≡ Some k
+  pub string_no_label : (s : List ℕ) → label_in (string_text s) ≡ None
+
+-- ---- what is written stands on one line
+
+-- a byte that is no blank stands at the front
+pub record BeginsSolid (t : List ℕ) : Type 0 where
+  pub byte : ℕ
+  pub behind : List ℕ
+  pub is : t ≡ byte ∷ behind
+  pub above : 33 ≤ byte
+
+-- and at the end
+pub record EndsSolid (t : List ℕ) : Type 0 where
+  pub before : List ℕ
+  pub byte : ℕ
+  pub is : t ≡ before ++ byte ∷ []
+  pub above : 33 ≤ byte
+
+-- text without control characters, a line end among them, and without a blank at its front or its end
+pub record IsSolid (t : List ℕ) : Type 0 where
+  pub begins : BeginsSolid t
+  pub ends : EndsSolid t
+  pub plain : list_all (λ b. nat_le 32 b) t ≡ true
+  pub utf8 : is_utf8 t ≡ true
+
+-- each text that is written for a value is so
+pub record ValuesAreSolid : Type 0 where
+  pub number_solid : (kind : FieldKind) (v : ℕ) → IsNumberOf kind v → IsSolid (number_text kind v)
+  pub string_solid : (s : List ℕ) → is_utf8 s ≡ true → IsSolid (string_text s)
+  pub bytes_solid : (b : List ℕ) → AreBytes b → IsSolid (hex_text b)
+  pub label_solid : (k : ℕ) → k < 2 ^ 64 → IsSolid (label_text k)

@@ -1,0 +1,149 @@
+//! The lines of a text, one after another, with the entries that are whole and the op that is open.
+
+ghost use Rattle.std.specs.Prelude.{◌≡◌, IfOk, []};
+ghost use Rattle.llb_asm.specs.Lines.{kept};
+ghost use Rattle.llb_asm.specs.Reading.{Assembles};
+ghost use Rattle.llb_asm.specs.Running.{progresses, so_far, seen, step_of, step_in, closed_on, run_from, between, fault_at, Gives};
+
+use crate::earlier::Earlier;
+use crate::entry::{Begun, begun_in, entry_in};
+use crate::fault::{AsmFault, Rule};
+use crate::line::Refusal;
+use crate::lines::{is_dropped, stripped};
+use crate::open::{Closed, Open};
+use llb_ops::Entries;
+use llb_wire::Memory;
+use std::alloc::Global;
+
+/// The entries that are whole, and the op that is open.
+#[derive(Drop)]
+pub struct Progress {
+    pub earlier: Earlier,
+    pub current: Option<Open>,
+}
+
+impl Refusal {
+    /// The fault of the line of that number.
+    fn at(self, line: u64) -> AsmFault
+        ensures { result ≡ fault_at line self }
+    {
+        match self {
+            Refusal::Breaks(rule) => AsmFault::Line(line, rule),
+            Refusal::UnknownLabel => AsmFault::UnknownLabel(line),
+        }
+    }
+}
+
+#[tactic(auto, using(crate::proofs::Room::begun_room))]
+/// A line between entries.
+fn begin(alloc: Global, earlier: Earlier, line: &[u8]) -> Result<Result<Progress, Refusal>, Memory>
+    ensures { IfOk result (λ r. progresses r ≡ step_of (between earlier) line.now) }
+{
+    match begun_in(alloc, &earlier, line)? {
+        Err(refusal) => Ok(Err(refusal)),
+        Ok(Begun::Raw(bytes)) => Ok(Ok(Progress {
+            earlier: earlier.with(alloc, bytes)?,
+            current: None,
+        })),
+        Ok(Begun::Structured) => Ok(Ok(Progress {
+            earlier,
+            current: Some(Open::new(alloc)),
+        })),
+    }
+}
+
+#[tactic(auto, using(crate::proofs::Room::entry_room))]
+/// The closing line of the message at hand.
+fn close(
+    alloc: Global,
+    earlier: Earlier,
+    current: Open,
+) -> Result<Result<Progress, Refusal>, Memory>
+    ensures { IfOk result (λ r. progresses r ≡ closed_on earlier (seen current).bytes (seen current).below) }
+{
+    match current.close()? {
+        Closed::Still(open) => Ok(Ok(Progress {
+            earlier,
+            current: Some(open),
+        })),
+        Closed::Whole(records) => match entry_in(alloc, &earlier, records.as_slice())? {
+            Err(refusal) => Ok(Err(refusal)),
+            Ok(entry) => Ok(Ok(Progress {
+                earlier: earlier.with(alloc, entry)?,
+                current: None,
+            })),
+        },
+    }
+}
+
+/// A line in an op.
+fn go_on(
+    alloc: Global,
+    earlier: Earlier,
+    current: Open,
+    line: &[u8],
+) -> Result<Result<Progress, Refusal>, Memory>
+    ensures { IfOk result (λ r. progresses r ≡ step_in earlier (seen current) line.now) }
+{
+    if line == b"}".as_slice() {
+        return close(alloc, earlier, current);
+    }
+    match current.item_at(alloc, &earlier, line)? {
+        Err(refusal) => Ok(Err(refusal)),
+        Ok(item) => Ok(Ok(Progress {
+            earlier,
+            current: Some(current.with_item(alloc, item)?),
+        })),
+    }
+}
+
+fn step(alloc: Global, progress: Progress, line: &[u8]) -> Result<Result<Progress, Refusal>, Memory>
+    ensures { IfOk result (λ r. progresses r ≡ step_of (so_far progress) line.now) }
+{
+    let Progress { earlier, current } = progress;
+    match current {
+        None => begin(alloc, earlier, line),
+        Some(current) => go_on(alloc, earlier, current, line),
+    }
+}
+
+/// The entries that the lines of a text lead to, one after another.
+#[tactic(auto, unfolding(crate::specs::Running::run_from))]
+fn run_lines(alloc: Global, text: &[u8]) -> Result<Entries, AsmFault>
+    ensures { Gives result (run_from 0 (between []) (kept text.now)) }
+{
+    let mut progress = Progress {
+        earlier: Earlier::new(alloc),
+        current: None,
+    };
+    let mut number: u64 = 0;
+    let mut last: u64 = 0;
+    for line in text.split(|b| *b == b'\n') {
+        number += 1;
+        let line = stripped(line);
+        if !is_dropped(line) {
+            last = number;
+            match step(alloc, progress, line)? {
+                Err(refusal) => return Err(refusal.at(number)),
+                Ok(next) => progress = next,
+            }
+        }
+    }
+    if progress.current.is_some() {
+        return Err(AsmFault::Line(last, Rule::Unclosed));
+    }
+    Ok(Entries::new(progress.earlier.into_entries()))
+}
+
+/// The entries that a text stands for.
+///
+/// One item stands on a line; spaces, tabs and carriage returns at its ends, empty lines and lines that begin with `#` are dropped.
+/// An entry is `raw HEX`, or `op {`, items and `}`; docs/FORMATS.md has the grammar. The entry of an op is its canonical bytes. The
+/// first faulty line is answered, with the first of its faults in this order: `Line` (161) with `Syntax`, `UnknownField`, `Order` or
+/// `BadValue`, `UnknownLabel` (162), `Line` with `OverLimit`; and, behind all of these, `Line` with `Unclosed` and the last line that is
+/// not dropped. `Memory` (163) where memory is refused.
+pub fn assemble(alloc: Global, text: &[u8]) -> Result<Entries, AsmFault>
+    ensures { Assembles text.now result }
+{
+    run_lines(alloc, text)
+}

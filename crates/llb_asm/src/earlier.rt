@@ -1,0 +1,115 @@
+//! The entries that are whole, with the texts of their digests and how much room they leave.
+
+ghost use Rattle.std.specs.Prelude.{◌≡◌, ◌+◌, ◌++◌, ◌∷◌, ◌≤◌, [], IfOk, length, true, not, nat_lt};
+ghost use Rattle.llb_wire.specs.Spelling.{shortest, varint_text};
+ghost use Rattle.llb_ops.specs.Limits.{entry_limit, entries_limit};
+ghost use Rattle.llb_asm.specs.Reading.{record_length, is_within, labels_of};
+
+use llb_ops::{DEFINITION_LIMIT, ENTRIES_LIMIT, ENTRY_LIMIT};
+use llb_wire::{Bytes, Memory, Text, text_of_digest};
+use sha2::{Digest, Sha256};
+use std::alloc::Global;
+use std::marker::Model;
+
+#[tactic(auto, using(crate::proofs::Lengths::length_last, crate::proofs::Lengths::length_small, crate::proofs::Lengths::length_large, crate::proofs::Lengths::length_positive))]
+/// How many bytes the shortest spelling of a number has, of at most one more than the count.
+fn shortest_length(value: u64, more: u32) -> usize
+    requires { more ≤ 9 }
+    ensures same { result ≡ length (shortest more value) }
+    ensures few { result ≤ 10 }
+{
+    if more == 0 || value < 0x80 {
+        return 1;
+    }
+    1 + shortest_length(value / 0x80, more - 1)
+}
+
+/// How long a record with a payload of that length is.
+pub(crate) fn record_length(number: u32, size: usize) -> usize
+    requires { size ≤ entry_limit }
+    ensures same { result ≡ record_length number size }
+    ensures few { result ≤ entry_limit + 20 }
+{
+    shortest_length(8 * u64::from(number) + 2, 9) + (shortest_length(size as u64, 9) + size)
+}
+
+/// The entries that are whole, in order. Contracts see the list of their bytes.
+#[derive(Drop)]
+pub struct Earlier {
+    entries: Vec<Bytes>,
+    /// The texts of their digests.
+    labels: Vec<Text>,
+    /// How many bytes a definition of them has.
+    size: usize,
+}
+
+impl Model for Earlier {
+    ghost use Rattle.std.specs.Prelude.{List, ℕ};
+    ghost use Rattle.llb_asm.specs.Reading.{IsKept};
+
+    ghost Value = { List (List ℕ) };
+
+    ghost view = { λ e. e.entries.items };
+
+    ghost invariant = { λ e. IsKept e.entries.items e.labels.items e.size };
+}
+
+impl Earlier {
+    pub(crate) fn new(alloc: Global) -> Earlier
+        ensures { result ≡ [] }
+    {
+        Earlier {
+            entries: Vec::new(alloc),
+            labels: Vec::new(alloc),
+            size: 0,
+        }
+    }
+
+    /// The texts of the entries' digests.
+    pub(crate) fn labels(&self) -> &[Text]
+        ensures { result.now ≡ labels_of self.now }
+    {
+        self.labels.as_slice()
+    }
+
+    /// Whether there are as many entries as a definition may have.
+    pub(crate) fn is_full(&self) -> bool
+        ensures { result ≡ not (nat_lt (length self.now) entries_limit) }
+    {
+        self.entries.len() >= ENTRIES_LIMIT
+    }
+
+    /// Whether an entry of that length is within the limits of a definition.
+    pub(crate) fn has_room(&self, size: usize) -> bool
+        ensures { result ≡ is_within self.now size }
+    {
+        size <= ENTRY_LIMIT && self.size + record_length(1, size) <= DEFINITION_LIMIT
+    }
+
+    /// Puts an entry behind them.
+    pub(crate) fn with(self, alloc: Global, entry: Bytes) -> Result<Earlier, Memory>
+        requires { is_within self (length entry) ≡ true }
+        ensures { IfOk result (λ e. e ≡ self ++ entry ∷ []) }
+    {
+        let Earlier {
+            mut entries,
+            mut labels,
+            size,
+        } = self;
+        let length = record_length(1, entry.as_slice().len());
+        labels.push(text_of_digest(alloc, &Sha256::digest(entry.as_slice()))?)?;
+        entries.push(entry)?;
+        Ok(Earlier {
+            entries,
+            labels,
+            size: size + length,
+        })
+    }
+
+    /// Gives the entries back.
+    pub(crate) fn into_entries(self) -> Vec<Bytes>
+        ensures { result.items ≡ self }
+    {
+        self.entries
+    }
+}

@@ -1,0 +1,87 @@
+//! How an entry begins and ends.
+
+ghost use Rattle.std.specs.Prelude.{◌≡◌, IfOk};
+ghost use Rattle.llb_asm.specs.Line.{parted};
+ghost use Rattle.llb_asm.specs.Reading.{begun_by, begun_in, entry_in};
+
+use crate::earlier::Earlier;
+use crate::fault::Rule;
+use crate::line::{Refusal, parted};
+use crate::values::bytes_spelled;
+use llb_ops::{OpFault, read_op, write_op};
+use llb_wire::{Bytes, Memory};
+use std::alloc::Global;
+
+/// How an entry begins: `raw` and its bytes, or `op {`.
+#[derive(Drop)]
+pub enum Begun {
+    Raw(Bytes),
+    Structured,
+}
+
+/// How a line begins an entry, whatever the limits.
+fn begun_by(alloc: Global, line: &[u8]) -> Result<Result<Begun, Refusal>, Memory>
+    ensures { IfOk result (λ r. r ≡ begun_by line.now (parted line.now)) }
+{
+    let Some((name, text)) = parted(line) else {
+        return Ok(Err(Refusal::Breaks(Rule::Syntax)));
+    };
+    if line == b"op {".as_slice() {
+        return Ok(Ok(Begun::Structured));
+    }
+    if name != b"raw".as_slice() {
+        return Ok(Err(Refusal::Breaks(Rule::Syntax)));
+    }
+    match bytes_spelled(alloc, text)? {
+        None => Ok(Err(Refusal::Breaks(Rule::BadValue))),
+        Some(bytes) => Ok(Ok(Begun::Raw(bytes))),
+    }
+}
+
+/// How a line begins an entry, or why it is refused there.
+#[tactic(auto, unfolding(crate::specs::Reading::begun_in))]
+pub(crate) fn begun_in(
+    alloc: Global,
+    earlier: &Earlier,
+    line: &[u8],
+) -> Result<Result<Begun, Refusal>, Memory>
+    ensures { IfOk result (λ r. r ≡ begun_in earlier.now line.now) }
+{
+    match begun_by(alloc, line)? {
+        Err(refusal) => Ok(Err(refusal)),
+        Ok(begun) => {
+            let size = match &begun {
+                Begun::Raw(bytes) => bytes.as_slice().len(),
+                Begun::Structured => 0,
+            };
+            if earlier.is_full() || !earlier.has_room(size) {
+                return Ok(Err(Refusal::Breaks(Rule::OverLimit)));
+            }
+            Ok(Ok(begun))
+        }
+    }
+}
+
+/// The canonical bytes of the op that the records are; refused where they are past the limits.
+#[tactic(auto, unfolding(crate::specs::Reading::entry_in))]
+pub(crate) fn entry_in(
+    alloc: Global,
+    earlier: &Earlier,
+    records: &[u8],
+) -> Result<Result<Bytes, Refusal>, Memory>
+    ensures { IfOk result (λ r. r ≡ entry_in earlier.now records.now) }
+{
+    match read_op(alloc, records) {
+        Err(OpFault::Memory) => Err(Memory),
+        Err(_) => Ok(Err(Refusal::Breaks(Rule::OverLimit))),
+        Ok(op) => {
+            let Ok(entry) = write_op(alloc, &op) else {
+                return Err(Memory);
+            };
+            if earlier.has_room(entry.as_slice().len()) {
+                return Ok(Ok(entry));
+            }
+            Ok(Err(Refusal::Breaks(Rule::OverLimit)))
+        }
+    }
+}

@@ -1,0 +1,308 @@
+//! One line in an entry: what it adds to the message at hand, or why it is refused.
+
+ghost use Rattle.std.specs.Prelude.{◌≡◌, ◌==◌, ◌++◌, ◌≤◌, IfOk, OnOk, map, position, nat_eq, Ok, true, not, length, ◌&&◌, if◌then◌else◌};
+ghost use Rattle.std.specs.Option.{option_map};
+ghost use Rattle.std.specs.Str.{is_utf8};
+ghost use Rattle.llb_ops.specs.Table.{row_seen, row_named};
+ghost use Rattle.llb_ops.specs.Writing.{set_number, set_bytes};
+ghost use Rattle.llb_ops.specs.Fields.{may_follow, may_be_empty};
+ghost use Rattle.llb_asm.specs.Line.{parted, inside, held_in, held_by, extra_in, field_in, line_in, follows, has_room, behind, at_end, number_record, bytes_record, string_record, labelled_record};
+
+use crate::fault::Rule;
+use crate::lines::is_text;
+use crate::values::{bytes_spelled, label_in, number_in, string_in};
+use llb_ops::{
+    FIELD_LIMIT, FieldKind, FieldRow, MessageName, NamedField, are_unnamed, field_named,
+};
+use llb_wire::{Bytes, Memory, Text, write_varint};
+use std::alloc::Global;
+
+/// Why a line is refused: it breaks a rule, or its label names no earlier entry.
+#[derive(Clone, Copy)]
+pub enum Refusal {
+    Breaks(Rule),
+    UnknownLabel,
+}
+
+/// Where a line stands.
+#[derive(Clone, Copy)]
+pub struct Here {
+    pub message: MessageName,
+    /// The number of the last field, 0 where there is none.
+    pub last: u32,
+    /// Whether a member of the message's oneof is set.
+    pub set: bool,
+    /// How often the last field stood.
+    pub count: usize,
+    /// Whether the extra bytes stood.
+    pub ended: bool,
+}
+
+/// What a line holds: a record, which may be empty, or the opening of a message in the field of that number.
+#[derive(Drop)]
+pub enum Held {
+    Record(Bytes),
+    Opens(u32, MessageName),
+}
+
+/// What a line adds, and where the line behind it stands in the same message.
+#[derive(Drop)]
+pub struct Item {
+    pub next: Here,
+    pub held: Held,
+}
+
+/// At the front of a message.
+pub(crate) fn inside(message: MessageName) -> Here
+    ensures { result ≡ inside message }
+{
+    Here {
+        message,
+        last: 0,
+        set: false,
+        count: 0,
+        ended: false,
+    }
+}
+
+impl Here {
+    /// Behind one more field, which has room.
+    fn behind(self, field: NamedField) -> Here
+        requires { has_room self field ≡ true }
+        ensures { result ≡ behind self field }
+    {
+        let count = if self.last == field.number {
+            self.count + 1
+        } else {
+            1
+        };
+        Here {
+            message: self.message,
+            last: field.number,
+            set: self.set || field.member,
+            count,
+            ended: false,
+        }
+    }
+
+    /// Behind the extra bytes.
+    fn at_end(self) -> Here
+        ensures { result ≡ at_end self }
+    {
+        Here {
+            message: self.message,
+            last: self.last,
+            set: self.set,
+            count: self.count,
+            ended: true,
+        }
+    }
+
+    /// Numbers ascend, a repeated field may stand again, one member of a oneof stands, and nothing behind the extra bytes.
+    fn is_followed_by(self, field: NamedField) -> bool
+        ensures { result ≡ follows self field }
+    {
+        if self.ended || field.member && self.set {
+            return false;
+        }
+        self.last < field.number || field.repeated && self.last == field.number
+    }
+
+    fn has_room(self, field: NamedField) -> bool
+        ensures { result ≡ has_room self field }
+    {
+        self.last != field.number || self.count < FIELD_LIMIT
+    }
+}
+
+/// Where the first space is.
+fn space(line: &[u8]) -> Option<usize>
+    ensures { result ≡ position (λ b. nat_eq b 32) line.now }
+{
+    line.iter().position(|b| *b == b' ')
+}
+
+/// The name and the value of an item, which has one space between them.
+#[tactic(auto, unfolding(crate::specs::Line::parted))]
+pub(crate) fn parted(line: &[u8]) -> Option<(&[u8], &[u8])>
+    ensures { option_map (λ p. (p.0.now, p.1.now)) result ≡ parted line.now }
+{
+    if !is_text(line) {
+        return None;
+    }
+    let Some(at) = space(line) else {
+        return None;
+    };
+    let (name, rest) = line.split_at(at);
+    let (_, value) = rest.split_at(1);
+    Some((name, value))
+}
+
+/// A value that is 0 or empty is written: it says that the field is there.
+fn may_be_empty(field: NamedField) -> bool
+    ensures { result ≡ may_be_empty field }
+{
+    field.member || field.repeated || field.of_entry
+}
+
+#[tactic(auto, using(crate::proofs::Records::number_spelled))]
+fn number_record(alloc: Global, field: NamedField, value: u64) -> Result<Held, Memory>
+    ensures { IfOk result (λ h. h ≡ number_record field value) }
+{
+    let mut out = Vec::new(alloc);
+    if value != 0 || may_be_empty(field) {
+        write_varint(8 * u64::from(field.number), &mut out)?;
+        write_varint(value, &mut out)?;
+    }
+    Ok(Held::Record(Bytes::new(out)))
+}
+
+/// A record with a length, at the end of some bytes.
+#[tactic(auto, using(crate::proofs::Records::bytes_spelled))]
+pub(crate) fn put_bytes(out: &mut Vec<u8>, number: u32, bytes: &[u8]) -> Result<(), Memory>
+    ensures { OnOk result (out.new.items ≡ out.old.items ++ set_bytes number bytes.now) }
+{
+    write_varint(8 * u64::from(number) + 2, out)?;
+    write_varint(bytes.len() as u64, out)?;
+    out.extend_from_slice(bytes)?;
+    Ok(())
+}
+
+fn bytes_record(alloc: Global, field: NamedField, bytes: &[u8]) -> Result<Held, Memory>
+    ensures { IfOk result (λ h. h ≡ bytes_record field bytes.now) }
+{
+    let mut out = Vec::new(alloc);
+    if !bytes.is_empty() || may_be_empty(field) {
+        put_bytes(&mut out, field.number, bytes)?;
+    }
+    Ok(Held::Record(Bytes::new(out)))
+}
+
+/// The record of a digest that a label gives.
+fn label_record(
+    alloc: Global,
+    labels: &[Text],
+    field: NamedField,
+    label: u64,
+) -> Result<Result<Held, Refusal>, Memory>
+    ensures { IfOk result (λ r. r ≡ labelled_record labels.now field label) }
+{
+    let Some(digest) = labels.get(label as usize) else {
+        return Ok(Err(Refusal::UnknownLabel));
+    };
+    Ok(Ok(bytes_record(alloc, field, digest.as_str().as_bytes())?))
+}
+
+fn string_record(
+    alloc: Global,
+    labels: &[Text],
+    row: &FieldRow,
+    text: &[u8],
+) -> Result<Result<Held, Refusal>, Memory>
+    ensures { IfOk result (λ r. r ≡ string_record labels.now (row_seen row.now) text.now) }
+{
+    if row.name == "digest" {
+        if let Some(label) = label_in(text) {
+            return label_record(alloc, labels, row.field, label);
+        }
+    }
+    match string_in(alloc, text)? {
+        None => Ok(Err(Refusal::Breaks(Rule::BadValue))),
+        Some(string) => Ok(Ok(bytes_record(alloc, row.field, string.as_slice())?)),
+    }
+}
+
+/// What the value of a field is spelled as.
+#[tactic(auto, unfolding(crate::specs::Line::held_in))]
+fn held_in(
+    alloc: Global,
+    labels: &[Text],
+    row: &FieldRow,
+    text: &[u8],
+) -> Result<Result<Held, Refusal>, Memory>
+    ensures { IfOk result (λ r. r ≡ held_in labels.now (row_seen row.now) text.now) }
+{
+    let held = match row.field.kind {
+        FieldKind::String => return string_record(alloc, labels, row, text),
+        FieldKind::Message(message) => {
+            if text != b"{".as_slice() {
+                return Ok(Err(Refusal::Breaks(Rule::BadValue)));
+            }
+            Held::Opens(row.field.number, message)
+        }
+        FieldKind::Bytes => match bytes_spelled(alloc, text)? {
+            None => return Ok(Err(Refusal::Breaks(Rule::BadValue))),
+            Some(bytes) => bytes_record(alloc, row.field, bytes.as_slice())?,
+        },
+        kind => match number_in(kind, text) {
+            None => return Ok(Err(Refusal::Breaks(Rule::BadValue))),
+            Some(number) => number_record(alloc, row.field, number)?,
+        },
+    };
+    Ok(Ok(held))
+}
+
+/// What the line of the extra bytes adds.
+fn extra_in(alloc: Global, here: Here, text: &[u8]) -> Result<Result<Item, Refusal>, Memory>
+    ensures { IfOk result (λ r. r ≡ extra_in here text.now) }
+{
+    if here.ended {
+        return Ok(Err(Refusal::Breaks(Rule::Order)));
+    }
+    match bytes_spelled(alloc, text)? {
+        Some(bytes) if are_unnamed(here.message, bytes.as_slice()) => Ok(Ok(Item {
+            next: here.at_end(),
+            held: Held::Record(bytes),
+        })),
+        _ => Ok(Err(Refusal::Breaks(Rule::BadValue))),
+    }
+}
+
+/// What the line of a field adds.
+fn field_in(
+    alloc: Global,
+    labels: &[Text],
+    here: Here,
+    name: &[u8],
+    text: &[u8],
+) -> Result<Result<Item, Refusal>, Memory>
+    ensures { IfOk result (λ r. r ≡ field_in labels.now here (name.now, text.now)) }
+{
+    let Some(row) = field_named(here.message, name) else {
+        return Ok(Err(Refusal::Breaks(Rule::UnknownField)));
+    };
+    if !here.is_followed_by(row.field) {
+        return Ok(Err(Refusal::Breaks(Rule::Order)));
+    }
+    match held_in(alloc, labels, &row, text)? {
+        Err(refusal) => Ok(Err(refusal)),
+        Ok(held) => {
+            if !here.has_room(row.field) {
+                return Ok(Err(Refusal::Breaks(Rule::OverLimit)));
+            }
+            Ok(Ok(Item {
+                next: here.behind(row.field),
+                held,
+            }))
+        }
+    }
+}
+
+/// What a line adds to the message at hand, or why it is refused. The labels are the texts of the digests of the entries before.
+#[tactic(auto, unfolding(crate::specs::Line::line_in))]
+pub(crate) fn line_in(
+    alloc: Global,
+    labels: &[Text],
+    here: Here,
+    line: &[u8],
+) -> Result<Result<Item, Refusal>, Memory>
+    ensures { IfOk result (λ r. r ≡ line_in labels.now here line.now) }
+{
+    let Some((name, text)) = parted(line) else {
+        return Ok(Err(Refusal::Breaks(Rule::Syntax)));
+    };
+    if name == b"extra".as_slice() {
+        return extra_in(alloc, here, text);
+    }
+    field_in(alloc, labels, here, name, text)
+}

@@ -1,0 +1,72 @@
+//! The lines of a text that are looked at.
+
+ghost use Rattle.std.specs.Prelude.{◌≡◌};
+ghost use Rattle.std.specs.Str.{is_utf8};
+ghost use Rattle.llb_asm.specs.Lines.{is_blank, without_front, without_end, stripped, is_dropped};
+
+use std::str::from_utf8;
+
+/// Whether bytes are UTF-8.
+#[tactic(auto, using(crate::proofs::Utf8::utf8_true, crate::proofs::Utf8::utf8_false))]
+pub(crate) fn is_text(bytes: &[u8]) -> bool
+    ensures { result ≡ is_utf8 bytes.now }
+{
+    match from_utf8(bytes) {
+        Ok(_) => true,
+        Err(_) => false,
+    }
+}
+
+/// Spaces, tabs and carriage returns.
+fn is_blank(byte: u8) -> bool
+    ensures { result ≡ is_blank byte }
+{
+    byte == b' ' || byte == b'\t' || byte == b'\r'
+}
+
+#[tactic(auto, using(crate::proofs::Blanks::front_blank, crate::proofs::Blanks::front_kept))]
+fn without_front(line: &[u8]) -> &[u8]
+    ensures { result.now ≡ without_front line.now }
+{
+    let mut rest = line;
+    while let Some((byte, later)) = rest.split_first() {
+        if !is_blank(*byte) {
+            return rest;
+        }
+        rest = later;
+    }
+    rest
+}
+
+#[tactic(auto, using(crate::proofs::Blanks::end_blank, crate::proofs::Blanks::end_kept))]
+fn without_end(line: &[u8]) -> &[u8]
+    ensures { result.now ≡ without_end line.now }
+{
+    let mut rest = line;
+    while let Some((byte, front)) = rest.split_last() {
+        if !is_blank(*byte) {
+            return rest;
+        }
+        rest = front;
+    }
+    rest
+}
+
+/// A line without the spaces, tabs and carriage returns at its ends.
+#[tactic(auto, unfolding(crate::specs::Lines::stripped))]
+pub(crate) fn stripped(line: &[u8]) -> &[u8]
+    ensures { result.now ≡ stripped line.now }
+{
+    without_end(without_front(line))
+}
+
+/// Whether a line is empty, or a comment. A comment that is not UTF-8 is none.
+pub(crate) fn is_dropped(line: &[u8]) -> bool
+    ensures { result ≡ is_dropped line.now }
+{
+    match line {
+        [] => true,
+        [b'#', ..] => is_text(line),
+        _ => false,
+    }
+}

@@ -1,0 +1,155 @@
+//! An op that is open: the message at hand, and those that it is in.
+
+ghost use Rattle.std.specs.Prelude.{◌≡◌, ◌<◌, ◌^◌, ◌++◌, ◌∷◌, IfOk, length, reverse};
+ghost use Rattle.llb_asm.specs.Reading.{is_within, item_at, labels_of, added};
+ghost use Rattle.llb_asm.specs.Running.{Seen, seen, at_front, room_in, hand_of, with_item, closing_of, ended};
+
+use crate::earlier::{Earlier, record_length};
+use crate::fault::Rule;
+use crate::line::{Held, Here, Item, Refusal, inside, line_in, put_bytes};
+use llb_ops::{ENTRY_LIMIT, MessageName};
+use llb_wire::{Bytes, Many, Memory};
+use std::alloc::Global;
+
+/// A message that another one in it is open of: where its next line stands, its bytes so far, and the number of the field that is open.
+#[derive(Drop)]
+pub struct Frame {
+    pub here: Here,
+    pub number: u32,
+    pub bytes: Bytes,
+}
+
+/// The message at hand, its bytes so far, and the messages that it is in, the innermost last.
+#[derive(Drop)]
+pub struct Open {
+    pub here: Here,
+    pub bytes: Bytes,
+    pub below: Many<Frame>,
+}
+
+/// What is there behind a closing line: the records of a whole op, or a message that is still open.
+#[derive(Drop)]
+pub enum Closed {
+    Whole(Bytes),
+    Still(Open),
+}
+
+#[tactic(auto, using(crate::proofs::Lengths::no_room, crate::proofs::Lengths::turned_below))]
+/// Whether the entry is within the limits where the message at hand has so many bytes, all messages closed.
+fn has_room(earlier: &Earlier, below: &[Frame], size: usize) -> bool
+    ensures { result ≡ room_in (is_within earlier.now) (reverse below.now) size }
+{
+    if size > ENTRY_LIMIT {
+        return false;
+    }
+    match below {
+        [rest @ .., frame] => {
+            let size = frame.bytes.as_slice().len() + record_length(frame.number, size);
+            has_room(earlier, rest, size)
+        }
+        [] => earlier.has_room(size),
+    }
+}
+
+/// How many bytes a line adds.
+fn added(held: &Held) -> usize
+    ensures same { result ≡ added held.now }
+    ensures small { result < 2 ^ 63 }
+{
+    match held {
+        Held::Record(bytes) => bytes.as_slice().len(),
+        Held::Opens(number, _) => record_length(*number, 0),
+    }
+}
+
+impl Open {
+    /// An op at its front.
+    pub(crate) fn new(alloc: Global) -> Open
+        ensures { seen result ≡ at_front }
+    {
+        Open {
+            here: inside(MessageName::Op),
+            bytes: Bytes::new(Vec::new(alloc)),
+            below: Many::new(Vec::new(alloc)),
+        }
+    }
+
+    /// What a line adds, within the limits, or why it is refused.
+    pub(crate) fn item_at(
+        &self,
+        alloc: Global,
+        earlier: &Earlier,
+        line: &[u8],
+    ) -> Result<Result<Item, Refusal>, Memory>
+        ensures { IfOk result (λ r. r ≡ item_at (labels_of earlier.now) (hand_of (is_within earlier.now) (seen self.now)) line.now) }
+    {
+        match line_in(alloc, earlier.labels(), self.here, line)? {
+            Err(refusal) => Ok(Err(refusal)),
+            Ok(item) => {
+                let size = self.bytes.as_slice().len() + added(&item.held);
+                if has_room(earlier, self.below.as_slice(), size) {
+                    return Ok(Ok(item));
+                }
+                Ok(Err(Refusal::Breaks(Rule::OverLimit)))
+            }
+        }
+    }
+
+    /// With an item more.
+    pub(crate) fn with_item(self, alloc: Global, item: Item) -> Result<Open, Memory>
+        ensures { IfOk result (λ s. seen s ≡ with_item (seen self) item) }
+    {
+        let Open {
+            here: _,
+            bytes,
+            below,
+        } = self;
+        let Item { next, held } = item;
+        match held {
+            Held::Record(record) => {
+                let mut bytes = bytes.into_vec();
+                bytes.extend_from_slice(record.as_slice())?;
+                Ok(Open {
+                    here: next,
+                    bytes: Bytes::new(bytes),
+                    below,
+                })
+            }
+            Held::Opens(number, message) => {
+                let mut below = below.into_vec();
+                below.push(Frame {
+                    here: next,
+                    number,
+                    bytes,
+                })?;
+                Ok(Open {
+                    here: inside(message),
+                    bytes: Bytes::new(Vec::new(alloc)),
+                    below: Many::new(below),
+                })
+            }
+        }
+    }
+
+    /// With the message at hand closed.
+    pub(crate) fn close(self) -> Result<Closed, Memory>
+        ensures { IfOk result (λ c. ended c ≡ closing_of (seen self)) }
+    {
+        let mut below = self.below.into_vec();
+        let Some(frame) = below.pop() else {
+            return Ok(Closed::Whole(self.bytes));
+        };
+        let Frame {
+            here,
+            number,
+            bytes,
+        } = frame;
+        let mut bytes = bytes.into_vec();
+        put_bytes(&mut bytes, number, self.bytes.as_slice())?;
+        Ok(Closed::Still(Open {
+            here,
+            bytes: Bytes::new(bytes),
+            below: Many::new(below),
+        }))
+    }
+}

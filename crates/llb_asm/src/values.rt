@@ -1,0 +1,300 @@
+//! How the value of a field is spelled: read from a text, and written at the end of one.
+
+ghost use Rattle.std.specs.Prelude.{◌≡◌, ◌^◌, ◌≤◌, ◌++◌, IfOk, OnOk};
+ghost use Rattle.std.specs.Option.{option_map};
+ghost use Rattle.llb_wire.specs.Hexadecimal.{hex_text};
+ghost use Rattle.llb_asm.specs.Values.{capped, magnitude, signed_in, flag_in, number_in, string_in, bytes_spelled, label_in, number_text};
+ghost use Rattle.llb_asm.specs.Values.{string_text, label_text, escaped, escape_of, lower_digit, Leads, Continues, string_from, closed, backslash};
+ghost use Rattle.llb_asm.specs.Values.{first, signed_text, flag_text, ValuesAreReadBack, ValuesAreSolid};
+ghost use Rattle.std.specs.Fmt.{decimal};
+ghost use Rattle.llb_ops.specs.declared.table.FieldKind.TheVariants as kind;
+
+use llb_ops::FieldKind;
+use llb_wire::{Bytes, Memory, is_hex, read_hex};
+use std::alloc::Global;
+use std::str::from_utf8;
+
+/// The number that decimal digits are, the greatest one for all that are greater than it; `None` of other texts, and of none.
+#[tactic(auto, unfolding(crate::specs::Values::magnitude))]
+fn magnitude(text: &[u8]) -> Option<u64>
+    ensures { result ≡ option_map capped (magnitude text.now) }
+{
+    if text.is_empty() {
+        return None;
+    }
+    let mut number: u64 = 0;
+    for byte in text {
+        if !byte.is_ascii_digit() {
+            return None;
+        }
+        number = number
+            .saturating_mul(10)
+            .saturating_add(u64::from(*byte - b'0'));
+    }
+    Some(number)
+}
+
+/// The number from minus the limit up to below the limit that a text is, in two's complement.
+#[tactic(auto, unfolding(crate::specs::Values::signed_in))]
+fn signed_in(limit: u64, text: &[u8]) -> Option<u64>
+    requires { limit ≤ 2 ^ 63 }
+    ensures { result ≡ signed_in limit text.now }
+{
+    match text {
+        [b'-', digits @ ..] => {
+            let number = magnitude(digits)?;
+            if number == 0 || number > limit {
+                return None;
+            }
+            Some(u64::MAX - number + 1)
+        }
+        _ => {
+            let number = magnitude(text)?;
+            if number < limit { Some(number) } else { None }
+        }
+    }
+}
+
+fn unsigned_in(text: &[u8]) -> Option<u64>
+    ensures { result ≡ number_in kind.Uint32 text.now }
+{
+    let number = magnitude(text)?;
+    if number < 1 << 32 { Some(number) } else { None }
+}
+
+fn flag_in(text: &[u8]) -> Option<u64>
+    ensures { result ≡ flag_in text.now }
+{
+    if text == b"true".as_slice() {
+        return Some(1);
+    }
+    if text == b"false".as_slice() {
+        return Some(0);
+    }
+    None
+}
+
+/// The number of a field of the kind that a text is, as its varint has it. Negative numbers are in two's complement.
+pub(crate) fn number_in(kind: FieldKind, text: &[u8]) -> Option<u64>
+    ensures { result ≡ number_in kind text.now }
+{
+    match kind {
+        FieldKind::Int64 => signed_in(1 << 63, text),
+        FieldKind::Int32 | FieldKind::Enum => signed_in(1 << 31, text),
+        FieldKind::Uint32 => unsigned_in(text),
+        FieldKind::Bool => flag_in(text),
+        FieldKind::String | FieldKind::Bytes | FieldKind::Message(_) => None,
+    }
+}
+
+/// What a lower-case hexadecimal digit is.
+fn digit_of(byte: u8) -> Option<u8>
+    ensures { result ≡ lower_digit byte }
+{
+    match byte {
+        b'0'..=b'9' => Some(byte - b'0'),
+        b'a'..=b'f' => Some(byte - b'a' + 10),
+        _ => None,
+    }
+}
+
+/// What two lower-case hexadecimal digits are, where that is at most 7f.
+fn escape_of(high: u8, low: u8) -> Option<u8>
+    ensures { result ≡ escape_of high low }
+{
+    let (high, low) = (digit_of(high)?, digit_of(low)?);
+    if high < 8 {
+        Some(16 * high + low)
+    } else {
+        None
+    }
+}
+
+/// The byte, up to 7f, that the two digits are that a text begins with, and the text behind them.
+fn two_digits(text: &[u8]) -> Option<(u8, &[u8])>
+    ensures { Continues first text.now result }
+{
+    match text {
+        [high, low, rest @ ..] => Some((escape_of(*high, *low)?, rest)),
+        _ => None,
+    }
+}
+
+/// The byte that is spelled by a backslash and what a text begins with, and the text behind that.
+fn behind_backslash(text: &[u8]) -> Option<(u8, &[u8])>
+    ensures { Continues backslash text.now result }
+{
+    match text {
+        [b'x', digits @ ..] => two_digits(digits),
+        [byte, rest @ ..] if *byte == b'"' || *byte == b'\\' => Some((*byte, rest)),
+        _ => None,
+    }
+}
+
+/// The byte that a text begins with, as it is spelled in a string, and the text behind it. A quote spells no byte.
+fn next_byte(text: &[u8]) -> Option<(u8, &[u8])>
+    ensures { Leads text.now result }
+{
+    match text {
+        [b'\\', rest @ ..] => behind_backslash(rest),
+        [byte, rest @ ..] if *byte != b'"' => Some((*byte, rest)),
+        _ => None,
+    }
+}
+
+/// The string whose spelling goes on so, up to a quote at the end.
+fn string_behind(alloc: Global, text: &[u8]) -> Result<Option<Bytes>, Memory>
+    ensures { IfOk result (λ o. o ≡ string_from closed text.now) }
+{
+    let mut string = Vec::new(alloc);
+    let mut rest = text;
+    while let Some((byte, later)) = next_byte(rest) {
+        string.push(byte)?;
+        rest = later;
+    }
+    if rest == b"\"".as_slice() {
+        return Ok(Some(Bytes::new(string)));
+    }
+    Ok(None)
+}
+
+/// The string that a text between quotes is: `\"`, `\\`, and `\x` with two lower-case digits up to 7f stand for one byte.
+pub(crate) fn string_in(alloc: Global, text: &[u8]) -> Result<Option<Bytes>, Memory>
+    ensures { IfOk result (λ o. o ≡ string_in text.now) }
+{
+    match text {
+        [b'"', rest @ ..] => string_behind(alloc, rest),
+        _ => Ok(None),
+    }
+}
+
+/// The bytes that lower-case hexadecimal digits are, and none of `-`.
+#[tactic(auto, unfolding(crate::specs::Values::bytes_spelled))]
+pub(crate) fn bytes_spelled(alloc: Global, text: &[u8]) -> Result<Option<Bytes>, Memory>
+    ensures { IfOk result (λ o. o ≡ bytes_spelled text.now) }
+{
+    match from_utf8(text) {
+        Ok(text) => {
+            if is_hex(text) {
+                read_hex(alloc, text)
+            } else {
+                Ok(None)
+            }
+        }
+        Err(_) => Ok(None),
+    }
+}
+
+/// The number of an entry that a label is, the greatest one for all that are greater than it.
+#[tactic(auto, unfolding(crate::specs::Values::label_in))]
+pub(crate) fn label_in(text: &[u8]) -> Option<u64>
+    ensures { result ≡ option_map capped (label_in text.now) }
+{
+    match text {
+        [b'%', digits @ ..] => magnitude(digits),
+        _ => None,
+    }
+}
+
+fn push_decimal(alloc: Global, out: &mut Vec<u8>, number: u64) -> Result<(), Memory>
+    ensures { OnOk result (out.new.items ≡ out.old.items ++ decimal number) }
+{
+    let text = format!(in alloc; "{number}")?;
+    out.extend_from_slice(text.as_bytes())?;
+    Ok(())
+}
+
+fn push_signed(alloc: Global, out: &mut Vec<u8>, number: u64) -> Result<(), Memory>
+    ensures { OnOk result (out.new.items ≡ out.old.items ++ signed_text number) }
+{
+    if number < 1 << 63 {
+        return push_decimal(alloc, out, number);
+    }
+    out.push(b'-')?;
+    push_decimal(alloc, out, u64::MAX - number + 1)
+}
+
+fn push_flag(out: &mut Vec<u8>, number: u64) -> Result<(), Memory>
+    ensures { OnOk result (out.new.items ≡ out.old.items ++ flag_text number) }
+{
+    let text = if number == 0 {
+        b"false".as_slice()
+    } else {
+        b"true".as_slice()
+    };
+    out.extend_from_slice(text)?;
+    Ok(())
+}
+
+/// Puts a number of a field of the kind at the end of a text.
+pub(crate) fn push_number(
+    alloc: Global,
+    out: &mut Vec<u8>,
+    kind: FieldKind,
+    number: u64,
+) -> Result<(), Memory>
+    ensures { OnOk result (out.new.items ≡ out.old.items ++ number_text kind number) }
+{
+    match kind {
+        FieldKind::Int64 | FieldKind::Int32 | FieldKind::Uint32 | FieldKind::Enum => {
+            push_signed(alloc, out, number)
+        }
+        FieldKind::Bool => push_flag(out, number),
+        FieldKind::String | FieldKind::Bytes | FieldKind::Message(_) => Ok(()),
+    }
+}
+
+/// Puts bytes at the end of a text, in lower-case hexadecimal, `-` for none.
+pub(crate) fn push_bytes(alloc: Global, out: &mut Vec<u8>, bytes: &[u8]) -> Result<(), Memory>
+    ensures { OnOk result (out.new.items ≡ out.old.items ++ hex_text bytes.now) }
+{
+    if bytes.is_empty() {
+        out.push(b'-')?;
+        return Ok(());
+    }
+    let digits = hex::encode(alloc, bytes)?;
+    out.extend_from_slice(digits.as_bytes())?;
+    Ok(())
+}
+
+fn push_escaped(alloc: Global, out: &mut Vec<u8>, byte: u8) -> Result<(), Memory>
+    ensures { OnOk result (out.new.items ≡ out.old.items ++ escaped byte) }
+{
+    if byte == b'"' || byte == b'\\' {
+        out.push(b'\\')?;
+        out.push(byte)?;
+        return Ok(());
+    }
+    if byte < 0x20 || byte == 0x7f {
+        out.extend_from_slice(b"\\x".as_slice())?;
+        return push_bytes(alloc, out, &[byte]);
+    }
+    out.push(byte)?;
+    Ok(())
+}
+
+/// Puts a string between quotes at the end of a text: quotes, backslashes and control characters escaped.
+pub(crate) fn push_string(alloc: Global, out: &mut Vec<u8>, string: &[u8]) -> Result<(), Memory>
+    ensures { OnOk result (out.new.items ≡ out.old.items ++ string_text string.now) }
+{
+    out.push(b'"')?;
+    for byte in string {
+        push_escaped(alloc, out, *byte)?;
+    }
+    out.push(b'"')?;
+    Ok(())
+}
+
+/// Puts the label of an entry at the end of a text.
+pub(crate) fn push_label(alloc: Global, out: &mut Vec<u8>, entry: u64) -> Result<(), Memory>
+    ensures { OnOk result (out.new.items ≡ out.old.items ++ label_text entry) }
+{
+    out.push(b'%')?;
+    push_decimal(alloc, out, entry)
+}
+
+/// What is written for a value is read as the value, and stands on one line as it is.
+pub(crate) fn values_are_read_back()
+    ensures read_back { ValuesAreReadBack }
+    ensures solid { ValuesAreSolid }
+{}

@@ -1,0 +1,141 @@
+//! Texts are assembled: each to the entries that it stands for, or to the fault of its first faulty line.
+
+use llb_asm::{assemble, one_answer};
+use llb_wire::push_hex;
+use std::alloc::{AllocError, Global};
+
+// The entries that a text stands for, each in hexadecimal with a space behind it; or the fault.
+fn answer(alloc: Global, text: &str) -> Result<String, AllocError> {
+    one_answer(text.as_bytes());
+    match assemble(alloc, text.as_bytes()) {
+        Err(fault) => fault.to_string(alloc),
+        Ok(entries) => {
+            let mut told = String::new(alloc);
+            for entry in entries.as_slice() {
+                push_hex(alloc, &mut told, entry.as_slice())?;
+                told.push_str(" ")?;
+            }
+            Ok(told)
+        }
+    }
+}
+
+fn answers(alloc: Global, text: &str, wanted: &str) -> bool {
+    match answer(alloc, text) {
+        Ok(told) => told.as_str() == wanted,
+        Err(_) => false,
+    }
+}
+
+// Two texts stand for the same entries.
+fn are_the_same(alloc: Global, text: &str, other: &str) -> bool {
+    match (answer(alloc, text), answer(alloc, other)) {
+        (Ok(told), Ok(wanted)) => told.as_str() == wanted.as_str(),
+        _ => false,
+    }
+}
+
+// A merge of the empty tree, with a platform and constraints, which no field of an op names.
+const MERGE: &str = "op {
+  merge {
+    inputs {
+      input -1
+    }
+  }
+  extra 520e0a05616d64363412056c696e75785a00
+}
+";
+
+const MERGE_ENTRY: &str = "320d0a0b08ffffffffffffffffff01520e0a05616d64363412056c696e75785a00 ";
+
+#[test]
+fn a_text_is_assembled_to_canonical_bytes(rt: HostRuntime) {
+    let rows = [
+        ("", ""),
+        ("# nothing\n\n  \t\r\n", ""),
+        ("raw -\n", "- "),
+        ("raw b20000\n", "b20000 "),
+        ("op {\n}\n", "- "),
+        (MERGE, MERGE_ENTRY),
+        (
+            "op {\n# a comment\n\tmerge {\n\tinputs {\n\tinput -1\n\t}\n\t}\n\textra 520e0a05616d64363412056c696e75785a00\n\t}\n",
+            MERGE_ENTRY,
+        ),
+        ("op {\ninputs {\nindex 0\n}\n}\n", "0a00 "),
+        ("op {\ninputs {\nindex 007\n}\n}\nraw 01", "0a021007 01 "),
+        ("op {\nbuild -\n}\n", "2a00 "),
+        (
+            "op {\nsource {\nidentifier \"\\x41\\\"\\\\b\"\n}\n}\n",
+            "1a060a0441225c62 ",
+        ),
+        (
+            "op {\nsource {\nattrs {\nvalue \"v\"\n}\n}\n}\n",
+            "1a0712050a00120176 ",
+        ),
+        (
+            "op {\nfile {\nactions {\nmkfile {\nowner {\nuser {\nbyID 0\n}\n}\n}\n}\n}\n}\n",
+            "220a12082a0622040a021000 ",
+        ),
+    ];
+    for (text, wanted) in rows {
+        assert!(rt; answers(rt.alloc(), text, wanted), "{text:?}");
+    }
+}
+
+#[test]
+fn the_first_faulty_line_is_told_with_its_first_rule(rt: HostRuntime) {
+    let rows = [
+        ("op {", "161 1 Unclosed"),
+        ("op {\n\n# behind\n", "161 1 Unclosed"),
+        ("op {\ninputs {\n}\n", "161 3 Unclosed"),
+        ("op {\ninputs {\ndigest %0\n}\n}\n", "162 3"),
+        ("op {\ninputs {\ndigest %\n}\n}\n", "161 3 BadValue"),
+        ("raw 0", "161 1 BadValue"),
+        ("raw 0A", "161 1 BadValue"),
+        ("raw", "161 1 Syntax"),
+        ("}", "161 1 Syntax"),
+        ("op  {", "161 1 Syntax"),
+        ("op {\nextra 5a00\nextra 5a00\n}", "161 3 Order"),
+        ("op {\nextra 5a00\ninputs {\n}\n}", "161 3 Order"),
+        ("op {\nextra 0a00\n}", "161 2 BadValue"),
+        ("op {\nnosuch 1\n}", "161 2 UnknownField"),
+        ("op {\nextra 5a00\nnosuch 1\n}", "161 3 UnknownField"),
+        ("op {\nbuild -\ndiff -\n}", "161 3 Order"),
+        ("op {\nmerge {\n}\ninputs {\n}\n}", "161 4 Order"),
+        ("op {\ninputs 5\n}", "161 2 BadValue"),
+        ("op {\ninputs {\nindex -0\n}\n}", "161 3 BadValue"),
+        ("op {\ninputs {\nindex +1\n}\n}", "161 3 BadValue"),
+        ("op {\ninputs {\nindex  1\n}\n}", "161 3 BadValue"),
+        (
+            "op {\ninputs {\nindex 9223372036854775808\n}\n}",
+            "161 3 BadValue",
+        ),
+        (
+            "op {\nsource {\nidentifier \"\\x80\"\n}\n}",
+            "161 3 BadValue",
+        ),
+        (
+            "op {\nsource {\nidentifier \"a\"b\"\n}\n}",
+            "161 3 BadValue",
+        ),
+    ];
+    for (text, wanted) in rows {
+        assert!(rt; answers(rt.alloc(), text, wanted), "{text:?}");
+    }
+}
+
+#[test]
+fn a_label_is_the_digest_of_an_earlier_entry(rt: HostRuntime) {
+    let by_label = "raw 00\nop {\ninputs {\ndigest %0\n}\ninputs {\ndigest %00\nindex 1\n}\n}\n";
+    let by_digest =
+        "raw 00\nop {\ninputs {\ndigest \"sha256:6e340b9cffb37a989ca544e6bb780a2c78901d3fb33738768511a30617afa01d\"\n}\ninputs {\n
+        digest \"sha256:6e340b9cffb37a989ca544e6bb780a2c78901d3fb33738768511a30617afa01d\"\nindex 1\n}\n}\n";
+    assert!(rt; are_the_same(rt.alloc(), by_label, by_digest));
+    assert!(rt;
+        answers(
+            rt.alloc(),
+            "op {\ninputs {\ndigest %18446744073709551616\n}\n}\n",
+            "162 3"
+        )
+    );
+}
