@@ -1,5 +1,5 @@
 -- What is kept of the entries that are whole.
-use Rattle.std.proofs.Common.{◌≡◌, ℕ, ◌+◌, Bool, true, false, List, [], ◌∷◌, ◌++◌, length, refl, sym, ap, ◌∙◌, subst, arith}
+use Rattle.std.proofs.Common.{◌≡◌, ℕ, ◌+◌, Bool, true, false, List, [], ◌∷◌, ◌++◌, length, refl, sym, ap, ◌∙◌, arith}
 use Rattle.std.specs.Prelude.{nat_le, ◌&&◌}
 use Rattle.std.proofs.lemmas.List.{map_push}
 use Rattle.std.proofs.lemmas.Bool.{leb-true}
@@ -7,7 +7,7 @@ use Rattle.llb_wire.specs.Digest.{digest_text}
 use Rattle.llb_ops.specs.Writing.{each_field}
 use Rattle.llb_ops.specs.Definition.{definition_bytes}
 use Rattle.llb_ops.specs.Limits.{definition_limit, entry_limit}
-use Rattle.llb_asm.specs.Reading.{IsKept, record_length, is_within, labels_of}
+use Rattle.llb_asm.specs.Reading.{IsKept, record_length, is_within}
 use Rattle.llb_asm.proofs.Lengths.{length_with}
 
 no_bytes : length (definition_bytes []) ≡ 0

@@ -1,5 +1,6 @@
 -- The lines of a text that are left behind some of them, and what the next one does.
-use Rattle.std.proofs.Common.{◌≡◌, ℕ, suc, ◌+◌, ◌<◌, ◌≤◌, Bool, true, false, List, [], ◌∷◌, length, drop, get_or, Result, Ok, Err, Option, Some, None, refl, sym, ap, ◌∙◌, arith}
+use Rattle.std.proofs.Common.{◌≡◌, ℕ, suc, ◌+◌, ◌<◌, true, false, List, [], ◌∷◌, length, drop, get_or, Result, Ok, Err, Option, Some, None, refl, sym}
+use Rattle.std.proofs.Common.{ap, ◌∙◌, arith}
 use Rattle.std.specs.Prelude.{nat_eq, not, filter}
 use Rattle.std.specs.List.{slice_split}
 use Rattle.std.proofs.Math.Seq.{drop-cons}
@@ -31,17 +32,20 @@ pub record IsNext (text : List ℕ) (n : ℕ) (line : List ℕ) : Type 0 where
   pub inside : n < length (pieces text)
   pub same : line ≡ get_or (pieces text) n line
 
-numbered_next : (text : List ℕ) (n : ℕ) (line : List ℕ) → IsNext text n line → numbered (n + 1) (drop n (pieces text)) ≡ (n + 1, stripped line) ∷ numbered ((n + 1) + 1) (drop (n + 1) (pieces text))
+numbered_next : (text : List ℕ) (n : ℕ) (line : List ℕ) → IsNext text n line
+    → numbered (n + 1) (drop n (pieces text)) ≡ (n + 1, stripped line) ∷ numbered ((n + 1) + 1) (drop (n + 1) (pieces text))
 numbered_next text n line is =
     let one : suc n ≡ n + 1 = omega arith in
     ap (numbered (n + 1)) (drop-cons (pieces text) n line is.inside)
     ∙ ap (λ l. (n + 1, stripped l) ∷ numbered ((n + 1) + 1) (drop (suc n) (pieces text))) (sym is.same)
     ∙ ap (λ k. (n + 1, stripped line) ∷ numbered ((n + 1) + 1) (drop k (pieces text))) one
 
-pub is_left_out : (text : List ℕ) (n : ℕ) (line : List ℕ) → IsNext text n line → is_dropped (stripped line) ≡ true → kept_behind n text ≡ kept_behind (n + 1) text
+pub is_left_out : (text : List ℕ) (n : ℕ) (line : List ℕ) → IsNext text n line → is_dropped (stripped line) ≡ true
+    → kept_behind n text ≡ kept_behind (n + 1) text
 is_left_out text n line is e = ap kept_of (numbered_next text n line is) ∙ (rw e refl)
 
-pub is_taken : (text : List ℕ) (n : ℕ) (line : List ℕ) → IsNext text n line → is_dropped (stripped line) ≡ false → kept_behind n text ≡ (n + 1, stripped line) ∷ kept_behind (n + 1) text
+pub is_taken : (text : List ℕ) (n : ℕ) (line : List ℕ) → IsNext text n line → is_dropped (stripped line) ≡ false
+    → kept_behind n text ≡ (n + 1, stripped line) ∷ kept_behind (n + 1) text
 is_taken text n line is e = ap kept_of (numbered_next text n line is) ∙ (rw e refl)
 
 pub none_left : (text : List ℕ) (n : ℕ) → n ≡ length (pieces text) → kept_behind n text ≡ []
@@ -49,11 +53,13 @@ none_left text n e = ap (λ l. kept_of (numbered (n + 1) l)) (drop_of_length-le 
 
 -- ---- what the lines lead to
 
-pub goes_on : (last n : ℕ) (p q : Progress) (line : List ℕ) (lines : List Line) → step_of p line ≡ Ok q → run_from last p ((n, line) ∷ lines) ≡ run_from n q lines
+pub goes_on : (last n : ℕ) (p q : Progress) (line : List ℕ) (lines : List Line) → step_of p line ≡ Ok q
+    → run_from last p ((n, line) ∷ lines) ≡ run_from n q lines
 unfolding run_from
 goes_on last n p q line lines e = rw e refl
 
-pub stops : (last n : ℕ) (p : Progress) (e : Refusal) (line : List ℕ) (lines : List Line) → step_of p line ≡ Err e → run_from last p ((n, line) ∷ lines) ≡ Err (n, e)
+pub stops : (last n : ℕ) (p : Progress) (e : Refusal) (line : List ℕ) (lines : List Line) → step_of p line ≡ Err e
+    → run_from last p ((n, line) ∷ lines) ≡ Err (n, e)
 unfolding run_from
 stops last n p e line lines same = rw same refl
 
@@ -61,7 +67,8 @@ pub ends : (last : ℕ) (p : Progress) → run_from last p [] ≡ finish last p.
 unfolding run_from
 ends last p = refl
 
-pub finish_open : (last : ℕ) (earlier : List (List ℕ)) (o : Option Open) → is_some o ≡ true → finish last earlier (option_map seen o) ≡ Err (last, Breaks Unclosed)
+pub finish_open : (last : ℕ) (earlier : List (List ℕ)) (o : Option Open) → is_some o ≡ true
+    → finish last earlier (option_map seen o) ≡ Err (last, Breaks Unclosed)
 finish_open last earlier None e = absurd cc
 finish_open last earlier (Some s) e = refl
 

@@ -1,6 +1,7 @@
 -- How long what is written is.
-use Rattle.std.proofs.Common.{◌≡◌, ℕ, zero, suc, ◌+◌, ◌-◌, ◌*◌, ◌/◌, ◌%◌, ◌≤◌, ◌<◌, Bool, true, false, List, [], ◌∷◌, ◌++◌, length, refl, sym, ap, ◌∙◌, arith, length-append}
-use Rattle.std.specs.Prelude.{nat_lt, nat_le, ◌&&◌, reverse}
+use Rattle.std.proofs.Common.{◌≡◌, ℕ, zero, suc, ◌+◌, ◌-◌, ◌/◌, ◌≤◌, ◌<◌, Bool, true, false, List, [], ◌∷◌, ◌++◌, length, refl, sym, ap, ◌∙◌, arith}
+use Rattle.std.proofs.Common.{length-append}
+use Rattle.std.specs.Prelude.{nat_lt, nat_le, reverse}
 use Rattle.std.proofs.lemmas.List.{reverse-append}
 use Rattle.std.proofs.lemmas.Bool.{lt-ltb, le-ltb}
 use Rattle.llb_wire.specs.Spelling.{shortest, varint_text, tag_text}
@@ -62,7 +63,8 @@ no_room earlier [] size lt = go (nat_le size entry_limit) refl
     go : (b : Bool) → nat_le size entry_limit ≡ b → is_within earlier size ≡ false
     go true e = absurd (grind (arith, e, lt))
     go false e = rw e refl
-no_room earlier (f ∷ below) size lt = no_room earlier below (length f.bytes + record_length f.number size) (let h = at_least f.number size in omega (arith, lt, h))
+no_room earlier (f ∷ below) size lt = no_room earlier below (length f.bytes + record_length f.number size) (let h = at_least f.number size in omega
+    (arith, lt, h))
 
 pub length_further : (more n k : ℕ) → ¬ (more ≡ 0) → 128 ≤ n → k ≡ length (shortest (more - 1) (n / 128)) → 1 + k ≡ length (shortest more n)
 length_further zero n k some large e = absurd (some refl)

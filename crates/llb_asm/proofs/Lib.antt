@@ -16,3 +16,11 @@ pub mod States
 pub mod Onward
 pub mod Walk
 pub mod Unique
+pub mod Rows
+pub mod Said
+pub mod Grows
+pub mod Lean
+pub mod Back
+pub mod Cut
+pub mod SolidLines
+pub mod Standing

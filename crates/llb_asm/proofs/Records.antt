@@ -1,5 +1,5 @@
 -- A record of llb_ops as the wire spells it.
-use Rattle.std.proofs.Common.{◌≡◌, ℕ, ◌*◌, ◌+◌, List, [], ◌++◌, length, refl, sym, ap, ◌∙◌, append_assoc}
+use Rattle.std.proofs.Common.{◌≡◌, ℕ, ◌*◌, ◌+◌, List, ◌++◌, length, refl, sym, ap, ◌∙◌, append_assoc}
 use Rattle.llb_wire.specs.Spelling.{varint_text}
 use Rattle.llb_ops.specs.Writing.{set_number, set_bytes}
 
@@ -11,7 +11,8 @@ pub bytes_spelled : (n : ℕ) (b : List ℕ) → set_bytes n b ≡ varint_text (
 unfolding set_bytes
 bytes_spelled n b = refl
 
-pub with_record : (out one two three : List ℕ) (n : ℕ) (b : List ℕ) → one ≡ out ++ varint_text (8 * n + 2) → two ≡ one ++ varint_text (length b) → three ≡ two ++ b
+pub with_record : (out one two three : List ℕ) (n : ℕ) (b : List ℕ) → one ≡ out ++ varint_text (8 * n + 2) → two ≡ one ++ varint_text (length b)
+    → three ≡ two ++ b
     → three ≡ out ++ set_bytes n b
 with_record out one two three n b e f g =
     g ∙ ap (λ x. x ++ b) (f ∙ ap (λ x. x ++ varint_text (length b)) e)

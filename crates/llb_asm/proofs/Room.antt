@@ -1,5 +1,5 @@
 -- What is taken as an entry is within the limits.
-use Rattle.std.proofs.Common.{◌≡◌, ℕ, Bool, true, false, cond, List, [], ◌∷◌, length, Option, Some, None, Result, Ok, Err, refl, sym, ap, ◌∙◌}
+use Rattle.std.proofs.Common.{◌≡◌, ℕ, Bool, true, false, List, length, Result, Ok, Err, refl, sym, ap, ◌∙◌}
 use Rattle.std.specs.Prelude.{nat_lt, ◌&&◌, if◌then◌else◌}
 use Rattle.llb_wire.specs.Answer.{◌>>=◌}
 use Rattle.llb_ops.specs.declared.fault.OpFault.{OpFault}
@@ -11,7 +11,7 @@ use Rattle.llb_asm.specs.declared.fault.Rule.TheVariants.{OverLimit}
 use Rattle.llb_asm.specs.declared.line.Refusal.{Refusal}
 use Rattle.llb_asm.specs.declared.line.Refusal.TheVariants.{Breaks}
 use Rattle.llb_asm.specs.declared.entry.Begun.{Begun}
-use Rattle.llb_asm.specs.declared.entry.Begun.TheVariants.{Raw, Structured}
+use Rattle.llb_asm.specs.declared.entry.Begun.TheVariants.{Raw}
 use Rattle.llb_asm.specs.Line.{parted, guard}
 use Rattle.llb_asm.specs.Reading.{is_within, begun_in, begun_by, begun_size, canonical_in, entry_in}
 
@@ -20,11 +20,13 @@ second true b e = e
 second false b e = absurd cc
 
 guarded : (earlier : List (List ℕ)) (r : Result Begun Refusal) (bytes : List ℕ)
-    → (r >>= λ b. (guard (Breaks OverLimit) (nat_lt (length earlier) entries_limit && is_within earlier (begun_size b)) >>= λ _. Ok b)) ≡ Ok (Raw bytes) → is_within earlier (length bytes) ≡ true
+    → (r >>= λ b. (guard (Breaks OverLimit) (nat_lt (length earlier) entries_limit && is_within earlier (begun_size b)) >>= λ _. Ok b)) ≡ Ok (Raw bytes)
+    → is_within earlier (length bytes) ≡ true
 guarded earlier (Err e) bytes same = absurd cc
 guarded earlier (Ok b) bytes same = go (nat_lt (length earlier) entries_limit && is_within earlier (begun_size b)) refl same
   where
-    go : (t : Bool) → (nat_lt (length earlier) entries_limit && is_within earlier (begun_size b)) ≡ t → (guard (Breaks OverLimit) t >>= λ _. Ok b) ≡ Ok (Raw bytes) → is_within earlier (length bytes) ≡ true
+    go : (t : Bool) → (nat_lt (length earlier) entries_limit && is_within earlier (begun_size b)) ≡ t
+        → (guard (Breaks OverLimit) t >>= λ _. Ok b) ≡ Ok (Raw bytes) → is_within earlier (length bytes) ≡ true
     go false e same = absurd cc
     go true e same =
         let is : b ≡ Raw bytes = cc in
@@ -34,11 +36,13 @@ pub begun_room : (earlier : List (List ℕ)) (line bytes : List ℕ) → begun_i
 unfolding begun_in
 begun_room earlier line bytes same = guarded earlier (begun_by line (parted line)) bytes same
 
-canonical_room : (earlier : List (List ℕ)) (r : Result Op OpFault) (entry : List ℕ) → canonical_in earlier r ≡ Ok entry → is_within earlier (length entry) ≡ true
+canonical_room : (earlier : List (List ℕ)) (r : Result Op OpFault) (entry : List ℕ) → canonical_in earlier r ≡ Ok entry
+    → is_within earlier (length entry) ≡ true
 canonical_room earlier (Err f) entry same = absurd cc
 canonical_room earlier (Ok op) entry same = go (is_within earlier (length (op_bytes op))) refl same
   where
-    go : (t : Bool) → is_within earlier (length (op_bytes op)) ≡ t → (if t then Ok (op_bytes op) else Err (Breaks OverLimit)) ≡ Ok entry → is_within earlier (length entry) ≡ true
+    go : (t : Bool) → is_within earlier (length (op_bytes op)) ≡ t → (if t then Ok (op_bytes op) else Err (Breaks OverLimit)) ≡ Ok entry
+        → is_within earlier (length entry) ≡ true
     go false e same = absurd cc
     go true e same = let is : op_bytes op ≡ entry = cc in ap (λ x. is_within earlier (length x)) (sym is) ∙ e
 

@@ -3,3 +3,4 @@ pub mod Lines
 pub mod Line
 pub mod Reading
 pub mod Running
+pub mod Plain

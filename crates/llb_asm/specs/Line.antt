@@ -1,5 +1,6 @@
 -- One line in an entry: what it adds to the message at hand, or why it is refused.
-use Rattle.std.specs.Prelude.{ℕ, ◌+◌, ◌-◌, ◌==◌, ◌&&◌, ◌||◌, not, nat_lt, nat_le, nat_eq, if◌then◌else◌, Bool, true, false, List, [], ◌∷◌, length, take, drop, position, codes, slice_get, Option, Some, None, Result, Ok, Err, option_map}
+use Rattle.std.specs.Prelude.{ℕ, ◌+◌, ◌==◌, ◌&&◌, ◌||◌, not, nat_le, nat_eq, if◌then◌else◌, Bool, true, false, List, [], length, take, drop, position}
+use Rattle.std.specs.Prelude.{codes, slice_get, Option, Some, None, Result, Ok, Err, option_map}
 use Rattle.std.specs.Str.{is_utf8}
 use Rattle.llb_wire.specs.Answer.{◌>>=◌}
 use Rattle.llb_ops.specs.declared.table.MessageName.{MessageName}

@@ -1,6 +1,7 @@
 -- Which lines are the items of a message and the entries of a definition, what they stand for, and which line is the first that is
 -- refused. Nothing here knows how lines are read.
-use Rattle.std.specs.Prelude.{◌≡◌, ◌≢◌, ◌≤◌, ℕ, ◌+◌, ◌==◌, ◌&&◌, ◌⊎◌, nat_lt, nat_le, nat_eq, Bool, true, false, if◌then◌else◌, List, [], ◌∷◌, ◌++◌, length, map, codes, Option, Some, None, Result, Ok, Err}
+use Rattle.std.specs.Prelude.{◌≡◌, ◌≢◌, ◌≤◌, ℕ, ◌+◌, ◌&&◌, ◌⊎◌, nat_lt, nat_le, Bool, if◌then◌else◌, List, [], ◌∷◌, ◌++◌, length, map, codes, Option}
+use Rattle.std.specs.Prelude.{Some, None, Result, Ok, Err}
 use Rattle.llb_wire.specs.Answer.{◌>>=◌}
 use Rattle.llb_wire.specs.Digest.{digest_text}
 use Rattle.llb_wire.specs.Spelling.{varint_text, tag_text}
@@ -107,7 +108,8 @@ Fits labels hand (single line next bytes rest) = (item_at labels hand line ≡ O
 Fits labels hand (nested line next number sub inner rest) =
     (item_at labels hand line ≡ Ok (item next (Opens number sub))) × Fits labels (within hand number sub) inner × IsWhole inner
     × Fits labels (beyond hand next (set_bytes number (records_of inner))) rest
-Fits labels hand (unclosed line next number sub inner) = (item_at labels hand line ≡ Ok (item next (Opens number sub))) × Fits labels (within hand number sub) inner
+Fits labels hand (unclosed line next number sub inner) = (item_at labels hand line ≡ Ok (item next (Opens number sub)))
+    × Fits labels (within hand number sub) inner
 
 -- the message at hand behind some items
 abbrev pub at_hand : Hand → Items → Hand

@@ -11,7 +11,7 @@ use sha2::{Digest, Sha256};
 use std::alloc::Global;
 use std::marker::Model;
 
-#[tactic(auto, using(crate::proofs::Lengths::length_last, crate::proofs::Lengths::length_small, crate::proofs::Lengths::length_large, crate::proofs::Lengths::length_positive))]
+#[tactic(auto, using(crate::proofs::Lengths::length_last, crate::proofs::Lengths::length_small, crate::proofs::Lengths::length_positive))]
 /// How many bytes the shortest spelling of a number has, of at most one more than the count.
 fn shortest_length(value: u64, more: u32) -> usize
     requires { more ≤ 9 }

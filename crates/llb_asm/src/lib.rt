@@ -13,4 +13,4 @@ mod values;
 
 pub use assembling::assemble;
 pub use fault::{AsmFault, Rule};
-pub use laws::one_answer;
+pub use laws::{one_answer, reads_back};

@@ -6,7 +6,8 @@ ghost use Rattle.std.specs.Str.{is_utf8};
 ghost use Rattle.llb_ops.specs.Table.{row_seen, row_named};
 ghost use Rattle.llb_ops.specs.Writing.{set_number, set_bytes};
 ghost use Rattle.llb_ops.specs.Fields.{may_follow, may_be_empty};
-ghost use Rattle.llb_asm.specs.Line.{parted, inside, held_in, held_by, extra_in, field_in, line_in, follows, has_room, behind, at_end, number_record, bytes_record, string_record, labelled_record};
+ghost use Rattle.llb_asm.specs.Line.{parted, inside, held_in, held_by, extra_in, field_in, line_in, follows, has_room, behind, at_end, number_record};
+ghost use Rattle.llb_asm.specs.Line.{bytes_record, string_record, labelled_record};
 
 use crate::fault::Rule;
 use crate::lines::is_text;

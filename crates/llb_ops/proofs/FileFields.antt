@@ -1,5 +1,5 @@
 -- File ops and the inputs of ops have fields by the table: their fields, one after the other.
-use Rattle.std.proofs.Common.{◌≡◌, ℕ, ℤ, ◌≤◌, Bool, true, false, List, Option, refl, ap, Result, Ok, arith}
+use Rattle.std.proofs.Common.{◌≡◌, ℕ, ℤ, ◌≤◌, Bool, true, false, List, Option, refl, Ok, arith}
 use Rattle.std.specs.Prelude.{◌==◌}
 use Rattle.llb_wire.specs.Records.{Record}
 use Rattle.llb_ops.specs.declared.table.MessageName.TheVariants as name
@@ -22,8 +22,9 @@ use Rattle.llb_ops.specs.Writing.{bit, set_bytes, set_number, input_bytes, user_
 use Rattle.llb_ops.proofs.Texts.{empty_utf8}
 use Rattle.llb_ops.proofs.Numbers.{from_signed, int64_recodes, int32_recodes, flag_recodes}
 use Rattle.llb_ops.proofs.Trips.{user_record, UserRead, user_cases, user_choice, action_record, ActionRead, action_from, action_choice, user_opt_returns, chown_opt_returns, action_returns, input_made, user_opt_made, chown_opt_made, mk_file_made, mk_dir_made, copy_file_made, rm_made, action_made, file_op_made}
-use Rattle.llb_ops.proofs.Tells.{Tells, tells_bytes, tells_number, tells_message}
-use Rattle.llb_ops.proofs.Told.{HasFrom, next_is, is_repeated, Told, told_both, told_end, told_number, told_bytes, told_items, told_message, told_messages, tells_member, or_true, has_by, row_at, int64_is, int32_is, flag_is}
+use Rattle.llb_ops.proofs.Tells.{tells_bytes, tells_number, tells_message}
+use Rattle.llb_ops.proofs.Told.{HasFrom, LeadsBy, next_is, is_repeated, Told, told_both, told_end, told_number, told_bytes, told_items, told_message}
+use Rattle.llb_ops.proofs.Told.{told_messages, tells_member, few_members, or_true, has_by, row_at, int64_is, int32_is, flag_is}
 
 abbrev input_told : Told name.Input Input (List ℕ × (ℤ × Unit {0})) 0 false 2 false
 input_told =
@@ -37,7 +38,7 @@ input_has = has_by input_told input_made input_of input_bytes input_bytes (λ en
 
 -- ---- users and groups
 
-user_known : (a : User) → UserRead a → (k : ℕ) × (k ≤ 2) × Tells name.UserOpt 0 false k true (user_record a).text (user_record a).text
+user_known : (a : User) → UserRead a → (k : ℕ) × (k ≤ 2) × LeadsBy name.UserOpt 0 false k true (user_record a) (user_record a)
 unfolding set_bytes set_number
 user_known (ByName held) h = (1, omega arith, tells_bytes name.UserOpt 0 false (row_at name.UserOpt 1) held (next_is refl refl) tt (or_true _ true refl) refl)
 user_known (ById id) h =
@@ -45,7 +46,7 @@ user_known (ById id) h =
     (2, omega arith, tells_number name.UserOpt 0 false (row_at name.UserOpt 2) id (next_is refl refl) same (or_true _ true refl))
 
 user_tells : (n : ℕ) (xs : List Record) (a : User) → user_of n xs ≡ Ok a
-    → (k : ℕ) × (k ≤ 2) × Tells name.UserOpt 0 false k true (user_record a).text (user_record a).text
+    → (k : ℕ) × (k ≤ 2) × LeadsBy name.UserOpt 0 false k true (user_record a) (user_record a)
 user_tells n xs a e = user_known a (user_cases (n == 1) (joined xs) (number xs) a e)
 
 abbrev user_opt_told : Told name.UserOpt UserOpt (Option User × Unit {0}) 0 false 2 true
@@ -54,6 +55,7 @@ user_opt_told =
       field = user_choice;
       lean = user_choice;
       tells = λ rs o good e. tells_member name.UserOpt 0 2 users user_of user_record user_record rs o (omega arith) good user_tells e;
+      few = λ rs o good e w. few_members user_record o;
     })
     (told_end name.UserOpt 2 true) refl refl
 
@@ -141,7 +143,7 @@ pub rm_has : HasFrom name.FileActionRm rm_of rm_bytes rm_bytes
 unfolding message_of rm_in rm_bytes
 rm_has = has_by rm_told rm_made rm_of rm_bytes rm_bytes (λ entry. refl) (λ a more. refl) (λ a more. refl)
 
-action_known : (a : ActionKind) → ActionRead a → (k : ℕ) × (k ≤ 7) × Tells name.FileAction 3 false k true (action_record a).text (action_record a).text
+action_known : (a : ActionKind) → ActionRead a → (k : ℕ) × (k ≤ 7) × LeadsBy name.FileAction 3 false k true (action_record a) (action_record a)
 unfolding set_bytes
 action_known (action.Copy m) h =
     (4, omega arith, tells_message name.FileAction name.FileActionCopy 3 false (row_at name.FileAction 4) (copy_file_bytes m) (copy_file_bytes m) (next_is refl refl) refl (copy_file_has h.0 m h.1))
@@ -162,6 +164,7 @@ action_told =
       lean = action_choice;
       tells = λ rs o good e.
           tells_member name.FileAction 3 7 action_kinds action_kind_of action_record action_record rs o (omega arith) good (λ n xs a h. action_known a (action_from n xs a h)) e;
+      few = λ rs o good e w. few_members action_record o;
     })
     (told_end name.FileAction 7 true) refl refl) refl refl) refl refl) refl refl
 

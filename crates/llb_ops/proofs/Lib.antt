@@ -25,6 +25,7 @@ pub mod Sizes
 pub mod Within
 pub mod Spelled
 pub mod DefinitionTrips
+pub mod Few
 pub mod Tells
 pub mod Told
 pub mod Shorter

@@ -1,5 +1,5 @@
 -- Ops have fields by the table.
-use Rattle.std.proofs.Common.{◌≡◌, ℕ, ◌≤◌, ltb, Bool, true, false, List, [], ◌∷◌, ◌++◌, length, Option, Some, refl, sym, ap, subst, ◌∙◌, Result, Ok, arith}
+use Rattle.std.proofs.Common.{◌≡◌, ℕ, ◌≤◌, ltb, true, false, List, [], ◌∷◌, ◌++◌, length, Option, Some, refl, sym, subst, Ok, arith}
 use Rattle.std.proofs.lemmas.Bool.{le-ltb}
 use Rattle.std.proofs.lemmas.List.{append-nil}
 use Rattle.llb_wire.specs.Records.{Record}
@@ -12,7 +12,7 @@ use Rattle.llb_ops.specs.Limits.{entry_limit}
 use Rattle.llb_ops.specs.Records.{joined, is_member, one_of, message_of}
 use Rattle.llb_ops.specs.Messages.{input_of, source_op_of, kinds, kind_of, op_shape, op_message_of, op_in, op_of}
 use Rattle.llb_ops.specs.Writing.{set_bytes, one_of_field, messages_field, input_bytes, exec_op_bytes, source_op_bytes, file_op_bytes, merge_op_bytes, op_bytes}
-use Rattle.llb_ops.specs.Fields.{HasFields, EntryHasFields, bytes_of, without_empty}
+use Rattle.llb_ops.specs.Fields.{EntryHasFields, bytes_of, without_empty}
 use Rattle.llb_ops.proofs.Again.{bytes_part}
 use Rattle.llb_ops.proofs.FieldOf.{IsShort, IsWritten, FieldOf, Returns, returns_by}
 use Rattle.llb_ops.proofs.Sorts.{bytes_written, message_short}
@@ -21,9 +21,11 @@ use Rattle.llb_ops.proofs.Trips.{kind_record, kind_own, kind_written, kind_again
 use Rattle.llb_ops.proofs.ExecFields.{exec_op_has, merge_op_has}
 use Rattle.llb_ops.proofs.FileFields.{input_has, file_op_has}
 use Rattle.llb_ops.proofs.SourceFields.{source_op_has, lean_source_bytes, lean_source_returns}
-use Rattle.llb_ops.proofs.Tells.{Tells, tells_bytes, tells_message}
+use Rattle.llb_ops.proofs.Few.{NoneOften, are_few, are_few_without}
+use Rattle.llb_ops.proofs.Tells.{tells_bytes, tells_message}
 use Rattle.llb_ops.proofs.Shorter.{shorter}
-use Rattle.llb_ops.proofs.Told.{HasFrom, next_is, is_repeated, Told, told_both, told_end, told_messages, tells_member, or_true, has_by, row_at}
+use Rattle.llb_ops.proofs.Told.{HasFrom, LeadsBy, next_is, is_repeated, Told, told_both, told_end, told_messages, tells_member, few_members, or_true}
+use Rattle.llb_ops.proofs.Told.{has_by, row_at}
 
 -- a member without the empty keys and values of a source's attributes
 abbrev lean_kind_record : Kind → Record
@@ -67,7 +69,7 @@ abbrev lean_choice : FieldOf op_shape Op (Option Kind)
 lean_choice =
     choice kinds kind_of lean_kind_record lean_kind_bytes (λ a. refl) lean_own (λ n xs a good e. lean_written a) (λ n xs a good e short. lean_again (joined xs) a (kind_from n xs a e) short)
 
-kind_known : (entry : List ℕ) (a : Kind) → KindRead entry a → (k : ℕ) × (k ≤ 7) × Tells name.Op 1 false k true (kind_record a).text (lean_kind_record a).text
+kind_known : (entry : List ℕ) (a : Kind) → KindRead entry a → (k : ℕ) × (k ≤ 7) × LeadsBy name.Op 1 false k true (kind_record a) (lean_kind_record a)
 unfolding set_bytes
 kind_known entry (Exec m) h =
     (2, omega arith, tells_message name.Op name.ExecOp 1 false (row_at name.Op 2) (exec_op_bytes m) (exec_op_bytes m) (next_is refl refl) refl (exec_op_has entry m h))
@@ -88,6 +90,7 @@ op_told =
       field = kind_choice;
       lean = lean_choice;
       tells = λ rs o good e. tells_member name.Op 1 7 kinds kind_of kind_record lean_kind_record rs o (omega arith) good (λ n xs a h. kind_known (joined xs) a (kind_from n xs a h)) e;
+      few = λ rs o good e w. few_members kind_record o;
     })
     (told_end name.Op 7 true) refl refl) refl refl
 
@@ -114,10 +117,14 @@ pub entry_has : (entry : List ℕ) → EntryHasFields entry
 unfolding op_of
 entry_has entry op e =
     let read = entry_cases (ltb entry_limit (length entry)) (op_message_of entry) op e in
-    let from = op_has entry op read in
+    let is = op_has entry op read in
+    let from = is.from in
+    let few = subst NoneOften (sym from.numbers) is.few in
     record {
       fields = from.fields;
       are = from.are;
+      all_few = are_few from.fields few from.inner;
+      few = are_few_without from.fields few from.inner;
       written = from.text;
       shorter = subst (λ (b : List ℕ). length (bytes_of (without_empty from.fields)) ≤ length b) (sym from.text) (shorter from.fields);
       read = subst (λ (b : List ℕ). length b ≤ entry_limit → op_of b ≡ Ok op) from.lean (lean_is_read entry op read);

@@ -1,16 +1,17 @@
 -- Sources have fields by the table; and without the empty keys and values of their attributes they are read as they were.
-use Rattle.std.proofs.Common.{ℕ, false, List, ◌++◌, map, refl, Result, Ok}
+use Rattle.std.proofs.Common.{ℕ, false, List, ◌++◌, map, refl}
 use Rattle.llb_ops.specs.declared.table.MessageName.TheVariants as name
 use Rattle.llb_ops.specs.declared.source.SourceOp.{SourceOp}
 use Rattle.llb_ops.specs.declared.source.AttributeEntry.{AttributeEntry}
 use Rattle.llb_ops.specs.Attributes.{Held, entry_of}
-use Rattle.llb_ops.specs.Records.{all, each, message_of}
+use Rattle.llb_ops.specs.Records.{all, message_of}
 use Rattle.llb_ops.specs.Messages.{attribute_entry_of, attribute_entry_in, source_op_of, source_op_in}
 use Rattle.llb_ops.specs.Writing.{bytes_field, messages_field, attribute_entry_bytes, source_op_bytes}
 use Rattle.llb_ops.proofs.Texts.{empty_utf8}
 use Rattle.llb_ops.proofs.FieldOf.{Returns, returns_by}
-use Rattle.llb_ops.proofs.Sorts.{each_read}
+use Rattle.llb_ops.proofs.Sorts.{each_read, some_messages, messages_own}
 use Rattle.llb_ops.proofs.SourceTrips.{attribute_entry_made, attribute_entry_returns, attributes_field, source_op_made, was_settled, was_read}
+use Rattle.llb_ops.proofs.Few.{none_repeated}
 use Rattle.llb_ops.proofs.Told.{HasFrom, next_is, is_repeated, Told, told_both, told_end, told_bytes, told_key, tells_messages, has_by, row_at}
 
 -- an entry without its key and its value where they are empty
@@ -48,6 +49,9 @@ source_op_told =
           let from = was_read was.0 a was.2 (each_read attribute_entry_of (all 2 rs) was.0 was.1) in
           tells_messages name.SourceOp name.AttributeEntry 1 false (row_at name.SourceOp 2) attribute_entry_of attribute_entry_bytes lean_entry_bytes (map entry_of a) attribute_entry_has
           (is_repeated (next_is refl refl) (next_is refl refl) refl refl refl) refl from;
+      few = λ rs a good e w.
+          none_repeated 2 (some_messages attribute_entry_bytes 2 (map entry_of a)) (messages_own attribute_entry_bytes 2 (map entry_of a))
+          ((attributes_field attribute_entry_bytes attribute_entry_returns).limit rs a good e w);
     })
     (told_end name.SourceOp 2 false) refl refl) refl refl
 

@@ -1,6 +1,7 @@
 -- The fields of a message as its bytes have them one behind the other, and when they are those of canonical bytes: by the table
 -- (`ops.proto` of BuildKit) and the encoding guide of Protocol Buffers ("Message Structure", "Field Presence", "Oneofs", "Maps").
-use Rattle.std.specs.Prelude.{◌≡◌, ℕ, ◌<◌, ◌≤◌, ◌^◌, List, ◌++◌, length, Option, Some, None, Result, Ok, Err, Bool, true, false, is_none, nat_lt, ◌==◌, ◌&&◌, ◌||◌, not, if◌then◌else◌}
+use Rattle.std.specs.Prelude.{◌≡◌, ℕ, ◌+◌, ◌≤◌, List, ◌++◌, length, Some, Result, Ok, Err, Bool, true, false, is_none, nat_lt}
+use Rattle.std.specs.Prelude.{◌==◌, ◌&&◌, ◌||◌, not, if◌then◌else◌}
 use Rattle.std.specs.List.{AllByRecursion, list_all}
 use Rattle.std.specs.Str.{is_utf8}
 use Rattle.std.specs.Int.{w64, cast_unsigned}
@@ -12,7 +13,7 @@ use Rattle.llb_ops.specs.declared.table.FieldKind.TheVariants.{Int64, Int32, Uin
 use Rattle.llb_ops.specs.declared.table.NamedField.{NamedField}
 use Rattle.llb_ops.specs.declared.op.Op.{Op}
 use Rattle.llb_ops.specs.declared.fault.OpFault.{OpFault}
-use Rattle.llb_ops.specs.Limits.{entry_limit}
+use Rattle.llb_ops.specs.Limits.{entry_limit, field_limit}
 use Rattle.llb_ops.specs.Table.{Row, rows_of, by_number, shape_of}
 use Rattle.llb_ops.specs.Records.{form_of, parts, int32, int64, uint32, flag}
 use Rattle.llb_ops.specs.Messages.{op_of}
@@ -101,12 +102,29 @@ without_empty (number row v rest) = number row v (without_empty rest)
 without_empty (bytes row held rest) = if row.1.of_entry && (length held == 0) then without_empty rest else bytes row held (without_empty rest)
 without_empty (message row inner rest) = message row (without_empty inner) (without_empty rest)
 
+-- ---- no field too often
+
+-- how often the last field stands, with one more: again, or for the first time
+abbrev pub one_more_of : ℕ → ℕ → ℕ → ℕ
+one_more_of last count n = if last == n then count + 1 else 1
+
+-- behind the field `last`, which stands so often, no field stands more often than a field may, nor in a message among them
+abbrev pub AreFew : ℕ → ℕ → Fields → Type 0
+AreFew last count (extra more) = Unit {0}
+AreFew last count (number row v rest) = (one_more_of last count row.1.number ≤ field_limit) × AreFew row.1.number (one_more_of last count row.1.number) rest
+AreFew last count (bytes row held rest) = (one_more_of last count row.1.number ≤ field_limit) × AreFew row.1.number (one_more_of last count row.1.number) rest
+AreFew last count (message row inner rest) =
+    (one_more_of last count row.1.number ≤ field_limit) × AreFew 0 0 inner × AreFew row.1.number (one_more_of last count row.1.number) rest
+
 -- ---- the law
 
--- an op's canonical bytes are fields of the message Op; and without empty keys and values they are no more, and read as the op too
+-- An op's canonical bytes are fields of the message Op, none of which stands too often. Without empty keys and values they are no
+-- more, still none stands too often, and they are read as the op too.
 pub record HasFields (op : Op) : Type 0 where
   pub fields : Fields
   pub are : AreFields named.Op 0 false fields
+  pub all_few : AreFew 0 0 fields
+  pub few : AreFew 0 0 (without_empty fields)
   pub written : op_bytes op ≡ bytes_of fields
   pub shorter : length (bytes_of (without_empty fields)) ≤ length (op_bytes op)
   pub read : length (bytes_of (without_empty fields)) ≤ entry_limit → op_of (bytes_of (without_empty fields)) ≡ Ok op

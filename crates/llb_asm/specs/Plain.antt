@@ -1,0 +1,123 @@
+-- The one text that is written of entries.
+use Rattle.std.specs.Prelude.{◌≡◌, ℕ, ◌+◌, ◌*◌, if◌then◌else◌, List, [], ◌∷◌, ◌++◌, map, codes, position, replicate, Option, Some, None, Ok}
+use Rattle.std.specs.List.{flat_map, AllByRecursion}
+use Rattle.llb_wire.specs.Spelling.{AreBytes}
+use Rattle.llb_wire.specs.Digest.{digest_text}
+use Rattle.llb_wire.specs.Hexadecimal.{hex_text}
+use Rattle.llb_ops.specs.declared.op.Op.{Op}
+use Rattle.llb_ops.specs.declared.table.FieldKind.{FieldKind}
+use Rattle.llb_ops.specs.declared.table.FieldKind.TheVariants as kind
+use Rattle.llb_ops.specs.Messages.{op_of}
+use Rattle.llb_ops.specs.Writing.{op_bytes}
+use Rattle.llb_ops.specs.Fields.{Fields, extra, number, bytes, message, without_empty, HasFields}
+use Rattle.llb_ops.specs.Definition.{definition_of, definition_bytes}
+use Rattle.llb_asm.specs.Lines.{kept}
+use Rattle.llb_asm.specs.Reading.{StandsFor}
+use Rattle.llb_asm.specs.Values.{is_text, number_text, string_text, label_text}
+
+-- ---- values
+
+-- the least entry with that text of its digest
+abbrev pub label_for : List (List ℕ) → List ℕ → Option ℕ
+label_for labels digest = position (is_text digest) labels
+
+abbrev pub labelled_text : List ℕ → Option ℕ → List ℕ
+labelled_text string None = string_text string
+labelled_text string (Some k) = label_text k
+
+-- a label where a digest is that of an earlier entry, else a string between quotes
+abbrev pub string_for : List (List ℕ) → List ℕ → List ℕ → List ℕ
+string_for labels name string = labelled_text string (if is_text name (codes "digest") then label_for labels string else None)
+
+abbrev pub held_text : FieldKind → List (List ℕ) → List ℕ → List ℕ → List ℕ
+held_text kind.String labels name held = string_for labels name held
+held_text kind.Bytes labels name held = hex_text held
+held_text kind.Int64 labels name held = []
+held_text kind.Int32 labels name held = []
+held_text kind.Uint32 labels name held = []
+held_text kind.Enum labels name held = []
+held_text kind.Bool labels name held = []
+held_text (kind.Message m) labels name held = []
+
+-- ---- lines, each with how deep it stands
+
+abbrev pub PlainLine : Type 0
+PlainLine = ℕ × List ℕ
+
+abbrev pub item_line : ℕ → List ℕ → List ℕ → PlainLine
+item_line depth name value = (depth, name ++ 32 ∷ value)
+
+abbrev pub opening : List ℕ
+opening = codes "{"
+
+abbrev pub closing_line : ℕ → PlainLine
+closing_line depth = (depth, codes "}")
+
+-- the extra bytes, where there are any
+abbrev pub extra_lines : ℕ → List ℕ → List PlainLine
+extra_lines depth [] = []
+extra_lines depth (b ∷ more) = item_line depth (codes "extra") (hex_text (b ∷ more)) ∷ []
+
+-- the fields of a message
+abbrev pub field_lines : List (List ℕ) → ℕ → Fields → List PlainLine
+field_lines labels depth (extra more) = extra_lines depth more
+field_lines labels depth (number row v rest) = item_line depth row.0 (number_text row.1.kind v) ∷ field_lines labels depth rest
+field_lines labels depth (bytes row held rest) = item_line depth row.0 (held_text row.1.kind labels row.0 held) ∷ field_lines labels depth rest
+field_lines labels depth (message row inner rest) =
+    item_line depth row.0 opening ∷ (field_lines labels (depth + 1) inner ++ (closing_line depth ∷ field_lines labels depth rest))
+
+-- ---- entries
+
+-- an entry is written as an op where it is read as one whose canonical bytes it is
+abbrev pub IsStructured : List ℕ → Type 0
+IsStructured entry = (op : Op) × (op_of entry ≡ Ok op) × (op_bytes op ≡ entry)
+
+-- as an op by the fields of its canonical bytes, or as its bytes
+pub data Form : Type 0 where
+  structured : (op : Op) → HasFields op → Form
+  raw : Form
+
+abbrev pub HasForm : List ℕ → Form → Type 0
+HasForm entry (structured op has) = (op_of entry ≡ Ok op) × (op_bytes op ≡ entry)
+HasForm entry raw = ¬ IsStructured entry
+
+abbrev pub entry_lines : List (List ℕ) → List ℕ → Form → List PlainLine
+entry_lines labels entry (structured op has) = item_line 0 (codes "op") opening ∷ (field_lines labels 1 (without_empty has.fields) ++ (closing_line 0 ∷ []))
+entry_lines labels entry raw = item_line 0 (codes "raw") (hex_text entry) ∷ []
+
+-- an entry with its form
+abbrev pub Formed : Type 0
+Formed = List ℕ × Form
+
+abbrev pub HaveForms : List Formed → Type 0
+HaveForms [] = Unit {0}
+HaveForms (x ∷ xs) = HasForm x.0 x.1 × HaveForms xs
+
+-- entries in their forms: how all of them are written
+pub record AreFormed (entries : List (List ℕ)) (xs : List Formed) : Type 0 where
+  pub same : map (λ x. x.0) xs ≡ entries
+  pub forms : HaveForms xs
+
+-- each behind the labels of those before it
+abbrev pub plain_lines : List (List ℕ) → List Formed → List PlainLine
+plain_lines labels [] = []
+plain_lines labels (x ∷ xs) = entry_lines labels x.0 x.1 ++ plain_lines (labels ++ digest_text x.0 ∷ []) xs
+
+-- ---- the text: two spaces a level, and an end behind each line
+
+abbrev pub line_text : PlainLine → List ℕ
+line_text l = replicate (2 * l.0) 32 ++ (l.1 ++ 10 ∷ [])
+
+abbrev pub text_of_lines : List PlainLine → List ℕ
+text_of_lines lines = flat_map line_text lines
+
+abbrev pub plain_text : List Formed → List ℕ
+plain_text xs = text_of_lines (plain_lines [] xs)
+
+-- ---- the law
+
+-- the text of the entries of a definition, in bytes, stands for these entries
+abbrev pub ReadsBack : List (List ℕ) → Type 0
+ReadsBack entries =
+    AllByRecursion AreBytes entries → definition_of (definition_bytes entries) ≡ Ok entries → (xs : List Formed) → AreFormed entries xs
+    → StandsFor (kept (plain_text xs)) entries
