@@ -24,3 +24,7 @@ pub mod Back
 pub mod Cut
 pub mod SolidLines
 pub mod Standing
+pub mod Labelled
+pub mod Fronts
+pub mod Printed
+pub mod Formed

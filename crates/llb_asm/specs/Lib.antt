@@ -4,3 +4,5 @@ pub mod Line
 pub mod Reading
 pub mod Running
 pub mod Plain
+pub mod Labels
+pub mod Printing

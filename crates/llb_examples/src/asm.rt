@@ -1,7 +1,8 @@
-//! Texts are assembled: each to the entries that it stands for, or to the fault of its first faulty line.
+//! Texts are assembled: each to the entries that it stands for, or to the fault of its first faulty line. Entries are written as text.
 
-use llb_asm::{assemble, one_answer};
-use llb_wire::push_hex;
+use llb_asm::{assemble, disassemble, one_answer, reads_back};
+use llb_ops::Entries;
+use llb_wire::{Over, push_hex};
 use std::alloc::{AllocError, Global};
 
 // The entries that a text stands for, each in hexadecimal with a space behind it; or the fault.
@@ -32,6 +33,28 @@ fn are_the_same(alloc: Global, text: &str, other: &str) -> bool {
     match (answer(alloc, text), answer(alloc, other)) {
         (Ok(told), Ok(wanted)) => told.as_str() == wanted.as_str(),
         _ => false,
+    }
+}
+
+// The text that is written of entries.
+fn text_of(alloc: Global, entries: &Entries) -> Result<Vec<u8>, AllocError> {
+    reads_back(entries);
+    let mut text: Vec<u8> = Vec::new(alloc);
+    let mut out = Over::new(&mut text);
+    if disassemble(alloc, entries, &mut out).is_err() {
+        return Err(AllocError);
+    }
+    Ok(text)
+}
+
+// What is written of the entries that a text stands for.
+fn is_written_as(alloc: Global, text: &str, wanted: &str) -> bool {
+    let Ok(entries) = assemble(alloc, text.as_bytes()) else {
+        return false;
+    };
+    match text_of(alloc, &entries) {
+        Ok(told) => told.as_slice() == wanted.as_bytes(),
+        Err(_) => false,
     }
 }
 
@@ -138,4 +161,31 @@ fn a_label_is_the_digest_of_an_earlier_entry(rt: HostRuntime) {
             "162 3"
         )
     );
+}
+
+#[test]
+fn entries_are_written_as_the_one_text_that_is_assembled_to_them(rt: HostRuntime) {
+    let rows = [
+        ("", ""),
+        (MERGE, MERGE),
+        ("raw b20000\n", "raw b20000\n"),
+        ("raw -", "op {\n}\n"),
+        ("raw 0a00", "op {\n  inputs {\n  }\n}\n"),
+        ("raw 0a021000", "raw 0a021000\n"),
+        (
+            "op {\ninputs {\nindex 0\n}\nbuild -\n}",
+            "op {\n  inputs {\n  }\n  build -\n}\n",
+        ),
+        (
+            "op {\nsource {\nidentifier \"\\x41\\x7f\\\"\\\\\"\nattrs {\nkey \"\"\n}\n}\n}",
+            "op {\n  source {\n    identifier \"A\\x7f\\\"\\\\\"\n    attrs {\n    }\n  }\n}\n",
+        ),
+        (
+            "raw 00\nraw 00\nop {\ninputs {\ndigest %1\n}\n}\n",
+            "raw 00\nraw 00\nop {\n  inputs {\n    digest %0\n  }\n}\n",
+        ),
+    ];
+    for (text, wanted) in rows {
+        assert!(rt; is_written_as(rt.alloc(), text, wanted), "{text:?}");
+    }
 }

@@ -1,0 +1,6 @@
+use Rattle.std.proofs.Common.{List, take}
+use Rattle.llb_asm.specs.Plain.{Formed, AreFormed}
+use Rattle.llb_asm.proofs.print.entries_have_forms.Given as goal
+
+abbrev pub invariant-loop-entry : goal.invariant-loop-entry
+invariant-loop-entry l = (xs : List Formed) × AreFormed (take l.entry-index l.entries) xs

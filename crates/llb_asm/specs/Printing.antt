@@ -1,0 +1,37 @@
+-- What is out of the text of entries where the writing stops.
+use Rattle.std.specs.Prelude.{◌≡◌, ◌≢◌, ℕ, List, [], ◌∷◌, length, take, drop, Bool, true, ◌==◌, ◌&&◌, if◌then◌else◌, Option, Some, None, Result, Ok, Err}
+use Rattle.std.specs.Io.KnownBytes.{Appends}
+use Rattle.llb_wire.specs.declared.fault.WireFault.{WireFault}
+use Rattle.llb_wire.specs.declared.field.Field.{Field}
+use Rattle.llb_wire.specs.Reading.{next_field}
+use Rattle.llb_wire.specs.Sink.{PartOut}
+use Rattle.llb_ops.specs.Table.{Row}
+use Rattle.llb_asm.specs.declared.fault.AsmFault.{AsmFault}
+use Rattle.llb_asm.specs.declared.fault.AsmFault.TheVariants as fault
+use Rattle.llb_asm.specs.declared.print.Front.{Front}
+use Rattle.llb_asm.specs.Plain.{PlainLine, item_line, held_text}
+
+-- the whole text is out; or a front of it, where memory was refused or the sink has failed
+abbrev pub Prints : Option (List ℕ) → Option (List ℕ) → Bool → List ℕ → Result (Unit {0}) AsmFault → Type 0
+Prints taken taken' failed' text (Ok u) = Appends taken taken' text
+Prints taken taken' failed' text (Err fault.Memory) = PartOut taken taken' text
+Prints taken taken' failed' text (Err fault.Write) = (failed' ≡ true) × PartOut taken taken' text
+Prints taken taken' failed' text (Err (fault.Line n rule)) = ⊥
+Prints taken taken' failed' text (Err (fault.UnknownLabel n)) = ⊥
+
+-- ---- one record at a time
+
+abbrev pub found : Field → Result (Option Field) WireFault
+found f = Ok (Some f)
+
+-- the record at the front of bytes, if there is one: its number, its value, its payload, and the bytes behind it
+abbrev pub Finds : List ℕ → Option Front → Type 0
+Finds bytes None = (f : Field) → next_field bytes 0 ≢ found f
+Finds bytes (Some front) =
+    (f : Field) × (next_field bytes 0 ≡ found f) × (front.number ≡ f.number) × (front.value ≡ f.value)
+    × (front.payload.now ≡ drop f.start (take f.«end» bytes)) × (front.after.now ≡ drop f.«end» bytes)
+
+-- the line of a string or of bytes; an empty key or value of an entry of a map has none
+abbrev pub held_lines : List (List ℕ) → ℕ → Row → List ℕ → List PlainLine
+held_lines labels depth row held =
+    if row.1.of_entry && (length held == 0) then [] else item_line depth row.0 (held_text row.1.kind labels row.0 held) ∷ []

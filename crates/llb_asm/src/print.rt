@@ -1,0 +1,301 @@
+//! Entries are written as text: canonical bytes from left to right, by the table of messages.
+
+ghost use Rattle.std.specs.Prelude.{◌≡◌, ◌<◌, ◌+◌, ◌*◌, ◌++◌, ◌∷◌, [], ◌^◌, ◌↔◌, ℕ, Bool, List, length, codes, replicate, OnOk, IfOk, IfSome, IsTrue};
+ghost use Rattle.std.specs.Prelude.{true, false};
+ghost use Rattle.std.specs.Str.{is_utf8};
+ghost use Rattle.llb_ops.specs.Fields.{Fields, AreFields, IsBytesOf, bytes_of, without_empty};
+ghost use Rattle.llb_ops.specs.Limits.{entry_limit};
+ghost use Rattle.llb_ops.specs.Table.{row_seen};
+ghost use Rattle.llb_ops.specs.declared.table.MessageName.TheVariants as named;
+ghost use Rattle.llb_asm.specs.Values.{number_text};
+ghost use Rattle.llb_asm.specs.Plain.{string_for, item_line, closing_line, opening, extra_lines, field_lines, line_text, text_of_lines};
+ghost use Rattle.llb_asm.specs.Plain.{IsStructured, Form, HasForm, entry_lines, Formed, AreFormed, plain_text};
+ghost use Rattle.llb_asm.specs.Printing.{Prints, Finds, held_lines};
+
+use crate::fault::AsmFault;
+use crate::labels::Labels;
+use crate::values::{push_bytes, push_label, push_number, push_string};
+use llb_ops::{
+    Entries, FieldKind, FieldRow, MessageName, OpFault, entry_has_fields, field_numbered, read_op,
+    write_op,
+};
+use llb_wire::{Bytes, Memory, Sink, next_record, write_all};
+use std::alloc::Global;
+use std::str::from_utf8;
+
+/// The record at the front of some bytes, and the bytes behind it.
+#[derive(Clone, Copy)]
+struct Front<'a> {
+    number: u32,
+    value: u64,
+    payload: &'a [u8],
+    after: &'a [u8],
+}
+
+fn front_of(bytes: &[u8]) -> Option<Front<'_>>
+    ensures found { Finds bytes.now result }
+    ensures shorter { IfSome result (λ f. length f.after.now < length bytes.now) }
+    ensures inner { IfSome result (λ f. length f.payload.now < length bytes.now) }
+{
+    match next_record(bytes, 0) {
+        Ok(Some(field)) => {
+            let (text, after) = bytes.split_at(field.end);
+            let (_, payload) = text.split_at(field.start);
+            Some(Front {
+                number: field.number,
+                value: field.value,
+                payload,
+                after,
+            })
+        }
+        Ok(None) => None,
+        Err(_) => None,
+    }
+}
+
+// Begins a line: two spaces a level, and a name.
+fn push_name(out: &mut Vec<u8>, depth: usize, name: &[u8]) -> Result<(), Memory>
+    requires { depth < 2 ^ 62 }
+    ensures { OnOk result (out.new.items ≡ out.old.items ++ (replicate (2 * depth) 32 ++ name.now)) }
+{
+    for _ in 0..depth {
+        out.extend_from_slice(b"  ".as_slice())?;
+    }
+    out.extend_from_slice(name)?;
+    Ok(())
+}
+
+// The line that opens a message.
+fn push_opening(out: &mut Vec<u8>, depth: usize, name: &str) -> Result<(), Memory>
+    requires { depth < 2 ^ 62 }
+    ensures { OnOk result (out.new.items ≡ out.old.items ++ line_text (item_line depth name.now opening)) }
+{
+    push_name(out, depth, name.as_bytes())?;
+    out.extend_from_slice(b" {\n".as_slice())?;
+    Ok(())
+}
+
+// The line that closes a message.
+fn push_closing(out: &mut Vec<u8>, depth: usize) -> Result<(), Memory>
+    requires { depth < 2 ^ 62 }
+    ensures { OnOk result (out.new.items ≡ out.old.items ++ line_text (closing_line depth)) }
+{
+    push_name(out, depth, b"}".as_slice())?;
+    out.push(b'\n')?;
+    Ok(())
+}
+
+// The line of a number.
+fn push_number_line(
+    alloc: Global,
+    out: &mut Vec<u8>,
+    depth: usize,
+    row: &FieldRow,
+    number: u64,
+) -> Result<(), Memory>
+    requires { depth < 2 ^ 62 }
+    ensures { OnOk result (out.new.items ≡ out.old.items ++ line_text (item_line depth row.now.name.now (number_text row.now.field.kind number))) }
+{
+    push_name(out, depth, row.name.as_bytes())?;
+    out.push(b' ')?;
+    push_number(alloc, out, row.field.kind, number)?;
+    out.push(b'\n')?;
+    Ok(())
+}
+
+// A string between quotes, or a label where it is the digest of an entry before.
+fn push_text(
+    alloc: Global,
+    out: &mut Vec<u8>,
+    labels: &Labels,
+    name: &str,
+    text: &[u8],
+) -> Result<(), Memory>
+    ensures { is_utf8 text.now ≡ true → OnOk result (out.new.items ≡ out.old.items ++ string_for labels.now name.now text.now) }
+{
+    if name == "digest" {
+        if let Ok(digest) = from_utf8(text) {
+            if let Some(entry) = labels.label_for(digest) {
+                return push_label(alloc, out, entry);
+            }
+        }
+    }
+    push_string(alloc, out, text)
+}
+
+// The line of a string or of bytes. An empty key or value of an entry of a map has none.
+fn push_held_line(
+    alloc: Global,
+    out: &mut Vec<u8>,
+    labels: &Labels,
+    depth: usize,
+    row: &FieldRow,
+    held: &[u8],
+) -> Result<(), Memory>
+    requires { depth < 2 ^ 62 }
+    ensures { IsBytesOf row.now.field.kind held.now → OnOk result
+        (out.new.items ≡ out.old.items ++ text_of_lines (held_lines labels.now depth (row_seen row.now) held.now)) }
+{
+    if row.field.of_entry && held.is_empty() {
+        return Ok(());
+    }
+    push_name(out, depth, row.name.as_bytes())?;
+    out.push(b' ')?;
+    if let FieldKind::String = row.field.kind {
+        push_text(alloc, out, labels, row.name, held)?;
+    } else {
+        push_bytes(alloc, out, held)?;
+    }
+    out.push(b'\n')?;
+    Ok(())
+}
+
+// The line of the extra bytes, where there are any.
+fn push_extra(alloc: Global, out: &mut Vec<u8>, depth: usize, extra: &[u8]) -> Result<(), Memory>
+    requires { depth < 2 ^ 62 }
+    ensures { OnOk result (out.new.items ≡ out.old.items ++ text_of_lines (extra_lines depth extra.now)) }
+{
+    if extra.is_empty() {
+        return Ok(());
+    }
+    push_name(out, depth, b"extra ".as_slice())?;
+    push_bytes(alloc, out, extra)?;
+    out.push(b'\n')?;
+    Ok(())
+}
+
+// Puts the lines of a message's canonical bytes at the end of a text.
+fn push_fields(
+    alloc: Global,
+    out: &mut Vec<u8>,
+    labels: &Labels,
+    message: MessageName,
+    depth: usize,
+    bytes: &[u8],
+) -> Result<(), Memory>
+    requires { depth + length bytes.now < 2 ^ 62 }
+    ensures { (last : ℕ) (set : Bool) (fs : Fields) → AreFields message last set fs → bytes.now ≡ bytes_of fs
+        → OnOk result (out.new.items ≡ out.old.items ++ text_of_lines (field_lines labels.now depth (without_empty fs))) }
+{
+    let mut rest = bytes;
+    while let Some(front) = front_of(rest) {
+        let Some(row) = field_numbered(message, front.number) else {
+            return push_extra(alloc, out, depth, rest);
+        };
+        match row.field.kind {
+            FieldKind::Message(inner) => {
+                push_opening(out, depth, row.name)?;
+                push_fields(alloc, out, labels, inner, depth + 1, front.payload)?;
+                push_closing(out, depth)?;
+            }
+            FieldKind::String | FieldKind::Bytes => {
+                push_held_line(alloc, out, labels, depth, &row, front.payload)?;
+            }
+            FieldKind::Int64
+            | FieldKind::Int32
+            | FieldKind::Uint32
+            | FieldKind::Enum
+            | FieldKind::Bool => push_number_line(alloc, out, depth, &row, front.value)?,
+        }
+        rest = front.after;
+    }
+    Ok(())
+}
+
+// Puts an op with these canonical bytes at the end of a text.
+fn push_op(alloc: Global, out: &mut Vec<u8>, labels: &Labels, bytes: &[u8]) -> Result<(), Memory>
+    requires { length bytes.now < 2 ^ 32 }
+    ensures { (fs : Fields) → AreFields named.Op 0 false fs → bytes.now ≡ bytes_of fs
+        → OnOk result (out.new.items ≡ out.old.items ++ text_of_lines
+        (item_line 0 (codes "op") opening ∷ (field_lines labels.now 1 (without_empty fs) ++ (closing_line 0 ∷ [])))) }
+{
+    push_opening(out, 0, "op")?;
+    push_fields(alloc, out, labels, MessageName::Op, 1, bytes)?;
+    push_closing(out, 0)
+}
+
+// Puts the bytes of an entry at the end of a text.
+fn push_raw(alloc: Global, out: &mut Vec<u8>, entry: &[u8]) -> Result<(), Memory>
+    ensures { OnOk result (out.new.items ≡ out.old.items ++ text_of_lines (entry_lines [] entry.now Form.raw)) }
+{
+    push_name(out, 0, b"raw ".as_slice())?;
+    push_bytes(alloc, out, entry)?;
+    out.push(b'\n')?;
+    Ok(())
+}
+
+// Whether an entry is the canonical bytes of the op that it is read as.
+fn is_structured(alloc: Global, entry: &[u8]) -> Result<bool, Memory>
+    ensures { IfOk result (λ yes. IsTrue yes ↔ IsStructured entry.now) }
+{
+    match read_op(alloc, entry) {
+        Err(OpFault::Memory) => Err(Memory),
+        Err(_) => Ok(false),
+        Ok(op) => {
+            let Ok(bytes) = write_op(alloc, &op) else {
+                return Err(Memory);
+            };
+            Ok(bytes.as_slice() == entry)
+        }
+    }
+}
+
+// The text of an entry.
+fn entry_text(alloc: Global, labels: &Labels, entry: &[u8]) -> Result<Vec<u8>, Memory>
+    ensures { (form : Form) → HasForm entry.now form → IfOk result (λ text. text.items ≡ text_of_lines (entry_lines labels.now entry.now form)) }
+{
+    let mut text = Vec::new(alloc);
+    if is_structured(alloc, entry)? {
+        push_op(alloc, &mut text, labels, entry)?;
+    } else {
+        push_raw(alloc, &mut text, entry)?;
+    }
+    Ok(text)
+}
+
+// Writes an entry to a sink.
+fn print_entry<W: Sink>(
+    alloc: Global,
+    labels: &Labels,
+    entry: &[u8],
+    out: &mut W,
+) -> Result<(), AsmFault>
+    ensures prints { (form : Form) → HasForm entry.now form → Prints (W.taken out.old) (W.taken out.new) (W.failed out.new)
+        (text_of_lines (entry_lines labels.now entry.now form)) result }
+    ensures same { W.lender out.new ≡ W.lender out.old }
+{
+    let Ok(text) = entry_text(alloc, labels, entry) else {
+        return Err(AsmFault::Memory);
+    };
+    match write_all(out, text.as_slice()) {
+        Err(_) => Err(AsmFault::Write),
+        Ok(()) => Ok(()),
+    }
+}
+
+// Each entry has a form.
+fn entries_have_forms(entries: &[Bytes])
+    ensures { (xs : List Formed) × AreFormed entries.now xs }
+{
+    for entry in entries {
+        entry_has_fields(entry.as_slice());
+    }
+}
+
+/// Writes the text of entries to a sink, one entry at a time: an entry that is the canonical bytes of an op as that op, field by field, else
+/// `raw` and its bytes.
+///
+/// 163 where memory is refused, 164 where the sink failed: a front of the text is out then.
+pub fn disassemble<W: Sink>(alloc: Global, entries: &Entries, out: &mut W) -> Result<(), AsmFault>
+    ensures prints { (xs : List Formed) → AreFormed entries.now xs → Prints (W.taken out.old) (W.taken out.new) (W.failed out.new) (plain_text xs) result }
+    ensures some { (xs : List Formed) × AreFormed entries.now xs }
+    ensures same { W.lender out.new ≡ W.lender out.old }
+{
+    entries_have_forms(entries.as_slice());
+    let mut labels = Labels::new(alloc);
+    for entry in entries.as_slice() {
+        print_entry(alloc, &labels, entry.as_slice(), out)?;
+        labels = labels.with(alloc, entry.as_slice())?;
+    }
+    Ok(())
+}
