@@ -1,11 +1,10 @@
 -- Each entry has a form, and how one more entry is written.
 use Rattle.std.proofs.Common.{◌≡◌, refl, sym, ap, subst, ◌∙◌, ℕ, ◌+◌, ◌<◌, Bool, true, false, cond, List, [], ◌∷◌, ◌++◌, map, drop, length, get_or}
-use Rattle.std.proofs.Common.{Option, Result, Ok, Err}
-use Rattle.std.proofs.Common.{append-nil, inl, inr, arith, true≢false, ◌≤◌, zero, suc}
+use Rattle.std.proofs.Common.{Option, Some, None, Result, Ok, Err}
+use Rattle.std.proofs.Common.{inl, inr, arith, true≢false, ◌≤◌, zero, suc}
 use Rattle.std.specs.Result.{IsErrAnd}
 use Rattle.std.specs.Io.KnownBytes.{Appends}
 use Rattle.std.proofs.Math.Numerals.{add-one}
-use Rattle.std.proofs.lemmas.List.{length-map, drop_all}
 use Rattle.llb_wire.specs.Sink.{PartOut, part_then, part_after}
 use Rattle.llb_asm.specs.declared.fault.AsmFault.{AsmFault}
 use Rattle.llb_asm.specs.declared.fault.AsmFault.TheVariants as fault
@@ -22,6 +21,7 @@ use Rattle.llb_ops.specs.Limits.{entry_limit}
 use Rattle.llb_ops.specs.Messages.{op_of, op_message_of}
 use Rattle.llb_ops.specs.Writing.{op_bytes}
 use Rattle.llb_ops.specs.Fields.{EntryHasFields}
+use Rattle.llb_asm.specs.Reading.{canonical_of}
 use Rattle.llb_asm.specs.Plain.{IsStructured, Form, structured, raw, HasForm, Formed, HaveForms, AreFormed, entry_lines, plain_lines, text_of_lines, line_text}
 
 -- ---- forms
@@ -47,6 +47,23 @@ other_bytes entry op is other (op', is', same) =
 
 not_read : (entry : List ℕ) (f : OpFault) → op_of entry ≡ Err f → ¬ IsStructured entry
 not_read entry f is (op, read, same) = no_op op f (sym read ∙ is)
+
+-- the canonical bytes of what is read of an entry tell whether it is so written
+pub structured_by : (entry bytes : List ℕ) (b : Bool) → Some bytes ≡ canonical_of (op_of entry) → b ≡ bytes_eq bytes entry
+    → (b ≡ true → IsStructured entry) × (IsStructured entry → b ≡ true)
+structured_by entry bytes b = go (op_of entry) refl
+  where
+    go : (o : Result Op OpFault) → op_of entry ≡ o → Some bytes ≡ canonical_of o → b ≡ bytes_eq bytes entry
+        → (b ≡ true → IsStructured entry) × (IsStructured entry → b ≡ true)
+    go (Err f) is some test = absurd cc
+    go (Ok op) is some test =
+        let same : bytes ≡ op_bytes op = cc in (
+          λ yes. (op, is, sym same ∙ (bytes_eq-Decides bytes entry).0 (sym test ∙ yes)),
+          λ (op', is', written). test ∙ (bytes_eq-Decides bytes entry).1 (same ∙ ap op_bytes (one_op op op' (sym is ∙ is')) ∙ written),
+        )
+
+pub unread_raw : (entry : List ℕ) → None ≡ canonical_of (op_of entry) → ¬ IsStructured entry
+unread_raw entry none (op, is, written) = let some : canonical_of (op_of entry) ≡ Some (op_bytes op) = ap canonical_of is in cc
 
 pub form_of : (entry : List ℕ) → EntryHasFields entry → (form : Form) × HasForm entry form
 form_of entry law = go (op_of entry) refl
@@ -116,12 +133,6 @@ module _ (text done : List ℕ) (labels : List (List ℕ)) (xs : List Formed) (k
       split ∙ ap (λ l. done ++ text_of_lines (plain_lines labels l)) next.is
       ∙ ap (λ l. done ++ l) (flat_map-append line_text (entry_lines labels entry next.form) (plain_lines (labels ++ digest_text entry ∷ []) (drop (k + 1) xs)))
 
-  -- where no entry is left, all is done
-  pub all_done : (entries : List (List ℕ)) → AreFormed entries xs → length entries ≤ k → text ≡ done
-  all_done entries are end =
-      let count : length xs ≡ length entries = sym (length-map xs (λ x. x.0)) ∙ ap length are.same in
-      split ∙ ap (λ l. done ++ text_of_lines (plain_lines labels l)) (drop_all k xs (omega arith)) ∙ append-nil done
-
 -- what is out where an entry is not
 pub stops_inside : (a b c : Option (List ℕ)) (failed : Bool) (text done line rest : List ℕ) → Appends a b done → text ≡ done ++ (line ++ rest) → (f : AsmFault)
     → Prints b c failed line (Err f) → (r : Result (Unit {0}) AsmFault) → IsErrAnd r (λ e. e ≡ f) → Prints a c failed text r
@@ -136,9 +147,3 @@ stops_inside a b c failed text done line rest before split f stopped (Err e) sam
     go fault.Write out = (out.0, part out.1)
     go (fault.Line n rule) out = absurd out
     go (fault.UnknownLabel n) out = absurd out
-
--- and where memory is refused behind it
-pub stops_between : (a b : Option (List ℕ)) (failed : Bool) (text done rest : List ℕ) → Appends a b done → text ≡ done ++ rest
-    → (r : Result (Unit {0}) AsmFault) → IsErrAnd r (λ e. e ≡ fault.Memory) → Prints a b failed text r
-stops_between a b failed text done rest before split (Ok u) same = absurd same
-stops_between a b failed text done rest before split (Err e) same = subst (λ x. Prints a b failed text (Err x)) (sym same) (done, rest, split, before)

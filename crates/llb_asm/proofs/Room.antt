@@ -1,19 +1,16 @@
 -- What is taken as an entry is within the limits.
-use Rattle.std.proofs.Common.{◌≡◌, ℕ, Bool, true, false, List, length, Result, Ok, Err, refl, sym, ap, ◌∙◌}
+use Rattle.std.proofs.Common.{◌≡◌, ℕ, Bool, true, false, List, length, Option, Some, None, Result, Ok, Err, refl, sym, ap, ◌∙◌}
 use Rattle.std.specs.Prelude.{nat_lt, ◌&&◌, if◌then◌else◌}
 use Rattle.llb_wire.specs.Answer.{◌>>=◌}
-use Rattle.llb_ops.specs.declared.fault.OpFault.{OpFault}
-use Rattle.llb_ops.specs.declared.op.Op.{Op}
 use Rattle.llb_ops.specs.Limits.{entries_limit}
 use Rattle.llb_ops.specs.Messages.{op_of}
-use Rattle.llb_ops.specs.Writing.{op_bytes}
 use Rattle.llb_asm.specs.declared.fault.Rule.TheVariants.{OverLimit}
 use Rattle.llb_asm.specs.declared.line.Refusal.{Refusal}
 use Rattle.llb_asm.specs.declared.line.Refusal.TheVariants.{Breaks}
 use Rattle.llb_asm.specs.declared.entry.Begun.{Begun}
 use Rattle.llb_asm.specs.declared.entry.Begun.TheVariants.{Raw}
 use Rattle.llb_asm.specs.Line.{parted, guard}
-use Rattle.llb_asm.specs.Reading.{is_within, begun_in, begun_by, begun_size, canonical_in, entry_in}
+use Rattle.llb_asm.specs.Reading.{is_within, begun_in, begun_by, begun_size, canonical_of, canonical_in, entry_in}
 
 second : (a b : Bool) → (a && b) ≡ true → b ≡ true
 second true b e = e
@@ -36,16 +33,16 @@ pub begun_room : (earlier : List (List ℕ)) (line bytes : List ℕ) → begun_i
 unfolding begun_in
 begun_room earlier line bytes same = guarded earlier (begun_by line (parted line)) bytes same
 
-canonical_room : (earlier : List (List ℕ)) (r : Result Op OpFault) (entry : List ℕ) → canonical_in earlier r ≡ Ok entry
+canonical_room : (earlier : List (List ℕ)) (o : Option (List ℕ)) (entry : List ℕ) → canonical_in earlier o ≡ Ok entry
     → is_within earlier (length entry) ≡ true
-canonical_room earlier (Err f) entry same = absurd cc
-canonical_room earlier (Ok op) entry same = go (is_within earlier (length (op_bytes op))) refl same
+canonical_room earlier None entry same = absurd cc
+canonical_room earlier (Some bytes) entry same = go (is_within earlier (length bytes)) refl same
   where
-    go : (t : Bool) → is_within earlier (length (op_bytes op)) ≡ t → (if t then Ok (op_bytes op) else Err (Breaks OverLimit)) ≡ Ok entry
+    go : (t : Bool) → is_within earlier (length bytes) ≡ t → (if t then Ok bytes else Err (Breaks OverLimit)) ≡ Ok entry
         → is_within earlier (length entry) ≡ true
     go false e same = absurd cc
-    go true e same = let is : op_bytes op ≡ entry = cc in ap (λ x. is_within earlier (length x)) (sym is) ∙ e
+    go true e same = let is : bytes ≡ entry = cc in ap (λ x. is_within earlier (length x)) (sym is) ∙ e
 
 pub entry_room : (earlier : List (List ℕ)) (records entry : List ℕ) → entry_in earlier records ≡ Ok entry → is_within earlier (length entry) ≡ true
 unfolding entry_in
-entry_room earlier records entry same = canonical_room earlier (op_of records) entry same
+entry_room earlier records entry same = canonical_room earlier (canonical_of (op_of records)) entry same

@@ -1,11 +1,12 @@
 -- How a string goes on behind its first byte, and how it ends.
-use Rattle.std.proofs.Common.{◌≡◌, ◌≢◌, ℕ, ◌-◌, ◌<◌, ◌≤◌, ◌&&◌, ◌||◌, ◌==◌, nat_lt, nat_eq, Bool, true, false, cond, ◌⊎◌, inl, inr, List, [], ◌∷◌}
+use Rattle.std.proofs.Common.{◌≡◌, ◌≢◌, ℕ, ◌+◌, ◌-◌, ◌<◌, ◌≤◌, ◌&&◌, ◌||◌, ◌==◌, nat_lt, nat_eq, Bool, true, false, cond, ◌⊎◌, inl, inr, List, [], ◌∷◌}
 use Rattle.std.proofs.Common.{◌++◌, length, get_or, take, drop, Option, Some, None, refl, sym, ap, ◌∙◌, arith, append_assoc, Bor}
 use Rattle.std.specs.Option.{option_map}
 use Rattle.std.specs.List.{flat_map}
 use Rattle.std.specs.Cmp.Lexicographic.{pointwise, bytes_decides}
 use Rattle.std.proofs.lemmas.Bool.{eq-eqb, ne_eqb, or_right}
-use Rattle.std.proofs.lemmas.List.{take_all, append-nil}
+use Rattle.std.proofs.lemmas.List.{take_all, take_more, append-nil}
+use Rattle.std.proofs.lemmas.Grind.{flat_map-append}
 use Rattle.llb_wire.specs.Hexadecimal.{is_lower}
 use Rattle.llb_asm.specs.Values.{Escape, closed, backslash, first, digit_of, after_it, where_so, string_from, string_in, string_text, escaped}
 use Rattle.llb_asm.specs.Values.{escape_of, Continues, Leads}
@@ -157,6 +158,15 @@ no_quote [] other = refl
 no_quote (b ∷ text) other = sym (ap (λ t. cond t (string_from closed text) None) (ne_eqb b 34 (other (omega arith))))
 
 -- ---- what is written
+
+pub string_more : (old now after s : List ℕ) (i : ℕ) → now ≡ old ++ (34 ∷ flat_map escaped (take i s)) → i < length s → after ≡ now ++ escaped (get_or s i 0)
+    → after ≡ old ++ (34 ∷ flat_map escaped (take (i + 1) s))
+string_more old now after s i is inside more =
+    let b = get_or s i 0 in
+    let front = flat_map escaped (take i s) in
+    let whole : flat_map escaped (take (i + 1) s) ≡ front ++ escaped b =
+    ap (λ l. flat_map escaped l) (take_more s i 0 inside) ∙ flat_map-append escaped (take i s) (b ∷ []) ∙ ap (λ t. front ++ t) (append-nil (escaped b)) in
+    more ∙ ap (λ t. t ++ escaped b) is ∙ append_assoc old (34 ∷ front) (escaped b) ∙ ap (λ t. old ++ (34 ∷ t)) (sym whole)
 
 pub string_done : (old now after s : List ℕ) (i : ℕ) → now ≡ old ++ (34 ∷ flat_map escaped (take i s)) → length s ≤ i → after ≡ now ++ 34 ∷ []
     → after ≡ old ++ string_text s

@@ -64,11 +64,17 @@ labelled_record labels f k = labelled labels k >>= λ s. Ok (bytes_record f s)
 abbrev pub string_record : List (List ℕ) → Row → List ℕ → Result Held Refusal
 string_record labels row text = string_of labels row.0 text >>= λ s. Ok (bytes_record row.1 s)
 
+abbrev pub spelled_record : NamedField → List ℕ → Result Held Refusal
+spelled_record f text = or_else (Breaks BadValue) (option_map (bytes_record f) (bytes_spelled text))
+
+abbrev pub opening_in : NamedField → MessageName → List ℕ → Result Held Refusal
+opening_in f m text = if is_text text (codes "{") then Ok (Opens f.number m) else Err (Breaks BadValue)
+
 -- what the value of a field is spelled as
 abbrev pub held_by : List (List ℕ) → Row → FieldKind → List ℕ → Result Held Refusal
-held_by labels row (kind.Message m) text = if is_text text (codes "{") then Ok (Opens row.1.number m) else Err (Breaks BadValue)
+held_by labels row (kind.Message m) text = opening_in row.1 m text
 held_by labels row kind.String text = string_record labels row text
-held_by labels row kind.Bytes text = or_else (Breaks BadValue) (option_map (bytes_record row.1) (bytes_spelled text))
+held_by labels row kind.Bytes text = spelled_record row.1 text
 held_by labels row kind.Int64 text = or_else (Breaks BadValue) (option_map (number_record row.1) (number_in kind.Int64 text))
 held_by labels row kind.Int32 text = or_else (Breaks BadValue) (option_map (number_record row.1) (number_in kind.Int32 text))
 held_by labels row kind.Uint32 text = or_else (Breaks BadValue) (option_map (number_record row.1) (number_in kind.Uint32 text))

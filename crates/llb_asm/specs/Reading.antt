@@ -138,13 +138,19 @@ begun_in earlier line = do
   _ ← guard (Breaks OverLimit) (nat_lt (length earlier) entries_limit && is_within earlier (begun_size b))
   Ok b
 
--- the canonical bytes of the op that the records are, within the limits
-abbrev pub canonical_in : List (List ℕ) → Result Op OpFault → Result (List ℕ) Refusal
-canonical_in earlier (Err f) = Err (Breaks OverLimit)
-canonical_in earlier (Ok op) = if is_within earlier (length (op_bytes op)) then Ok (op_bytes op) else Err (Breaks OverLimit)
+-- the canonical bytes of what is read as an op
+abbrev pub canonical_of : Result Op OpFault → Option (List ℕ)
+canonical_of (Err f) = None
+canonical_of (Ok op) = Some (op_bytes op)
 
+-- within the limits
+abbrev pub canonical_in : List (List ℕ) → Option (List ℕ) → Result (List ℕ) Refusal
+canonical_in earlier None = Err (Breaks OverLimit)
+canonical_in earlier (Some entry) = if is_within earlier (length entry) then Ok entry else Err (Breaks OverLimit)
+
+-- the canonical bytes of the op that the records are, within the limits
 unfoldable pub entry_in : List (List ℕ) → List ℕ → Result (List ℕ) Refusal
-entry_in earlier records = canonical_in earlier (op_of records)
+entry_in earlier records = canonical_in earlier (canonical_of (op_of records))
 
 abbrev pub labels_of : List (List ℕ) → List (List ℕ)
 labels_of earlier = map digest_text earlier

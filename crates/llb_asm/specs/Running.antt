@@ -18,7 +18,6 @@ use Rattle.llb_asm.specs.declared.open.Frame.{Frame}
 use Rattle.llb_asm.specs.declared.open.Open.{Open}
 use Rattle.llb_asm.specs.declared.open.Closed.{Closed}
 use Rattle.llb_asm.specs.declared.open.Closed.TheVariants.{Whole, Still}
-use Rattle.llb_asm.specs.declared.assembling.Progress.{Progress as Reached}
 use Rattle.llb_asm.specs.Values.{is_text}
 use Rattle.llb_asm.specs.Lines.{Line}
 use Rattle.llb_asm.specs.Line.{inside}
@@ -90,12 +89,9 @@ with_begun earlier Structured = amid earlier at_front
 abbrev pub progress_of : List (List ℕ) → Option Open → Progress
 progress_of earlier current = record { earlier = earlier; current = option_map seen current }
 
-abbrev pub so_far : Reached → Progress
-so_far p = progress_of p.earlier p.current
-
-abbrev pub progresses : Result Reached Refusal → Result Progress Refusal
-progresses (Ok p) = Ok (so_far p)
-progresses (Err e) = Err e
+abbrev pub progresses : List (List ℕ) → Result (Option Open) Refusal → Result Progress Refusal
+progresses earlier (Ok current) = Ok (progress_of earlier current)
+progresses earlier (Err e) = Err e
 
 -- the message at hand ends
 abbrev pub closed_on : List (List ℕ) → List ℕ → List Frame → Result Progress Refusal
@@ -134,6 +130,11 @@ Gives (Err (fault.Line n rule)) r = r ≡ Err (n, Breaks rule)
 Gives (Err (fault.UnknownLabel n)) r = r ≡ Err (n, UnknownLabel)
 Gives (Err fault.Memory) r = Unit {0}
 Gives (Err fault.Write) r = ⊥
+
+-- the answer with the entries that are reached
+abbrev pub reached : List (List ℕ) → Result (Unit {0}) AsmFault → Result (List (List ℕ)) AsmFault
+reached entries (Ok u) = Ok entries
+reached entries (Err f) = Err f
 
 -- the fault of a line that is refused
 abbrev pub fault_at : ℕ → Refusal → AsmFault

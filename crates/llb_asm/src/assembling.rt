@@ -3,7 +3,7 @@
 ghost use Rattle.std.specs.Prelude.{◌≡◌, IfOk, []};
 ghost use Rattle.llb_asm.specs.Lines.{kept};
 ghost use Rattle.llb_asm.specs.Reading.{Assembles};
-ghost use Rattle.llb_asm.specs.Running.{progresses, so_far, seen, step_of, step_in, closed_on, run_from, between, fault_at, Gives};
+ghost use Rattle.llb_asm.specs.Running.{progresses, progress_of, seen, step_of, step_in, closed_on, run_from, between, fault_at, Gives, reached};
 
 use crate::earlier::Earlier;
 use crate::entry::{Begun, begun_in, entry_in};
@@ -14,13 +14,6 @@ use crate::open::{Closed, Open};
 use llb_ops::Entries;
 use llb_wire::Memory;
 use std::alloc::Global;
-
-/// The entries that are whole, and the op that is open.
-#[derive(Drop)]
-pub struct Progress {
-    pub earlier: Earlier,
-    pub current: Option<Open>,
-}
 
 impl Refusal {
     /// The fault of the line of that number.
@@ -35,87 +28,84 @@ impl Refusal {
 }
 
 #[tactic(auto, using(crate::proofs::Room::begun_room))]
-/// A line between entries.
-fn begin(alloc: Global, earlier: Earlier, line: &[u8]) -> Result<Result<Progress, Refusal>, Memory>
-    ensures { IfOk result (λ r. progresses r ≡ step_of (between earlier) line.now) }
+/// A line between entries: the op that it opens, if any.
+fn begin(
+    alloc: Global,
+    earlier: &mut Earlier,
+    line: &[u8],
+) -> Result<Result<Option<Open>, Refusal>, Memory>
+    ensures { IfOk result (λ r. progresses earlier.new r ≡ step_of (between earlier.old) line.now) }
 {
-    match begun_in(alloc, &earlier, line)? {
+    match begun_in(alloc, earlier, line)? {
         Err(refusal) => Ok(Err(refusal)),
-        Ok(Begun::Raw(bytes)) => Ok(Ok(Progress {
-            earlier: earlier.with(alloc, bytes)?,
-            current: None,
-        })),
-        Ok(Begun::Structured) => Ok(Ok(Progress {
-            earlier,
-            current: Some(Open::new(alloc)),
-        })),
+        Ok(Begun::Structured) => Ok(Ok(Some(Open::new(alloc)))),
+        Ok(Begun::Raw(bytes)) => {
+            earlier.push(alloc, bytes)?;
+            Ok(Ok(None))
+        }
     }
 }
 
 #[tactic(auto, using(crate::proofs::Room::entry_room))]
-/// The closing line of the message at hand.
+/// The closing line of the message at hand: the op that is still open, if any.
 fn close(
     alloc: Global,
-    earlier: Earlier,
+    earlier: &mut Earlier,
     current: Open,
-) -> Result<Result<Progress, Refusal>, Memory>
-    ensures { IfOk result (λ r. progresses r ≡ closed_on earlier (seen current).bytes (seen current).below) }
+) -> Result<Result<Option<Open>, Refusal>, Memory>
+    ensures { IfOk result (λ r. progresses earlier.new r ≡ closed_on earlier.old (seen current).bytes (seen current).below) }
 {
     match current.close()? {
-        Closed::Still(open) => Ok(Ok(Progress {
-            earlier,
-            current: Some(open),
-        })),
-        Closed::Whole(records) => match entry_in(alloc, &earlier, records.as_slice())? {
+        Closed::Still(open) => Ok(Ok(Some(open))),
+        Closed::Whole(records) => match entry_in(alloc, earlier, records.as_slice())? {
             Err(refusal) => Ok(Err(refusal)),
-            Ok(entry) => Ok(Ok(Progress {
-                earlier: earlier.with(alloc, entry)?,
-                current: None,
-            })),
+            Ok(entry) => {
+                earlier.push(alloc, entry)?;
+                Ok(Ok(None))
+            }
         },
     }
 }
 
-/// A line in an op.
+/// A line in an op: the op that is open behind it, if any.
 fn go_on(
     alloc: Global,
-    earlier: Earlier,
+    earlier: &mut Earlier,
     current: Open,
     line: &[u8],
-) -> Result<Result<Progress, Refusal>, Memory>
-    ensures { IfOk result (λ r. progresses r ≡ step_in earlier (seen current) line.now) }
+) -> Result<Result<Option<Open>, Refusal>, Memory>
+    ensures { IfOk result (λ r. progresses earlier.new r ≡ step_in earlier.old (seen current) line.now) }
 {
     if line == b"}".as_slice() {
         return close(alloc, earlier, current);
     }
-    match current.item_at(alloc, &earlier, line)? {
+    match current.item_at(alloc, earlier, line)? {
         Err(refusal) => Ok(Err(refusal)),
-        Ok(item) => Ok(Ok(Progress {
-            earlier,
-            current: Some(current.with_item(alloc, item)?),
-        })),
+        Ok(item) => Ok(Ok(Some(current.with_item(alloc, item)?))),
     }
 }
 
-fn step(alloc: Global, progress: Progress, line: &[u8]) -> Result<Result<Progress, Refusal>, Memory>
-    ensures { IfOk result (λ r. progresses r ≡ step_of (so_far progress) line.now) }
+/// A line: the op that is open behind it, if any.
+fn step(
+    alloc: Global,
+    earlier: &mut Earlier,
+    current: Option<Open>,
+    line: &[u8],
+) -> Result<Result<Option<Open>, Refusal>, Memory>
+    ensures { IfOk result (λ r. progresses earlier.new r ≡ step_of (progress_of earlier.old current) line.now) }
 {
-    let Progress { earlier, current } = progress;
     match current {
         None => begin(alloc, earlier, line),
         Some(current) => go_on(alloc, earlier, current, line),
     }
 }
 
-/// The entries that the lines of a text lead to, one after another.
+/// The entries that the lines of a text lead to, behind those that are there.
 #[tactic(auto, unfolding(crate::specs::Running::run_from))]
-fn run_lines(alloc: Global, text: &[u8]) -> Result<Entries, AsmFault>
-    ensures { Gives result (run_from 0 (between []) (kept text.now)) }
+fn read_lines(alloc: Global, earlier: &mut Earlier, text: &[u8]) -> Result<(), AsmFault>
+    ensures { Gives (reached earlier.new result) (run_from 0 (between earlier.old) (kept text.now)) }
 {
-    let mut progress = Progress {
-        earlier: Earlier::new(alloc),
-        current: None,
-    };
+    let mut current = None;
     let mut number: u64 = 0;
     let mut last: u64 = 0;
     for line in text.split(|b| *b == b'\n') {
@@ -123,16 +113,25 @@ fn run_lines(alloc: Global, text: &[u8]) -> Result<Entries, AsmFault>
         let line = stripped(line);
         if !is_dropped(line) {
             last = number;
-            match step(alloc, progress, line)? {
+            match step(alloc, earlier, current, line)? {
                 Err(refusal) => return Err(refusal.at(number)),
-                Ok(next) => progress = next,
+                Ok(next) => current = next,
             }
         }
     }
-    if progress.current.is_some() {
+    if current.is_some() {
         return Err(AsmFault::Line(last, Rule::Unclosed));
     }
-    Ok(Entries::new(progress.earlier.into_entries()))
+    Ok(())
+}
+
+/// The entries that the lines of a text lead to, one after another.
+fn run_lines(alloc: Global, text: &[u8]) -> Result<Entries, AsmFault>
+    ensures { Gives result (run_from 0 (between []) (kept text.now)) }
+{
+    let mut earlier = Earlier::new(alloc);
+    read_lines(alloc, &mut earlier, text)?;
+    Ok(Entries::new(earlier.into_entries()))
 }
 
 /// The entries that a text stands for.

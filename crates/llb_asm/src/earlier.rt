@@ -1,13 +1,13 @@
 //! The entries that are whole, with the texts of their digests and how much room they leave.
 
-ghost use Rattle.std.specs.Prelude.{◌≡◌, ◌+◌, ◌++◌, ◌∷◌, ◌≤◌, [], IfOk, length, true, not, nat_lt};
+ghost use Rattle.std.specs.Prelude.{◌≡◌, ◌+◌, ◌++◌, ◌∷◌, ◌≤◌, [], OnOk, length, true, not, nat_lt};
 ghost use Rattle.llb_wire.specs.Spelling.{shortest, varint_text};
 ghost use Rattle.llb_ops.specs.Limits.{entry_limit, entries_limit};
 ghost use Rattle.llb_asm.specs.Reading.{record_length, is_within, labels_of};
 
+use crate::labels::digest_of;
 use llb_ops::{DEFINITION_LIMIT, ENTRIES_LIMIT, ENTRY_LIMIT};
-use llb_wire::{Bytes, Memory, Text, text_of_digest};
-use sha2::{Digest, Sha256};
+use llb_wire::{Bytes, Memory, Text};
 use std::alloc::Global;
 use std::marker::Model;
 
@@ -87,23 +87,17 @@ impl Earlier {
     }
 
     /// Puts an entry behind them.
-    pub(crate) fn with(self, alloc: Global, entry: Bytes) -> Result<Earlier, Memory>
-        requires { is_within self (length entry) ≡ true }
-        ensures { IfOk result (λ e. e ≡ self ++ entry ∷ []) }
+    pub(crate) fn push(&mut self, alloc: Global, entry: Bytes) -> Result<(), Memory>
+        requires { is_within self.old (length entry) ≡ true }
+        ensures { OnOk result (self.new ≡ self.old ++ entry ∷ []) }
     {
-        let Earlier {
-            mut entries,
-            mut labels,
-            size,
-        } = self;
-        let length = record_length(1, entry.as_slice().len());
-        labels.push(text_of_digest(alloc, &Sha256::digest(entry.as_slice()))?)?;
-        entries.push(entry)?;
-        Ok(Earlier {
-            entries,
-            labels,
-            size: size + length,
-        })
+        let label = digest_of(alloc, entry.as_slice())?;
+        self.labels.reserve(1)?;
+        self.entries.reserve(1)?;
+        self.size += record_length(1, entry.as_slice().len());
+        self.labels.push_reserved(label);
+        self.entries.push_reserved(entry);
+        Ok(())
     }
 
     /// Gives the entries back.

@@ -2,13 +2,15 @@
 
 ghost use Rattle.std.specs.Prelude.{◌≡◌, IfOk};
 ghost use Rattle.llb_asm.specs.Line.{parted};
-ghost use Rattle.llb_asm.specs.Reading.{begun_by, begun_in, entry_in};
+ghost use Rattle.llb_ops.specs.Messages.{op_of};
+ghost use Rattle.llb_ops.specs.Writing.{op_bytes};
+ghost use Rattle.llb_asm.specs.Reading.{begun_by, begun_in, canonical_of, entry_in};
 
 use crate::earlier::Earlier;
 use crate::fault::Rule;
 use crate::line::{Refusal, parted};
 use crate::values::bytes_spelled;
-use llb_ops::{OpFault, read_op, write_op};
+use llb_ops::{Op, OpFault, read_op, write_op};
 use llb_wire::{Bytes, Memory};
 use std::alloc::Global;
 
@@ -62,6 +64,27 @@ pub(crate) fn begun_in(
     }
 }
 
+/// The canonical bytes of the op that some bytes are read as, where they are read as one.
+pub(crate) fn canonical(alloc: Global, bytes: &[u8]) -> Result<Option<Bytes>, Memory>
+    ensures { IfOk result (λ o. o ≡ canonical_of (op_of bytes.now)) }
+{
+    match read_op(alloc, bytes) {
+        Err(OpFault::Memory) => Err(Memory),
+        Err(_) => Ok(None),
+        Ok(op) => written(alloc, op),
+    }
+}
+
+/// The canonical bytes of an op.
+fn written(alloc: Global, op: Op) -> Result<Option<Bytes>, Memory>
+    ensures { IfOk result (λ o. o ≡ Some (op_bytes op)) }
+{
+    match write_op(alloc, &op) {
+        Err(_) => Err(Memory),
+        Ok(bytes) => Ok(Some(bytes)),
+    }
+}
+
 /// The canonical bytes of the op that the records are; refused where they are past the limits.
 #[tactic(auto, unfolding(crate::specs::Reading::entry_in))]
 pub(crate) fn entry_in(
@@ -71,17 +94,8 @@ pub(crate) fn entry_in(
 ) -> Result<Result<Bytes, Refusal>, Memory>
     ensures { IfOk result (λ r. r ≡ entry_in earlier.now records.now) }
 {
-    match read_op(alloc, records) {
-        Err(OpFault::Memory) => Err(Memory),
-        Err(_) => Ok(Err(Refusal::Breaks(Rule::OverLimit))),
-        Ok(op) => {
-            let Ok(entry) = write_op(alloc, &op) else {
-                return Err(Memory);
-            };
-            if earlier.has_room(entry.as_slice().len()) {
-                return Ok(Ok(entry));
-            }
-            Ok(Err(Refusal::Breaks(Rule::OverLimit)))
-        }
+    match canonical(alloc, records)? {
+        Some(entry) if earlier.has_room(entry.as_slice().len()) => Ok(Ok(entry)),
+        _ => Ok(Err(Refusal::Breaks(Rule::OverLimit))),
     }
 }

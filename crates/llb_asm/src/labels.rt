@@ -1,7 +1,8 @@
 //! The labels of the entries before: the texts of their digests, found through an index.
 
-ghost use Rattle.std.specs.Prelude.{◌≡◌, ◌++◌, ◌∷◌, [], IfOk};
+ghost use Rattle.std.specs.Prelude.{◌≡◌, ◌++◌, ◌∷◌, [], IfOk, OnOk, OnErr};
 ghost use Rattle.llb_wire.specs.Digest.{digest_text};
+ghost use Rattle.llb_asm.specs.Labels.{IsIndex};
 ghost use Rattle.llb_asm.specs.Plain.{label_for};
 
 use indexmap::IndexMap;
@@ -9,6 +10,25 @@ use llb_wire::{Memory, Text, text_of_digest};
 use sha2::{Digest, Sha256};
 use std::alloc::Global;
 use std::marker::Model;
+
+/// The text of an entry's digest.
+pub(crate) fn digest_of(alloc: Global, entry: &[u8]) -> Result<Text, Memory>
+    ensures { IfOk result (λ text. text ≡ digest_text entry.now) }
+{
+    text_of_digest(alloc, &Sha256::digest(entry))
+}
+
+/// Puts a text behind those that an index finds, where it isn't one of them.
+fn learn(first: &mut IndexMap<String, u64>, texts: &[Text], text: &Text) -> Result<(), Memory>
+    requires { IsIndex texts.now first.old }
+    ensures learnt { OnOk result (IsIndex (texts.now ++ text.now ∷ []) first.new) }
+    ensures kept { OnErr result (IsIndex texts.now first.new) }
+{
+    if first.get(text.as_str()).is_none() {
+        first.insert(text.copy()?.into_string(), texts.len() as u64)?;
+    }
+    Ok(())
+}
 
 /// The labels of the entries before. Contracts see the texts of their digests, in order.
 #[derive(Drop)]
@@ -47,19 +67,14 @@ impl Labels {
         self.first.get(digest).copied()
     }
 
-    /// The labels with that of an entry behind them.
-    pub(crate) fn with(self, alloc: Global, entry: &[u8]) -> Result<Labels, Memory>
-        ensures { IfOk result (λ labels. labels ≡ self ++ digest_text entry.now ∷ []) }
+    /// Puts the label of an entry behind them.
+    pub(crate) fn push(&mut self, alloc: Global, entry: &[u8]) -> Result<(), Memory>
+        ensures { OnOk result (self.new ≡ self.old ++ digest_text entry.now ∷ []) }
     {
-        let Labels {
-            mut texts,
-            mut first,
-        } = self;
-        let text = text_of_digest(alloc, &Sha256::digest(entry))?;
-        if first.get(text.as_str()).is_none() {
-            first.insert(text.copy()?.into_string(), texts.len() as u64)?;
-        }
-        texts.push(text)?;
-        Ok(Labels { texts, first })
+        let text = digest_of(alloc, entry)?;
+        self.texts.reserve(1)?;
+        learn(&mut self.first, self.texts.as_slice(), &text)?;
+        self.texts.push_reserved(text);
+        Ok(())
     }
 }

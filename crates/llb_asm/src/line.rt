@@ -7,7 +7,7 @@ ghost use Rattle.llb_ops.specs.Table.{row_seen, row_named};
 ghost use Rattle.llb_ops.specs.Writing.{set_number, set_bytes};
 ghost use Rattle.llb_ops.specs.Fields.{may_follow, may_be_empty};
 ghost use Rattle.llb_asm.specs.Line.{parted, inside, held_in, held_by, extra_in, field_in, line_in, follows, has_room, behind, at_end, number_record};
-ghost use Rattle.llb_asm.specs.Line.{bytes_record, string_record, labelled_record};
+ghost use Rattle.llb_asm.specs.Line.{bytes_record, string_record, labelled_record, spelled_record, opening_in};
 
 use crate::fault::Rule;
 use crate::lines::is_text;
@@ -146,12 +146,19 @@ fn may_be_empty(field: NamedField) -> bool
     field.member || field.repeated || field.of_entry
 }
 
+/// A value that is 0 or empty is left out where it may not be so.
+fn is_left_out(field: NamedField, is_default: bool) -> bool
+    ensures { result ≡ is_default && not (may_be_empty field) }
+{
+    is_default && !may_be_empty(field)
+}
+
 #[tactic(auto, using(crate::proofs::Records::number_spelled))]
 fn number_record(alloc: Global, field: NamedField, value: u64) -> Result<Held, Memory>
     ensures { IfOk result (λ h. h ≡ number_record field value) }
 {
     let mut out = Vec::new(alloc);
-    if value != 0 || may_be_empty(field) {
+    if !is_left_out(field, value == 0) {
         write_varint(8 * u64::from(field.number), &mut out)?;
         write_varint(value, &mut out)?;
     }
@@ -173,7 +180,7 @@ fn bytes_record(alloc: Global, field: NamedField, bytes: &[u8]) -> Result<Held, 
     ensures { IfOk result (λ h. h ≡ bytes_record field bytes.now) }
 {
     let mut out = Vec::new(alloc);
-    if !bytes.is_empty() || may_be_empty(field) {
+    if !is_left_out(field, bytes.is_empty()) {
         put_bytes(&mut out, field.number, bytes)?;
     }
     Ok(Held::Record(Bytes::new(out)))
@@ -213,6 +220,28 @@ fn string_record(
     }
 }
 
+fn spelled_record(
+    alloc: Global,
+    field: NamedField,
+    text: &[u8],
+) -> Result<Result<Held, Refusal>, Memory>
+    ensures { IfOk result (λ r. r ≡ spelled_record field text.now) }
+{
+    match bytes_spelled(alloc, text)? {
+        None => Ok(Err(Refusal::Breaks(Rule::BadValue))),
+        Some(bytes) => Ok(Ok(bytes_record(alloc, field, bytes.as_slice())?)),
+    }
+}
+
+fn opening_in(field: NamedField, message: MessageName, text: &[u8]) -> Result<Held, Refusal>
+    ensures { result ≡ opening_in field message text.now }
+{
+    if text == b"{".as_slice() {
+        return Ok(Held::Opens(field.number, message));
+    }
+    Err(Refusal::Breaks(Rule::BadValue))
+}
+
 /// What the value of a field is spelled as.
 #[tactic(auto, unfolding(crate::specs::Line::held_in))]
 fn held_in(
@@ -223,24 +252,15 @@ fn held_in(
 ) -> Result<Result<Held, Refusal>, Memory>
     ensures { IfOk result (λ r. r ≡ held_in labels.now (row_seen row.now) text.now) }
 {
-    let held = match row.field.kind {
-        FieldKind::String => return string_record(alloc, labels, row, text),
-        FieldKind::Message(message) => {
-            if text != b"{".as_slice() {
-                return Ok(Err(Refusal::Breaks(Rule::BadValue)));
-            }
-            Held::Opens(row.field.number, message)
-        }
-        FieldKind::Bytes => match bytes_spelled(alloc, text)? {
-            None => return Ok(Err(Refusal::Breaks(Rule::BadValue))),
-            Some(bytes) => bytes_record(alloc, row.field, bytes.as_slice())?,
-        },
+    match row.field.kind {
+        FieldKind::String => string_record(alloc, labels, row, text),
+        FieldKind::Message(message) => Ok(opening_in(row.field, message, text)),
+        FieldKind::Bytes => spelled_record(alloc, row.field, text),
         kind => match number_in(kind, text) {
-            None => return Ok(Err(Refusal::Breaks(Rule::BadValue))),
-            Some(number) => number_record(alloc, row.field, number)?,
+            None => Ok(Err(Refusal::Breaks(Rule::BadValue))),
+            Some(number) => Ok(Ok(number_record(alloc, row.field, number)?)),
         },
-    };
-    Ok(Ok(held))
+    }
 }
 
 /// What the line of the extra bytes adds.

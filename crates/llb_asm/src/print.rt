@@ -3,22 +3,21 @@
 ghost use Rattle.std.specs.Prelude.{◌≡◌, ◌<◌, ◌+◌, ◌*◌, ◌++◌, ◌∷◌, [], ◌^◌, ◌↔◌, ℕ, Bool, List, length, codes, replicate, OnOk, IfOk, IfSome, IsTrue};
 ghost use Rattle.std.specs.Prelude.{true, false};
 ghost use Rattle.std.specs.Str.{is_utf8};
+ghost use Rattle.llb_wire.specs.Digest.{digest_text};
 ghost use Rattle.llb_ops.specs.Fields.{Fields, AreFields, IsBytesOf, bytes_of, without_empty};
 ghost use Rattle.llb_ops.specs.Limits.{entry_limit};
 ghost use Rattle.llb_ops.specs.Table.{row_seen};
 ghost use Rattle.llb_ops.specs.declared.table.MessageName.TheVariants as named;
 ghost use Rattle.llb_asm.specs.Values.{number_text};
-ghost use Rattle.llb_asm.specs.Plain.{string_for, item_line, closing_line, opening, extra_lines, field_lines, line_text, text_of_lines};
-ghost use Rattle.llb_asm.specs.Plain.{IsStructured, Form, HasForm, entry_lines, Formed, AreFormed, plain_text};
+ghost use Rattle.llb_asm.specs.Plain.{string_for, held_text, item_line, closing_line, opening, extra_lines, field_lines, line_text, text_of_lines};
+ghost use Rattle.llb_asm.specs.Plain.{IsStructured, Form, HasForm, entry_lines, Formed, AreFormed, plain_lines, plain_text};
 ghost use Rattle.llb_asm.specs.Printing.{Prints, Finds, held_lines};
 
+use crate::entry::canonical;
 use crate::fault::AsmFault;
 use crate::labels::Labels;
 use crate::values::{push_bytes, push_label, push_number, push_string};
-use llb_ops::{
-    Entries, FieldKind, FieldRow, MessageName, OpFault, entry_has_fields, field_numbered, read_op,
-    write_op,
-};
+use llb_ops::{Entries, FieldKind, FieldRow, MessageName, entry_has_fields, field_numbered};
 use llb_wire::{Bytes, Memory, Sink, next_record, write_all};
 use std::alloc::Global;
 use std::str::from_utf8;
@@ -123,6 +122,23 @@ fn push_text(
     push_string(alloc, out, text)
 }
 
+// A string or bytes.
+fn push_held(
+    alloc: Global,
+    out: &mut Vec<u8>,
+    labels: &Labels,
+    row: &FieldRow,
+    held: &[u8],
+) -> Result<(), Memory>
+    ensures { IsBytesOf row.now.field.kind held.now → OnOk result
+        (out.new.items ≡ out.old.items ++ held_text row.now.field.kind labels.now row.now.name.now held.now) }
+{
+    match row.field.kind {
+        FieldKind::String => push_text(alloc, out, labels, row.name, held),
+        _ => push_bytes(alloc, out, held),
+    }
+}
+
 // The line of a string or of bytes. An empty key or value of an entry of a map has none.
 fn push_held_line(
     alloc: Global,
@@ -141,11 +157,7 @@ fn push_held_line(
     }
     push_name(out, depth, row.name.as_bytes())?;
     out.push(b' ')?;
-    if let FieldKind::String = row.field.kind {
-        push_text(alloc, out, labels, row.name, held)?;
-    } else {
-        push_bytes(alloc, out, held)?;
-    }
+    push_held(alloc, out, labels, row, held)?;
     out.push(b'\n')?;
     Ok(())
 }
@@ -228,15 +240,9 @@ fn push_raw(alloc: Global, out: &mut Vec<u8>, entry: &[u8]) -> Result<(), Memory
 fn is_structured(alloc: Global, entry: &[u8]) -> Result<bool, Memory>
     ensures { IfOk result (λ yes. IsTrue yes ↔ IsStructured entry.now) }
 {
-    match read_op(alloc, entry) {
-        Err(OpFault::Memory) => Err(Memory),
-        Err(_) => Ok(false),
-        Ok(op) => {
-            let Ok(bytes) = write_op(alloc, &op) else {
-                return Err(Memory);
-            };
-            Ok(bytes.as_slice() == entry)
-        }
+    match canonical(alloc, entry)? {
+        Some(bytes) => Ok(bytes.as_slice() == entry),
+        None => Ok(false),
     }
 }
 
@@ -253,24 +259,52 @@ fn entry_text(alloc: Global, labels: &Labels, entry: &[u8]) -> Result<Vec<u8>, M
     Ok(text)
 }
 
+// The text of an entry, whose label is put behind those of the entries before.
+fn labelled_text(alloc: Global, labels: &mut Labels, entry: &[u8]) -> Result<Vec<u8>, Memory>
+    ensures text { (form : Form) → HasForm entry.now form → IfOk result (λ text. text.items ≡ text_of_lines (entry_lines labels.old entry.now form)) }
+    ensures labels { OnOk result (labels.new ≡ labels.old ++ digest_text entry.now ∷ []) }
+{
+    let text = entry_text(alloc, labels, entry)?;
+    labels.push(alloc, entry)?;
+    Ok(text)
+}
+
 // Writes an entry to a sink.
 fn print_entry<W: Sink>(
     alloc: Global,
-    labels: &Labels,
-    entry: &[u8],
+    labels: &mut Labels,
+    entry: &Bytes,
     out: &mut W,
 ) -> Result<(), AsmFault>
     ensures prints { (form : Form) → HasForm entry.now form → Prints (W.taken out.old) (W.taken out.new) (W.failed out.new)
-        (text_of_lines (entry_lines labels.now entry.now form)) result }
+        (text_of_lines (entry_lines labels.old entry.now form)) result }
+    ensures labels { OnOk result (labels.new ≡ labels.old ++ digest_text entry.now ∷ []) }
     ensures same { W.lender out.new ≡ W.lender out.old }
 {
-    let Ok(text) = entry_text(alloc, labels, entry) else {
+    let Ok(text) = labelled_text(alloc, labels, entry.as_slice()) else {
         return Err(AsmFault::Memory);
     };
     match write_all(out, text.as_slice()) {
         Err(_) => Err(AsmFault::Write),
         Ok(()) => Ok(()),
     }
+}
+
+// Writes entries to a sink.
+fn print_entries<W: Sink>(
+    alloc: Global,
+    labels: &mut Labels,
+    entries: &[Bytes],
+    out: &mut W,
+) -> Result<(), AsmFault>
+    ensures prints { (xs : List Formed) → AreFormed entries.now xs → Prints (W.taken out.old) (W.taken out.new) (W.failed out.new)
+        (text_of_lines (plain_lines labels.old xs)) result }
+    ensures same { W.lender out.new ≡ W.lender out.old }
+{
+    for entry in entries {
+        print_entry(alloc, labels, entry, out)?;
+    }
+    Ok(())
 }
 
 // Each entry has a form.
@@ -293,9 +327,5 @@ pub fn disassemble<W: Sink>(alloc: Global, entries: &Entries, out: &mut W) -> Re
 {
     entries_have_forms(entries.as_slice());
     let mut labels = Labels::new(alloc);
-    for entry in entries.as_slice() {
-        print_entry(alloc, &labels, entry.as_slice(), out)?;
-        labels = labels.with(alloc, entry.as_slice())?;
-    }
-    Ok(())
+    print_entries(alloc, &mut labels, entries.as_slice(), out)
 }

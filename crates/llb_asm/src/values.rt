@@ -1,6 +1,6 @@
 //! How the value of a field is spelled: read from a text, and written at the end of one.
 
-ghost use Rattle.std.specs.Prelude.{◌≡◌, ◌^◌, ◌≤◌, ◌++◌, IfOk, OnOk};
+ghost use Rattle.std.specs.Prelude.{◌≡◌, ◌==◌, ◌||◌, ◌^◌, ◌≤◌, ◌++◌, nat_lt, IfOk, OnOk};
 ghost use Rattle.std.specs.Option.{option_map};
 ghost use Rattle.llb_wire.specs.Hexadecimal.{hex_text};
 ghost use Rattle.llb_asm.specs.Values.{capped, magnitude, signed_in, flag_in, number_in, string_in, bytes_spelled, label_in, number_text};
@@ -257,15 +257,20 @@ pub(crate) fn push_bytes(alloc: Global, out: &mut Vec<u8>, bytes: &[u8]) -> Resu
     Ok(())
 }
 
+fn is_control(byte: u8) -> bool
+    ensures { result ≡ nat_lt byte 32 || (byte == 127) }
+{
+    byte < 0x20 || byte == 0x7f
+}
+
 fn push_escaped(alloc: Global, out: &mut Vec<u8>, byte: u8) -> Result<(), Memory>
     ensures { OnOk result (out.new.items ≡ out.old.items ++ escaped byte) }
 {
     if byte == b'"' || byte == b'\\' {
-        out.push(b'\\')?;
-        out.push(byte)?;
+        out.extend_from_slice(&[b'\\', byte])?;
         return Ok(());
     }
-    if byte < 0x20 || byte == 0x7f {
+    if is_control(byte) {
         out.extend_from_slice(b"\\x".as_slice())?;
         return push_bytes(alloc, out, &[byte]);
     }

@@ -18,3 +18,7 @@ pub mod Claiming
 pub mod Settling
 pub mod Stepping
 pub mod Opened
+pub mod Walks
+pub mod Undone
+pub mod Undos
+pub mod Copies

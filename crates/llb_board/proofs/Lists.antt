@@ -1,6 +1,6 @@
 -- Lists of equal items, and lists that are changed at a place.
-use Rattle.std.proofs.Common.{◌≡◌, ℕ, zero, suc, ◌+◌, ◌<◌, ◌≤◌, List, [], ◌∷◌, ◌++◌, map, take, length, refl, ap, sym, ◌∙◌, arith, add-one}
-use Rattle.std.proofs.Math.Seq.{take-suc}
+use Rattle.std.proofs.Common.{◌≡◌, ℕ, zero, suc, ◌+◌, ◌-◌, ◌<◌, ◌≤◌, List, [], ◌∷◌, ◌++◌, map, take, length, refl, ap, sym, ◌∙◌, arith, add-one, length-append}
+use Rattle.std.proofs.Math.Seq.{take-suc, take-append_seam}
 use Rattle.std.proofs.lemmas.List.{map-append, length-take-le}
 use Rattle.std.specs.Prelude.{Some, replicate, slice_get, slice_set, option_map}
 use Rattle.std.proofs.lemmas.Option.{slice_get-map, slice_get_within, get_or_from_slice_get}
@@ -47,3 +47,15 @@ set_same (y ∷ xs) (suc i) x e = ap (λ l. y ∷ l) (set_same xs i x e)
 
 pub get_map : {A B : Type 0} (f : A → B) (xs : List A) (i : ℕ) (x : A) → slice_get xs i ≡ Some x → slice_get (map f xs) i ≡ Some (f x)
 get_map f xs i x e = slice_get-map f xs i ∙ ap (option_map f) e
+
+-- a list that is written twice at a place
+pub set_back : {A : Type 0} (xs : List A) (i : ℕ) (y x : A) → slice_get xs i ≡ Some x → slice_set (slice_set xs i y) i x ≡ xs
+set_back [] i y x e = refl
+set_back (z ∷ xs) zero y x e = let same : x ≡ z = cc in ap (λ a. a ∷ xs) same
+set_back (z ∷ xs) (suc i) y x e = ap (λ l. z ∷ l) (set_back xs i y x e)
+
+-- all but the last of one more
+pub front_again : {A : Type 0} (xs : List A) (x : A) → take (length (xs ++ x ∷ []) - 1) (xs ++ x ∷ []) ≡ xs
+front_again xs x =
+    let n : length (xs ++ x ∷ []) - 1 ≡ length xs = omega (arith, length-append xs (x ∷ [])) in
+    ap (λ k. take k (xs ++ x ∷ [])) n ∙ take-append_seam xs (x ∷ [])

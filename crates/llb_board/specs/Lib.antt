@@ -7,3 +7,6 @@ pub mod Headline
 pub mod Rules
 pub mod Room
 pub mod Begun
+pub mod Undo
+pub mod Undoing
+pub mod Walking

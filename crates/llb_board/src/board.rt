@@ -40,15 +40,15 @@ use std::marker::Model;
 /// A graph that is worked on with its local trees and caches, and the record of what was done.
 #[derive(Drop)]
 pub struct Board {
-    alloc: Global,
-    build: Build,
-    caches: Caches,
-    start: Caches,
-    stands: Vec<Stand>,
-    desks: Vec<Desk>,
-    stop_marks: Vec<bool>,
-    first_open: u32,
-    events: Events,
+    pub(crate) alloc: Global,
+    pub(crate) build: Build,
+    pub(crate) caches: Caches,
+    pub(crate) start: Caches,
+    pub(crate) stands: Vec<Stand>,
+    pub(crate) desks: Vec<Desk>,
+    pub(crate) stop_marks: Vec<bool>,
+    pub(crate) first_open: u32,
+    pub(crate) events: Events,
 }
 
 impl Model for Board {
@@ -200,6 +200,13 @@ impl Board {
             return Ok(Settled::Failed(v));
         }
         Ok(Settled::Done(v))
+    }
+
+    /// The graph that is worked on. No memory.
+    pub fn graph(&self) -> &Graph
+        ensures { result.now ≡ self.now.build.graph }
+    {
+        self.build.graph()
     }
 
     /// How a vertex looks. No memory.

@@ -1,12 +1,12 @@
 //! What a board is over: the graph, and the trees of local sources by name.
 
-ghost use Rattle.std.specs.Prelude.{◌≡◌, ◌<◌, ◌^◌, length, option_map, slice_get};
+ghost use Rattle.std.specs.Prelude.{◌≡◌, ◌<◌, ◌^◌, length, option_map, slice_get, IfOk};
 ghost use Rattle.llb_loader.specs.Graph.{IsGraph};
 ghost use Rattle.llb_model.specs.Program.{program_at};
 ghost use Rattle.llb_model.specs.State.{missing_local};
 
 use llb_execution::missing_local;
-use llb_loader::{Graph, Locals, Vertex};
+use llb_loader::{Graph, Locals, Memory, Vertex};
 use std::marker::Model;
 
 /// A graph, and the trees of its local sources.
@@ -33,6 +33,23 @@ impl Build {
         ensures { result ≡ record { graph = graph; locals = locals } }
     {
         Build { graph, locals }
+    }
+
+    /// A second owner: the graph and the trees are shared.
+    pub(crate) fn copy(&self) -> Result<Build, Memory>
+        ensures { IfOk result (λ b. b ≡ self.now) }
+    {
+        Ok(Build {
+            graph: self.graph.copy()?,
+            locals: self.locals.copy()?,
+        })
+    }
+
+    /// The graph.
+    pub(crate) fn graph(&self) -> &Graph
+        ensures { result.now ≡ self.now.graph }
+    {
+        &self.graph
     }
 
     /// The vertices by number.

@@ -1,6 +1,7 @@
 //! The record of events: a list that grows by one event at a time, in room that was taken before.
 
 ghost use Rattle.std.specs.Prelude.{◌≡◌, ◌==◌, ◌≤◌, ◌<◌, ◌∷◌, ◌++◌, [], length, map, IfOk};
+ghost use Rattle.llb_board.specs.Undo.{front};
 ghost use Rattle.llb_board.specs.Views.{event_of};
 
 use crate::event::Event;
@@ -42,6 +43,24 @@ impl Events {
         ensures room { self.new.room ≡ self.old.room }
     {
         self.items.push_reserved(event);
+    }
+
+    /// All but the last.
+    pub(crate) fn take_back(&mut self)
+        ensures list { self.new.list ≡ front self.old.list }
+        ensures room { self.new.room ≡ self.old.room }
+    {
+        let _last = self.items.pop();
+    }
+
+    /// The same events, with room for so many.
+    pub(crate) fn with_same(&self, alloc: Global, room: usize) -> Result<Events, Memory>
+        ensures list { IfOk result (λ e. e.list ≡ self.now.list) }
+        ensures room { IfOk result (λ e. room ≤ e.room) }
+    {
+        let mut items = Vec::with_capacity(alloc, room)?;
+        items.extend_from_slice(&self.items)?;
+        Ok(Events { items })
     }
 
     /// The events in their order.

@@ -87,6 +87,23 @@ pub enum SettleFault {
     NotFinished,
 }
 
+/// Why an event of a walk is refused: the fault of the claim, the step or the settle, or want of memory, whoever has it.
+#[derive(Debug, Drop, Error)]
+pub enum WalkFault {
+    /// 131 to 135.
+    #[error("{0}")]
+    Claim(ClaimFault),
+    /// 131, 136, 137.
+    #[error("{0}")]
+    Step(StepFault),
+    /// 131, 136, 138.
+    #[error("{0}")]
+    Settle(SettleFault),
+    /// 141: memory was refused.
+    #[error("141")]
+    Memory,
+}
+
 impl From<AllocError> for Memory {
     fn from(_: AllocError) -> Memory {
         Memory
@@ -102,6 +119,34 @@ impl<T: Drop> From<AllocFailed<T>> for Memory {
 /// Of a copy of caches.
 impl From<llb_cache::Memory> for Memory {
     fn from(_: llb_cache::Memory) -> Memory {
+        Memory
+    }
+}
+
+/// Of a copy of a tree, which can only lack memory.
+impl From<TreeFault> for Memory {
+    fn from(_: TreeFault) -> Memory {
+        Memory
+    }
+}
+
+/// Of a copy of a view.
+impl From<llb_wire::Memory> for Memory {
+    fn from(_: llb_wire::Memory) -> Memory {
+        Memory
+    }
+}
+
+/// Of a copy of a graph and of local trees.
+impl From<llb_loader::Memory> for Memory {
+    fn from(_: llb_loader::Memory) -> Memory {
+        Memory
+    }
+}
+
+/// Of a copy of where commands run.
+impl From<llb_applet::Memory> for Memory {
+    fn from(_: llb_applet::Memory) -> Memory {
         Memory
     }
 }
@@ -208,5 +253,67 @@ impl From<AllocError> for StepFault {
 
     fn from(_: AllocError) -> StepFault {
         StepFault::Memory
+    }
+}
+
+impl From<Memory> for WalkFault {
+    ghost use Rattle.std.specs.Prelude.{◌≡◌};
+    ghost use Rattle.llb_board.specs.declared.fault.WalkFault.TheVariants as walk;
+
+    ghost from_gives = { λ _ e. e ≡ walk.Memory };
+
+    fn from(_: Memory) -> WalkFault {
+        WalkFault::Memory
+    }
+}
+
+/// Of a mark of a view.
+impl From<llb_wire::Memory> for WalkFault {
+    ghost use Rattle.std.specs.Prelude.{◌≡◌};
+    ghost use Rattle.llb_board.specs.declared.fault.WalkFault.TheVariants as walk;
+
+    ghost from_gives = { λ _ e. e ≡ walk.Memory };
+
+    fn from(_: llb_wire::Memory) -> WalkFault {
+        WalkFault::Memory
+    }
+}
+
+impl From<ClaimFault> for WalkFault {
+    ghost use Rattle.std.specs.Prelude.{◌≡◌};
+    ghost use Rattle.llb_board.specs.Walking.{claim_refused};
+
+    ghost from_gives = { λ f e. e ≡ claim_refused f };
+
+    fn from(fault: ClaimFault) -> WalkFault {
+        match fault {
+            ClaimFault::Memory => WalkFault::Memory,
+            other => WalkFault::Claim(other),
+        }
+    }
+}
+
+impl From<StepFault> for WalkFault {
+    ghost use Rattle.std.specs.Prelude.{◌≡◌};
+    ghost use Rattle.llb_board.specs.Walking.{step_refused};
+
+    ghost from_gives = { λ f e. e ≡ step_refused f };
+
+    fn from(fault: StepFault) -> WalkFault {
+        match fault {
+            StepFault::Memory => WalkFault::Memory,
+            other => WalkFault::Step(other),
+        }
+    }
+}
+
+impl From<SettleFault> for WalkFault {
+    ghost use Rattle.std.specs.Prelude.{◌≡◌};
+    ghost use Rattle.llb_board.specs.declared.fault.WalkFault.TheVariants as walk;
+
+    ghost from_gives = { λ f e. e ≡ walk.Settle f };
+
+    fn from(fault: SettleFault) -> WalkFault {
+        WalkFault::Settle(fault)
     }
 }

@@ -68,8 +68,8 @@ fn idle(alloc: Global, count: u32) -> Result<Vec<Desk>, AllocError>
     Ok(desks)
 }
 
-// How many events may come in all.
-fn room(build: &Build) -> usize
+/// How many events may come in all.
+pub(crate) fn room(build: &Build) -> usize
     ensures { result ≡ most_events build.now }
 {
     let mut all: usize = 0;

@@ -5,6 +5,7 @@
 mod board;
 mod build;
 mod choice;
+mod copying;
 mod ending;
 mod event;
 mod events;
@@ -18,11 +19,15 @@ mod needs;
 mod ready;
 mod stand;
 mod step;
+mod undo;
+mod walk;
 
 pub use board::Board;
 pub use event::{At, Event, Settled, Status, Stepped};
 pub use events::Events;
-pub use fault::{ClaimFault, Memory, OpenFault, SettleFault, StepFault};
+pub use fault::{ClaimFault, Memory, OpenFault, SettleFault, StepFault, WalkFault};
 pub use job::Job;
 pub use llb_execution::{Program, View};
 pub use llb_wire::{Bytes, Text};
+pub use undo::Undo;
+pub use walk::{Reply, Walked};

@@ -1,7 +1,7 @@
 //! The caches that a vertex shows, and what its claim takes of them: the instances, the trees that they begin with, and the needs
 //! of a lease. Stands on the mounts of a vertex and on caches, which it only reads.
 
-ghost use Rattle.std.specs.Prelude.{◌≡◌, ◌<◌, ◌^◌, Ok, IfErr, true, map, length, option_map, unwrap_or};
+ghost use Rattle.std.specs.Prelude.{◌≡◌, ◌<◌, ◌^◌, [], Ok, IfErr, true, false, map, length, option_map, unwrap_or};
 ghost use Rattle.llb_loader.specs.Mounts.{key_of, seed_of};
 ghost use Rattle.llb_loader.specs.Rules.{kind_mounts};
 ghost use Rattle.llb_model.specs.Caches.{content};
@@ -55,6 +55,19 @@ pub(crate) fn wanted_by(
         Some(key) => Err(ClaimFault::Held(key.to_key(alloc)?)),
         None => wants(alloc, vertex),
     }
+}
+
+/// Whether a vertex shows a cache. No memory.
+pub(crate) fn shows_cache(vertex: &Vertex) -> bool
+    requires { HasEdges vertex.now }
+    ensures { result ≡ false → needs_of vertex.now ≡ [] }
+{
+    for mount in mounts_of(&vertex.op.kind) {
+        if key_shown(vertex, mount).is_some() {
+            return true;
+        }
+    }
+    false
 }
 
 // The first locked key that a vertex shows and a lease has. No memory.

@@ -1,13 +1,19 @@
 //! Texts are assembled: each to the entries that it stands for, or to the fault of its first faulty line. Entries are written as text.
 
+use super::told::is_told;
 use llb_asm::{assemble, disassemble, one_answer, reads_back};
 use llb_ops::Entries;
 use llb_wire::{Over, push_hex};
 use std::alloc::{AllocError, Global};
 
+// A text has one answer.
+fn only_answer(text: &[u8]) {
+    one_answer(text);
+}
+
 // The entries that a text stands for, each in hexadecimal with a space behind it; or the fault.
 fn answer(alloc: Global, text: &str) -> Result<String, AllocError> {
-    one_answer(text.as_bytes());
+    only_answer(text.as_bytes());
     match assemble(alloc, text.as_bytes()) {
         Err(fault) => fault.to_string(alloc),
         Ok(entries) => {
@@ -21,24 +27,14 @@ fn answer(alloc: Global, text: &str) -> Result<String, AllocError> {
     }
 }
 
-fn answers(alloc: Global, text: &str, wanted: &str) -> bool {
-    match answer(alloc, text) {
-        Ok(told) => told.as_str() == wanted,
-        Err(_) => false,
-    }
-}
-
-// Two texts stand for the same entries.
-fn are_the_same(alloc: Global, text: &str, other: &str) -> bool {
-    match (answer(alloc, text), answer(alloc, other)) {
-        (Ok(told), Ok(wanted)) => told.as_str() == wanted.as_str(),
-        _ => false,
-    }
+// Entries are read back from the text that is written of them.
+fn law(entries: &Entries) {
+    reads_back(entries);
 }
 
 // The text that is written of entries.
-fn text_of(alloc: Global, entries: &Entries) -> Result<Vec<u8>, AllocError> {
-    reads_back(entries);
+fn written(alloc: Global, entries: &Entries) -> Result<Vec<u8>, AllocError> {
+    law(entries);
     let mut text: Vec<u8> = Vec::new(alloc);
     let mut out = Over::new(&mut text);
     if disassemble(alloc, entries, &mut out).is_err() {
@@ -48,13 +44,13 @@ fn text_of(alloc: Global, entries: &Entries) -> Result<Vec<u8>, AllocError> {
 }
 
 // What is written of the entries that a text stands for.
-fn is_written_as(alloc: Global, text: &str, wanted: &str) -> bool {
-    let Ok(entries) = assemble(alloc, text.as_bytes()) else {
-        return false;
-    };
-    match text_of(alloc, &entries) {
-        Ok(told) => told.as_slice() == wanted.as_bytes(),
-        Err(_) => false,
+fn rewritten(alloc: Global, text: &str) -> Result<String, AllocError> {
+    match assemble(alloc, text.as_bytes()) {
+        Ok(entries) => {
+            let text = written(alloc, &entries)?;
+            String::from_str(alloc, str::from_utf8(&text).unwrap_or("not UTF-8"))
+        }
+        Err(fault) => fault.to_string(alloc),
     }
 }
 
@@ -101,7 +97,10 @@ fn a_text_is_assembled_to_canonical_bytes(rt: HostRuntime) {
         ),
     ];
     for (text, wanted) in rows {
-        assert!(rt; answers(rt.alloc(), text, wanted), "{text:?}");
+        assert!(rt;
+            is_told(rt.alloc(), answer(rt.alloc(), text), wanted),
+            "{text:?}"
+        );
     }
 }
 
@@ -143,8 +142,17 @@ fn the_first_faulty_line_is_told_with_its_first_rule(rt: HostRuntime) {
         ),
     ];
     for (text, wanted) in rows {
-        assert!(rt; answers(rt.alloc(), text, wanted), "{text:?}");
+        assert!(rt;
+            is_told(rt.alloc(), answer(rt.alloc(), text), wanted),
+            "{text:?}"
+        );
     }
+}
+
+// Whether two texts stand for the same entries.
+fn are_the_same(alloc: Global, text: &str, other: &str) -> Result<bool, AllocError> {
+    let (one, other) = (answer(alloc, text)?, answer(alloc, other)?);
+    Ok(one.as_str() == other.as_str())
 }
 
 #[test]
@@ -153,14 +161,9 @@ fn a_label_is_the_digest_of_an_earlier_entry(rt: HostRuntime) {
     let by_digest =
         "raw 00\nop {\ninputs {\ndigest \"sha256:6e340b9cffb37a989ca544e6bb780a2c78901d3fb33738768511a30617afa01d\"\n}\ninputs {\n
         digest \"sha256:6e340b9cffb37a989ca544e6bb780a2c78901d3fb33738768511a30617afa01d\"\nindex 1\n}\n}\n";
-    assert!(rt; are_the_same(rt.alloc(), by_label, by_digest));
-    assert!(rt;
-        answers(
-            rt.alloc(),
-            "op {\ninputs {\ndigest %18446744073709551616\n}\n}\n",
-            "162 3"
-        )
-    );
+    assert!(rt; are_the_same(rt.alloc(), by_label, by_digest) == Ok(true));
+    let past = "op {\ninputs {\ndigest %18446744073709551616\n}\n}\n";
+    assert!(rt; is_told(rt.alloc(), answer(rt.alloc(), past), "162 3"));
 }
 
 #[test]
@@ -186,6 +189,9 @@ fn entries_are_written_as_the_one_text_that_is_assembled_to_them(rt: HostRuntime
         ),
     ];
     for (text, wanted) in rows {
-        assert!(rt; is_written_as(rt.alloc(), text, wanted), "{text:?}");
+        assert!(rt;
+            is_told(rt.alloc(), rewritten(rt.alloc(), text), wanted),
+            "{text:?}"
+        );
     }
 }

@@ -1,9 +1,9 @@
 //! Caches. A need is a row: the ID and the mode of its key, the index of its seed or none, and the name of the one file in
 //! its tree, where it has one. A story is told in a line of text: the answer to each step.
 
+use super::told::{file, is_told, tree_of};
 use llb_cache::{Caches, Key, KeyRef, Lease, LeaseFault, Many, Memory, Mode, Need, Seed};
-use llb_tree::{Meta, Path, Text, Tree};
-use llb_wire::Bytes;
+use llb_tree::{Path, Text, Tree};
 use std::alloc::Global;
 
 type Row = (&'static str, Mode, Option<u32>, &'static str);
@@ -21,14 +21,10 @@ enum Step {
 
 // The tree with an empty file of that name, or with none.
 fn marked(alloc: Global, name: &str) -> Result<Tree, Memory> {
-    let path = Path::read(alloc, name)?;
-    let mut tree = Tree::empty(alloc)?;
-    if let Some(meta) = Meta::new(0o644, 0, 0) {
-        if !path.is_root() {
-            tree.put_file(&path, meta, Bytes::new(Vec::new(alloc)))?;
-        }
+    if name.is_empty() {
+        return Ok(Tree::empty(alloc)?);
     }
-    Ok(tree)
+    Ok(tree_of(alloc, &[file(name, "")])?)
 }
 
 fn seed_of(alloc: Global, index: Option<u32>) -> Result<Option<Seed>, Memory> {
@@ -75,11 +71,11 @@ fn push_lease(
     lease: Lease,
 ) -> Result<(), Memory> {
     let number = lease.number();
-    text.push_str(format!(in alloc; "{number}:")?.as_str())?;
+    write!(text, "{number}:")?;
     for need in 0..4 {
         if (need as usize) < caches.needs(lease) {
             let instance = caches.instance_of(&lease, need);
-            text.push_str(format!(in alloc; "{instance}")?.as_str())?;
+            write!(text, "{instance}")?;
         }
     }
     Ok(())
@@ -103,7 +99,7 @@ fn ask(
             push_lease(alloc, text, caches, lease)
         }
         Err(fault) => {
-            text.push_str(fault.to_string(alloc)?.as_str())?;
+            write!(text, "{fault}")?;
             Ok(())
         }
     }
@@ -113,7 +109,7 @@ fn push_count(alloc: Global, text: &mut String, caches: &Caches, row: &Row) -> R
     let key = key_of(alloc, row)?;
     let instances = caches.instances(&key);
     let leases = caches.leases();
-    text.push_str(format!(in alloc; "{instances}/{leases}")?.as_str())?;
+    write!(text, "{instances}/{leases}")?;
     for number in 0..4 {
         if let Some(tree) = caches.instance(&key, number) {
             text.push_str(" ")?;
@@ -133,14 +129,9 @@ fn again(alloc: Global, row: &Row) -> Result<Key, Memory> {
     KeyRef::new(id, seed, mode).to_key(alloc)
 }
 
-fn is_made_again(alloc: Global, row: &Row) -> bool {
-    match key_of(alloc, row) {
-        Ok(key) => match again(alloc, row) {
-            Ok(other) => key.same(&other),
-            Err(_) => false,
-        },
-        Err(_) => false,
-    }
+fn is_made_again(alloc: Global, row: &Row) -> Result<bool, Memory> {
+    let (key, other) = (key_of(alloc, row)?, again(alloc, row)?);
+    Ok(key.same(&other))
 }
 
 // The instance that a lease of the key would have now, or that it would be refused.
@@ -151,7 +142,7 @@ fn push_next(alloc: Global, text: &mut String, caches: &Caches, row: &Row) -> Re
         return Ok(());
     }
     let number = caches.next_instance(&key);
-    text.push_str(format!(in alloc; "{number}")?.as_str())?;
+    write!(text, "{number}")?;
     Ok(())
 }
 
@@ -221,13 +212,6 @@ fn told(alloc: Global, steps: &[Step]) -> Result<String, Memory> {
     Ok(text)
 }
 
-fn goes(alloc: Global, steps: &[Step], wanted: &str) -> bool {
-    match told(alloc, steps) {
-        Ok(text) => text.as_str() == wanted,
-        Err(_) => false,
-    }
-}
-
 const A: Row = ("a", Mode::Locked, None, "");
 
 const B: Row = ("b", Mode::Locked, None, "");
@@ -238,135 +222,133 @@ const S: Row = ("s", Mode::Shared, None, "");
 
 #[test]
 fn a_key_that_borrows_its_texts_makes_the_key(rt: HostRuntime) {
-    assert!(rt; is_made_again(rt.alloc(), &A));
-    assert!(rt; is_made_again(rt.alloc(), &P));
-    assert!(rt; is_made_again(rt.alloc(), &("", Mode::Shared, None, "")));
+    for row in [A, P, ("", Mode::Shared, None, "")] {
+        assert!(rt; is_made_again(rt.alloc(), &row) == Ok(true), "{row:?}");
+    }
 }
 
-#[test]
-fn a_held_key_refuses_all_needs(rt: HostRuntime) {
-    let steps = [
-        Step::Lease(&[B]),
-        Step::Lease(&[A, B]),
-        Step::Count(A),
-        Step::Lease(&[A]),
-        Step::Count(A),
-    ];
-    assert!(rt; goes(rt.alloc(), &steps, "0:0;111 b;0/1;1:0;1/2 ;"));
-}
+// What a story shows, its steps, and how it is told.
+const STORIES: &[(&str, &[Step], &str)] = &[
+    (
+        "a held key refuses all needs",
+        &[
+            Step::Lease(&[B]),
+            Step::Lease(&[A, B]),
+            Step::Count(A),
+            Step::Lease(&[A]),
+            Step::Count(A),
+        ],
+        "0:0;111 b;0/1;1:0;1/2 ;",
+    ),
+    (
+        "the first held key in the order of the needs is named",
+        &[
+            Step::Lease(&[B]),
+            Step::Lease(&[A]),
+            Step::Lease(&[P, A, B]),
+            Step::Lease(&[B, S, A]),
+            Step::Count(P),
+        ],
+        "0:0;1:0;111 a;111 b;0/2;",
+    ),
+    (
+        "a private key gives the least free instance",
+        &[
+            Step::Lease(&[P]),
+            Step::See(0, 0),
+            Step::Set(0, 0, ""),
+            Step::See(0, 0),
+            Step::Lease(&[P]),
+            Step::See(1, 0),
+            Step::Back(0),
+            Step::Lease(&[P]),
+            Step::See(2, 0),
+            Step::Count(P),
+        ],
+        "0:0;f;;;1:1;f;;0:0;;2/2  f;",
+    ),
+    (
+        "a locked key is free once its lease is given back",
+        &[
+            Step::Lease(&[A]),
+            Step::Set(0, 0, "g"),
+            Step::Lease(&[A]),
+            Step::Back(0),
+            Step::Lease(&[("a", Mode::Locked, None, "h")]),
+            Step::See(1, 0),
+        ],
+        "0:0;;111 a;;0:0;g;",
+    ),
+    (
+        "a shared instance is seen by all leases",
+        &[
+            Step::Lease(&[S]),
+            Step::Lease(&[S, P]),
+            Step::Set(0, 0, "g"),
+            Step::See(1, 0),
+            Step::See(1, 1),
+            Step::Set(1, 1, "h"),
+            Step::See(0, 0),
+            Step::See(1, 1),
+        ],
+        "0:0;1:00;;g;f;;g;h;",
+    ),
+    (
+        "one id in two modes or with two seeds is two keys",
+        &[
+            Step::Lease(&[A, ("a", Mode::Shared, None, "g")]),
+            Step::Lease(&[
+                ("a", Mode::Locked, Some(0), "h"),
+                ("a", Mode::Locked, Some(1), "i"),
+            ]),
+            Step::See(0, 1),
+            Step::See(1, 1),
+            Step::Lease(&[A, A]),
+            Step::Lease(&[("a", Mode::Locked, Some(1), "")]),
+        ],
+        "0:00;1:00;g;i;twice;111 a;",
+    ),
+    (
+        "a lease takes the least free number",
+        &[
+            Step::Lease(&[P]),
+            Step::Lease(&[P, S]),
+            Step::Lease(&[]),
+            Step::Back(1),
+            Step::Count(P),
+            Step::Lease(&[S]),
+            Step::Back(0),
+            Step::Back(2),
+            Step::Lease(&[P]),
+            Step::Lease(&[P]),
+            Step::Count(S),
+        ],
+        "0:0;1:10;2:;;2/2 f f;1:0;;;0:0;2:1;1/3 ;",
+    ),
+    (
+        "what a lease would have is told before",
+        &[
+            Step::Next(A),
+            Step::Lease(&[A, P, S]),
+            Step::Next(A),
+            Step::Next(P),
+            Step::Next(S),
+            Step::Next(("a", Mode::Locked, Some(0), "")),
+            Step::Lease(&[P]),
+            Step::Back(0),
+            Step::Next(A),
+            Step::Next(P),
+        ],
+        "0;0:000;shut;1;0;0;1:1;;0;0;",
+    ),
+];
 
 #[test]
-fn the_first_held_key_in_the_order_of_the_needs_is_named(rt: HostRuntime) {
-    let steps = [
-        Step::Lease(&[B]),
-        Step::Lease(&[A]),
-        Step::Lease(&[P, A, B]),
-        Step::Lease(&[B, S, A]),
-        Step::Count(P),
-    ];
-    assert!(rt; goes(rt.alloc(), &steps, "0:0;1:0;111 a;111 b;0/2;"));
-}
-
-#[test]
-fn a_private_key_gives_the_least_free_instance(rt: HostRuntime) {
-    let steps = [
-        Step::Lease(&[P]),
-        Step::See(0, 0),
-        Step::Set(0, 0, ""),
-        Step::See(0, 0),
-        Step::Lease(&[P]),
-        Step::See(1, 0),
-        Step::Back(0),
-        Step::Lease(&[P]),
-        Step::See(2, 0),
-        Step::Count(P),
-    ];
-    assert!(rt; goes(rt.alloc(), &steps, "0:0;f;;;1:1;f;;0:0;;2/2  f;"));
-}
-
-#[test]
-fn a_locked_key_is_free_once_its_lease_is_given_back(rt: HostRuntime) {
-    let steps = [
-        Step::Lease(&[A]),
-        Step::Set(0, 0, "g"),
-        Step::Lease(&[A]),
-        Step::Back(0),
-        Step::Lease(&[("a", Mode::Locked, None, "h")]),
-        Step::See(1, 0),
-    ];
-    assert!(rt; goes(rt.alloc(), &steps, "0:0;;111 a;;0:0;g;"));
-}
-
-#[test]
-fn a_shared_instance_is_seen_by_all_leases(rt: HostRuntime) {
-    let steps = [
-        Step::Lease(&[S]),
-        Step::Lease(&[S, P]),
-        Step::Set(0, 0, "g"),
-        Step::See(1, 0),
-        Step::See(1, 1),
-        Step::Set(1, 1, "h"),
-        Step::See(0, 0),
-        Step::See(1, 1),
-    ];
-    assert!(rt; goes(rt.alloc(), &steps, "0:0;1:00;;g;f;;g;h;"));
-}
-
-#[test]
-fn one_id_in_two_modes_or_with_two_seeds_is_two_keys(rt: HostRuntime) {
-    let steps = [
-        Step::Lease(&[A, ("a", Mode::Shared, None, "g")]),
-        Step::Lease(&[
-            ("a", Mode::Locked, Some(0), "h"),
-            ("a", Mode::Locked, Some(1), "i"),
-        ]),
-        Step::See(0, 1),
-        Step::See(1, 1),
-        Step::Lease(&[A, A]),
-        Step::Lease(&[("a", Mode::Locked, Some(1), "")]),
-    ];
-    assert!(rt; goes(rt.alloc(), &steps, "0:00;1:00;g;i;twice;111 a;"));
-}
-
-#[test]
-fn a_lease_takes_the_least_free_number(rt: HostRuntime) {
-    let steps = [
-        Step::Lease(&[P]),
-        Step::Lease(&[P, S]),
-        Step::Lease(&[]),
-        Step::Back(1),
-        Step::Count(P),
-        Step::Lease(&[S]),
-        Step::Back(0),
-        Step::Back(2),
-        Step::Lease(&[P]),
-        Step::Lease(&[P]),
-        Step::Count(S),
-    ];
-    assert!(rt;
-        goes(
-            rt.alloc(),
-            &steps,
-            "0:0;1:10;2:;;2/2 f f;1:0;;;0:0;2:1;1/3 ;"
-        )
-    );
-}
-
-#[test]
-fn what_a_lease_would_have_is_told_before(rt: HostRuntime) {
-    let steps = [
-        Step::Next(A),
-        Step::Lease(&[A, P, S]),
-        Step::Next(A),
-        Step::Next(P),
-        Step::Next(S),
-        Step::Next(("a", Mode::Locked, Some(0), "")),
-        Step::Lease(&[P]),
-        Step::Back(0),
-        Step::Next(A),
-        Step::Next(P),
-    ];
-    assert!(rt; goes(rt.alloc(), &steps, "0;0:000;shut;1;0;0;1:1;;0;0;"));
+fn leases_exclude_one_another(rt: HostRuntime) {
+    let alloc = rt.alloc();
+    for (name, steps, wanted) in STORIES {
+        assert!(rt; is_told(alloc, told(alloc, steps), wanted), "{name}");
+    }
 }
 
 // A copy that is the same until one of both goes on.
@@ -407,39 +389,35 @@ fn a_copy_is_the_same(rt: HostRuntime) {
     assert!(rt; copies(rt.alloc()) == Ok(true));
 }
 
+// Whether a key's copy is the key, and whether it is the other key.
+fn compared(alloc: Global, row: &Row, other: &Row) -> Result<(bool, bool), Memory> {
+    let (key, other) = (key_of(alloc, row)?, key_of(alloc, other)?);
+    let copy = key.copy()?;
+    Ok((copy.same(&key), copy.same(&other)))
+}
+
 #[test]
 fn a_key_is_the_same_as_its_copy(rt: HostRuntime) {
-    let alloc = rt.alloc();
     let rows = [A, B, P, S];
     for (i, row) in rows.iter().enumerate() {
         for (j, other) in rows.iter().enumerate() {
-            if let (Ok(key), Ok(other)) = (key_of(alloc, row), key_of(alloc, other)) {
-                if let Ok(copy) = key.copy() {
-                    assert!(rt; copy.same(&key) && copy.same(&other) == (i == j));
-                }
-            }
+            assert!(rt; compared(rt.alloc(), row, other) == Ok((true, i == j)));
         }
+    }
+}
+
+// The fault that a key is held.
+fn held(alloc: Global) -> LeaseFault {
+    match key_of(alloc, &A) {
+        Ok(key) => LeaseFault::Held(key),
+        Err(Memory) => LeaseFault::Memory,
     }
 }
 
 #[test]
 fn a_fault_prints_its_number_and_the_key_by_its_id(rt: HostRuntime) {
     let alloc = rt.alloc();
-    let held = key_of(alloc, &A).map(LeaseFault::Held);
-    if let Ok(held) = held {
-        assert!(rt;
-            held.to_string(alloc)
-                .is_ok_and(|text| text.as_str() == "111 a")
-        );
-    }
-    assert!(rt;
-        LeaseFault::Memory
-            .to_string(alloc)
-            .is_ok_and(|text| text.as_str() == "112")
-    );
-    assert!(rt;
-        Memory
-            .to_string(alloc)
-            .is_ok_and(|text| text.as_str() == "112")
-    );
+    assert!(rt; is_told(alloc, Err(held(alloc)), "111 a"));
+    assert!(rt; is_told(alloc, Err(LeaseFault::Memory), "112"));
+    assert!(rt; is_told(alloc, Err(Memory), "112"));
 }

@@ -1,250 +1,250 @@
 //! Cache mounts: which are taken, and by which rule others are refused.
 
-use crate::loader::{
-    GIVES_NOTHING, GIVES_ONE, INDEX_ONE, ROOT, RUNS_TRUE, Run, SHOWS_ZERO, Shown, exec_op, is,
-    linked, row, said_of_words,
-};
-use llb_wire::Memory;
-use std::alloc::Global;
+use super::execs::{ROOT, RUNS_TRUE, Shown, TRUE, exec_text, said_of_words};
+use super::graphs::{NAMES_A, linked};
+use super::told::is_told;
+use llb_loader::LoadFault;
+use std::alloc::{AllocError, Global};
 
 // A cache `a` in each of the ways in which one is shared; a mount of a cache gives no output.
-const SHARED: &[u8] = b"\x20\xFF\xFF\xFF\xFF\xFF\xFF\xFF\xFF\xFF\x01\x30\x03\xA2\x01\x03\x0A\x01a";
+const SHARED: &str = "output -1\nmountType 3\ncacheOpt {\nID \"a\"\n}\n";
 
-const PRIVATE: &[u8] =
-    b"\x20\xFF\xFF\xFF\xFF\xFF\xFF\xFF\xFF\xFF\x01\x30\x03\xA2\x01\x05\x0A\x01a\x10\x01";
+const PRIVATE: &str = "output -1\nmountType 3\ncacheOpt {\nID \"a\"\nsharing 1\n}\n";
 
-const LOCKED: &[u8] =
-    b"\x20\xFF\xFF\xFF\xFF\xFF\xFF\xFF\xFF\xFF\x01\x30\x03\xA2\x01\x05\x0A\x01a\x10\x02";
+const LOCKED: &str = "output -1\nmountType 3\ncacheOpt {\nID \"a\"\nsharing 2\n}\n";
 
-// The first of them with its number written, and a way that there is not: 3, and -1.
-const SHARED_WRITTEN: &[u8] =
-    b"\x20\xFF\xFF\xFF\xFF\xFF\xFF\xFF\xFF\xFF\x01\x30\x03\xA2\x01\x05\x0A\x01a\x10\x00";
+// A way that there is not: 3, and -1.
+const BY_THREE: &str = "output -1\nmountType 3\ncacheOpt {\nID \"a\"\nsharing 3\n}\n";
 
-const SHARED_BY_THREE: &[u8] =
-    b"\x20\xFF\xFF\xFF\xFF\xFF\xFF\xFF\xFF\xFF\x01\x30\x03\xA2\x01\x05\x0A\x01a\x10\x03";
-
-const SHARED_BELOW: &[u8] =
-    b"\x20\xFF\xFF\xFF\xFF\xFF\xFF\xFF\xFF\xFF\x01\x30\x03\xA2\x01\x0E\x0A\x01a\x10\xFF\xFF\xFF\xFF\xFF\xFF\xFF\xFF\xFF\x01";
+const BELOW: &str = "output -1\nmountType 3\ncacheOpt {\nID \"a\"\nsharing -1\n}\n";
 
 // A locked cache `b`, and one whose options say nothing.
-const LOCKED_B: &[u8] =
-    b"\x20\xFF\xFF\xFF\xFF\xFF\xFF\xFF\xFF\xFF\x01\x30\x03\xA2\x01\x05\x0A\x01b\x10\x02";
+const LOCKED_B: &str = "output -1\nmountType 3\ncacheOpt {\nID \"b\"\nsharing 2\n}\n";
 
-const UNNAMED: &[u8] = b"\x20\xFF\xFF\xFF\xFF\xFF\xFF\xFF\xFF\xFF\x01\x30\x03\xA2\x01\x00";
+const UNNAMED: &str = "output -1\nmountType 3\ncacheOpt {\n}\n";
 
 // A cache without options, and one with an output besides.
-const BARE: &[u8] = b"\x20\xFF\xFF\xFF\xFF\xFF\xFF\xFF\xFF\xFF\x01\x30\x03";
+const BARE: &str = "output -1\nmountType 3\n";
 
-const BARE_GIVES: &[u8] = b"\x30\x03";
+const BARE_GIVES: &str = "mountType 3\n";
 
-// The locked cache `a` that begins with that input.
-const LOCKED_ON_ZERO: &[u8] =
-    b"\x20\xFF\xFF\xFF\xFF\xFF\xFF\xFF\xFF\xFF\x01\x30\x03\xA2\x01\x05\x0A\x01a\x10\x02\x08\x00";
-
-const LOCKED_ON_ONE: &[u8] =
-    b"\x20\xFF\xFF\xFF\xFF\xFF\xFF\xFF\xFF\xFF\x01\x30\x03\xA2\x01\x05\x0A\x01a\x10\x02\x08\x01";
-
-const LOCKED_ON_TWO: &[u8] =
-    b"\x20\xFF\xFF\xFF\xFF\xFF\xFF\xFF\xFF\xFF\x01\x30\x03\xA2\x01\x05\x0A\x01a\x10\x02\x08\x02";
-
-const LOCKED_ON_THREE: &[u8] =
-    b"\x20\xFF\xFF\xFF\xFF\xFF\xFF\xFF\xFF\xFF\x01\x30\x03\xA2\x01\x05\x0A\x01a\x10\x02\x08\x03";
-
-const LOCKED_ON_FOUR: &[u8] =
-    b"\x20\xFF\xFF\xFF\xFF\xFF\xFF\xFF\xFF\xFF\x01\x30\x03\xA2\x01\x05\x0A\x01a\x10\x02\x08\x04";
-
-// A mount that shows input 5, and one of a type that there is not.
-const CACHE_SHOWS_FIVE: &[u8] = b"\x30\x03\x08\x05";
-
-const UNKNOWN: &[u8] = b"\x30\x05";
-
-#[test]
-fn caches_are_taken(rt: HostRuntime) {
-    let cases: [(&[Shown<'_>], &str); 7] = [
-        (&[ROOT, ("/c", SHARED)], RUNS_TRUE),
-        (&[ROOT, ("/c", PRIVATE)], RUNS_TRUE),
-        (&[ROOT, ("/c", LOCKED)], RUNS_TRUE),
-        // At the root too.
-        (&[("/", LOCKED), ("/a", b"")], RUNS_TRUE),
-        (&[ROOT, ("/c", UNNAMED)], RUNS_TRUE),
-        // What a bind mount says of caches is not looked at.
-        (&[("/", b"\xA2\x01\x02\x10\x03")], RUNS_TRUE),
-        // It has no output that could be the result.
-        (&[("/", LOCKED)], "90 1 0"),
-    ];
-    for (mounts, wanted) in cases {
-        assert!(rt;
-            is(said_of_words(rt.alloc(), &["true"], mounts), wanted),
-            "{wanted}: {mounts:?}"
-        );
-    }
-}
-
-#[test]
-fn one_key_is_mounted_once(rt: HostRuntime) {
-    let cases: [(&[Shown<'_>], &str); 8] = [
-        (&[ROOT, ("/c", LOCKED), ("/d", LOCKED)], "89 0 CacheTwice"),
-        (&[ROOT, ("/c", PRIVATE), ("/d", PRIVATE)], "89 0 CacheTwice"),
-        (&[ROOT, ("/c", SHARED), ("/d", SHARED)], "89 0 CacheTwice"),
-        (
-            &[ROOT, ("/c", SHARED), ("/d", SHARED_WRITTEN)],
-            "89 0 CacheTwice",
-        ),
-        (&[ROOT, ("/c", UNNAMED), ("/d", UNNAMED)], "89 0 CacheTwice"),
-        (
-            &[ROOT, ("/c", LOCKED), ("/d", SHARED), ("/e", LOCKED)],
-            "89 0 CacheTwice",
-        ),
-        // One ID in three ways, and two IDs in one.
-        (
-            &[ROOT, ("/c", SHARED), ("/d", PRIVATE), ("/e", LOCKED)],
-            RUNS_TRUE,
-        ),
-        (&[ROOT, ("/c", LOCKED), ("/d", LOCKED_B)], RUNS_TRUE),
-    ];
-    for (mounts, wanted) in cases {
-        assert!(rt;
-            is(said_of_words(rt.alloc(), &["true"], mounts), wanted),
-            "{wanted}: {mounts:?}"
-        );
-    }
-}
-
-// The op that runs `true` on some mounts.
-fn true_op(alloc: Global, mounts: &[Shown<'_>]) -> Result<Vec<u8>, Memory> {
-    exec_op(
-        alloc,
-        &Run {
-            words: &["true"],
-            meta: b"",
-            mounts,
-            rest: b"",
-        },
-    )
-}
-
-// What is said of `true` on some mounts with four inputs: both outputs of A, that of C, and the first of A again.
-fn said_of_seeds(alloc: Global, mounts: &[Shown<'_>]) -> Result<String, Memory> {
-    let two = true_op(alloc, &[ROOT, ("/a", GIVES_ONE)])?;
-    let op = true_op(alloc, mounts)?;
-    let inputs: [(&str, &[u8]); 4] = [("A", b""), ("A", INDEX_ONE), ("C", b""), ("A", b"")];
-    linked(
-        alloc,
+// The root, and caches at `/c` and `/d`.
+const MOUNTS: &[(&[Shown<'static>], &str)] = &[
+    // Caches are taken, at the root too.
+    (&[ROOT, (-1, "", "/c", SHARED)], RUNS_TRUE),
+    (&[ROOT, (-1, "", "/c", PRIVATE)], RUNS_TRUE),
+    (&[ROOT, (-1, "", "/c", LOCKED)], RUNS_TRUE),
+    (&[(-1, "", "/", LOCKED), (-1, "", "/a", "")], RUNS_TRUE),
+    (&[ROOT, (-1, "", "/c", UNNAMED)], RUNS_TRUE),
+    // What a bind mount says of caches is not looked at.
+    (&[(-1, "", "/", "cacheOpt {\nsharing 3\n}\n")], RUNS_TRUE),
+    // It has no output that could be the result.
+    (&[(-1, "", "/", LOCKED)], "90 1 0"),
+    // One key is mounted once.
+    (
+        &[ROOT, (-1, "", "/c", LOCKED), (-1, "", "/d", LOCKED)],
+        "89 0 CacheTwice",
+    ),
+    (
+        &[ROOT, (-1, "", "/c", PRIVATE), (-1, "", "/d", PRIVATE)],
+        "89 0 CacheTwice",
+    ),
+    (
+        &[ROOT, (-1, "", "/c", SHARED), (-1, "", "/d", SHARED)],
+        "89 0 CacheTwice",
+    ),
+    (
+        &[ROOT, (-1, "", "/c", UNNAMED), (-1, "", "/d", UNNAMED)],
+        "89 0 CacheTwice",
+    ),
+    (
         &[
-            row("A", &[], &two),
-            row("C", &[], b"\x32\x00"),
-            row("B", &inputs, &op),
-            row("T", &[("B", b"")], b""),
+            ROOT,
+            (-1, "", "/c", LOCKED),
+            (-1, "", "/d", SHARED),
+            (-1, "", "/e", LOCKED),
         ],
-    )
-}
+        "89 0 CacheTwice",
+    ),
+    // One ID in three ways, and two IDs in one.
+    (
+        &[
+            ROOT,
+            (-1, "", "/c", SHARED),
+            (-1, "", "/d", PRIVATE),
+            (-1, "", "/e", LOCKED),
+        ],
+        RUNS_TRUE,
+    ),
+    (
+        &[ROOT, (-1, "", "/c", LOCKED), (-1, "", "/d", LOCKED_B)],
+        RUNS_TRUE,
+    ),
+    // They are judged in order.
+    (
+        &[ROOT, (-1, "", "/c", LOCKED), (-1, "", "//c", LOCKED)],
+        "89 0 SameDest",
+    ),
+    (
+        &[
+            ROOT,
+            (5, "", "/c", BARE_GIVES),
+            (-1, "", "/d", "mountType 5\n"),
+        ],
+        "89 0 MountKind",
+    ),
+    (&[ROOT, (5, "", "/c", BARE_GIVES)], "89 0 MountInput"),
+    (&[ROOT, (0, "", "/c", LOCKED)], "89 0 MountInput"),
+    // The output is numbered well, and the options are missing.
+    (
+        &[(-1, "", "/", "output -1\n"), (-1, "", "/c", BARE_GIVES)],
+        "89 0 MountOutput",
+    ),
+    (&[ROOT, (-1, "", "/c", BARE)], "89 0 NoCacheOpt"),
+    (
+        &[ROOT, (-1, "", "/c", BY_THREE), (-1, "", "/d", BARE)],
+        "89 0 NoCacheOpt",
+    ),
+    (&[ROOT, (-1, "", "/c", BY_THREE)], "89 0 Sharing"),
+    (&[ROOT, (-1, "", "/c", BELOW)], "89 0 Sharing"),
+    (
+        &[ROOT, (-1, "", "/c", BY_THREE), (-1, "", "/d", BY_THREE)],
+        "89 0 Sharing",
+    ),
+    (
+        &[
+            ROOT,
+            (-1, "", "/c", LOCKED),
+            (-1, "", "/d", LOCKED),
+            (-1, "", "/e", BELOW),
+        ],
+        "89 0 Sharing",
+    ),
+];
 
 #[test]
-fn caches_that_begin_with_different_outputs_are_different(rt: HostRuntime) {
-    let taken = "A runs 1 1 2,C 0 1,B runs 1 1 1 0.0 0.1 1.0 0.0, 2.0";
-    let cases: [(&[Shown<'_>], &str); 6] = [
-        (&[ROOT, ("/c", LOCKED), ("/d", LOCKED_ON_ZERO)], taken),
-        (
-            &[ROOT, ("/c", LOCKED_ON_ZERO), ("/d", LOCKED_ON_ONE)],
-            taken,
-        ),
-        (
-            &[ROOT, ("/c", LOCKED_ON_ZERO), ("/d", LOCKED_ON_TWO)],
-            taken,
-        ),
-        // One output under two numbers of inputs.
-        (
-            &[ROOT, ("/c", LOCKED_ON_ZERO), ("/d", LOCKED_ON_THREE)],
-            "89 2 CacheTwice",
-        ),
-        (
-            &[ROOT, ("/c", LOCKED_ON_ONE), ("/d", LOCKED_ON_ONE)],
-            "89 2 CacheTwice",
-        ),
-        (&[ROOT, ("/c", LOCKED_ON_FOUR)], "89 2 MountInput"),
-    ];
-    for (mounts, wanted) in cases {
-        assert!(rt;
-            is(said_of_seeds(rt.alloc(), mounts), wanted),
-            "{wanted}: {mounts:?}"
-        );
+fn caches_are_taken_one_key_once_and_judged_in_order(rt: HostRuntime) {
+    let alloc = rt.alloc();
+    for (mounts, wanted) in MOUNTS {
+        let told = said_of_words(alloc, TRUE, mounts);
+        assert!(rt; is_told(alloc, told, wanted), "{wanted}: {mounts:?}");
     }
 }
 
+// The shared cache `a` at `/c`, and at `/d` with its number written, which the assembler leaves out.
+const SHARED_WRITTEN: &str = "raw 1262\
+    0a060a0474727565\
+    120e08ffffffffffffffffff011a012f\
+    122208ffffffffffffffffff011a022f6320ffffffffffffffffff013003a201030a0161\
+    122408ffffffffffffffffff011a022f6420ffffffffffffffffff013003a201050a01611000";
+
 #[test]
-fn cache_mounts_are_judged_in_order(rt: HostRuntime) {
-    let cases: [(&[Shown<'_>], &str); 11] = [
-        (&[ROOT, ("/c", LOCKED), ("//c", LOCKED)], "89 0 SameDest"),
-        (
-            &[ROOT, ("/c", CACHE_SHOWS_FIVE), ("/d", UNKNOWN)],
-            "89 0 MountKind",
-        ),
-        (&[ROOT, ("/c", CACHE_SHOWS_FIVE)], "89 0 MountInput"),
-        (&[ROOT, ("/c", LOCKED_ON_ZERO)], "89 0 MountInput"),
-        // The output is numbered well, and the options are missing.
-        (
-            &[("/", GIVES_NOTHING), ("/c", BARE_GIVES)],
-            "89 0 MountOutput",
-        ),
-        (&[ROOT, ("/c", BARE)], "89 0 NoCacheOpt"),
-        (
-            &[ROOT, ("/c", SHARED_BY_THREE), ("/d", BARE)],
-            "89 0 NoCacheOpt",
-        ),
-        (&[ROOT, ("/c", SHARED_BY_THREE)], "89 0 Sharing"),
-        (&[ROOT, ("/c", SHARED_BELOW)], "89 0 Sharing"),
-        (
-            &[ROOT, ("/c", SHARED_BY_THREE), ("/d", SHARED_BY_THREE)],
-            "89 0 Sharing",
-        ),
-        (
-            &[ROOT, ("/c", LOCKED), ("/d", LOCKED), ("/e", SHARED_BELOW)],
-            "89 0 Sharing",
-        ),
-    ];
-    for (mounts, wanted) in cases {
-        assert!(rt;
-            is(said_of_words(rt.alloc(), &["true"], mounts), wanted),
-            "{wanted}: {mounts:?}"
-        );
-    }
+fn a_number_that_is_written_makes_no_other_key(rt: HostRuntime) {
+    let alloc = rt.alloc();
+    let told = linked(alloc, &[("A", SHARED_WRITTEN), ("T", NAMES_A)]);
+    assert!(rt; is_told(alloc, told, "89 0 CacheTwice"));
 }
 
 #[test]
 fn that_words_are_a_script_comes_behind_the_caches(rt: HostRuntime) {
     let alloc = rt.alloc();
-    let twice = said_of_words(alloc, &["nosuch"], &[ROOT, ("/c", LOCKED), ("/d", LOCKED)]);
-    assert!(rt; is(twice, "89 0 CacheTwice"));
-    let once = said_of_words(alloc, &["nosuch"], &[ROOT, ("/c", LOCKED)]);
-    assert!(rt; is(once, "89 0 Script 71 nosuch"));
+    let twice = [ROOT, (-1, "", "/c", LOCKED), (-1, "", "/d", LOCKED)];
+    let told = said_of_words(alloc, &["nosuch"], &twice);
+    assert!(rt; is_told(alloc, told, "89 0 CacheTwice"));
+    let told = said_of_words(alloc, &["nosuch"], &twice[..2]);
+    assert!(rt; is_told(alloc, told, "89 0 Script 71 nosuch"));
+}
+
+// The op that runs `true` on some mounts, behind its inputs.
+fn true_op(alloc: Global, inputs: &str, mounts: &[Shown<'_>]) -> Result<String, AllocError> {
+    let inside = exec_text(alloc, TRUE, "", mounts, "")?;
+    format!(in alloc; "op {{\n{inputs}{inside}}}")
+}
+
+// Both outputs of A, that of C, and the first of A again.
+const FOUR_INPUTS: &str = "inputs {\ndigest \"A\"\n}\ninputs {\ndigest \"A\"\nindex 1\n}\n\
+    inputs {\ndigest \"C\"\n}\ninputs {\ndigest \"A\"\n}\n";
+
+const NAMES_B: &str = "op {\ninputs {\ndigest \"B\"\n}\n}";
+
+// What is said of `true` on some mounts with four inputs.
+fn said_of_seeds(alloc: Global, mounts: &[Shown<'_>]) -> Result<String, LoadFault> {
+    let two = true_op(alloc, "", &[ROOT, (-1, "", "/a", "output 1\n")])?;
+    let op = true_op(alloc, FOUR_INPUTS, mounts)?;
+    let given = [
+        ("A", two.as_str()),
+        ("C", "op {\nmerge {\n}\n}"),
+        ("B", op.as_str()),
+        ("T", NAMES_B),
+    ];
+    linked(alloc, &given)
+}
+
+const TAKEN: &str = "A runs 1 1 2,C 0 1,B runs 1 1 1 0.0 0.1 1.0 0.0, 2.0";
+
+// The inputs that the locked cache `a` begins with at `/c` and `/d`.
+const SEEDS: &[(&[Shown<'static>], &str)] = &[
+    (
+        &[ROOT, (-1, "", "/c", LOCKED), (0, "", "/d", LOCKED)],
+        TAKEN,
+    ),
+    (&[ROOT, (0, "", "/c", LOCKED), (1, "", "/d", LOCKED)], TAKEN),
+    (&[ROOT, (0, "", "/c", LOCKED), (2, "", "/d", LOCKED)], TAKEN),
+    // One output under two numbers of inputs.
+    (
+        &[ROOT, (0, "", "/c", LOCKED), (3, "", "/d", LOCKED)],
+        "89 2 CacheTwice",
+    ),
+    (
+        &[ROOT, (1, "", "/c", LOCKED), (1, "", "/d", LOCKED)],
+        "89 2 CacheTwice",
+    ),
+    (&[ROOT, (4, "", "/c", LOCKED)], "89 2 MountInput"),
+];
+
+#[test]
+fn caches_that_begin_with_different_outputs_are_different(rt: HostRuntime) {
+    let alloc = rt.alloc();
+    for (mounts, wanted) in SEEDS {
+        let told = said_of_seeds(alloc, mounts);
+        assert!(rt; is_told(alloc, told, wanted), "{wanted}: {mounts:?}");
+    }
 }
 
 // What is said of `true` in two rows, of which the first stands on the second.
-fn said_of_two(alloc: Global, first: &[Shown<'_>], second: &[Shown<'_>]) -> Result<String, Memory> {
-    let a = true_op(alloc, first)?;
-    let b = true_op(alloc, second)?;
-    linked(
-        alloc,
-        &[
-            row("A", &[("B", b"")], &a),
-            row("B", &[], &b),
-            row("T", &[("A", b"")], b""),
-        ],
-    )
+fn said_of_two(
+    alloc: Global,
+    first: &[Shown<'_>],
+    second: &[Shown<'_>],
+) -> Result<String, LoadFault> {
+    let a = true_op(alloc, "inputs {\ndigest \"B\"\n}\n", first)?;
+    let b = true_op(alloc, "", second)?;
+    let given = [("A", a.as_str()), ("B", b.as_str()), ("T", NAMES_A)];
+    linked(alloc, &given)
 }
 
+const TWICE: &[Shown<'static>] = &[ROOT, (-1, "", "/c", LOCKED), (-1, "", "/d", LOCKED)];
+
+// The mounts of two rows: of those that break rules on caches the least is named, and two execs may mount one cache.
+const TWO_ROWS: &[(&[Shown<'static>], &[Shown<'static>], &str)] = &[
+    (TWICE, &[ROOT, (-1, "", "/c", BARE)], "89 0 CacheTwice"),
+    (
+        &[(0, "", "/", ""), (0, "", "/c", LOCKED)],
+        TWICE,
+        "89 1 CacheTwice",
+    ),
+    (
+        &[ROOT, (-1, "", "/c", LOCKED)],
+        &[ROOT, (-1, "", "/d", LOCKED)],
+        "B runs 1 1 1,A runs 1 1 1 0.0, 1.0",
+    ),
+];
+
 #[test]
-fn of_rows_that_break_rules_on_caches_the_least_is_named(rt: HostRuntime) {
+fn of_two_rows_the_least_that_breaks_a_rule_is_named(rt: HostRuntime) {
     let alloc = rt.alloc();
-    let twice: &[Shown<'_>] = &[ROOT, ("/c", LOCKED), ("/d", LOCKED)];
-    let bare: &[Shown<'_>] = &[ROOT, ("/c", BARE)];
-    assert!(rt; is(said_of_two(alloc, twice, bare), "89 0 CacheTwice"));
-    let once: &[Shown<'_>] = &[("/", SHOWS_ZERO), ("/c", LOCKED_ON_ZERO)];
-    assert!(rt; is(said_of_two(alloc, once, twice), "89 1 CacheTwice"));
-}
-
-#[test]
-fn two_execs_may_mount_one_cache(rt: HostRuntime) {
-    let both = said_of_two(rt.alloc(), &[ROOT, ("/c", LOCKED)], &[ROOT, ("/d", LOCKED)]);
-    assert!(rt; is(both, "B runs 1 1 1,A runs 1 1 1 0.0, 1.0"));
+    for (first, second, wanted) in TWO_ROWS {
+        let told = said_of_two(alloc, first, second);
+        assert!(rt; is_told(alloc, told, wanted), "{wanted}");
+    }
 }

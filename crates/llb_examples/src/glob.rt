@@ -10,82 +10,67 @@ fn answer(alloc: Global, pattern: &str, path: &str) -> Result<bool, PatternFault
     Ok(pattern.matches(&path))
 }
 
-// Whether each of these paths has that answer to the pattern before it.
-fn all_answer(alloc: Global, rows: &[(&str, &str)], wanted: Result<bool, PatternFault>) -> bool {
-    for (pattern, path) in rows {
-        if answer(alloc, pattern, path) != wanted {
-            return false;
+// Patterns, each with a path that it matches: a name a part, and a path part by part.
+const MATCHING: &[(&str, &str)] = &[
+    ("a*", "/ab"),
+    ("a*", "/a"),
+    ("*", "/a"),
+    ("**", "/a"),
+    ("*ab", "/aab"),
+    ("a*b*c", "/abbcbc"),
+    ("?", "/é"),
+    ("?*", "/漢字"),
+    ("\\*", "/*"),
+    ("\\a\\é", "/aé"),
+    ("\\\\", "/\\"),
+    ("\\[a]", "/[a]"),
+    ("", "/"),
+    ("a/*", "/a/b"),
+    ("/a//./x/../?", "a/b"),
+    ("a\\/../b", "/b"),
+    ("[/../b", "/b"),
+];
+
+const NOT_MATCHING: &[(&str, &str)] = &[
+    ("a*", "/ba"),
+    ("*ab", "/aba"),
+    ("a*b*c", "/acb"),
+    ("??", "/é"),
+    ("*??", "/漢"),
+    ("?", "/ab"),
+    ("\\*", "/a"),
+    ("\\?", "/a"),
+    ("a*c", "/a/c"),
+    ("/..", "/a"),
+    ("*", "/"),
+    ("a/*", "/a"),
+    ("a/*", "/a/b/c"),
+];
+
+const BAD: &[(&str, &str)] = &[
+    ("[a]", "/a"),
+    ("a\\", "/a"),
+    ("*a\\\\\\", "/a"),
+    ("a\\/b", "/a/b"),
+    ("a/\u{1}/..", "/a"),
+    ("*\u{7f}", "/a"),
+];
+
+#[test]
+fn a_path_matches_part_by_part_and_a_bad_pattern_is_refused(rt: HostRuntime) {
+    let tables = [
+        (MATCHING, Ok(true)),
+        (NOT_MATCHING, Ok(false)),
+        (BAD, Err(PatternFault::BadPattern)),
+    ];
+    for (rows, wanted) in tables {
+        for (pattern, path) in rows {
+            assert!(rt;
+                answer(rt.alloc(), pattern, path) == wanted,
+                "{pattern:?} {path:?}"
+            );
         }
     }
-    true
-}
-
-#[test]
-fn a_name_matches_a_part(rt: HostRuntime) {
-    let rows = [
-        ("a*", "/ab"),
-        ("a*", "/a"),
-        ("*", "/a"),
-        ("**", "/a"),
-        ("*ab", "/aab"),
-        ("a*b*c", "/abbcbc"),
-        ("?", "/é"),
-        ("?*", "/漢字"),
-        ("\\*", "/*"),
-        ("\\a\\é", "/aé"),
-        ("\\\\", "/\\"),
-        ("\\[a]", "/[a]"),
-    ];
-    assert!(rt; all_answer(rt.alloc(), &rows, Ok(true)));
-}
-
-#[test]
-fn a_name_does_not_match_another_part(rt: HostRuntime) {
-    let rows = [
-        ("a*", "/ba"),
-        ("*ab", "/aba"),
-        ("a*b*c", "/acb"),
-        ("??", "/é"),
-        ("*??", "/漢"),
-        ("?", "/ab"),
-        ("\\*", "/a"),
-        ("\\?", "/a"),
-    ];
-    assert!(rt; all_answer(rt.alloc(), &rows, Ok(false)));
-}
-
-#[test]
-fn a_path_matches_part_by_part(rt: HostRuntime) {
-    let alloc = rt.alloc();
-    let matching = [
-        ("", "/"),
-        ("a/*", "/a/b"),
-        ("/a//./x/../?", "a/b"),
-        ("a\\/../b", "/b"),
-        ("[/../b", "/b"),
-    ];
-    assert!(rt; all_answer(alloc, &matching, Ok(true)));
-    let others = [
-        ("a*c", "/a/c"),
-        ("/..", "/a"),
-        ("*", "/"),
-        ("a/*", "/a"),
-        ("a/*", "/a/b/c"),
-    ];
-    assert!(rt; all_answer(alloc, &others, Ok(false)));
-}
-
-#[test]
-fn a_bad_pattern_is_refused(rt: HostRuntime) {
-    let rows = [
-        ("[a]", "/a"),
-        ("a\\", "/a"),
-        ("*a\\\\\\", "/a"),
-        ("a\\/b", "/a/b"),
-        ("a/\u{1}/..", "/a"),
-        ("*\u{7f}", "/a"),
-    ];
-    assert!(rt; all_answer(rt.alloc(), &rows, Err(PatternFault::BadPattern)));
 }
 
 fn repeated(alloc: Global, text: &str, count: usize, rest: &str) -> Result<String, AllocError> {
@@ -134,6 +119,7 @@ fn has_no_parts(alloc: Global, text: &str) -> Result<bool, PatternFault> {
 
 #[test]
 fn a_pattern_may_have_no_parts(rt: HostRuntime) {
-    assert_eq!(rt; has_no_parts(rt.alloc(), "/a\\/.."), Ok(true));
-    assert_eq!(rt; has_no_parts(rt.alloc(), "*"), Ok(false));
+    for (text, wanted) in [("/a\\/..", true), ("*", false)] {
+        assert!(rt; has_no_parts(rt.alloc(), text) == Ok(wanted), "{text}");
+    }
 }

@@ -11,11 +11,15 @@ mod cache;
 #[cfg(test)]
 mod cache_mounts;
 #[cfg(test)]
+mod execs;
+#[cfg(test)]
 mod faults;
 #[cfg(test)]
 mod fileop;
 #[cfg(test)]
 mod glob;
+#[cfg(test)]
+mod graphs;
 #[cfg(test)]
 mod loader;
 #[cfg(test)]
@@ -37,9 +41,11 @@ mod overlay;
 #[cfg(test)]
 mod plain;
 #[cfg(test)]
-mod sharing;
+mod plain_ops;
 #[cfg(test)]
-mod subtrees;
+mod scripts;
+#[cfg(test)]
+mod sharing;
 #[cfg(test)]
 mod told;
 #[cfg(test)]

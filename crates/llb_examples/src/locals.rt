@@ -1,59 +1,49 @@
-//! The trees of local sources by their names. Each tree is told by the one directory that it has.
+//! The trees of local sources by their names. Each tree is told by its entries.
 
+use super::told::{dir, is_told, push_tree, tree_of};
 use llb_loader::{Locals, Memory};
-use llb_tree::{Path, Tree, TreeFault};
+use llb_tree::TreeFault;
 use llb_wire::Text;
 use std::alloc::Global;
 use std::test::Fail;
 
-fn put_directory(tree: &mut Tree, alloc: Global, path: &str) -> Result<(), TreeFault> {
-    let path = Path::read(alloc, path)?;
-    let directory = Tree::empty(alloc)?;
-    tree.graft(&path, &directory)
-}
-
-// A tree with a directory.
-fn tree_with(alloc: Global, path: &str) -> Result<Tree, TreeFault> {
-    let mut tree = Tree::empty(alloc)?;
-    put_directory(&mut tree, alloc, path)?;
-    Ok(tree)
-}
-
 fn give(locals: &mut Locals, alloc: Global, name: &str, path: &str) -> Result<(), Fail> {
-    let tree = tree_with(alloc, path)?;
-    let name = Text::from_str(alloc, name)?;
-    locals.add(name, tree)?;
+    let tree = tree_of(alloc, &[dir(path)])?;
+    locals.add(Text::from_str(alloc, name)?, tree)?;
     Ok(())
 }
 
-// Whether a name has a tree with that directory.
-fn has(locals: &Locals, alloc: Global, name: &str, path: &str) -> Result<bool, Fail> {
-    let path = Path::read(alloc, path)?;
+// The tree of a name, if there is one.
+fn push_tree_of(text: &mut String, locals: &Locals, name: &str) -> Result<(), TreeFault> {
     match locals.get(name) {
-        Some(tree) => Ok(tree.get(&path).is_some()),
-        None => Ok(false),
+        Some(tree) => push_tree(text, tree)?,
+        None => text.push_str("none")?,
     }
+    Ok(text.push_str(";")?)
+}
+
+// What `a` is at first, and what `a`, `b`, `c` and the empty name are once three trees were given.
+fn told(alloc: Global) -> Result<String, Fail> {
+    let mut text = String::new(alloc);
+    let mut locals = Locals::new(alloc);
+    push_tree_of(&mut text, &locals, "a")?;
+    for (name, path) in [("a", "/one"), ("b", "/two"), ("a", "/three")] {
+        give(&mut locals, alloc, name, path)?;
+    }
+    for name in ["a", "b", "c", ""] {
+        push_tree_of(&mut text, &locals, name)?;
+    }
+    Ok(text)
 }
 
 #[test]
 fn a_name_has_the_tree_that_was_given_last(rt: HostRuntime) -> Result<(), Fail> {
-    let alloc = rt.alloc();
-    let mut locals = Locals::new(alloc);
-    assert!(rt; locals.get("a").is_none());
-    give(&mut locals, alloc, "a", "/one")?;
-    give(&mut locals, alloc, "b", "/two")?;
-    give(&mut locals, alloc, "a", "/three")?;
-    assert!(rt; has(&locals, alloc, "a", "/three")?);
-    assert!(rt; !has(&locals, alloc, "a", "/one")?);
-    assert!(rt; has(&locals, alloc, "b", "/two")?);
-    assert!(rt; locals.get("c").is_none());
-    assert!(rt; locals.get("").is_none());
+    let told = told(rt.alloc())?;
+    assert!(rt; told.as_str() == "none; d d/three; d d/two;none;none;");
     Ok(())
 }
 
 #[test]
-fn want_of_memory_prints_its_number(rt: HostRuntime) -> Result<(), Fail> {
-    let printed = Memory.to_string(rt.alloc())?;
-    assert!(rt; printed.as_str() == "92");
-    Ok(())
+fn want_of_memory_prints_its_number(rt: HostRuntime) {
+    assert!(rt; is_told(rt.alloc(), Err(Memory), "92"));
 }

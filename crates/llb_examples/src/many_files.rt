@@ -1,9 +1,8 @@
 //! A tree of a thousand files and its copies: changes of one are not in the others. Trees are told by their whole texts.
 
-use super::told::tree_of;
-use llb_tree::{Meta, Path, Tree, TreeFault};
-use llb_treetext::print_tree;
-use llb_wire::{Bytes, Over};
+use super::told::{dir, file, put, tree_of};
+use super::treetext::printed;
+use llb_tree::{Tree, TreeFault};
 use std::alloc::{AllocError, Global};
 use std::thread;
 use std::thread::Threads;
@@ -11,28 +10,21 @@ use std::thread::Threads;
 const FILES: u16 = 1_000;
 
 fn put_file(alloc: Global, tree: &mut Tree, at: u16, content: &str) -> Result<(), TreeFault> {
-    let Some(meta) = Meta::new(0o644, 0, 0) else {
-        return Ok(());
-    };
     let path = format!(in alloc; "/d/{at:03}")?;
-    let path = Path::read(alloc, path.as_str())?;
-    let content = Bytes::from_slice(alloc, content.as_bytes())?;
-    tree.put_file(&path, meta, content)
+    put(alloc, tree, &file(path.as_str(), content))
 }
 
-// Each of the files gets the content.
-fn fill(alloc: Global, tree: &mut Tree, content: &str) -> Result<(), TreeFault> {
+// The tree once each of the files has the content.
+fn filled(alloc: Global, mut tree: Tree, content: &str) -> Result<Tree, TreeFault> {
     for at in 0..FILES {
-        put_file(alloc, tree, at, content)?;
+        put_file(alloc, &mut tree, at, content)?;
     }
-    Ok(())
+    Ok(tree)
 }
 
 // The empty files `/d/000` to `/d/999`.
 fn many(alloc: Global) -> Result<Tree, TreeFault> {
-    let mut tree = tree_of(alloc, &[("/d", 0o755, 0, None)])?;
-    fill(alloc, &mut tree, "")?;
-    Ok(tree)
+    filled(alloc, tree_of(alloc, &[dir("/d")])?, "")
 }
 
 // The text of such a tree, by the digits of the file 500 and those of all others.
@@ -40,19 +32,9 @@ fn wanted(alloc: Global, others: &str, of_500: &str) -> Result<String, AllocErro
     let mut text = String::from_str(alloc, "d 0755 0 0 /\nd 0755 0 0 /d\n")?;
     for at in 0..FILES {
         let digits = if at == 500 { of_500 } else { others };
-        let line = format!(in alloc; "f 0644 0 0 {digits} /d/{at:03}\n")?;
-        text.push_str(line.as_str())?;
+        write!(text, "f 0644 0 0 {digits} /d/{at:03}\n")?;
     }
     Ok(text)
-}
-
-fn printed(alloc: Global, tree: &Tree) -> Result<Vec<u8>, AllocError> {
-    let mut text: Vec<u8> = Vec::new(alloc);
-    let mut out = Over::new(&mut text);
-    match print_tree(alloc, tree, &mut out) {
-        Ok(()) => Ok(text),
-        Err(_) => Err(AllocError),
-    }
 }
 
 // Whether a tree has that text.
@@ -85,11 +67,6 @@ fn one_byte_in_one_of_a_thousand_files_is_not_in_the_copy(rt: HostRuntime) {
             "{first_goes}"
         );
     }
-}
-
-fn filled(alloc: Global, mut tree: Tree, content: &str) -> Result<Tree, TreeFault> {
-    fill(alloc, &mut tree, content)?;
-    Ok(tree)
 }
 
 // The tree where each file has `1`, and where each has `2`, by a thread each.

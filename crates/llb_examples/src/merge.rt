@@ -1,175 +1,108 @@
-//! One tree laid over another. A tree is a table of its paths, and what is laid is told in a line of text: the entries.
+//! One tree laid over another. A tree is a table of its paths, and what is laid is told by its entries.
 
-use super::told::put_entry;
+use super::told::{Row, is_told, tree_of, tree_text};
 use llb_merge::{
     Memory, at_each_path, lay, over_itself, over_the_empty_tree, under_the_empty_tree,
 };
-use llb_tree::{Entry, Meta, Path, Tree, TreeFault};
-use std::alloc::{AllocError, Global};
+use llb_tree::{Tree, TreeFault};
+use std::alloc::Global;
 
-// A path, the mode there, and the content of a file.
-type Row = (&'static str, u16, Option<&'static str>);
+const Q: &[Row<'static>] = &[("/p", 0o755, 0, 0, None), ("/p/q", 0o644, 0, 0, Some("1"))];
 
-const Q: &[Row] = &[("/p", 0o755, None), ("/p/q", 0o644, Some("1"))];
+const FILE: &[Row<'static>] = &[("/p", 0o644, 0, 0, Some("2"))];
 
-const FILE: &[Row] = &[("/p", 0o644, Some("2"))];
+const R: &[Row<'static>] = &[("/p", 0o755, 0, 0, None), ("/p/r", 0o644, 0, 0, Some("3"))];
 
-const R: &[Row] = &[("/p", 0o755, None), ("/p/r", 0o644, Some("3"))];
-
-const LOWER: &[Row] = &[
-    ("/", 0o700, None),
-    ("/a", 0o700, None),
-    ("/a/x", 0o600, Some("low")),
-    ("/a/y", 0o600, Some("low")),
-    ("/c", 0o600, Some("low")),
-    ("/z", 0o700, None),
+const LOWER: &[Row<'static>] = &[
+    ("/", 0o700, 0, 0, None),
+    ("/a", 0o700, 0, 0, None),
+    ("/a/x", 0o600, 0, 0, Some("low")),
+    ("/a/y", 0o600, 0, 0, Some("low")),
+    ("/c", 0o600, 0, 0, Some("low")),
+    ("/z", 0o700, 0, 0, None),
 ];
 
-const UPPER: &[Row] = &[
-    ("/a", 0o755, None),
-    ("/a/x", 0o644, Some("up")),
-    ("/b", 0o755, None),
-    ("/c", 0o755, None),
-    ("/c/d", 0o644, Some("up")),
+const UPPER: &[Row<'static>] = &[
+    ("/a", 0o755, 0, 0, None),
+    ("/a/x", 0o644, 0, 0, Some("up")),
+    ("/b", 0o755, 0, 0, None),
+    ("/c", 0o755, 0, 0, None),
+    ("/c/d", 0o644, 0, 0, Some("up")),
 ];
 
-fn put(alloc: Global, tree: &mut Tree, row: &Row) -> Result<(), TreeFault> {
-    let (path, mode, content) = *row;
-    match Meta::new(mode, 0, 0) {
-        None => Ok(()),
-        Some(meta) => put_entry(alloc, tree, path, meta, content),
-    }
-}
-
-fn tree_of(alloc: Global, rows: &[Row]) -> Result<Tree, TreeFault> {
-    let mut tree = Tree::empty(alloc)?;
-    for row in rows {
-        put(alloc, &mut tree, row)?;
-    }
-    Ok(tree)
-}
-
-fn over(alloc: Global, lower: &Tree, rows: &[Row]) -> Result<Tree, TreeFault> {
-    let upper = tree_of(alloc, rows)?;
-    at_each_path(lower, &upper);
-    match lay(alloc, lower, &upper) {
+fn over(alloc: Global, lower: &Tree, upper: &Tree) -> Result<Tree, TreeFault> {
+    at_each_path(lower, upper);
+    match lay(alloc, lower, upper) {
         Ok(laid) => Ok(laid),
         Err(Memory) => Err(TreeFault::Memory),
     }
 }
 
 // The trees one over another, from the empty tree up.
-fn fold(alloc: Global, trees: &[&[Row]]) -> Result<Tree, TreeFault> {
+fn fold(alloc: Global, trees: &[&[Row<'_>]]) -> Result<Tree, TreeFault> {
     let mut laid = Tree::empty(alloc)?;
     for rows in trees {
-        laid = over(alloc, &laid, rows)?;
+        laid = over(alloc, &laid, &tree_of(alloc, rows)?)?;
     }
     Ok(laid)
 }
 
-fn push_entry(
-    alloc: Global,
-    text: &mut String,
-    path: &Path,
-    entry: &Entry<'_>,
-) -> Result<(), AllocError> {
-    for name in path.names() {
-        text.push_str("/")?;
-        text.push_str(name.as_str())?;
-    }
-    let (meta, content) = match entry {
-        Entry::Dir(meta) => (*meta, "dir"),
-        Entry::File(meta, content) => match str::from_utf8(content.as_slice()) {
-            Ok(content) => (*meta, content),
-            Err(_) => (*meta, "?"),
-        },
-    };
-    let mode = meta.mode();
-    let told = format!(in alloc; " {mode:o} {content}|")?;
-    text.push_str(told.as_str())
+fn told(alloc: Global, tree: &Tree) -> Result<String, TreeFault> {
+    over_itself(tree);
+    over_the_empty_tree(tree);
+    under_the_empty_tree(tree);
+    tree_text(alloc, tree)
 }
 
-fn push_tree(alloc: Global, text: &mut String, tree: &Tree) -> Result<(), TreeFault> {
-    let mut walk = tree.walk();
-    for _ in 0..u64::MAX {
-        let Some((path, entry)) = walk.at() else {
-            return Ok(());
-        };
-        push_entry(alloc, text, path, &entry)?;
-        walk.advance()?;
-    }
-    Ok(())
+fn folded(alloc: Global, trees: &[&[Row<'_>]]) -> Result<String, TreeFault> {
+    told(alloc, &fold(alloc, trees)?)
 }
 
-fn told(alloc: Global, tree: Result<Tree, TreeFault>) -> Result<String, TreeFault> {
-    let tree = tree?;
-    over_itself(&tree);
-    over_the_empty_tree(&tree);
-    under_the_empty_tree(&tree);
-    let mut text = String::new(alloc);
-    push_tree(alloc, &mut text, &tree)?;
-    Ok(text)
-}
-
-fn is_told(alloc: Global, tree: Result<Tree, TreeFault>, wanted: &str) -> bool {
-    match told(alloc, tree) {
-        Ok(text) => text.as_str() == wanted,
-        Err(_) => false,
-    }
-}
+// Trees, and what they are one over another.
+const FOLDS: &[(&[&[Row<'static>]], &str)] = &[
+    // A file hides what was below its path for good.
+    (&[Q], " d d/p f/p/q=1"),
+    (&[Q, FILE], " d f/p=2"),
+    (&[Q, FILE, R], " d d/p f/p/r=3"),
+    (&[Q, R], " d d/p f/p/q=1 f/p/r=3"),
+    // The upper entry stands, and neighbours of both stay.
+    (
+        &[LOWER, UPPER],
+        " d d/a f/a/x=up f/a/y(600 0:0)=low d/b d/c f/c/d=up d/z(700 0:0)",
+    ),
+    (
+        &[LOWER, LOWER],
+        " d(700 0:0) d/a(700 0:0) f/a/x(600 0:0)=low f/a/y(600 0:0)=low f/c(600 0:0)=low d/z(700 0:0)",
+    ),
+    (
+        &[LOWER, &[]],
+        " d d/a(700 0:0) f/a/x(600 0:0)=low f/a/y(600 0:0)=low f/c(600 0:0)=low d/z(700 0:0)",
+    ),
+];
 
 #[test]
-fn a_file_hides_what_was_below_its_path_for_good(rt: HostRuntime) {
-    let rows: [(&[&[Row]], &str); 4] = [
-        (&[Q], " 755 dir|/p 755 dir|/p/q 644 1|"),
-        (&[Q, FILE], " 755 dir|/p 644 2|"),
-        (&[Q, FILE, R], " 755 dir|/p 755 dir|/p/r 644 3|"),
-        (&[Q, R], " 755 dir|/p 755 dir|/p/q 644 1|/p/r 644 3|"),
-    ];
+fn a_file_hides_what_was_below_and_the_upper_entry_stands(rt: HostRuntime) {
     let alloc = rt.alloc();
-    for (trees, wanted) in rows {
-        assert!(rt; is_told(alloc, fold(alloc, trees), wanted), "{wanted}");
+    for (trees, wanted) in FOLDS {
+        assert!(rt; is_told(alloc, folded(alloc, trees), wanted), "{wanted}");
     }
 }
 
 // The second tree with the third over it, over the first.
-fn upper_two_first(alloc: Global) -> Result<Tree, TreeFault> {
-    let lowest = tree_of(alloc, Q)?;
-    let middle = tree_of(alloc, FILE)?;
-    let both = over(alloc, &middle, R)?;
-    match lay(alloc, &lowest, &both) {
-        Ok(laid) => Ok(laid),
-        Err(Memory) => Err(TreeFault::Memory),
-    }
+fn upper_two_first(alloc: Global) -> Result<String, TreeFault> {
+    let both = over(alloc, &tree_of(alloc, FILE)?, &tree_of(alloc, R)?)?;
+    told(alloc, &over(alloc, &tree_of(alloc, Q)?, &both)?)
 }
 
 #[test]
 fn which_two_of_three_are_laid_first_makes_a_difference(rt: HostRuntime) {
     let alloc = rt.alloc();
-    let lower_two_first = fold(alloc, &[Q, FILE, R]);
-    assert!(rt; is_told(alloc, lower_two_first, " 755 dir|/p 755 dir|/p/r 644 3|"));
-    let wanted = " 755 dir|/p 755 dir|/p/q 644 1|/p/r 644 3|";
-    assert!(rt; is_told(alloc, upper_two_first(alloc), wanted));
-}
-
-#[test]
-fn the_upper_entry_stands_and_neighbours_of_both_stay(rt: HostRuntime) {
-    let wanted =
-        " 755 dir|/a 755 dir|/a/x 644 up|/a/y 600 low|/b 755 dir|/c 755 dir|/c/d 644 up|/z 700 dir|";
-    let alloc = rt.alloc();
-    assert!(rt; is_told(alloc, fold(alloc, &[LOWER, UPPER]), wanted));
-    let same = " 700 dir|/a 700 dir|/a/x 600 low|/a/y 600 low|/c 600 low|/z 700 dir|";
-    assert!(rt; is_told(alloc, fold(alloc, &[LOWER, LOWER]), same));
-    let under = " 755 dir|/a 700 dir|/a/x 600 low|/a/y 600 low|/c 600 low|/z 700 dir|";
-    assert!(rt; is_told(alloc, fold(alloc, &[LOWER, &[]]), under));
-}
-
-fn printed(alloc: Global) -> Result<bool, AllocError> {
-    let text = Memory.to_string(alloc)?;
-    Ok(text.as_str() == "55")
+    let lower_two_first = folded(alloc, &[Q, FILE, R]);
+    assert!(rt; is_told(alloc, lower_two_first, " d d/p f/p/r=3"));
+    assert!(rt; is_told(alloc, upper_two_first(alloc), " d d/p f/p/q=1 f/p/r=3"));
 }
 
 #[test]
 fn want_of_memory_prints_its_number(rt: HostRuntime) {
-    assert!(rt; printed(rt.alloc()) == Ok(true));
+    assert!(rt; is_told(rt.alloc(), Err(Memory), "55"));
 }

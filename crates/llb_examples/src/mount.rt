@@ -1,10 +1,9 @@
 //! Views. A mount is a row: its dest, its selector, whether it is read-only, and the name of the one file in its tree. A
 //! story is told in a line of text: the answer to each step, and then the mounts.
 
+use super::told::{file, is_told, push_path, tree_of};
 use llb_mount::{Many, Memory, Path, ReadOnly, Shown, Tree, View};
-use llb_tree::Meta;
-use llb_wire::Bytes;
-use std::alloc::{AllocError, Global};
+use std::alloc::Global;
 
 type Row = (&'static str, &'static str, bool, &'static str);
 
@@ -14,21 +13,11 @@ const THREE: [Row; 3] = [
     ("/t/in", "/sub", true, "c"),
 ];
 
-// The tree with an empty file of that name.
-fn marked(alloc: Global, name: &str) -> Result<Tree, Memory> {
-    let path = Path::read(alloc, name)?;
-    let mut tree = Tree::empty(alloc)?;
-    if let Some(meta) = Meta::new(0o644, 0, 0) {
-        tree.put_file(&path, meta, Bytes::new(Vec::new(alloc)))?;
-    }
-    Ok(tree)
-}
-
 fn shown(alloc: Global, row: &Row) -> Result<Shown, Memory> {
     let (dest, selector, readonly, name) = *row;
     let dest = Path::read(alloc, dest)?;
     let selector = Path::read(alloc, selector)?;
-    let tree = marked(alloc, name)?;
+    let tree = tree_of(alloc, &[file(name, "")])?;
     Ok(Shown {
         dest,
         selector,
@@ -55,17 +44,21 @@ fn makes_a_view(alloc: Global, rows: &[Row]) -> Result<bool, Memory> {
 
 #[test]
 fn one_mount_is_at_the_root_and_no_two_at_one_dest(rt: HostRuntime) {
-    let alloc = rt.alloc();
-    assert!(rt; makes_a_view(alloc, &THREE) == Ok(true));
-    assert!(rt; makes_a_view(alloc, &[("//.", "/", true, "a")]) == Ok(true));
-    assert!(rt; makes_a_view(alloc, &[]) == Ok(false));
-    assert!(rt; makes_a_view(alloc, &[("/t", "/", false, "a")]) == Ok(false));
     let twice = [
         ("/t", "/", false, "a"),
         ("/", "/", false, "b"),
         ("t/.", "/sub", true, "c"),
     ];
-    assert!(rt; makes_a_view(alloc, &twice) == Ok(false));
+    let views: [(&[Row], bool); 5] = [
+        (&THREE, true),
+        (&[("//.", "/", true, "a")], true),
+        (&[], false),
+        (&[("/t", "/", false, "a")], false),
+        (&twice, false),
+    ];
+    for (rows, wanted) in views {
+        assert!(rt; makes_a_view(rt.alloc(), rows) == Ok(wanted), "{rows:?}");
+    }
 }
 
 // Where the view of the mounts routes the path of a text.
@@ -77,39 +70,31 @@ fn route(alloc: Global, rows: &[Row], text: &str) -> Result<Option<(u32, u32)>, 
     }
 }
 
-fn leads(alloc: Global, rows: &[Row], text: &str, number: u32, dropped: u32) -> bool {
-    match route(alloc, rows, text) {
-        Ok(Some(to)) => to.0 == number && to.1 == dropped,
-        _ => false,
-    }
-}
-
 #[test]
 fn a_path_is_routed_to_the_longest_dest(rt: HostRuntime) {
-    let rows = [
-        ("/t/in/f", 2, 2),
-        ("/t", 1, 1),
-        ("/tx", 0, 0),
-        ("/", 0, 0),
-        ("/t/in", 2, 2),
-        ("/t/inx/f", 1, 1),
-        ("/a/t/in", 0, 0),
-    ];
-    for (text, number, dropped) in rows {
-        assert!(rt; leads(rt.alloc(), &THREE, text, number, dropped), "{text}");
-    }
-}
-
-#[test]
-fn the_root_may_be_the_last_mount(rt: HostRuntime) {
+    // The root may be the last mount.
     let turned = [
         ("/t/in", "/", false, "a"),
         ("/t", "/", false, "b"),
         ("/", "/", false, "c"),
     ];
-    let rows = [("/t/in/f", 0, 2), ("/t/f", 1, 1), ("/f", 2, 0)];
-    for (text, number, dropped) in rows {
-        assert!(rt; leads(rt.alloc(), &turned, text, number, dropped), "{text}");
+    let rows = [
+        (THREE, "/t/in/f", 2, 2),
+        (THREE, "/t", 1, 1),
+        (THREE, "/tx", 0, 0),
+        (THREE, "/", 0, 0),
+        (THREE, "/t/in", 2, 2),
+        (THREE, "/t/inx/f", 1, 1),
+        (THREE, "/a/t/in", 0, 0),
+        (turned, "/t/in/f", 0, 2),
+        (turned, "/t/f", 1, 1),
+        (turned, "/f", 2, 0),
+    ];
+    for (mounts, text, number, dropped) in rows {
+        assert!(rt;
+            route(rt.alloc(), mounts.as_slice(), text) == Ok(Some((number, dropped))),
+            "{text}"
+        );
     }
 }
 
@@ -118,14 +103,6 @@ fn the_root_may_be_the_last_mount(rt: HostRuntime) {
 enum Step {
     Set(u32, &'static str),
     Swap(u32, &'static str),
-}
-
-fn push_path(text: &mut String, path: &Path) -> Result<(), AllocError> {
-    for name in path.names() {
-        text.push_str("/")?;
-        text.push_str(name.as_str())?;
-    }
-    Ok(())
 }
 
 // The names of a tree's files, and a space.
@@ -165,7 +142,7 @@ fn push_set(alloc: Global, text: &mut String, answer: Result<(), ReadOnly>) -> R
 
 fn take_step(alloc: Global, text: &mut String, view: &mut View, step: Step) -> Result<(), Memory> {
     let (Step::Set(mount, name) | Step::Swap(mount, name)) = step;
-    let tree = marked(alloc, name)?;
+    let tree = tree_of(alloc, &[file(name, "")])?;
     if mount as usize >= view.mounts().len() {
         return Ok(());
     }
@@ -191,55 +168,32 @@ fn story(alloc: Global, steps: &[Step]) -> Result<String, Memory> {
     Ok(text)
 }
 
-fn tells(alloc: Global, steps: &[Step], mounts: &str) -> bool {
-    match story(alloc, steps) {
-        Ok(text) => text.as_str() == mounts,
-        Err(_) => false,
-    }
-}
+const STORIES: &[(&[Step], &str)] = &[
+    // A tree is set where the mount is not read-only.
+    (
+        &[Step::Set(1, "x"), Step::Set(0, "y"), Step::Set(1, "z")],
+        "ok ok ok :=y /t:=z /t/in:/sub!=c | :=a /t:=b /t/in:/sub!=c ",
+    ),
+    (
+        &[Step::Set(2, "x")],
+        "61x :=a /t:=b /t/in:/sub!=c | :=a /t:=b /t/in:/sub!=c ",
+    ),
+    // A tree is exchanged in any mount.
+    (
+        &[Step::Swap(2, "x"), Step::Swap(0, "y"), Step::Swap(2, "z")],
+        "c a x :=y /t:=b /t/in:/sub!=z | :=a /t:=b /t/in:/sub!=c ",
+    ),
+];
 
 #[test]
-fn a_tree_is_set_where_the_mount_is_not_read_only(rt: HostRuntime) {
+fn a_tree_is_set_where_the_mount_is_not_read_only_and_exchanged_in_any(rt: HostRuntime) {
     let alloc = rt.alloc();
-    let set = [Step::Set(1, "x"), Step::Set(0, "y"), Step::Set(1, "z")];
-    assert!(rt;
-        tells(
-            alloc,
-            &set,
-            "ok ok ok :=y /t:=z /t/in:/sub!=c | :=a /t:=b /t/in:/sub!=c "
-        )
-    );
-    let refused = [Step::Set(2, "x")];
-    assert!(rt;
-        tells(
-            alloc,
-            &refused,
-            "61x :=a /t:=b /t/in:/sub!=c | :=a /t:=b /t/in:/sub!=c "
-        )
-    );
-}
-
-#[test]
-fn a_tree_is_exchanged_in_any_mount(rt: HostRuntime) {
-    let alloc = rt.alloc();
-    let swapped = [Step::Swap(2, "x"), Step::Swap(0, "y"), Step::Swap(2, "z")];
-    assert!(rt;
-        tells(
-            alloc,
-            &swapped,
-            "c a x :=y /t:=b /t/in:/sub!=z | :=a /t:=b /t/in:/sub!=c "
-        )
-    );
-}
-
-fn prints(alloc: Global, fault: Memory, number: &str) -> bool {
-    match fault.to_string(alloc) {
-        Ok(text) => text.as_str() == number,
-        Err(_) => false,
+    for (steps, wanted) in STORIES {
+        assert!(rt; is_told(alloc, story(alloc, steps), wanted), "{wanted}");
     }
 }
 
 #[test]
 fn want_of_memory_prints_its_number(rt: HostRuntime) {
-    assert!(rt; prints(rt.alloc(), Memory, "62"));
+    assert!(rt; is_told(rt.alloc(), Err(Memory), "62"));
 }

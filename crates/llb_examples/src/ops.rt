@@ -7,7 +7,6 @@ use llb_ops::{
 };
 use llb_wire::{Bytes, Memory, WireFault};
 use std::alloc::Global;
-use std::test::Fail;
 
 // A file `/a` of mode 0644 with the content `hi`, made on the empty tree.
 const MAKES_A: &[u8] = b"\x22\x30\x12\x2E\x08\xFF\xFF\xFF\xFF\xFF\xFF\xFF\xFF\xFF\x01\x10\
@@ -51,93 +50,87 @@ const RUNS_TRUE: &[u8] = b"\x0A\x49\x0A\x47\
     \x12\x28\x0A\x21\x0A\x07/bin/sh\x0A\x02-c\x0A\x04true\x12\x09PATH=/bin\x1A\x01/\x12\x03\x1A\x01/\
     \x52\x0E\x0A\x05amd64\x12\x05linux\x5A\x00";
 
-fn written(alloc: Global, op: Op) -> Result<Bytes, OpFault> {
-    op_is_read_again(&op);
-    write_op(alloc, &op)
+// What is known of an op that was read, and of the bytes that it was read from.
+fn laws(entry: &[u8], op: &Op) {
+    entry_has_fields(entry);
+    op_is_read_again(op);
 }
 
 // What reading and then writing makes of an entry.
 fn rewritten(alloc: Global, entry: &[u8]) -> Result<Bytes, OpFault> {
-    match read_op(alloc, entry) {
-        Ok(op) => written(alloc, op),
-        Err(fault) => Err(fault),
-    }
+    let op = read_op(alloc, entry)?;
+    laws(entry, &op);
+    write_op(alloc, &op)
 }
 
-fn answers(alloc: Global, entry: &[u8], wanted: Result<&[u8], OpFault>) -> bool {
-    match (rewritten(alloc, entry), wanted) {
+fn is_answer(answer: Result<Bytes, OpFault>, wanted: Result<&[u8], OpFault>) -> bool {
+    match (answer, wanted) {
         (Ok(bytes), Ok(canonical)) => bytes.as_slice() == canonical,
         (Err(fault), Err(refusal)) => fault == refusal,
         _ => false,
     }
 }
 
-#[test]
-fn canonical_entries_are_written_byte_for_byte(rt: HostRuntime) {
-    let rows = [MAKES_A, NAMES_A, SETTLED_SOURCE, MOUNT, COPY, RUNS_TRUE];
-    for entry in rows {
-        assert!(rt; answers(rt.alloc(), entry, Ok(entry)), "{entry:?}");
-    }
-}
+// Entries, and their canonical bytes or their first fault.
+const ENTRIES: &[(&[u8], Result<&[u8], OpFault>)] = &[
+    (MAKES_A, Ok(MAKES_A)),
+    (NAMES_A, Ok(NAMES_A)),
+    (SETTLED_SOURCE, Ok(SETTLED_SOURCE)),
+    (MOUNT, Ok(MOUNT)),
+    (COPY, Ok(COPY)),
+    (RUNS_TRUE, Ok(RUNS_TRUE)),
+    // The last index of an input holds, in any spelling.
+    (b"\x0A\x04\x10\x01\x10\x02", Ok(b"\x0A\x02\x10\x02")),
+    (b"\x0A\x04\x10\x82\x80\x00", Ok(b"\x0A\x02\x10\x02")),
+    // A message that is split is joined, also inside a record.
+    (b"\x22\x01\x12\x22\x01\x00", Ok(b"\x22\x02\x12\x00")),
+    (
+        b"\x22\x0C\x12\x0A\x2A\x08\x22\x02\x0A\x00\x22\x02\x12\x00",
+        Ok(b"\x22\x0A\x12\x08\x2A\x06\x22\x04\x0A\x00\x12\x00"),
+    ),
+    // The last member holds, with what stands behind the others.
+    (
+        b"\x22\x02\x12\x00\x3A\x00\x22\x02\x12\x00",
+        Ok(b"\x22\x02\x12\x00"),
+    ),
+    (b"\x22\x01\xFF\x3A\x01a\x3A\x01b", Ok(b"\x3A\x02ab")),
+    (
+        b"\x22\x0C\x12\x0A\x32\x08\x22\x06\x0A\x04\x0A\x00\x10\x00",
+        Ok(b"\x22\x0A\x12\x08\x32\x06\x22\x04\x0A\x02\x10\x00"),
+    ),
+    // A merge in two payloads is joined where nothing clears it.
+    (
+        b"\x32\x02\x0A\x00\x32\x0D\x0A\x0B\x08\xFF\xFF\xFF\xFF\xFF\xFF\xFF\xFF\xFF\x01",
+        Ok(b"\x32\x0F\x0A\x00\x0A\x0B\x08\xFF\xFF\xFF\xFF\xFF\xFF\xFF\xFF\xFF\x01"),
+    ),
+    (
+        b"\x32\x02\x0A\x00\x3A\x00\x32\x0D\x0A\x0B\x08\xFF\xFF\xFF\xFF\xFF\xFF\xFF\xFF\xFF\x01",
+        Ok(b"\x32\x0D\x0A\x0B\x08\xFF\xFF\xFF\xFF\xFF\xFF\xFF\xFF\xFF\x01"),
+    ),
+    // Fields without a name are kept behind the others.
+    (
+        b"\x52\x01a\x0A\x02\x10\x02\x5A\x00",
+        Ok(b"\x0A\x02\x10\x02\x52\x01a\x5A\x00"),
+    ),
+    (SOURCE, Ok(SETTLED_SOURCE)),
+    (b"", Ok(b"")),
+    (b"\x08\x00", Err(OpFault::WrongWireType)),
+    (b"\x08\x00\x80", Err(OpFault::WrongWireType)),
+    (b"\x0A\x03\x0A\x01\xFF", Err(OpFault::NotUtf8)),
+    (
+        b"\x0A\x04\x0A\x01\xFF\x80",
+        Err(OpFault::Wire(WireFault::Truncated)),
+    ),
+    (b"\x22\x01\x80\x0A\x02\x08\x00", Err(OpFault::WrongWireType)),
+];
 
 #[test]
-fn other_entries_are_written_in_their_canonical_bytes(rt: HostRuntime) {
-    let rows: [(&[u8], &[u8]); 12] = [
-        // The last index of an input holds, in any spelling.
-        (b"\x0A\x04\x10\x01\x10\x02", b"\x0A\x02\x10\x02"),
-        (b"\x0A\x04\x10\x82\x80\x00", b"\x0A\x02\x10\x02"),
-        // A message that is split is joined, also inside a record.
-        (b"\x22\x01\x12\x22\x01\x00", b"\x22\x02\x12\x00"),
-        (
-            b"\x22\x0C\x12\x0A\x2A\x08\x22\x02\x0A\x00\x22\x02\x12\x00",
-            b"\x22\x0A\x12\x08\x2A\x06\x22\x04\x0A\x00\x12\x00",
-        ),
-        // The last member holds, with what stands behind the others.
-        (
-            b"\x22\x02\x12\x00\x3A\x00\x22\x02\x12\x00",
-            b"\x22\x02\x12\x00",
-        ),
-        (b"\x22\x01\xFF\x3A\x01a\x3A\x01b", b"\x3A\x02ab"),
-        (
-            b"\x22\x0C\x12\x0A\x32\x08\x22\x06\x0A\x04\x0A\x00\x10\x00",
-            b"\x22\x0A\x12\x08\x32\x06\x22\x04\x0A\x02\x10\x00",
-        ),
-        // A merge in two payloads is joined where nothing clears it.
-        (
-            b"\x32\x02\x0A\x00\x32\x0D\x0A\x0B\x08\xFF\xFF\xFF\xFF\xFF\xFF\xFF\xFF\xFF\x01",
-            b"\x32\x0F\x0A\x00\x0A\x0B\x08\xFF\xFF\xFF\xFF\xFF\xFF\xFF\xFF\xFF\x01",
-        ),
-        (
-            b"\x32\x02\x0A\x00\x3A\x00\x32\x0D\x0A\x0B\x08\xFF\xFF\xFF\xFF\xFF\xFF\xFF\xFF\xFF\x01",
-            b"\x32\x0D\x0A\x0B\x08\xFF\xFF\xFF\xFF\xFF\xFF\xFF\xFF\xFF\x01",
-        ),
-        // Fields without a name are kept behind the others.
-        (
-            b"\x52\x01a\x0A\x02\x10\x02\x5A\x00",
-            b"\x0A\x02\x10\x02\x52\x01a\x5A\x00",
-        ),
-        (SOURCE, SETTLED_SOURCE),
-        (b"", b""),
-    ];
-    for (entry, canonical) in rows {
-        assert!(rt; answers(rt.alloc(), entry, Ok(canonical)), "{entry:?}");
-    }
-}
-
-#[test]
-fn the_first_fault_is_answered(rt: HostRuntime) {
-    let rows: [(&[u8], OpFault); 5] = [
-        (b"\x08\x00", OpFault::WrongWireType),
-        (b"\x08\x00\x80", OpFault::WrongWireType),
-        (b"\x0A\x03\x0A\x01\xFF", OpFault::NotUtf8),
-        (
-            b"\x0A\x04\x0A\x01\xFF\x80",
-            OpFault::Wire(WireFault::Truncated),
-        ),
-        (b"\x22\x01\x80\x0A\x02\x08\x00", OpFault::WrongWireType),
-    ];
-    for (entry, fault) in rows {
-        assert!(rt; answers(rt.alloc(), entry, Err(fault)), "{entry:?}");
+fn entries_are_written_in_their_canonical_bytes_or_the_first_fault_is_answered(rt: HostRuntime) {
+    for (entry, wanted) in ENTRIES {
+        assert!(rt;
+            is_answer(rewritten(rt.alloc(), entry), *wanted),
+            "{entry:?}"
+        );
     }
 }
 
@@ -150,14 +143,16 @@ fn inputs(alloc: Global, count: u32) -> Result<Vec<u8>, Memory> {
     Ok(entry)
 }
 
+// Whether an entry with this many inputs is written byte for byte.
+fn is_kept(alloc: Global, count: u32) -> Result<bool, OpFault> {
+    let entry = inputs(alloc, count)?;
+    Ok(rewritten(alloc, &entry)?.as_slice() == entry.as_slice())
+}
+
 #[test]
-fn a_field_is_repeated_1024_times_at_most(rt: HostRuntime) -> Result<(), Fail> {
-    let alloc = rt.alloc();
-    let most = inputs(alloc, 1024)?;
-    assert!(rt; answers(alloc, &most, Ok(&most)));
-    let more = inputs(alloc, 1025)?;
-    assert!(rt; answers(alloc, &more, Err(OpFault::OverLimit)));
-    Ok(())
+fn a_field_is_repeated_1024_times_at_most(rt: HostRuntime) {
+    assert!(rt; is_kept(rt.alloc(), 1024) == Ok(true));
+    assert!(rt; is_kept(rt.alloc(), 1025) == Err(OpFault::OverLimit));
 }
 
 fn makes_a(action: &Action) -> bool {
@@ -246,7 +241,6 @@ fn told(op: &Op) -> (&'static str, &'static str, usize) {
 }
 
 fn seen(alloc: Global, entry: &[u8]) -> Option<(&'static str, &'static str, usize)> {
-    entry_has_fields(entry);
     match read_op(alloc, entry) {
         Ok(op) => Some(told(&op)),
         Err(_) => None,
@@ -293,25 +287,15 @@ fn a_file_op_has_an_equal_second_owner(rt: HostRuntime) {
     }
 }
 
-fn entries_written(alloc: Global, entries: Entries) -> Result<Bytes, OpFault> {
-    definition_is_read_again(&entries);
-    write_definition(alloc, &entries)
+fn definition_law(entries: &Entries) {
+    definition_is_read_again(entries);
 }
 
 // What reading and then writing makes of a definition.
 fn definition_rewritten(alloc: Global, definition: &[u8]) -> Result<Bytes, OpFault> {
-    match read_definition(alloc, definition) {
-        Ok(entries) => entries_written(alloc, entries),
-        Err(fault) => Err(fault),
-    }
-}
-
-fn definition_answers(alloc: Global, definition: &[u8], wanted: Result<&[u8], OpFault>) -> bool {
-    match (definition_rewritten(alloc, definition), wanted) {
-        (Ok(bytes), Ok(canonical)) => bytes.as_slice() == canonical,
-        (Err(fault), Err(refusal)) => fault == refusal,
-        _ => false,
-    }
+    let entries = read_definition(alloc, definition)?;
+    definition_law(&entries);
+    write_definition(alloc, &entries)
 }
 
 #[test]
@@ -324,7 +308,7 @@ fn a_definition_keeps_its_entries_and_skips_other_fields(rt: HostRuntime) {
     ];
     for (definition, wanted) in rows {
         assert!(rt;
-            definition_answers(rt.alloc(), definition, wanted),
+            is_answer(definition_rewritten(rt.alloc(), definition), wanted),
             "{definition:?}"
         );
     }

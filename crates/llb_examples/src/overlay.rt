@@ -1,28 +1,28 @@
 //! One tree laid over another in a way: told by the entries of what comes of it.
 
-use super::told::{Row, is_text, tree_of, tree_text};
+use super::told::{Row, is_told, tree_of, tree_text};
 use llb_merge::{Memory, lay, lay_onto, lay_over};
 use llb_tree::{Tree, TreeFault, Way};
 use std::alloc::Global;
 
-const LOWER: &[Row] = &[
-    ("/", 0o700, 1, None),
-    ("/a", 0o700, 1, None),
-    ("/a/x", 0o600, 1, Some("low")),
-    ("/a/y", 0o600, 1, Some("low")),
-    ("/c", 0o600, 1, Some("low")),
-    ("/z", 0o700, 1, None),
-    ("/z/w", 0o600, 1, Some("low")),
+const LOWER: &[Row<'static>] = &[
+    ("/", 0o700, 1, 1, None),
+    ("/a", 0o700, 1, 1, None),
+    ("/a/x", 0o600, 1, 1, Some("low")),
+    ("/a/y", 0o600, 1, 1, Some("low")),
+    ("/c", 0o600, 1, 1, Some("low")),
+    ("/z", 0o700, 1, 1, None),
+    ("/z/w", 0o600, 1, 1, Some("low")),
 ];
 
-const UPPER: &[Row] = &[
-    ("/a", 0o755, 2, None),
-    ("/a/x", 0o644, 2, Some("up")),
-    ("/b", 0o755, 2, None),
-    ("/b/e", 0o644, 2, Some("up")),
-    ("/c", 0o755, 2, None),
-    ("/c/d", 0o644, 2, Some("up")),
-    ("/z", 0o644, 2, Some("up")),
+const UPPER: &[Row<'static>] = &[
+    ("/a", 0o755, 2, 2, None),
+    ("/a/x", 0o644, 2, 2, Some("up")),
+    ("/b", 0o755, 2, 2, None),
+    ("/b/e", 0o644, 2, 2, Some("up")),
+    ("/c", 0o755, 2, 2, None),
+    ("/c/d", 0o644, 2, 2, Some("up")),
+    ("/z", 0o644, 2, 2, Some("up")),
 ];
 
 #[test]
@@ -43,79 +43,87 @@ fn a_way_has_a_mode_of_at_most_4095(rt: HostRuntime) {
 // A mode, a user, a group, and whether directories that both have stay.
 type Given = (Option<u16>, Option<u32>, Option<u32>, bool);
 
-fn laid(alloc: Global, way: &Way, lower: &[Row], upper: &[Row]) -> Result<Tree, TreeFault> {
-    let lower = tree_of(alloc, lower)?;
-    let upper = tree_of(alloc, upper)?;
-    lower.overlaid(way, &upper)
-}
-
-fn told(alloc: Global, given: Given, lower: &[Row], upper: &[Row]) -> Result<String, TreeFault> {
+fn told(
+    alloc: Global,
+    given: Given,
+    lower: &[Row<'_>],
+    upper: &[Row<'_>],
+) -> Result<String, TreeFault> {
     let (mode, uid, gid, keeps) = given;
     let Some(way) = Way::new(mode, uid, gid, keeps) else {
         return Ok(String::from_str(alloc, "no way")?);
     };
-    let tree = laid(alloc, &way, lower, upper)?;
-    tree_text(alloc, &tree)
+    let laid = tree_of(alloc, lower)?.overlaid(&way, &tree_of(alloc, upper)?)?;
+    tree_text(alloc, &laid)
 }
 
-#[test]
-fn files_hide_what_is_below_and_directories_are_one(rt: HostRuntime) {
-    let plain = (None, None, None, false);
-    let rows = [
-        (
-            &[] as &[Row],
-            " d 755 0:0 |/a d 700 1:1 |/a/x f 600 1:1 low|",
-        ),
-        (
-            &[("/a", 0o755, 2, None), ("/a-", 0o711, 2, None)],
-            " d 755 0:0 |/a d 755 2:2 |/a/x f 600 1:1 low|/a- d 711 2:2 |",
-        ),
-        (
-            &[("/a", 0o644, 2, Some("up"))],
-            " d 755 0:0 |/a f 644 2:2 up|",
-        ),
-        (
-            &[("/a", 0o755, 2, None), ("/a/x", 0o711, 2, None)],
-            " d 755 0:0 |/a d 755 2:2 |/a/x d 711 2:2 |",
-        ),
-    ];
-    let lower = [("/a", 0o700, 1, None), ("/a/x", 0o600, 1, Some("low"))];
-    for (upper, wanted) in rows {
-        assert!(rt;
-            is_text(told(rt.alloc(), plain, &lower, upper), wanted),
-            "{wanted}"
-        );
-    }
-}
+const PLAIN: Given = (None, None, None, false);
+
+const A_X: &[Row<'static>] = &[
+    ("/a", 0o700, 1, 1, None),
+    ("/a/x", 0o600, 1, 1, Some("low")),
+];
+
+// How, on what and what is laid, and what comes of it.
+const LAID: &[(Given, &[Row<'static>], &[Row<'static>], &str)] = &[
+    // Files hide what is below, and directories are one.
+    (PLAIN, A_X, &[], " d d/a(700 1:1) f/a/x(600 1:1)=low"),
+    (
+        PLAIN,
+        A_X,
+        &[("/a", 0o755, 2, 2, None), ("/a-", 0o711, 2, 2, None)],
+        " d d/a(755 2:2) f/a/x(600 1:1)=low d/a-(711 2:2)",
+    ),
+    (
+        PLAIN,
+        A_X,
+        &[("/a", 0o644, 2, 2, Some("up"))],
+        " d f/a(644 2:2)=up",
+    ),
+    (
+        PLAIN,
+        A_X,
+        &[("/a", 0o755, 2, 2, None), ("/a/x", 0o711, 2, 2, None)],
+        " d d/a(755 2:2) d/a/x(711 2:2)",
+    ),
+    // A way keeps and gives.
+    (
+        PLAIN,
+        LOWER,
+        UPPER,
+        " d d/a(755 2:2) f/a/x(644 2:2)=up f/a/y(600 1:1)=low d/b(755 2:2) f/b/e(644 2:2)=up \
+        d/c(755 2:2) f/c/d(644 2:2)=up f/z(644 2:2)=up",
+    ),
+    (
+        (None, None, None, true),
+        LOWER,
+        UPPER,
+        " d(700 1:1) d/a(700 1:1) f/a/x(644 2:2)=up f/a/y(600 1:1)=low d/b(755 2:2) f/b/e(644 2:2)=up \
+        d/c(755 2:2) f/c/d(644 2:2)=up f/z(644 2:2)=up",
+    ),
+    (
+        (Some(0o4640), Some(9), None, false),
+        LOWER,
+        UPPER,
+        " d(4640 9:0) d/a(4640 9:2) f/a/x(4640 9:2)=up f/a/y(600 1:1)=low d/b(4640 9:2) f/b/e(4640 9:2)=up \
+        d/c(4640 9:2) f/c/d(4640 9:2)=up f/z(4640 9:2)=up",
+    ),
+    (
+        (None, None, Some(5), true),
+        LOWER,
+        UPPER,
+        " d(700 1:1) d/a(700 1:1) f/a/x(644 2:5)=up f/a/y(600 1:1)=low d/b(755 2:5) f/b/e(644 2:5)=up \
+        d/c(755 2:5) f/c/d(644 2:5)=up f/z(644 2:5)=up",
+    ),
+];
 
 #[test]
-fn a_way_keeps_and_gives(rt: HostRuntime) {
-    let rows = [
-        (
-            (None, None, None, false),
-            " d 755 0:0 |/a d 755 2:2 |/a/x f 644 2:2 up|/a/y f 600 1:1 low|/b d 755 2:2 |/b/e f 644 2:2 up|\
-            /c d 755 2:2 |/c/d f 644 2:2 up|/z f 644 2:2 up|",
-        ),
-        (
-            (None, None, None, true),
-            " d 700 1:1 |/a d 700 1:1 |/a/x f 644 2:2 up|/a/y f 600 1:1 low|/b d 755 2:2 |/b/e f 644 2:2 up|\
-            /c d 755 2:2 |/c/d f 644 2:2 up|/z f 644 2:2 up|",
-        ),
-        (
-            (Some(0o4640), Some(9), None, false),
-            " d 4640 9:0 |/a d 4640 9:2 |/a/x f 4640 9:2 up|/a/y f 600 1:1 low|/b d 4640 9:2 |/b/e f 4640 9:2 up|\
-            /c d 4640 9:2 |/c/d f 4640 9:2 up|/z f 4640 9:2 up|",
-        ),
-        (
-            (None, None, Some(5), true),
-            " d 700 1:1 |/a d 700 1:1 |/a/x f 644 2:5 up|/a/y f 600 1:1 low|/b d 755 2:5 |/b/e f 644 2:5 up|\
-            /c d 755 2:5 |/c/d f 644 2:5 up|/z f 644 2:5 up|",
-        ),
-    ];
-    for (given, wanted) in rows {
+fn files_hide_directories_are_one_and_a_way_keeps_and_gives(rt: HostRuntime) {
+    let alloc = rt.alloc();
+    for (given, lower, upper, wanted) in LAID {
         assert!(rt;
-            is_text(told(rt.alloc(), given, LOWER, UPPER), wanted),
-            "{wanted}"
+            is_told(alloc, told(alloc, *given, lower, upper), wanted),
+            "{given:?} {wanted}"
         );
     }
 }
@@ -127,49 +135,13 @@ fn both_stay(alloc: Global) -> Result<bool, TreeFault> {
         return Ok(false);
     };
     let _laid = lower.copy()?.overlaid(&way, &upper)?;
-    Ok(is_tree(alloc, &lower, LOWER)? && is_tree(alloc, &upper, UPPER)?)
-}
-
-fn is_tree(alloc: Global, tree: &Tree, rows: &[Row]) -> Result<bool, TreeFault> {
-    let wanted = tree_of(alloc, rows)?;
-    Ok(tree.same(&wanted))
+    let (old_lower, old_upper) = (tree_of(alloc, LOWER)?, tree_of(alloc, UPPER)?);
+    Ok(lower.same(&old_lower) && upper.same(&old_upper))
 }
 
 #[test]
 fn what_is_laid_and_what_it_is_laid_over_stay(rt: HostRuntime) {
     assert!(rt; both_stay(rt.alloc()) == Ok(true));
-}
-
-// Whether a tree that is handed over comes to the same as one that is lent.
-fn lays_the_same(alloc: Global, lower: &[Row], upper: &[Row]) -> Result<bool, TreeFault> {
-    let lower = tree_of(alloc, lower)?;
-    let upper = tree_of(alloc, upper)?;
-    let lent = lay(alloc, &lower, &upper);
-    let handed = lay_onto(lower, &upper);
-    Ok(are_same(&lent, &handed))
-}
-
-fn are_same(one: &Result<Tree, Memory>, other: &Result<Tree, Memory>) -> bool {
-    match (one, other) {
-        (Ok(one), Ok(other)) => one.same(other),
-        _ => false,
-    }
-}
-
-#[test]
-fn a_lower_tree_is_lent_or_handed_over(rt: HostRuntime) {
-    for (lower, upper) in [(LOWER, UPPER), (UPPER, LOWER), (LOWER, LOWER), (LOWER, &[])] {
-        assert!(rt; lays_the_same(rt.alloc(), lower, upper) == Ok(true));
-    }
-}
-
-// Whether a tree that another is laid over in place comes to the same.
-fn lays_in_place(alloc: Global, lower: &[Row], upper: &[Row]) -> Result<bool, TreeFault> {
-    let mut lower = tree_of(alloc, lower)?;
-    let upper = tree_of(alloc, upper)?;
-    let lent = lay(alloc, &lower, &upper);
-    let done = lay_over(&mut lower, &upper).is_ok();
-    Ok(done && is_tree_of(&lent, &lower))
 }
 
 fn is_tree_of(laid: &Result<Tree, Memory>, tree: &Tree) -> bool {
@@ -179,17 +151,33 @@ fn is_tree_of(laid: &Result<Tree, Memory>, tree: &Tree) -> bool {
     }
 }
 
+// Whether a tree that another is laid over in place, and then one that is handed over, come to the same as one that is lent.
+fn lays_the_same(
+    alloc: Global,
+    lower: &[Row<'_>],
+    upper: &[Row<'_>],
+) -> Result<[bool; 2], TreeFault> {
+    let (first, mut second) = (tree_of(alloc, lower)?, tree_of(alloc, lower)?);
+    let upper = tree_of(alloc, upper)?;
+    let lent = lay(alloc, &first, &upper);
+    let in_place = lay_over(&mut second, &upper).is_ok() && is_tree_of(&lent, &second);
+    let handed = match lay_onto(first, &upper) {
+        Ok(laid) => is_tree_of(&lent, &laid),
+        Err(Memory) => false,
+    };
+    Ok([in_place, handed])
+}
+
 #[test]
-fn a_lower_tree_is_laid_over_in_place(rt: HostRuntime) {
+fn a_lower_tree_is_lent_or_handed_over_or_laid_over_in_place(rt: HostRuntime) {
     for (lower, upper) in [(LOWER, UPPER), (UPPER, LOWER), (LOWER, LOWER), (LOWER, &[])] {
-        assert!(rt; lays_in_place(rt.alloc(), lower, upper) == Ok(true));
+        assert!(rt; lays_the_same(rt.alloc(), lower, upper) == Ok([true, true]));
     }
 }
 
 // Whether a way that keeps and gives comes to the same in place.
 fn way_in_place(alloc: Global) -> Result<bool, TreeFault> {
-    let mut lower = tree_of(alloc, LOWER)?;
-    let upper = tree_of(alloc, UPPER)?;
+    let (mut lower, upper) = (tree_of(alloc, LOWER)?, tree_of(alloc, UPPER)?);
     let Some(way) = Way::new(Some(0o4640), None, Some(5), true) else {
         return Ok(false);
     };

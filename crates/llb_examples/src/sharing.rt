@@ -1,18 +1,15 @@
 //! Trees that share what they have in common: an edit of one, done or refused, leaves the other as it was.
 
-use super::told::{Row, put, tree_of, tree_text};
+use super::told::{Row, Step, is_told, push_tree, take_step, tree_of};
 use llb_tree::{Path, Tree, TreeFault};
 use std::alloc::Global;
 
-const SHARED: &[Row] = &[
-    ("/a", 0o755, 0, None),
-    ("/a/b", 0o644, 0, Some("x")),
-    ("/a/c", 0o755, 0, None),
-    ("/a/c/d", 0o644, 0, Some("y")),
+const SHARED: &[Row<'_>] = &[
+    ("/a", 0o755, 0, 0, None),
+    ("/a/b", 0o644, 0, 0, Some("x")),
+    ("/a/c", 0o755, 0, 0, None),
+    ("/a/c/d", 0o644, 0, 0, Some("y")),
 ];
-
-const AS_IT_WAS: &str =
-    " d 755 0:0 |/a d 755 0:0 |/a/b f 644 0:0 x|/a/c d 755 0:0 |/a/c/d f 644 0:0 y|";
 
 // What another tree is taken from the first by.
 #[derive(Clone, Copy)]
@@ -24,184 +21,166 @@ enum Taking {
     Graft(&'static str),
 }
 
-#[derive(Clone, Copy)]
-enum Edit {
-    Put(Row),
-    Remove(&'static str),
-    // What is at or below the first path is put at the second as well.
-    Again(&'static str, &'static str),
+fn grafted(alloc: Global, tree: &Tree, path: &str) -> Result<Tree, TreeFault> {
+    let mut other = Tree::empty(alloc)?;
+    other.graft(&Path::read(alloc, path)?, tree)?;
+    Ok(other)
 }
 
 fn taken(alloc: Global, tree: &Tree, taking: Taking) -> Result<Tree, TreeFault> {
     match taking {
         Taking::Copy => tree.copy(),
-        Taking::Subtree(path) => {
-            let path = Path::read(alloc, path)?;
-            tree.subtree(&path)
-        }
+        Taking::Subtree(path) => tree.subtree(&Path::read(alloc, path)?),
         Taking::Graft(path) => grafted(alloc, tree, path),
     }
 }
 
-fn grafted(alloc: Global, tree: &Tree, path: &str) -> Result<Tree, TreeFault> {
-    let path = Path::read(alloc, path)?;
-    let mut other = Tree::empty(alloc)?;
-    other.graft(&path, tree)?;
-    Ok(other)
+// A tree, and behind a bar one that was taken from it, once each was edited.
+fn told(
+    alloc: Global,
+    taking: Taking,
+    edits: &[Step],
+    of_taken: &[Step],
+) -> Result<String, TreeFault> {
+    let mut text = String::new(alloc);
+    let mut tree = tree_of(alloc, SHARED)?;
+    let mut other = taken(alloc, &tree, taking)?;
+    take_all(alloc, &mut text, &mut tree, edits)?;
+    take_all(alloc, &mut text, &mut other, of_taken)?;
+    push_tree(&mut text, &tree)?;
+    text.push_str("|")?;
+    push_tree(&mut text, &other)?;
+    Ok(text)
 }
 
-fn again(alloc: Global, tree: &mut Tree, from: &str, to: &str) -> Result<(), TreeFault> {
-    let from = Path::read(alloc, from)?;
-    let to = Path::read(alloc, to)?;
-    let found = tree.subtree(&from)?;
-    tree.graft(&to, &found)
-}
-
-fn make_edit(alloc: Global, tree: &mut Tree, edit: &Edit) -> Result<(), TreeFault> {
-    match edit {
-        Edit::Put(row) => put(alloc, tree, row),
-        Edit::Remove(path) => {
-            let path = Path::read(alloc, path)?;
-            tree.remove(&path)
-        }
-        Edit::Again(from, to) => again(alloc, tree, from, to),
-    }
-}
-
-fn edit_all(alloc: Global, tree: &mut Tree, edits: &[Edit]) -> Result<(), TreeFault> {
-    for one in edits {
-        make_edit(alloc, tree, one)?;
+fn take_all(
+    alloc: Global,
+    text: &mut String,
+    tree: &mut Tree,
+    steps: &[Step],
+) -> Result<(), TreeFault> {
+    for step in steps {
+        take_step(alloc, text, tree, step)?;
     }
     Ok(())
 }
 
-// A tree, and behind it one that was taken from it, once each was edited.
-fn told(
-    alloc: Global,
-    taking: Taking,
-    edits: &[Edit],
-    of_taken: &[Edit],
-) -> Result<(String, String), TreeFault> {
-    let mut tree = tree_of(alloc, SHARED)?;
-    let mut other = taken(alloc, &tree, taking)?;
-    edit_all(alloc, &mut tree, edits)?;
-    edit_all(alloc, &mut other, of_taken)?;
-    Ok((tree_text(alloc, &tree)?, tree_text(alloc, &other)?))
-}
+const NEW_B: Step = Step::Put(("/a/b", 0o600, 0, 0, Some("new")));
 
-// Whether the tree and what was taken from it are told so.
-fn are_told(
-    alloc: Global,
-    taking: Taking,
-    edits: &[Edit],
-    of_taken: &[Edit],
-    wanted: (&str, &str),
-) -> bool {
-    match told(alloc, taking, edits, of_taken) {
-        Ok((tree, other)) => tree.as_str() == wanted.0 && other.as_str() == wanted.1,
-        Err(_) => false,
-    }
-}
+// What is taken, the edits of the tree, those of what was taken, and how both are told.
+type Case = (Taking, &'static [Step], &'static [Step], &'static str);
 
-const NEW_B: Edit = Edit::Put(("/a/b", 0o600, 0, Some("new")));
+const WHAT_WAS_TAKEN_IS_EDITED: &[Case] = &[
+    (
+        Taking::Copy,
+        &[],
+        &[NEW_B, Step::Remove("/a/c")],
+        " d d/a f/a/b=x d/a/c f/a/c/d=y| d d/a f/a/b(600 0:0)=new",
+    ),
+    (
+        Taking::Copy,
+        &[],
+        &[
+            Step::Graft("/a", "/z"),
+            Step::Put(("/z/b", 0o600, 0, 0, Some("new"))),
+            Step::Remove("/a/c"),
+        ],
+        " d d/a f/a/b=x d/a/c f/a/c/d=y| d d/a f/a/b=x d/z f/z/b(600 0:0)=new d/z/c f/z/c/d=y",
+    ),
+    (
+        Taking::Subtree("/a"),
+        &[],
+        &[
+            Step::Put(("/b", 0o600, 0, 0, Some("new"))),
+            Step::Remove("/c/d"),
+            Step::Put(("/", 0o700, 3, 3, None)),
+        ],
+        " d d/a f/a/b=x d/a/c f/a/c/d=y| d(700 3:3) f/b(600 0:0)=new d/c",
+    ),
+    (
+        Taking::Graft("/z"),
+        &[],
+        &[
+            Step::Put(("/z/a/c/d", 0o600, 0, 0, Some("new"))),
+            Step::Remove("/z/a/b"),
+        ],
+        " d d/a f/a/b=x d/a/c f/a/c/d=y| d d/z d/z/a d/z/a/c f/z/a/c/d(600 0:0)=new",
+    ),
+];
+
+const THE_TREE_IS_EDITED: &[Case] = &[
+    (
+        Taking::Copy,
+        &[Step::Remove("/a")],
+        &[],
+        " d| d d/a f/a/b=x d/a/c f/a/c/d=y",
+    ),
+    (
+        Taking::Copy,
+        &[
+            Step::Put(("/a/b", 0o600, 7, 8, Some("new"))),
+            Step::Put(("/a", 0, 7, 8, None)),
+        ],
+        &[],
+        " d d/a(0 7:8) f/a/b(600 7:8)=new d/a/c f/a/c/d=y| d d/a f/a/b=x d/a/c f/a/c/d=y",
+    ),
+    (
+        Taking::Subtree("/a"),
+        &[Step::Remove("/a/c"), NEW_B],
+        &[],
+        " d d/a f/a/b(600 0:0)=new| d f/b=x d/c f/c/d=y",
+    ),
+    (
+        Taking::Graft("/z"),
+        &[Step::Remove("/a/c/d"), Step::Put(("/a", 0o700, 0, 0, None))],
+        &[],
+        " d d/a(700 0:0) f/a/b=x d/a/c| d d/z d/z/a f/z/a/b=x d/z/a/c f/z/a/c/d=y",
+    ),
+];
 
 #[test]
-fn what_was_taken_is_edited_and_the_tree_stays(rt: HostRuntime) {
-    let rows: [(Taking, &[Edit], &str); 4] = [
-        (
-            Taking::Copy,
-            &[NEW_B, Edit::Remove("/a/c")],
-            " d 755 0:0 |/a d 755 0:0 |/a/b f 600 0:0 new|",
-        ),
-        (
-            Taking::Copy,
-            &[
-                Edit::Again("/a", "/z"),
-                Edit::Put(("/z/b", 0o600, 0, Some("new"))),
-                Edit::Remove("/a/c"),
-            ],
-            " d 755 0:0 |/a d 755 0:0 |/a/b f 644 0:0 x|\
-            /z d 755 0:0 |/z/b f 600 0:0 new|/z/c d 755 0:0 |/z/c/d f 644 0:0 y|",
-        ),
-        (
-            Taking::Subtree("/a"),
-            &[
-                Edit::Put(("/b", 0o600, 0, Some("new"))),
-                Edit::Remove("/c/d"),
-                Edit::Put(("/", 0o700, 3, None)),
-            ],
-            " d 700 3:3 |/b f 600 0:0 new|/c d 755 0:0 |",
-        ),
-        (
-            Taking::Graft("/z"),
-            &[
-                Edit::Put(("/z/a/c/d", 0o600, 0, Some("new"))),
-                Edit::Remove("/z/a/b"),
-            ],
-            " d 755 0:0 |/z d 755 0:0 |/z/a d 755 0:0 |/z/a/c d 755 0:0 |/z/a/c/d f 600 0:0 new|",
-        ),
-    ];
-    for (taking, edits, wanted) in rows {
-        let told = are_told(rt.alloc(), taking, &[], edits, (AS_IT_WAS, wanted));
-        assert!(rt; told, "{wanted}");
+fn one_of_both_is_edited_and_the_other_stays(rt: HostRuntime) {
+    let alloc = rt.alloc();
+    for cases in [WHAT_WAS_TAKEN_IS_EDITED, THE_TREE_IS_EDITED] {
+        for (taking, edits, of_taken, wanted) in cases {
+            assert!(rt;
+                is_told(alloc, told(alloc, *taking, edits, of_taken), wanted),
+                "{wanted}"
+            );
+        }
     }
 }
 
-#[test]
-fn the_tree_is_edited_and_what_was_taken_stays(rt: HostRuntime) {
-    let rows: [(Taking, &[Edit], &str, &str); 3] = [
-        (
-            Taking::Copy,
-            &[Edit::Remove("/a")],
-            " d 755 0:0 |",
-            AS_IT_WAS,
-        ),
-        (
-            Taking::Subtree("/a"),
-            &[Edit::Remove("/a/c"), NEW_B],
-            " d 755 0:0 |/a d 755 0:0 |/a/b f 600 0:0 new|",
-            " d 755 0:0 |/b f 644 0:0 x|/c d 755 0:0 |/c/d f 644 0:0 y|",
-        ),
-        (
-            Taking::Graft("/z"),
-            &[Edit::Remove("/a/c/d"), Edit::Put(("/a", 0o700, 0, None))],
-            " d 755 0:0 |/a d 700 0:0 |/a/b f 644 0:0 x|/a/c d 755 0:0 |",
-            " d 755 0:0 |/z d 755 0:0 |/z/a d 755 0:0 |/z/a/b f 644 0:0 x|\
-            /z/a/c d 755 0:0 |/z/a/c/d f 644 0:0 y|",
-        ),
-    ];
-    for (taking, edits, wanted, taken) in rows {
-        let told = are_told(rt.alloc(), taking, edits, &[], (wanted, taken));
-        assert!(rt; told, "{wanted}");
-    }
-}
-
-// Whether an edit changes a tree that it is done on and leaves one that it is refused on, and leaves the tree's copy.
-fn is_whole(alloc: Global, one: &Edit) -> Result<bool, TreeFault> {
+// Whether the tree's copy is the same, then an edit changes the tree that it is done on and leaves one that it is refused on, and
+// leaves the copy.
+fn is_whole(alloc: Global, one: &Step) -> Result<bool, TreeFault> {
+    let mut text = String::new(alloc);
     let fresh = tree_of(alloc, SHARED)?;
     let mut tree = tree_of(alloc, SHARED)?;
     let copied = tree.copy()?;
-    let kept = match make_edit(alloc, &mut tree, one) {
-        Ok(()) => !tree.same(&fresh),
-        Err(fault) => fault == TreeFault::Memory && tree.same(&fresh),
+    let is_same = tree.same(&copied);
+    let kept = match take_step(alloc, &mut text, &mut tree, one) {
+        Ok(()) => !tree.same(&copied),
+        Err(fault) => fault == TreeFault::Memory && tree.same(&copied),
     };
-    Ok(kept && copied.same(&fresh))
+    Ok(is_same && kept && copied.same(&fresh))
 }
+
+const EDITS: &[Step] = &[
+    NEW_B,
+    Step::Put(("/a/c/e", 0o644, 0, 0, Some("new"))),
+    Step::Put(("/a/c", 0o700, 0, 0, None)),
+    Step::Put(("/z", 0o700, 0, 0, None)),
+    Step::Remove("/a/c/d"),
+    Step::Remove("/a"),
+    Step::Graft("/a", "/a/c/e"),
+];
 
 // Passes whichever allocation fails, as long as it is one: at most one story is then not told to its end.
 #[test]
 fn a_refused_edit_leaves_a_shared_tree_as_it_was(rt: HostRuntime) {
-    let edits = [
-        NEW_B,
-        Edit::Put(("/a/c/e", 0o644, 0, Some("new"))),
-        Edit::Put(("/a/c", 0o700, 0, None)),
-        Edit::Put(("/z", 0o700, 0, None)),
-        Edit::Remove("/a/c/d"),
-        Edit::Remove("/a"),
-        Edit::Again("/a", "/a/c/e"),
-    ];
     let mut is_refused = false;
-    for one in &edits {
+    for one in EDITS {
         match is_whole(rt.alloc(), one) {
             Ok(whole) => assert!(rt; whole),
             Err(fault) => {

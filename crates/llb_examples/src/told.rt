@@ -1,19 +1,27 @@
-//! Trees by their rows, and what is told of them: the entries of a tree in a line of text, and how many they are.
+//! Trees by their rows, the steps of a story of a tree, and how both are told in a line of text: of each entry a `d` or an `f` and
+//! its path, its mode and owner where they are not those of a new one, and the content of a file behind `=`.
 
 use llb_tree::{Bytes, Entry, Meta, Node, Path, Tree, TreeFault};
 use std::alloc::{AllocError, Global};
+use std::fmt::Display;
 
-// A path, the mode there, the number of both owners, and the content of a file.
-pub type Row = (&'static str, u16, u32, Option<&'static str>);
+// A path, the mode, the user and the group there, and the content of a file.
+pub(crate) type Row<'a> = (&'a str, u16, u32, u32, Option<&'a str>);
 
-// A directory, or a file with that content.
-pub fn put_entry(
-    alloc: Global,
-    tree: &mut Tree,
-    path: &str,
-    meta: Meta,
-    content: Option<&str>,
-) -> Result<(), TreeFault> {
+// A directory and a file as they are made without a word on mode or owner.
+pub(crate) const fn dir(path: &str) -> Row<'_> {
+    (path, 0o755, 0, 0, None)
+}
+
+pub(crate) const fn file<'a>(path: &'a str, content: &'a str) -> Row<'a> {
+    (path, 0o644, 0, 0, Some(content))
+}
+
+pub(crate) fn put(alloc: Global, tree: &mut Tree, row: &Row<'_>) -> Result<(), TreeFault> {
+    let (path, mode, uid, gid, content) = *row;
+    let Some(meta) = Meta::new(mode, uid, gid) else {
+        return Ok(());
+    };
     let path = Path::read(alloc, path)?;
     match content {
         None => tree.put_dir(&path, meta),
@@ -24,15 +32,7 @@ pub fn put_entry(
     }
 }
 
-pub fn put(alloc: Global, tree: &mut Tree, row: &Row) -> Result<(), TreeFault> {
-    let (path, mode, owner, content) = *row;
-    match Meta::new(mode, owner, owner) {
-        None => Ok(()),
-        Some(meta) => put_entry(alloc, tree, path, meta, content),
-    }
-}
-
-pub fn tree_of(alloc: Global, rows: &[Row]) -> Result<Tree, TreeFault> {
+pub(crate) fn tree_of(alloc: Global, rows: &[Row<'_>]) -> Result<Tree, TreeFault> {
     let mut tree = Tree::empty(alloc)?;
     for row in rows {
         put(alloc, &mut tree, row)?;
@@ -40,16 +40,23 @@ pub fn tree_of(alloc: Global, rows: &[Row]) -> Result<Tree, TreeFault> {
     Ok(tree)
 }
 
-// Whether a text is there, and is the one that is wanted.
-pub fn is_text(told: Result<String, TreeFault>, wanted: &str) -> bool {
-    match told {
+// Whether an answer is told so: the text that it is, or what its fault prints.
+pub(crate) fn is_told<E: Display + Drop>(
+    alloc: Global,
+    answer: Result<String, E>,
+    wanted: &str,
+) -> bool {
+    match answer {
         Ok(text) => text.as_str() == wanted,
-        Err(_) => false,
+        Err(fault) => match fault.to_string(alloc) {
+            Ok(text) => text.as_str() == wanted,
+            Err(_) => false,
+        },
     }
 }
 
 // A path by its names.
-pub fn push_path(text: &mut String, path: &Path) -> Result<(), AllocError> {
+pub(crate) fn push_path(text: &mut String, path: &Path) -> Result<(), AllocError> {
     for name in path.names() {
         text.push_str("/")?;
         text.push_str(name.as_str())?;
@@ -57,71 +64,129 @@ pub fn push_path(text: &mut String, path: &Path) -> Result<(), AllocError> {
     Ok(())
 }
 
-fn meta_text(alloc: Global, kind: &str, meta: Meta, content: &[u8]) -> Result<String, AllocError> {
-    let (mode, uid, gid) = (meta.mode(), meta.uid(), meta.gid());
-    match str::from_utf8(content) {
-        Ok(text) => format!(in alloc; "{kind} {mode:o} {uid}:{gid} {text}"),
-        Err(_) => String::from_str(alloc, "not UTF-8"),
-    }
-}
-
-// The kind, the mode and the owner, and the content of a file.
-pub fn entry_text(alloc: Global, entry: &Entry<'_>) -> Result<String, AllocError> {
+pub(crate) fn kind_of(entry: &Entry<'_>) -> &'static str {
     match entry {
-        Entry::Dir(meta) => meta_text(alloc, "d", *meta, &[]),
-        Entry::File(meta, content) => meta_text(alloc, "f", *meta, content.as_slice()),
+        Entry::Dir(_) => " d",
+        Entry::File(..) => " f",
     }
 }
 
-// The same of what stands at a node.
-pub fn node_text(alloc: Global, node: &Node) -> Result<String, AllocError> {
+fn push_meta(text: &mut String, meta: Meta, new: u16) -> Result<(), AllocError> {
+    let (mode, uid, gid) = (meta.mode(), meta.uid(), meta.gid());
+    if (mode, uid, gid) == (new, 0, 0) {
+        return Ok(());
+    }
+    write!(text, "({mode:o} {uid}:{gid})")
+}
+
+// What stands behind the path of a file.
+fn push_file(text: &mut String, meta: Meta, content: &[u8]) -> Result<(), AllocError> {
+    push_meta(text, meta, 0o644)?;
+    text.push_str("=")?;
+    text.push_str(str::from_utf8(content).unwrap_or("not UTF-8"))
+}
+
+// What stands behind the path of an entry.
+pub(crate) fn push_rest(text: &mut String, entry: &Entry<'_>) -> Result<(), AllocError> {
+    match entry {
+        Entry::Dir(meta) => push_meta(text, *meta, 0o755),
+        Entry::File(meta, content) => push_file(text, *meta, content.as_slice()),
+    }
+}
+
+/// What stands at a node, behind its path.
+pub(crate) fn push_node(text: &mut String, names: &str, node: &Node) -> Result<(), AllocError> {
     match node.entry() {
-        Entry::Dir(meta) => meta_text(alloc, "d", meta, &[]),
-        Entry::File(meta, content) => meta_text(alloc, "f", meta, content.as_slice()),
+        Entry::Dir(meta) => {
+            text.push_str(" d")?;
+            text.push_str(names)?;
+            push_meta(text, meta, 0o755)
+        }
+        Entry::File(meta, content) => {
+            text.push_str(" f")?;
+            text.push_str(names)?;
+            push_file(text, meta, content.as_slice())
+        }
     }
 }
 
-// A path, and the entry there.
-pub fn push_entry(
-    alloc: Global,
+pub(crate) fn push_entry(
     text: &mut String,
     path: &Path,
     entry: &Entry<'_>,
 ) -> Result<(), AllocError> {
+    text.push_str(kind_of(entry))?;
     push_path(text, path)?;
-    let told = entry_text(alloc, entry)?;
-    text.push_str(" ")?;
-    text.push_str(told.as_str())?;
-    text.push_str("|")
+    push_rest(text, entry)
 }
 
 // The entries in their order.
-pub fn push_tree(alloc: Global, text: &mut String, tree: &Tree) -> Result<(), TreeFault> {
+pub(crate) fn push_tree(text: &mut String, tree: &Tree) -> Result<(), TreeFault> {
     let mut walk = tree.walk();
     for _ in 0..u64::MAX {
         let Some((path, entry)) = walk.at() else {
             return Ok(());
         };
-        push_entry(alloc, text, path, &entry)?;
+        push_entry(text, path, &entry)?;
         walk.advance()?;
     }
     Ok(())
 }
 
-pub fn tree_text(alloc: Global, tree: &Tree) -> Result<String, TreeFault> {
+pub(crate) fn tree_text(alloc: Global, tree: &Tree) -> Result<String, TreeFault> {
     let mut text = String::new(alloc);
-    push_tree(alloc, &mut text, tree)?;
+    push_tree(&mut text, tree)?;
     Ok(text)
 }
 
-// How many entries there are.
-pub fn count(tree: &Tree) -> Result<usize, TreeFault> {
-    let mut walk = tree.walk();
-    for at in 0..usize::MAX {
-        if walk.at().is_none() {
-            return Ok(at);
-        }
-        walk.advance()?;
+// A step of a story of a tree.
+#[derive(Clone, Copy)]
+pub(crate) enum Step {
+    Put(Row<'static>),
+    // What is at or below a path goes.
+    Remove(&'static str),
+    // What is at or below the first path is put at the second as well.
+    Graft(&'static str, &'static str),
+    // What stands at a path is told.
+    Look(&'static str),
+    // The names one below a path are told.
+    List(&'static str),
+}
+
+fn graft(alloc: Global, tree: &mut Tree, from: &str, to: &str) -> Result<(), TreeFault> {
+    let (from, to) = (Path::read(alloc, from)?, Path::read(alloc, to)?);
+    let taken = tree.subtree(&from)?;
+    tree.graft(&to, &taken)
+}
+
+fn push_looked(text: &mut String, tree: &Tree, path: &Path) -> Result<(), AllocError> {
+    match tree.get(path) {
+        None => text.push_str("none"),
+        Some(entry) => push_entry(text, path, &entry),
     }
-    Ok(usize::MAX)
+}
+
+fn push_list(text: &mut String, tree: &Tree, path: &Path) -> Result<(), TreeFault> {
+    let names = tree.list(path)?;
+    for name in names.as_slice() {
+        text.push_str(" ")?;
+        text.push_str(name.as_str())?;
+    }
+    Ok(())
+}
+
+// Takes a step, and tells what was asked for.
+pub(crate) fn take_step(
+    alloc: Global,
+    text: &mut String,
+    tree: &mut Tree,
+    step: &Step,
+) -> Result<(), TreeFault> {
+    match step {
+        Step::Put(row) => put(alloc, tree, row),
+        Step::Graft(from, to) => graft(alloc, tree, from, to),
+        Step::Remove(path) => tree.remove(&Path::read(alloc, path)?),
+        Step::Look(path) => Ok(push_looked(text, tree, &Path::read(alloc, path)?)?),
+        Step::List(path) => push_list(text, tree, &Path::read(alloc, path)?),
+    }
 }

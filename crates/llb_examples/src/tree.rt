@@ -1,49 +1,61 @@
-//! Names, paths and trees. A story is told in a line of text: the answer to each step, and then the entries.
+//! Names, paths and trees. A story is told in a line of text: a `;` behind each step, what was asked for or the step's fault before
+//! it, and then the entries.
 
-use super::told::{entry_text, push_path, push_tree, put_entry};
+use super::told::{Row, Step, file, is_told, push_path, push_tree, take_step, tree_of};
 use llb_tree::{Meta, Name, Path, Tree, TreeFault};
-use std::alloc::{AllocError, Global};
+use std::alloc::Global;
 
-// The path of a text, printed.
-fn read(alloc: Global, text: &str) -> Result<String, TreeFault> {
-    let path = Path::read(alloc, text)?;
+// The path of a text, read from another path where there is one.
+fn read(alloc: Global, start: Option<&str>, text: &str) -> Result<Path, TreeFault> {
+    match start {
+        None => Path::read(alloc, text),
+        Some(start) => Path::read_from(alloc, &Path::read(alloc, start)?, text),
+    }
+}
+
+fn printed(alloc: Global, start: Option<&str>, text: &str) -> Result<String, TreeFault> {
+    let path = read(alloc, start, text)?;
     let mut printed = String::new(alloc);
     push_path(&mut printed, &path)?;
     Ok(printed)
 }
 
-fn reads_as(alloc: Global, text: &str, wanted: Result<&str, TreeFault>) -> bool {
-    match (read(alloc, text), wanted) {
-        (Ok(printed), Ok(path)) => printed.as_str() == path,
-        (Err(fault), Err(refusal)) => fault == refusal,
-        _ => false,
-    }
-}
+// Texts, and their paths, or 26.
+const TEXTS: &[(Option<&str>, &str, &str)] = &[
+    (None, "/usr//./local/../bin/", "/usr/bin"),
+    (None, "usr/bin", "/usr/bin"),
+    (None, "bin/usr", "/bin/usr"),
+    (None, "/../a/b/../...", "/a/..."),
+    (None, "a/...", "/a/..."),
+    (None, "", ""),
+    (None, "/", ""),
+    (None, "//", ""),
+    (None, ".", ""),
+    (None, "..", ""),
+    (None, "/../..", ""),
+    (None, "a/..", ""),
+    (None, "\u{1f}", "26"),
+    (None, "a\u{7f}", "26"),
+    (None, "b/\n/c", "26"),
+    (None, "x/\0/..", "26"),
+    (None, " /\u{80}/~", "/ /\u{80}/~"),
+    (Some("/a"), "../b", "/b"),
+    (Some("/a"), "/c", "/c"),
+    (Some("/a"), "b/./c", "/a/b/c"),
+    (Some("/a"), "", "/a"),
+    (Some("/a/b"), "../../../c", "/c"),
+    (Some("/a"), "/", ""),
+    (Some("/a"), "b\n", "26"),
+];
 
 #[test]
-fn a_text_is_read_part_by_part(rt: HostRuntime) {
-    let bad = Err(TreeFault::BadName);
-    let rows = [
-        ("/usr//./local/../bin/", Ok("/usr/bin")),
-        ("usr/bin", Ok("/usr/bin")),
-        ("bin/usr", Ok("/bin/usr")),
-        ("/../a/b/../...", Ok("/a/...")),
-        ("a/...", Ok("/a/...")),
-        ("", Ok("")),
-        ("/", Ok("")),
-        ("//", Ok("")),
-        (".", Ok("")),
-        ("..", Ok("")),
-        ("/../..", Ok("")),
-        ("a/..", Ok("")),
-        ("\u{1f}", bad),
-        ("a\u{7f}", bad),
-        ("b/\n/c", bad),
-        ("x/\0/..", bad),
-        (" /\u{80}/~", Ok("/ /\u{80}/~")),
-    ];
-    for (text, wanted) in rows {
-        assert!(rt; reads_as(rt.alloc(), text, wanted), "{text:?}");
+fn a_text_is_read_part_by_part_from_the_root_or_a_path(rt: HostRuntime) {
+    let alloc = rt.alloc();
+    for (start, text, wanted) in TEXTS {
+        assert!(rt;
+            is_told(alloc, printed(alloc, *start, text), wanted),
+            "{start:?} {text:?}"
+        );
     }
 }
 
@@ -100,32 +112,19 @@ fn paths_are_in_order_name_by_name(rt: HostRuntime) {
     }
 }
 
-// The copy of a name.
-fn copied(alloc: Global, text: &str) -> Result<Name, TreeFault> {
-    let name = Name::new(alloc, text)?;
-    name.copy()
-}
-
 // Whether the copy of a name has the text of the name.
 fn is_kept(alloc: Global, text: &str) -> Result<bool, TreeFault> {
-    let name = copied(alloc, text)?;
+    let name = Name::new(alloc, text)?.copy()?;
     Ok(name.as_str() == text)
 }
 
-// The path of one name.
-fn below_root(alloc: Global, text: &str) -> Result<Path, TreeFault> {
-    let name = Name::new(alloc, text)?;
-    let mut path = Path::root(alloc);
-    path.push(name)?;
-    path.reads_back();
-    path.copy()
-}
-
-// Whether the path /etc from its name is what it is read as.
+// Whether the path /etc from its name, and its copy, are what it is read as.
 fn is_pushed(alloc: Global) -> Result<bool, TreeFault> {
-    let path = below_root(alloc, "etc")?;
-    let read = Path::read(alloc, "/etc")?;
-    Ok(!path.is_root() && path.same(&read))
+    let mut path = Path::root(alloc);
+    path.push(Name::new(alloc, "etc")?)?;
+    path.reads_back();
+    let (copied, read) = (path.copy()?, Path::read(alloc, "/etc")?);
+    Ok(!path.is_root() && path.same(&read) && copied.same(&read))
 }
 
 #[test]
@@ -134,9 +133,9 @@ fn names_and_paths_by_hand(rt: HostRuntime) {
         assert!(rt; Name::is_name(text) == wanted, "{text}");
     }
     let alloc = rt.alloc();
-    assert!(rt; is_kept(alloc, "etc") == Ok(true));
-    assert!(rt; is_kept(alloc, ".") == Err(TreeFault::BadName));
-    assert!(rt; Path::root(alloc).is_root() && is_pushed(alloc) == Ok(true));
+    let answers = [is_kept(alloc, "etc"), is_kept(alloc, "."), is_pushed(alloc)];
+    assert!(rt; answers == [Ok(true), Err(TreeFault::BadName), Ok(true)]);
+    assert!(rt; Path::root(alloc).is_root());
 }
 
 // What a path of this many names answers to one more, and how many it has then.
@@ -145,11 +144,9 @@ fn one_more(alloc: Global, count: usize) -> Result<(bool, usize), TreeFault> {
     for _ in 0..count {
         path.push(Name::new(alloc, "a")?)?;
     }
-    let name = Name::new(alloc, "b")?;
-    match path.push(name) {
-        Ok(()) => Ok((true, path.names().len())),
-        Err(TreeFault::BadName) => Ok((false, path.names().len())),
-        Err(fault) => Err(fault),
+    match path.push(Name::new(alloc, "b")?) {
+        Err(TreeFault::Memory) => Err(TreeFault::Memory),
+        answer => Ok((answer.is_ok(), path.names().len())),
     }
 }
 
@@ -167,181 +164,182 @@ fn numbers(mode: u16) -> Option<(u16, u32, u32)> {
 
 #[test]
 fn a_mode_is_at_most_4095(rt: HostRuntime) {
-    assert!(rt; numbers(0) == Some((0, 7, 8)) && numbers(4095) == Some((4095, 7, 8)));
-    assert!(rt; numbers(4096).is_none());
-}
-
-// A step of a story.
-#[derive(Clone, Copy)]
-enum Step {
-    // A file of that mode with that content is put at a path.
-    File(&'static str, u16, &'static str),
-    // A directory of that mode is put at a path.
-    Dir(&'static str, u16),
-    // What stands at a path is told.
-    Look(&'static str),
-}
-
-// What stands at a path.
-fn look(alloc: Global, tree: &Tree, path: &Path) -> Result<String, AllocError> {
-    match tree.get(path) {
-        None => String::from_str(alloc, "none"),
-        Some(entry) => entry_text(alloc, &entry),
+    let rows = [
+        (0, Some((0, 7, 8))),
+        (4095, Some((4095, 7, 8))),
+        (4096, None),
+    ];
+    for (mode, wanted) in rows {
+        assert!(rt; numbers(mode) == wanted, "{mode}");
     }
 }
 
-fn put(
+// Whether a directory is at a path.
+fn has_directory(alloc: Global, rows: &[Row<'_>], path: &str) -> Result<bool, TreeFault> {
+    let tree = tree_of(alloc, rows)?;
+    Ok(tree.is_dir(&Path::read(alloc, path)?))
+}
+
+#[test]
+fn a_directory_is_told_from_a_file(rt: HostRuntime) {
+    let rows = [("/a", 0o700, 7, 8, None), ("/a/b", 0o644, 7, 8, Some("x"))];
+    for (path, wanted) in [("/b", false), ("/a", true), ("/a/b", false)] {
+        assert!(rt;
+            has_directory(rt.alloc(), &rows, path) == Ok(wanted),
+            "{path}"
+        );
+    }
+}
+
+const A: Step = Step::Put(("/a", 0o700, 7, 8, None));
+
+const A_B: Step = Step::Put(("/a/b", 0o644, 7, 8, Some("x")));
+
+const STORIES: &[(&str, &[Step], &str)] = &[
+    (
+        "an empty tree is its root alone",
+        &[Step::Look("/")],
+        " d; d",
+    ),
+    (
+        "a parent is made before its file",
+        &[
+            A_B,
+            A,
+            A_B,
+            Step::Look("/a"),
+            Step::Look("/a/b"),
+            Step::Look("/a/b/c"),
+        ],
+        "21;;; d/a(700 7:8); f/a/b(644 7:8)=x;none; d d/a(700 7:8) f/a/b(644 7:8)=x",
+    ),
+    (
+        "an edit in the way of another is refused",
+        &[
+            A,
+            A_B,
+            Step::Put(("/a", 0o600, 7, 8, Some("y"))),
+            Step::Put(("/a/b", 0o755, 7, 8, None)),
+            Step::Put(("/a/b/c", 0o600, 7, 8, Some("y"))),
+            Step::Put(("/", 0o600, 7, 8, Some("y"))),
+            Step::Look("/a/b/c"),
+        ],
+        ";;23;24;22;25;none; d d/a(700 7:8) f/a/b(644 7:8)=x",
+    ),
+    (
+        "a file is replaced and a directory takes the new mode",
+        &[
+            A,
+            A_B,
+            Step::Put(("/a/b", 0o600, 7, 8, Some("new"))),
+            Step::Put(("/a", 0, 7, 8, None)),
+            Step::Put(("/", 0o4755, 7, 8, None)),
+            Step::Look("/"),
+            Step::Look("/a"),
+            Step::Look("/a/b"),
+        ],
+        ";;;;; d(4755 7:8); d/a(0 7:8); f/a/b(600 7:8)=new; d(4755 7:8) d/a(0 7:8) f/a/b(600 7:8)=new",
+    ),
+    (
+        "entries stand in path order",
+        &[A, A_B, Step::Put(("/a-", 0o755, 7, 8, None))],
+        ";;; d d/a(700 7:8) f/a/b(644 7:8)=x d/a-(755 7:8)",
+    ),
+    (
+        "a tree is put elsewhere and goes",
+        &[
+            Step::Put(("/a/b", 0o644, 0, 0, Some(""))),
+            Step::Put(("/a", 0o755, 0, 0, None)),
+            Step::Put(("/a/b", 0o644, 0, 0, Some(""))),
+            Step::Put(("/a", 0o644, 0, 0, Some(""))),
+            Step::Put(("/a/b", 0o755, 0, 0, None)),
+            Step::Put(("/a/b/c", 0o644, 0, 0, Some(""))),
+            Step::Remove("/"),
+            Step::Graft("/a", "/z"),
+            Step::List("/z"),
+            Step::Remove("/a"),
+        ],
+        "21;;;23;24;22;25;; b;; d d/z f/z/b=",
+    ),
+    (
+        "what is not there is refused",
+        &[
+            Step::Put(("/a", 0o755, 0, 0, None)),
+            Step::Put(("/a/b", 0o644, 0, 0, Some(""))),
+            Step::Remove("/a/b/c"),
+            Step::List("/a/b"),
+            Step::List("/a/b/c"),
+            Step::List("/x"),
+            Step::Graft("/a/b", "/z"),
+            Step::Graft("/a", "/x/y"),
+            Step::Graft("/a", "/a/b/c"),
+            Step::List("/"),
+        ],
+        ";;21;22;21;21;22;21;22; a; d d/a f/a/b=",
+    ),
+    (
+        "a graft takes the place of what was below",
+        &[
+            Step::Put(("/a", 0o755, 0, 0, None)),
+            Step::Put(("/a/b", 0o644, 0, 0, Some(""))),
+            Step::Put(("/c", 0o755, 0, 0, None)),
+            Step::Put(("/c/d", 0o755, 0, 0, None)),
+            Step::Put(("/c/d/e", 0o644, 0, 0, Some(""))),
+            Step::Put(("/c-", 0o755, 0, 0, None)),
+            Step::List("/c"),
+            Step::Graft("/a", "/c"),
+            Step::Graft("/c", "/"),
+        ],
+        ";;;;;; d;;; d f/b=",
+    ),
+];
+
+fn push_step(
     alloc: Global,
+    text: &mut String,
     tree: &mut Tree,
-    path: &str,
-    mode: u16,
-    content: Option<&str>,
+    step: &Step,
 ) -> Result<(), TreeFault> {
-    match Meta::new(mode, 7, 8) {
-        None => Ok(()),
-        Some(meta) => put_entry(alloc, tree, path, meta, content),
+    if let Err(fault) = take_step(alloc, text, tree, step) {
+        write!(text, "{fault}")?;
     }
-}
-
-fn answer_text(alloc: Global, answer: Result<(), TreeFault>) -> Result<String, AllocError> {
-    match answer {
-        Ok(()) => String::from_str(alloc, "ok"),
-        Err(fault) => fault.to_string(alloc),
-    }
-}
-
-// Does the step, and tells the answer.
-fn done(alloc: Global, tree: &mut Tree, step: Step) -> Result<String, TreeFault> {
-    let told = match step {
-        Step::File(path, mode, content) => {
-            answer_text(alloc, put(alloc, tree, path, mode, Some(content)))?
-        }
-        Step::Dir(path, mode) => answer_text(alloc, put(alloc, tree, path, mode, None))?,
-        Step::Look(path) => {
-            let path = Path::read(alloc, path)?;
-            look(alloc, tree, &path)?
-        }
-    };
-    Ok(told)
+    Ok(text.push_str(";")?)
 }
 
 fn told(alloc: Global, steps: &[Step]) -> Result<String, TreeFault> {
     let mut text = String::new(alloc);
     let mut tree = Tree::empty(alloc)?;
     for step in steps {
-        let answer = done(alloc, &mut tree, *step)?;
-        text.push_str(answer.as_str())?;
-        text.push_str("|")?;
+        push_step(alloc, &mut text, &mut tree, step)?;
     }
     tree.is_tree();
-    push_tree(alloc, &mut text, &tree)?;
+    push_tree(&mut text, &tree)?;
     Ok(text)
-}
-
-// What a copy has once the tree itself was changed.
-fn copy_told(alloc: Global) -> Result<String, TreeFault> {
-    let mut text = String::new(alloc);
-    let mut tree = Tree::empty(alloc)?;
-    put(alloc, &mut tree, "/a", 0o700, None)?;
-    put(alloc, &mut tree, "/a/b", 0o644, Some("x"))?;
-    let copied = tree.copy()?;
-    put(alloc, &mut tree, "/a/b", 0o600, Some("new"))?;
-    put(alloc, &mut tree, "/a", 0, None)?;
-    push_tree(alloc, &mut text, &copied)?;
-    Ok(text)
-}
-
-// Of a path that is missing, of a directory and of a file: whether a directory is there.
-fn directories(alloc: Global) -> Result<(bool, bool, bool), TreeFault> {
-    let mut tree = Tree::empty(alloc)?;
-    put(alloc, &mut tree, "/a", 0o700, None)?;
-    put(alloc, &mut tree, "/a/b", 0o644, Some("x"))?;
-    let (none, dir) = (Path::read(alloc, "/b")?, Path::read(alloc, "/a")?);
-    let file = Path::read(alloc, "/a/b")?;
-    Ok((tree.is_dir(&none), tree.is_dir(&dir), tree.is_dir(&file)))
 }
 
 #[test]
-fn a_directory_is_told_from_a_file(rt: HostRuntime) {
-    assert!(rt; directories(rt.alloc()) == Ok((false, true, false)));
-}
-
-fn is_told(alloc: Global, steps: &[Step], wanted: &str) -> bool {
-    match told(alloc, steps) {
-        Ok(text) => text.as_str() == wanted,
-        Err(_) => false,
+fn a_tree_is_changed_step_by_step(rt: HostRuntime) {
+    let alloc = rt.alloc();
+    for (name, steps, wanted) in STORIES {
+        assert!(rt; is_told(alloc, told(alloc, steps), wanted), "{name}");
     }
 }
 
-#[test]
-fn an_empty_tree_is_its_root_alone(rt: HostRuntime) {
-    assert!(rt; is_told(rt.alloc(), &[Step::Look("/")], "d 755 0:0 | d 755 0:0 |"));
+// What a graft at a path of this many names answers, for a tree with one name.
+fn graft_depth(alloc: Global, count: usize) -> Result<(), TreeFault> {
+    let mut tree = Tree::empty(alloc)?;
+    let mut path = String::new(alloc);
+    for _ in 0..count {
+        path.push_str("/a")?;
+        tree.put_dir(&Path::read(alloc, path.as_str())?, Meta::new_dir())?;
+    }
+    let other = tree_of(alloc, &[file("/b", "")])?;
+    tree.graft(&Path::read(alloc, path.as_str())?, &other)
 }
 
 #[test]
-fn a_parent_is_made_before_its_file(rt: HostRuntime) {
-    let steps = [
-        Step::File("/a/b", 0o644, "x"),
-        Step::Dir("/a", 0o700),
-        Step::File("/a/b", 0o644, "x"),
-        Step::Look("/a"),
-        Step::Look("/a/b"),
-        Step::Look("/a/b/c"),
-    ];
-    let wanted = "21|ok|ok|d 700 7:8 |f 644 7:8 x|none|\
-        \x20d 755 0:0 |/a d 700 7:8 |/a/b f 644 7:8 x|";
-    assert!(rt; is_told(rt.alloc(), &steps, wanted));
-}
-
-#[test]
-fn an_edit_in_the_way_of_another_is_refused(rt: HostRuntime) {
-    let steps = [
-        Step::Dir("/a", 0o700),
-        Step::File("/a/b", 0o644, "x"),
-        Step::File("/a", 0o600, "y"),
-        Step::Dir("/a/b", 0o755),
-        Step::File("/a/b/c", 0o600, "y"),
-        Step::File("/", 0o600, "y"),
-        Step::Look("/a/b/c"),
-    ];
-    let wanted = "ok|ok|23|24|22|25|none| d 755 0:0 |/a d 700 7:8 |/a/b f 644 7:8 x|";
-    assert!(rt; is_told(rt.alloc(), &steps, wanted));
-}
-
-#[test]
-fn a_file_is_replaced_and_a_directory_takes_the_new_mode(rt: HostRuntime) {
-    let steps = [
-        Step::Dir("/a", 0o700),
-        Step::File("/a/b", 0o644, "x"),
-        Step::File("/a/b", 0o600, "new"),
-        Step::Dir("/a", 0),
-        Step::Dir("/", 0o4755),
-        Step::Look("/"),
-        Step::Look("/a"),
-        Step::Look("/a/b"),
-    ];
-    let wanted = "ok|ok|ok|ok|ok|d 4755 7:8 |d 0 7:8 |f 600 7:8 new|\
-        \x20d 4755 7:8 |/a d 0 7:8 |/a/b f 600 7:8 new|";
-    assert!(rt; is_told(rt.alloc(), &steps, wanted));
-}
-
-#[test]
-fn a_copy_keeps_what_was_there(rt: HostRuntime) {
-    let wanted = " d 755 0:0 |/a d 700 7:8 |/a/b f 644 7:8 x|";
-    let kept = match copy_told(rt.alloc()) {
-        Ok(text) => text.as_str() == wanted,
-        Err(_) => false,
-    };
-    assert!(rt; kept);
-}
-
-#[test]
-fn entries_stand_in_path_order(rt: HostRuntime) {
-    let steps = [
-        Step::Dir("/a", 0o700),
-        Step::File("/a/b", 0o644, "x"),
-        Step::Dir("/a-", 0o755),
-    ];
-    let wanted = "ok|ok|ok| d 755 0:0 |/a d 700 7:8 |/a/b f 644 7:8 x|/a- d 755 7:8 |";
-    assert!(rt; is_told(rt.alloc(), &steps, wanted));
+fn a_place_has_128_names_at_most(rt: HostRuntime) {
+    let alloc = rt.alloc();
+    assert!(rt; graft_depth(alloc, 127) == Ok(()));
+    assert!(rt; graft_depth(alloc, 128) == Err(TreeFault::BadName));
 }

@@ -1,12 +1,13 @@
 //! The text of a tree: written, named by its digest, and read. A text is read and written again, or its fault printed.
 
-use llb_tree::{Meta, Path, Tree, TreeFault};
+use super::told::{file, is_told, tree_of};
+use llb_tree::{Tree, TreeFault};
 use llb_treetext::{TextFault, one_answer, print_tree, read_tree, reads_back, tree_digest};
-use llb_wire::{Bytes, Over};
+use llb_wire::Over;
 use std::alloc::{AllocError, Global};
 
 // The text of a tree, as it is printed.
-fn printed(alloc: Global, tree: &Tree) -> Result<Vec<u8>, AllocError> {
+pub(crate) fn printed(alloc: Global, tree: &Tree) -> Result<Vec<u8>, AllocError> {
     let mut text: Vec<u8> = Vec::new(alloc);
     let mut out = Over::new(&mut text);
     if print_tree(alloc, tree, &mut out).is_err() {
@@ -30,13 +31,6 @@ fn answer(alloc: Global, text: &str) -> Result<String, AllocError> {
     }
 }
 
-fn answers(alloc: Global, text: &str, wanted: &str) -> bool {
-    match answer(alloc, text) {
-        Ok(told) => told.as_str() == wanted,
-        Err(_) => false,
-    }
-}
-
 #[test]
 fn a_text_is_read_as_the_tree_whose_text_it_is(rt: HostRuntime) {
     let texts = [
@@ -47,7 +41,10 @@ fn a_text_is_read_as_the_tree_whose_text_it_is(rt: HostRuntime) {
         "d 7777 4294967295 10 /\nd 0000 0 0 /a b\nf 4755 1 2 00ff0a /a b/ c\nd 0755 0 0 /a b-\n",
     ];
     for text in texts {
-        assert!(rt; answers(rt.alloc(), text, text), "{text:?}");
+        assert!(rt;
+            is_told(rt.alloc(), answer(rt.alloc(), text), text),
+            "{text:?}"
+        );
     }
 }
 
@@ -79,7 +76,10 @@ fn the_first_faulty_line_has_its_first_fault(rt: HostRuntime) {
         ),
     ];
     for (text, wanted) in rows {
-        assert!(rt; answers(rt.alloc(), text, wanted), "{text:?}");
+        assert!(rt;
+            is_told(rt.alloc(), answer(rt.alloc(), text), wanted),
+            "{text:?}"
+        );
     }
 }
 
@@ -117,20 +117,20 @@ fn a_late_fault_is_told_without_memory(rt: HostRuntime) {
 fn long_text(alloc: Global, files: usize) -> Result<String, AllocError> {
     let mut text = String::from_str(alloc, "d 0755 0 0 /\n")?;
     for at in 0..files {
-        let line = format!(in alloc; "f 0644 0 0 {at:04} /{at:04}\n")?;
-        text.push_str(line.as_str())?;
+        write!(text, "f 0644 0 0 {at:04} /{at:04}\n")?;
     }
     text.push_str("f 0644 0 0 - /0999/f\n")?;
     Ok(text)
 }
 
+fn long_answer(alloc: Global, files: usize) -> Result<String, AllocError> {
+    let text = long_text(alloc, files)?;
+    answer(alloc, text.as_str())
+}
+
 #[test]
 fn the_last_line_of_many_is_faulty(rt: HostRuntime) {
-    let told = match long_text(rt.alloc(), 1000) {
-        Ok(text) => answers(rt.alloc(), text.as_str(), "33 1002"),
-        Err(_) => false,
-    };
-    assert!(rt; told);
+    assert!(rt; is_told(rt.alloc(), long_answer(rt.alloc(), 1000), "33 1002"));
 }
 
 // The text of a good root, and then of one line.
@@ -167,27 +167,16 @@ fn only_the_written_spelling_is_read(rt: HostRuntime) {
         "",
     ];
     for line in lines {
-        let bad = match second_line(rt.alloc(), line) {
-            Ok(told) => told.as_str() == "31 2",
-            Err(_) => false,
-        };
-        assert!(rt; bad, "{line:?}");
+        assert!(rt;
+            is_told(rt.alloc(), second_line(rt.alloc(), line), "31 2"),
+            "{line:?}"
+        );
     }
-}
-
-fn put(alloc: Global, tree: &mut Tree) -> Result<(), TreeFault> {
-    let (Some(dir), Some(file)) = (Meta::new(0o700, 1, 2), Meta::new(0o644, 0, 0)) else {
-        return Ok(());
-    };
-    tree.put_dir(&Path::read(alloc, "/a")?, dir)?;
-    let content = Bytes::from_slice(alloc, b"hi".as_slice())?;
-    tree.put_file(&Path::read(alloc, "/a/b")?, file, content)
 }
 
 // Whether a tree that is printed is read as the same tree.
 fn is_read_back(alloc: Global) -> Result<bool, TreeFault> {
-    let mut tree = Tree::empty(alloc)?;
-    put(alloc, &mut tree)?;
+    let tree = tree_of(alloc, &[("/a", 0o700, 1, 2, None), file("/a/b", "hi")])?;
     reads_back(&tree);
     let text = printed(alloc, &tree)?;
     match read_tree(alloc, text.as_slice()) {
@@ -201,27 +190,17 @@ fn what_is_printed_is_read_back(rt: HostRuntime) {
     assert!(rt; is_read_back(rt.alloc()) == Ok(true));
 }
 
-fn digest(alloc: Global) -> Result<bool, TreeFault> {
-    let tree = Tree::empty(alloc)?;
-    match tree_digest(alloc, &tree) {
-        Ok(text) => Ok(
-            text.as_str()
-                == "sha256:5de211d85590268925259f8c7cd45d229b00372355255c350a38752ed1c86a47",
-        ),
-        Err(_) => Ok(false),
+fn digest(alloc: Global) -> Result<String, TextFault> {
+    match Tree::empty(alloc) {
+        Ok(tree) => Ok(tree_digest(alloc, &tree)?.into_string()),
+        Err(_) => Err(TextFault::Memory),
     }
 }
 
 #[test]
 fn a_digest_is_that_of_the_text(rt: HostRuntime) {
-    assert!(rt; digest(rt.alloc()) == Ok(true));
-}
-
-fn prints(alloc: Global, fault: TextFault, wanted: &str) -> bool {
-    match fault.to_string(alloc) {
-        Ok(text) => text.as_str() == wanted,
-        Err(_) => false,
-    }
+    let wanted = "sha256:5de211d85590268925259f8c7cd45d229b00372355255c350a38752ed1c86a47";
+    assert!(rt; is_told(rt.alloc(), digest(rt.alloc()), wanted));
 }
 
 #[test]
@@ -233,6 +212,6 @@ fn a_fault_prints_its_number_and_the_line(rt: HostRuntime) {
         (TextFault::Memory, "34"),
     ];
     for (fault, wanted) in rows {
-        assert!(rt; prints(rt.alloc(), fault, wanted), "{wanted}");
+        assert!(rt; is_told(rt.alloc(), Err(fault), wanted), "{wanted}");
     }
 }

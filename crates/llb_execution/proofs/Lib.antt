@@ -5,3 +5,4 @@ pub mod Commands
 pub mod Exchanges
 pub mod Stepping
 pub mod Places
+pub mod Marks

@@ -1,2 +1,3 @@
 pub mod Parts
 pub mod Outputs
+pub mod Marks

@@ -3,6 +3,7 @@
 #![tactic(auto)]
 
 mod filling;
+mod mark;
 mod micro_step;
 mod missing;
 mod mounting;
@@ -13,6 +14,7 @@ mod view;
 
 pub use filling::empty_trees;
 pub use llb_wire::Memory;
+pub use mark::Mark;
 pub use micro_step::{MicroStep, step_count, step_of};
 pub use missing::missing_local;
 pub use mounting::{input_tree, mounts_of, setting_of};

@@ -10,6 +10,8 @@ ghost use Rattle.llb_loader.specs.Graph.{IsVertexOf};
 ghost use Rattle.llb_model.specs.Caches.{Distinct};
 ghost use Rattle.llb_model.specs.Program.{Act, program_of, view_on, local_tree, mount_of, needs_of, trees_in, base_in, with_tree, act_among};
 ghost use Rattle.llb_model.specs.Program.{tree_fault_number, fault_number, lay_on, run_on, step_on, tried, outputs_of};
+ghost use Rattle.llb_execution.specs.Marks.{put_back, Results, Laid};
+ghost use Rattle.llb_execution.specs.Marks as marks;
 ghost use Rattle.llb_execution.specs.Parts.{step_in, own_of, work_with, left_with, exit_of, mounts_in, shown_in};
 
 use crate::filling::run_filled;
@@ -33,7 +35,7 @@ use std::marker::Model;
 /// merge the trees of its inputs and what is laid so far, of an exec its mounts, of which those that show caches are empty.
 #[derive(Drop)]
 pub struct View {
-    own: Own,
+    pub(crate) own: Own,
 }
 
 #[derive(Drop)]
@@ -208,6 +210,36 @@ impl View {
         match &mut self.own {
             Own::Layers(inputs, laid) => lay_input(alloc, laid, inputs, input),
             _ => Ok(()),
+        }
+    }
+
+    // The first so many results of a file op.
+    pub(crate) fn keep_results(&mut self, count: usize)
+        ensures { self.new ≡ put_back (Results count) self.old }
+    {
+        match &mut self.own {
+            Own::Files(_, results) => results.truncate(count),
+            _ => {}
+        }
+    }
+
+    // What was laid of a merge.
+    pub(crate) fn put_laid(&mut self, tree: Tree)
+        ensures { self.new ≡ put_back (Laid tree) self.old }
+    {
+        match &mut self.own {
+            Own::Layers(_, laid) => *laid = tree,
+            _ => {}
+        }
+    }
+
+    // The mounts of an exec.
+    pub(crate) fn put_mounts(&mut self, mounts: Mounts)
+        ensures { self.new ≡ put_back (marks.Mounts mounts) self.old }
+    {
+        match &mut self.own {
+            Own::Mounted(shown, _) => *shown = mounts,
+            _ => {}
         }
     }
 

@@ -19,3 +19,4 @@ pub mod Single
 pub mod Lengths
 pub mod Executions
 pub mod Unread
+pub mod Copies

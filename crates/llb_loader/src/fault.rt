@@ -3,6 +3,7 @@
 
 use llb_applet::ScriptFault;
 use llb_ops::OpFault;
+use llb_tree::TreeFault;
 use std::alloc::{AllocError, AllocFailed};
 use std::fmt;
 use thiserror::Error;
@@ -125,13 +126,33 @@ impl fmt::Display for Rule {
     }
 }
 
-/// 92: memory was refused for the trees of local sources.
+/// 92: memory was refused for the trees of local sources, or for a copy.
 #[derive(Clone, Copy, Debug, PartialEq, Eq, Error)]
 #[error("92")]
 pub struct Memory;
 
 impl<T: Drop> From<AllocFailed<T>> for Memory {
     fn from(_: AllocFailed<T>) -> Memory {
+        Memory
+    }
+}
+
+impl From<AllocError> for Memory {
+    fn from(_: AllocError) -> Memory {
+        Memory
+    }
+}
+
+/// Of a copy of a tree, which can only lack memory.
+impl From<TreeFault> for Memory {
+    fn from(_: TreeFault) -> Memory {
+        Memory
+    }
+}
+
+/// Of a copy of a text.
+impl From<llb_wire::Memory> for Memory {
+    fn from(_: llb_wire::Memory) -> Memory {
         Memory
     }
 }

@@ -1,13 +1,16 @@
 //! The numbered graph: vertices whose inputs lead to lower ones, and the result.
 
-ghost use Rattle.std.specs.Prelude.{◌≡◌, option_map};
+ghost use Rattle.std.specs.Prelude.{◌≡◌, IfOk, option_map};
 ghost use Rattle.llb_loader.specs.Graph.{IsGraph};
 ghost use Rattle.llb_loader.specs.Locals.{local_name};
 
+use crate::fault::Memory;
 use llb_applet::Script;
 use llb_ops::{Kind, Op};
 use llb_wire::{Many, Text};
+use std::alloc::{AllocError, Global};
 use std::marker::Model;
+use std::sync::Arc;
 
 /// Output `index` of the vertex with that number.
 #[derive(Clone, Copy, PartialEq, Eq)]
@@ -44,32 +47,39 @@ impl Vertex {
     }
 }
 
-/// The vertices at or before the result, each above its inputs. Contracts see the list of the vertices and the result.
+/// The vertices at or before the result, each above its inputs; copies share them. Contracts see the list of the vertices and the
+/// result.
 #[derive(Drop)]
 pub struct Graph {
-    vertices: Vec<Vertex>,
+    shared: Arc<Vec<Vertex>>,
     result: Edge,
 }
 
 impl Model for Graph {
+    ghost use Rattle.std.specs.Arc.{arc_value};
     ghost use Rattle.llb_loader.specs.Graph.{Numbered, IsGraph};
 
     ghost Value = { Numbered };
 
-    ghost view = { λ g. record { vertices = g.vertices.items; result = g.result } };
+    ghost view = { λ g. record { vertices = (arc_value g.shared).items; result = g.result } };
 
-    ghost invariant = { λ g. IsGraph (record { vertices = g.vertices.items; result = g.result }) };
+    ghost invariant = { λ g. IsGraph (record { vertices = (arc_value g.shared).items; result = g.result }) };
 }
 
 impl Graph {
-    pub(crate) fn of_parts(vertices: Vec<Vertex>, edge: Edge) -> Graph
+    pub(crate) fn of_parts(
+        alloc: Global,
+        vertices: Vec<Vertex>,
+        edge: Edge,
+    ) -> Result<Graph, AllocError>
         requires { IsGraph (record { vertices = vertices.items; result = edge }) }
-        ensures { result ≡ record { vertices = vertices.items; result = edge } }
+        ensures { IfOk result (λ g. g ≡ record { vertices = vertices.items; result = edge }) }
     {
-        Graph {
-            vertices,
+        let shared = Arc::new(alloc, vertices)?;
+        Ok(Graph {
+            shared,
             result: edge,
-        }
+        })
     }
 
     /// The vertices by number.
@@ -77,14 +87,25 @@ impl Graph {
         ensures all { result.now ≡ self.now.vertices }
         ensures graph { IsGraph self.now }
     {
-        self.vertices.as_slice()
+        self.shared.as_slice()
+    }
+
+    /// An equal second owner, which shares the vertices. `Memory` (92) where it is refused.
+    pub fn copy(&self) -> Result<Graph, Memory>
+        ensures { IfOk result (λ g. g ≡ self.now) }
+    {
+        let shared = Arc::try_clone(&self.shared)?;
+        Ok(Graph {
+            shared,
+            result: self.result,
+        })
     }
 
     /// What is true of every graph, for callers to cite.
     pub fn is_graph(&self)
         ensures { IsGraph self.now }
     {
-        let _ = &self.vertices;
+        let _ = &self.shared;
     }
 
     /// The output that the definition names as its result.

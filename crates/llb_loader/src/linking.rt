@@ -129,5 +129,5 @@ fn link_whole(
     let ranks = ranks_of(alloc, links, start, order)?;
     let result = first_edge(ranks[start], &ops[terminal]);
     let vertices = vertices_of(alloc, rows, ops, links, order, &ranks)?;
-    Ok(Graph::of_parts(vertices, result))
+    Ok(Graph::of_parts(alloc, vertices, result)?)
 }

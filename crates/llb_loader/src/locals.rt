@@ -1,8 +1,8 @@
 //! The trees of local sources, by name, in the order in which the names were first given.
 
-ghost use Rattle.std.specs.Prelude.{◌≡◌, ℕ, List, [], Some, cond, OnOk, OnErr, option_map};
+ghost use Rattle.std.specs.Prelude.{◌≡◌, ℕ, List, [], Some, cond, IfOk, OnOk, OnErr, IfSome, option_map, slice_get, string_bytes};
 ghost use Rattle.std.specs.Str.{bytes_eq};
-ghost use Rattle.llb_loader.specs.Locals.{tree_of_local, with_local};
+ghost use Rattle.llb_loader.specs.Locals.{locals_of, tree_of_local, with_local};
 
 use crate::fault::Memory;
 use indexmap::IndexMap;
@@ -54,10 +54,41 @@ impl Locals {
         Ok(())
     }
 
+    /// The same names with second owners of their trees. `Memory` (92) where memory is refused.
+    pub fn copy(&self) -> Result<Locals, Memory>
+        ensures { IfOk result (λ l. l ≡ self.now) }
+    {
+        copied(&self.trees)
+    }
+
     /// The tree of a name.
     pub fn get(&self, name: &str) -> Option<&Tree>
         ensures { option_map (λ t. t.now) result ≡ tree_of_local self.now name.now }
     {
         self.trees.get(name)
+    }
+}
+
+// The same names with second owners of their trees.
+fn copied(trees: &IndexMap<String, Tree>) -> Result<Locals, Memory>
+    ensures { IfOk result (λ l. l ≡ locals_of trees.now.entries) }
+{
+    let mut copies = Locals::new(*trees.allocator());
+    for i in 0..trees.len() {
+        copy_at(&mut copies, trees, i)?;
+    }
+    Ok(copies)
+}
+
+// A second owner of the tree at an index, under its name.
+fn copy_at(copies: &mut Locals, trees: &IndexMap<String, Tree>, i: usize) -> Result<(), Memory>
+    ensures { OnOk result (IfSome (slice_get trees.now.entries i) (λ e. copies.new ≡ with_local copies.old (string_bytes e.0) e.1)) }
+{
+    match trees.get_index(i) {
+        Some((name, tree)) => {
+            let name = Text::from_str(*trees.allocator(), name.as_str())?;
+            copies.add(name, tree.copy()?)
+        }
+        None => Ok(()),
     }
 }

@@ -1,17 +1,13 @@
 //! Boards of one worker: refusals, runs of each kind of op, and what opening takes and gives back.
 
 use super::told::{Call, are_all_answered};
-use super::written::{D_ON_A, MAKES_A, MAKES_B, NAMES_D, graph_of};
+use super::written::{D_ON_A, MAKES_A, MAKES_B, MAKES_XA, NAMES_D, graph_of};
 use llb_board::{Board, OpenFault};
 use llb_cache::Caches;
 use llb_loader::{Graph, Locals};
 use llb_tree::{Meta, Path, Tree};
 use llb_wire::{Bytes, Text};
 use std::alloc::Global;
-
-// A file `/x/a`, whose directory is missing.
-const MAKES_XA: &[u8] =
-    b"\x22\x1C\x12\x1A\x08\xFF\xFF\xFF\xFF\xFF\xFF\xFF\xFF\xFF\x01\x2A\x0D\x0A\x04/x/a\x10\xA4\x03\x1A\x02hi";
 
 // A directory `/d` on what B is, with A and B as inputs.
 const D_ON_A_AND_B: &[u8] =

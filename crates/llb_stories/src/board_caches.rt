@@ -15,14 +15,14 @@ const SHARED: &[u8] = b"\x20\xFF\xFF\xFF\xFF\xFF\xFF\xFF\xFF\xFF\x01\x30\x03\xA2
 const PRIVATE: &[u8] =
     b"\x20\xFF\xFF\xFF\xFF\xFF\xFF\xFF\xFF\xFF\x01\x30\x03\xA2\x01\x05\x0A\x01k\x10\x01";
 
-const LOCKED: &[u8] =
+pub const LOCKED: &[u8] =
     b"\x20\xFF\xFF\xFF\xFF\xFF\xFF\xFF\xFF\xFF\x01\x30\x03\xA2\x01\x05\x0A\x01k\x10\x02";
 
 const K_SHARED: CacheRow = ("k", Mode::Shared, None);
 
 const K_PRIVATE: CacheRow = ("k", Mode::Private, None);
 
-const K_LOCKED: CacheRow = ("k", Mode::Locked, None);
+pub const K_LOCKED: CacheRow = ("k", Mode::Locked, None);
 
 // The locked cache that begins with output 0 of the row `sha256:00`, which is input 0.
 const LOCKED_ON_ZERO: &[u8] =
@@ -39,7 +39,7 @@ const PRIVATE_ON_ZERO: &[u8] =
 // Trees: nothing, the file `/a`, the file `/b`, and both, with `x` in the one and `y` in the other.
 const NOTHING: &str = "d 0755 0 0 /\n";
 
-const HAS_A: &str = "d 0755 0 0 /\nf 0644 0 0 780a /a\n";
+pub const HAS_A: &str = "d 0755 0 0 /\nf 0644 0 0 780a /a\n";
 
 const HAS_B: &str = "d 0755 0 0 /\nf 0644 0 0 790a /b\n";
 
@@ -51,7 +51,7 @@ const TAKES_NOTHING: &str = "instance 0\nd 0755 0 0 /\n";
 const TAKES_A: &str = "instance 0\nd 0755 0 0 /\nf 0644 0 0 780a /a\n";
 
 // A script and the fields of the mount at `/c`.
-type Exec = (&'static str, &'static [u8]);
+pub type Exec = (&'static str, &'static [u8]);
 
 // On the empty tree at `/`, with a cache at `/c`.
 fn entry_of(alloc: Global, inputs: &[u8], exec: Exec) -> Option<Vec<u8>> {
@@ -59,7 +59,7 @@ fn entry_of(alloc: Global, inputs: &[u8], exec: Exec) -> Option<Vec<u8>> {
 }
 
 // A directory on what an execution leaves.
-fn one(alloc: Global, exec: Exec) -> Option<Graph> {
+pub fn one(alloc: Global, exec: Exec) -> Option<Graph> {
     let a = entry_of(alloc, b"", exec)?;
     graph_of(alloc, &[("A", &a), ("D", D_ON_A), ("T", NAMES_D)])
 }

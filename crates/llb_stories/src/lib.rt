@@ -9,7 +9,10 @@ mod board_caches;
 #[cfg(test)]
 mod faults;
 #[cfg(test)]
+mod sessions;
 mod told;
+#[cfg(test)]
+mod walks;
 #[cfg(test)]
 mod workers;
 #[cfg(test)]

@@ -23,6 +23,7 @@ use Rattle.llbm.specs.Answer.{build_of, result_in, Yields, YieldsNone, IsRefused
 use Rattle.llbm.specs.Answer.{Runs}
 use Rattle.llbm.proofs.Ending.{result_fails, tree_fails_none}
 use Rattle.llbm.specs.Running.{passed_on, unread_as, IsRefusal, TellsRefusal, IsFinished, Shows, Answers}
+use Rattle.llbm.specs.Assembly.{IsUnread}
 use Rattle.llbm.specs.Bounded.{ReadsAll}
 use Rattle.llbm.specs.declared.bounded.ReadFault.{ReadFault}
 use Rattle.llbm.specs.declared.bounded.ReadFault.TheVariants.{TooLong, Failed, Unending}
@@ -38,12 +39,16 @@ pub some_map : {A : Type 0} (P Q : A → Type 0) (o : Option A) → ((x : A) →
 some_map P Q None f h = tt
 some_map P Q (Some x) f h = f x h
 
--- bytes past the limit are refused
-refuses_long : (bytes : List ℕ) → 67108864 < length bytes → IsRefused bytes
+-- bytes past the limit are no definition
+unread_long : (bytes : List ℕ) → 67108864 < length bytes → IsUnread bytes
 unfolding definition_of
-refuses_long bytes long =
+unread_long bytes long =
     let yes : ltb definition_limit (length bytes) ≡ true = lt-ltb _ _ long in
-    (Definition OverLimit, inl (OverLimit, rw yes refl, refl))
+    (OverLimit, rw yes refl)
+
+-- and so they are refused
+refuses_long : (bytes : List ℕ) → 67108864 < length bytes → IsRefused bytes
+refuses_long bytes long = let unread = unread_long bytes long in (Definition unread.0, inl (unread.0, unread.1, refl))
 
 -- what the loader refuses is refused
 pub tells : (left : Option (List ℕ)) (e : LoadFault) (bytes : List ℕ) → IfSome left (λ xs. bytes ≡ xs) → (is_memory e ≡ false → IsRefusalIn bytes e) → IsRefusal (passed_on e) → IfSome left IsRefused
@@ -88,15 +93,27 @@ too_long : (left left' : Option (List ℕ)) (r : Result (Vec ℕ Global) ReadFau
 too_long left left' r e is same reads =
     let h : ReadsAll 67108864 134217728 left left' (Err TooLong) = subst (ReadsAll 67108864 134217728 left left') (is ∙ ap read_err same) reads in h
 
-by_fault : (left left' : Option (List ℕ)) (r : Result (Vec ℕ Global) ReadFault) (e : ReadFault) → r ≡ Err e → ReadsAll 67108864 134217728 left left' r → TellsRefusal IsRefused left (unread_as e)
-by_fault left left' r TooLong is reads = λ _. some_map (λ xs. 67108864 < length xs) IsRefused left refuses_long (too_long left left' r TooLong is refl reads)
-by_fault left left' r (Failed kind) is reads = λ h. absurd h
-by_fault left left' r (Unending interrupted) is reads = λ h. absurd h
-by_fault left left' r reading.Memory is reads = λ h. absurd h
+-- a refusal of what was not read stands, of what all bytes are that are too long
+module _ (IsSo : List ℕ → Type 0) (long : (bytes : List ℕ) → 67108864 < length bytes → IsSo bytes) (left left' : Option (List ℕ)) (r : Result (Vec ℕ
+    Global) ReadFault) where
+  by_fault : (e : ReadFault) → r ≡ Err e → ReadsAll 67108864 134217728 left left' r → TellsRefusal IsSo left (unread_as e)
+  by_fault TooLong is reads = λ _. some_map (λ xs. 67108864 < length xs) IsSo left long (too_long left left' r TooLong is refl reads)
+  by_fault (Failed kind) is reads = λ h. absurd h
+  by_fault (Unending interrupted) is reads = λ h. absurd h
+  by_fault reading.Memory is reads = λ h. absurd h
 
--- a refusal of what was not read stands
-pub tells_unread : (left left' : Option (List ℕ)) (r : Result (Vec ℕ Global) ReadFault) (e : ReadFault) (p : ProgramFault) → r ≡ Err e → p ≡ unread_as e → ReadsAll 67108864 134217728 left left' r → TellsRefusal IsRefused left p
-tells_unread left left' r e p is same reads = subst (TellsRefusal IsRefused left) (sym same) (by_fault left left' r e is reads)
+  tells_so : (e : ReadFault) (p : ProgramFault) → r ≡ Err e → p ≡ unread_as e → ReadsAll 67108864 134217728 left left' r → TellsRefusal IsSo left p
+  tells_so e p is same reads = subst (TellsRefusal IsSo left) (sym same) (by_fault e is reads)
+
+-- it is refused
+pub tells_unread : (left left' : Option (List ℕ)) (r : Result (Vec ℕ Global) ReadFault) (e : ReadFault) (p : ProgramFault)
+    → r ≡ Err e → p ≡ unread_as e → ReadsAll 67108864 134217728 left left' r → TellsRefusal IsRefused left p
+tells_unread = tells_so IsRefused refuses_long
+
+-- it is no definition
+pub tells_no_definition : (left left' : Option (List ℕ)) (r : Result (Vec ℕ Global) ReadFault) (e : ReadFault) (p : ProgramFault)
+    → r ≡ Err e → p ≡ unread_as e → ReadsAll 67108864 134217728 left left' r → TellsRefusal IsUnread left p
+tells_no_definition = tells_so IsUnread unread_long
 
 pub all_read : (left left' : Option (List ℕ)) (r : Result (Vec ℕ Global) ReadFault) (bytes : Vec ℕ Global) → r ≡ Ok bytes → ReadsAll 67108864 134217728 left left' r → IfSome left (λ xs. bytes.items ≡ xs)
 all_read left left' r bytes is reads =

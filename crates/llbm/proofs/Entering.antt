@@ -25,14 +25,16 @@ found_named test words (s ∷ subs) p is =
       | false ↦ λ e. inr (found_named test words subs p e)
     ] is
 
-one_of_two : (n : Text) → IsNameIn (built llbm_app).subs n → IsName n
-one_of_two n (inl run) = inl run
-one_of_two n (inr (inl show)) = inr show
-one_of_two n (inr (inr none)) = absurd none
+one_of_four : (n : Text) → IsNameIn (built llbm_app).subs n → IsName n
+one_of_four n (inl run) = inl run
+one_of_four n (inr (inl show)) = inr (inl show)
+one_of_four n (inr (inr (inl asm))) = inr (inr (inl asm))
+one_of_four n (inr (inr (inr (inl dis)))) = inr (inr (inr dis))
+one_of_four n (inr (inr (inr (inr none)))) = absurd none
 
 entered_named : (stop : Option (Text × List Text)) (p : Text × List Row) → entered (built llbm_app) stop ≡ Some p → IsName p.0
 entered_named None p is = absurd cc
-entered_named (Some q) p is = one_of_two p.0 (found_named (λ s. answers_to q.0 (label_of s)) q.1 (built llbm_app).subs p is)
+entered_named (Some q) p is = one_of_four p.0 (found_named (λ s. answers_to q.0 (label_of s)) q.1 (built llbm_app).subs p is)
 
 abbrev first_of : Text × List Row → Text
 first_of p = p.0

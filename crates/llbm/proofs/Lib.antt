@@ -6,3 +6,5 @@ pub mod Answering
 pub mod Entering
 pub mod Matching
 pub mod Gathering
+pub mod Alike
+pub mod Texts

@@ -18,8 +18,6 @@ use Rattle.llb_model.specs.Laws.{HasNoCaches}
 use Rattle.llb_treetext.specs.TreeText.{tree_text}
 use Rattle.llbm.specs.Alone.{EndsInClaimOrder}
 use Rattle.llbm.specs.GraphText.{graph_text}
-use Rattle.llbm.specs.declared.words.Command.{Command}
-use Rattle.llbm.specs.declared.words.Command.TheVariants.{Run, Show}
 
 -- a run is over a graph and the local trees
 abbrev pub build_of : List Local → Numbered → Build
@@ -112,8 +110,3 @@ Draws input out out' status =
     ((status ≡ 0) × IfSome input (DrawsAll out out'))
     ⊎ (((status ≡ 2) × Keeps out out' × IfSome input IsRefused)
     ⊎ ((status ≡ 3) × (Keeps out out' ⊎ IfSome input (DrawsPart out out'))))
-
--- how each command ends
-abbrev pub Performs : Command → List Local → Option (List ℕ) → Option (List ℕ) → Option (List ℕ) → ℕ → Type 0
-Performs Run locals = Runs locals
-Performs Show locals = Draws

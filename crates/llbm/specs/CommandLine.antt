@@ -7,7 +7,7 @@ use Rattle.clap.specs.declared.builder.action.ArgAction.TheVariants.{Append}
 use Rattle.clap.specs.declared.error.kind.ErrorKind.{ErrorKind}
 use Rattle.clap.specs.declared.error.kind.ErrorKind.TheVariants.{OutOfMemory}
 use Rattle.llbm.specs.declared.words.Command.{Command}
-use Rattle.llbm.specs.declared.words.Command.TheVariants.{Run, Show}
+use Rattle.llbm.specs.declared.words.Command.TheVariants.{Run, Show, Assemble, Disassemble}
 use Rattle.llbm.specs.declared.words.Line.{Line}
 use Rattle.llbm.specs.declared.words.Local.{Local}
 use Rattle.llbm.specs.declared.words.WordsFault.{WordsFault}
@@ -27,17 +27,27 @@ local_rule = record (new_rule (codes "local")) { action = Some Append }
 abbrev pub run_app : App
 run_app = with_rule (new_app (codes "run")) local_rule
 
--- the commands: `run` takes local sources, and `show` no word
+-- a command that takes no word
+abbrev pub with_plain : App → Text → App
+with_plain app name = with_subcommand app (new_app name).top
+
+-- those on graphs
+abbrev pub graph_app : App
+graph_app = with_plain (with_subcommand base_app run_app.top) (codes "show")
+
+-- the commands: `run` takes local sources, and the others no word
 abbrev pub llbm_app : App
-llbm_app = with_subcommand (with_subcommand base_app run_app.top) (new_app (codes "show")).top
+llbm_app = with_plain (with_plain graph_app (codes "asm")) (codes "dis")
 
 abbrev pub name_of : Command → Text
 name_of Run = codes "run"
 name_of Show = codes "show"
+name_of Assemble = codes "asm"
+name_of Disassemble = codes "dis"
 
 -- the name of a command
 abbrev pub IsName : Text → Type 0
-IsName name = (name ≡ codes "run") ⊎ (name ≡ codes "show")
+IsName name = (name ≡ codes "run") ⊎ ((name ≡ codes "show") ⊎ ((name ≡ codes "asm") ⊎ (name ≡ codes "dis")))
 
 -- the byte `=`
 abbrev pub is_equals : ℕ → Bool

@@ -7,3 +7,6 @@ pub mod GraphText
 pub mod CommandLine
 pub mod Sources
 pub use Rattle.std.specs.Io.KnownBytes.{Appends, Consumes, IsAtEnd, Keeps}
+pub mod Assembly
+pub mod AssemblyParts
+pub mod Commands

@@ -10,7 +10,7 @@ use Rattle.llb_board.specs.Board.{Seen}
 use Rattle.llb_treetext.specs.TreeText.{tree_text}
 use Rattle.llbm.specs.Answer.{build_of, IsEnd, Yields, YieldsNone, IsRefused, IsNotRun, YieldsPart, DrawsAll, DrawsPart}
 use Rattle.llbm.specs.declared.fault.ProgramFault.{ProgramFault}
-use Rattle.llbm.specs.declared.fault.ProgramFault.TheVariants.{Refused, MissingLocal, Loading, Read, Memory}
+use Rattle.llbm.specs.declared.fault.ProgramFault.TheVariants.{Refused, MissingLocal, Loading, Read, Memory, Unread, Assembling, TooLong}
 use Rattle.llbm.specs.declared.bounded.ReadFault.{ReadFault}
 use Rattle.llbm.specs.declared.bounded.ReadFault.TheVariants as reading
 use Rattle.llb_ops.specs.declared.fault.OpFault.TheVariants.{OverLimit}
@@ -33,6 +33,9 @@ unread_as reading.Memory = Memory
 abbrev pub IsRefusal : ProgramFault → Type 0
 IsRefusal (Refused e) = ⊤
 IsRefusal (MissingLocal name) = ⊤
+IsRefusal (Unread e) = ⊤
+IsRefusal (Assembling e) = ⊤
+IsRefusal TooLong = ⊤
 IsRefusal _ = ⊥
 
 -- a refusal of the input stands only where the input is refused

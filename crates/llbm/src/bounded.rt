@@ -7,6 +7,12 @@ ghost use Rattle.llbm.specs.declared.bounded.ReadFault.TheVariants.{Failed};
 use std::alloc::Global;
 use std::io::{ErrorKind, Read};
 
+/// The most bytes that a definition, the text of a tree or a text of entries may have.
+pub(crate) const LIMIT: usize = 67_108_864;
+
+/// The most reads in which the end of one of them has to be met.
+pub(crate) const READS: u64 = 134_217_728;
+
 const PIECE: usize = 4096;
 
 /// Why an input was not read to its end.

@@ -1,10 +1,11 @@
-//! The command line, which `clap` reads: no words or `run`, which takes local sources as NAME=FILE, and `show`.
+//! The command line, which `clap` reads: no words or `run`, which takes local sources as NAME=FILE, and `show`, `asm` and `dis`.
 
 ghost use Rattle.std.specs.Prelude.{◌≡◌, false, None, map, IfOk, IfErr};
 ghost use Rattle.clap.specs.Words.{app_of, kind_of, fault_of, found_of, rows_of, rule_of, subcommand_of};
 ghost use Rattle.clap.specs.declared.builder.command.Command.TheViews.{out-Command as fields_of};
 ghost use Rattle.llbm.specs.CommandLine.{
   llbm_app,
+  graph_app,
   run_app,
   local_rule,
   local_words,
@@ -40,15 +41,24 @@ fn run_command<'a>(alloc: Global) -> Result<clap::Command<'a>, AllocError>
     clap::Command::new(alloc, "run").arg(local_arg(alloc))
 }
 
-// The commands.
-fn llbm_command<'a>(alloc: Global) -> Result<clap::Command<'a>, AllocError>
-    ensures { IfOk result (λ c. app_of c ≡ llbm_app) }
+// The commands on graphs.
+fn graph_commands<'a>(alloc: Global) -> Result<clap::Command<'a>, AllocError>
+    ensures { IfOk result (λ c. app_of c ≡ graph_app) }
 {
     clap::Command::new(alloc, "llbm")
         .no_binary_name(true)
         .disable_help_subcommand(true)
         .subcommand(run_command(alloc)?)?
         .subcommand(clap::Command::new(alloc, "show"))
+}
+
+// All commands.
+fn llbm_command<'a>(alloc: Global) -> Result<clap::Command<'a>, AllocError>
+    ensures { IfOk result (λ c. app_of c ≡ llbm_app) }
+{
+    graph_commands(alloc)?
+        .subcommand(clap::Command::new(alloc, "asm"))?
+        .subcommand(clap::Command::new(alloc, "dis"))
 }
 
 // The command of that name.
@@ -58,6 +68,10 @@ fn command_named(name: &str) -> Command
 {
     if name == "show" {
         Command::Show
+    } else if name == "asm" {
+        Command::Assemble
+    } else if name == "dis" {
+        Command::Disassemble
     } else {
         Command::Run
     }

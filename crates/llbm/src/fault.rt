@@ -5,7 +5,9 @@ ghost use Rattle.std.specs.Prelude.{◌≡◌, ◌⊎◌};
 ghost use Rattle.llbm.specs.Running.{IsRefusal};
 
 use crate::alone::RunFault;
+use llb_asm::AsmFault;
 use llb_loader::LoadFault;
+use llb_ops::OpFault;
 use llb_treetext::PrintFault;
 use llb_wire::Text;
 use std::alloc::AllocError;
@@ -58,6 +60,21 @@ pub enum ProgramFault {
     /// 182 and 184: a text of the program's own is not out.
     #[error("{0}")]
     Output(OutputFault),
+    /// 1 to 4 and 11 to 13: a definition that is to be written as a text does not read.
+    #[error("{0}")]
+    Unread(OpFault),
+    /// 14: memory was refused while entries were read or written.
+    #[error("14")]
+    Entries,
+    /// 161 and 162: a line of a text is refused.
+    #[error("{0}")]
+    Assembling(AsmFault),
+    /// 163 and 164: memory was refused while a text was read, or it is not out.
+    #[error("{0}")]
+    Text(AsmFault),
+    /// 185: a text has more than 67,108,864 bytes.
+    #[error("185")]
+    TooLong,
     /// 181: a read failed, or the bound on reads was met.
     #[error("181")]
     Read,
@@ -66,7 +83,7 @@ pub enum ProgramFault {
     Memory,
 }
 
-/// The status for a fault, once its line is out: 2 for a refusal of the definition, else 3.
+/// The status for a fault, once its line is out: 2 for a refusal of the input, else 3.
 pub fn refusal<E: Write>(fault: &ProgramFault, err: &mut E) -> u8
     ensures { result ≡ 3 ⊎ ((result ≡ 2) × IsRefusal fault.now) }
 {
@@ -74,7 +91,11 @@ pub fn refusal<E: Write>(fault: &ProgramFault, err: &mut E) -> u8
         return 3;
     }
     match fault {
-        ProgramFault::Refused(_) | ProgramFault::MissingLocal(_) => 2,
+        ProgramFault::Refused(_)
+        | ProgramFault::MissingLocal(_)
+        | ProgramFault::Unread(_)
+        | ProgramFault::Assembling(_)
+        | ProgramFault::TooLong => 2,
         _ => 3,
     }
 }

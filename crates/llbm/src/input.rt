@@ -3,16 +3,12 @@
 ghost use Rattle.std.specs.Prelude.{◌≡◌};
 ghost use Rattle.llbm.specs.Running.{passed_on, unread_as, Loads};
 
-use crate::bounded::{ReadFault, read_bounded};
+use crate::bounded::{LIMIT, READS, ReadFault, read_bounded};
 use crate::fault::ProgramFault;
 use llb_loader::{Graph, LoadFault, load_owned};
 use llb_ops::OpFault;
 use std::alloc::Global;
 use std::io::Read;
-
-const LIMIT: usize = 67_108_864;
-
-const READS: u64 = 134_217_728;
 
 // A refusal by the loader is one of the program; want of memory is not.
 fn passed_on(fault: LoadFault) -> ProgramFault

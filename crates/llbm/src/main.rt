@@ -1,15 +1,18 @@
-//! The program: its words, its files, its readers and writers, and its exit status. What it does stands in `run` and
-//! `show`.
+//! The program: its words, its files, its readers and writers, and its exit status. What it does stands in `run`, `show`,
+//! `assembling` and `disassembling`.
 #![tactic(auto)]
 
-ghost use Rattle.llbm.specs.Answer.{Performs};
+ghost use Rattle.llbm.specs.Commands.{Performs};
 
 pub mod alone;
+pub mod assembling;
 pub mod bounded;
 pub mod command_line;
+pub mod disassembling;
 pub mod fault;
 pub mod graph_text;
 mod input;
+pub mod laws;
 pub mod run;
 pub mod show;
 pub mod sources;
@@ -17,7 +20,9 @@ pub mod sources;
 mod tests;
 pub mod words;
 
+use crate::assembling::asm_over;
 use crate::command_line::command_of;
+use crate::disassembling::dis_over;
 use crate::fault::{ProgramFault, refusal};
 use crate::run::run_over;
 use crate::show::show_over;
@@ -67,6 +72,8 @@ fn perform<R: Read, W: Write, E: Write>(
     match command {
         Command::Run => run_over(alloc, input, out, err, locals),
         Command::Show => show_over(alloc, input, out, err),
+        Command::Assemble => asm_over(alloc, input, out, err),
+        Command::Disassemble => dis_over(alloc, input, out, err),
     }
 }
 

@@ -6,7 +6,7 @@ ghost use Rattle.llb_loader.specs.Locals.{with_local};
 ghost use Rattle.llbm.specs.Sources.{source_status, Gathers, Reads, told};
 ghost use Rattle.llbm.specs.declared.sources.SourceFault.TheVariants.{Adding};
 
-use crate::bounded::{ReadFault, read_bounded};
+use crate::bounded::{LIMIT, READS, ReadFault, read_bounded};
 use crate::words::Local;
 use llb_loader::Locals;
 use llb_tree::Tree;
@@ -16,10 +16,6 @@ use std::alloc::Global;
 use std::io;
 use std::io::{Read, Write};
 use thiserror::Error;
-
-const LIMIT: usize = 67_108_864;
-
-const READS: u64 = 134_217_728;
 
 /// Why a local source has no tree.
 #[derive(Clone, Copy, Debug, Error)]

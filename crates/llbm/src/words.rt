@@ -15,6 +15,10 @@ pub enum Command {
     Run,
     /// To print the graph of a definition.
     Show,
+    /// To write the definition of the entries that a text stands for.
+    Assemble,
+    /// To write the entries of a definition as text.
+    Disassemble,
 }
 
 /// The tree text of a local source: its name, and the file in which the text lies.

@@ -8,23 +8,36 @@ use std::fmt::Write;
 use std::test::Fail;
 
 #[test]
-fn no_words_and_run_are_the_command_run(rt: HostRuntime) -> Result<(), Fail> {
+fn no_words_are_the_command_run(rt: HostRuntime) -> Result<(), Fail> {
     let none: [&str; 0] = [];
     let line = command_of(rt.alloc(), none.as_slice()).expect(&rt, "no words");
-    assert_eq!(rt; line.command, Command::Run);
-    assert!(rt; line.workers == 1 && line.file.is_none() && line.locals.is_empty());
-    let line = command_of(rt.alloc(), ["run"].as_slice()).expect(&rt, "run");
     assert_eq!(rt; line.command, Command::Run);
     assert!(rt; line.workers == 1 && line.file.is_none() && line.locals.is_empty());
     Ok(())
 }
 
+// The command of one word, which has one worker, no file and no local source.
+fn command_alone(alloc: Global, word: &str) -> Option<Command> {
+    let words = [word];
+    match command_of(alloc, words.as_slice()) {
+        Ok(line) if line.workers == 1 && line.file.is_none() && line.locals.is_empty() => {
+            Some(line.command)
+        }
+        _ => None,
+    }
+}
+
 #[test]
-fn show_is_the_command_show(rt: HostRuntime) -> Result<(), Fail> {
-    let line = command_of(rt.alloc(), ["show"].as_slice()).expect(&rt, "show");
-    assert_eq!(rt; line.command, Command::Show);
-    assert!(rt; line.workers == 1 && line.file.is_none() && line.locals.is_empty());
-    Ok(())
+fn commands_are_told_by_their_words(rt: HostRuntime) {
+    let rows = [
+        ("run", Command::Run),
+        ("show", Command::Show),
+        ("asm", Command::Assemble),
+        ("dis", Command::Disassemble),
+    ];
+    for (word, command) in rows {
+        assert!(rt; command_alone(rt.alloc(), word) == Some(command), "{word}");
+    }
 }
 
 // The names and the files that the words give to the command `run`, in one line.
@@ -65,7 +78,9 @@ fn words_behind_run_are_names_and_files(rt: HostRuntime) -> Result<(), Fail> {
 
 #[test]
 fn any_other_words_are_refused_without_a_word(rt: HostRuntime) -> Result<(), Fail> {
-    let rows: [&[&str]; 11] = [
+    let rows: [&[&str]; 13] = [
+        &["asm", "x"],
+        &["dis", "a=b"],
         &["show", "x"],
         &["show", "a=b"],
         &["a=b"],

@@ -116,7 +116,7 @@ returns-clause-graph c =
     record {
       order = c.args.order.now;
       whole = subst (λ (q : Plan). IsWhole q c.args.order.now) c.requires.planned.same c.requires.whole;
-      graph = c.of_parts.ensures
+      graph = c.in_ok-of_parts.ensures
           ∙ ap (λ (vs : List Vertex). let g : Numbered = record { vertices = vs; result = c.first_edge-result.result } in g) vertices
           ∙ ap (λ (x : Edge). let g : Numbered = record { vertices = (numbered_of p c.args.order.now).vertices; result = x } in g) edge
           ∙ ap (λ (q : Plan). numbered_of q c.args.order.now) c.requires.planned.same;

@@ -1,9 +1,11 @@
-use Rattle.std.proofs.Common.{◌≡◌, subst, inr}
+use Rattle.std.proofs.Common.{◌≡◌, subst, inl, inr}
 use Rattle.std.specs.Prelude.{Some, None}
 use Rattle.llb_loader.specs.declared.graph.Edge.{Edge}
 use Rattle.llb_model.specs.Outcome.{output_in}
 use Rattle.llb_model.specs.State.{ending_at}
-use Rattle.llbm.proofs.Answering.{answers_text, answers_part, answers_none, shows_true, shows_false}
+use Rattle.std.proofs.KnownBytes.{Keeps-refl}
+use Rattle.std.proofs.lemmas.Result.{err_from_is_err_and}
+use Rattle.llbm.proofs.Answering.{answers_text, answers_part, answers_none, shows_true, shows_false, tells_lacks}
 use Rattle.llbm.proofs.run.answer.Goals as goal
 
 pub returns-in-Ok-true : goal.returns-in-Ok-true
@@ -39,3 +41,10 @@ returns-in-Ok-false g c =
       answers_none c.args.locals left c.in_ok-graph.graph c.is_graph.ensures b c.in_ok-board.ensures.board c.in_ok-graph.ensures
           (subst (λ (e : Edge). output_in (ending_at b.state.statuses e.vertex) e.index ≡ None) c.result-edge.ensures s.0),
     )
+
+pub returns-in_err-board : goal.returns-in_err-board
+returns-in_err-board g c =
+    let left = g.R.Read.remaining c.args.input.now in
+    let lacks = tells_lacks c.args.locals left c.in_ok-graph.graph c.in_err-board.field-0.0 c.in_ok-graph.ensures c.in_err-board.ensures.fault in
+    let p = err_from_is_err_and c.from_residual-in_err-board.result c.from_residual-in_err-board.ensures.1 in
+    rw (p.1, p.2) (inl (Keeps-refl (g.W.Write.contents c.args.out.now), lacks))

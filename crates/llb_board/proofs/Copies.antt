@@ -1,0 +1,72 @@
+-- A second board on which the same has happened: its type keeps the same.
+use Rattle.std.proofs.Common.{◌≡◌, ℕ, ◌<◌, ◌≤◌, List, map, length, sym, ap, subst, ◌∙◌}
+use Rattle.std.specs.Prelude.{Bool}
+use Rattle.llb_cache.specs.Caches.{CachesValue, Row}
+use Rattle.llb_model.specs.Kept.{store_of}
+use Rattle.llb_model.specs.Leases.{AreLeased}
+use Rattle.llb_model.specs.Program.{Build}
+use Rattle.llb_model.specs.Room.{most_events}
+use Rattle.llb_model.specs.State.{At, stopped}
+use Rattle.llb_model.specs.Table.{Event}
+use Rattle.llb_board.specs.Board.{Seen, Replays, opening_with}
+use Rattle.llb_board.specs.Room.{AreOver, IsTracked, seen, ready_made, needed}
+use Rattle.llb_board.specs.Views.{status_of, at_of, leased_by}
+use Rattle.llb_board.specs.declared.stand.Stand.{Stand}
+use Rattle.llb_board.specs.declared.stand.Desk.{Desk}
+use Rattle.llb_board.proofs.Lists.{length_map}
+
+-- the parts of a board's data
+pub record Parts : Type 0 where
+  pub build : Build
+  pub first : List Row
+  pub stands : List Stand
+  pub desks : List Desk
+  pub caches : CachesValue
+  pub events : List Event
+  pub marks : List Bool
+
+abbrev pub seen_in : Parts → Seen
+seen_in p = seen p.build p.first p.stands p.desks p.caches.rows p.events
+
+-- the same, as far as it is seen
+pub record AreSame (p q : Parts) : Type 0 where
+  pub build : q.build ≡ p.build
+  pub first : q.first ≡ p.first
+  pub stands : q.stands ≡ p.stands
+  pub workers : map at_of q.desks ≡ map at_of p.desks
+  pub leases : map leased_by q.desks ≡ map leased_by p.desks
+  pub made : map ready_made q.desks ≡ map ready_made p.desks
+  pub caches : q.caches ≡ p.caches
+  pub events : q.events ≡ p.events
+  pub marks : q.marks ≡ p.marks
+
+seen_same : (p q : Parts) → AreSame p q → seen_in q ≡ seen_in p
+seen_same p q same =
+    let many : length q.desks ≡ length p.desks = sym (length_map at_of q.desks) ∙ ap length same.workers ∙ length_map at_of p.desks in
+    λ i. record {
+      build = same.build i;
+      opening = opening_with (many i) (same.first i);
+      first = same.first i;
+      state = record { statuses = map status_of (same.stands i); workers = same.workers i; store = store_of (same.caches i).rows };
+      rows = (same.caches i).rows;
+      events = same.events i;
+    }
+
+pub tracked_same : (p q : Parts) (room more n : ℕ) → AreSame p q → most_events q.build ≤ more → IsTracked (seen_in p) p.desks p.caches.out p.marks room n
+    → IsTracked (seen_in q) q.desks q.caches.out q.marks more n
+tracked_same p q room more n same enough tracked =
+    let is = sym (seen_same p q same) in
+    record {
+      kept = record {
+        replays = subst Replays is tracked.kept.replays;
+        room = enough;
+        leased = subst (λ (c : CachesValue). AreLeased c.out (map at_of q.desks) (map leased_by q.desks)) (sym same.caches)
+            (subst (λ (ws : List At). AreLeased p.caches.out ws (map leased_by q.desks)) (sym same.workers)
+            (subst (AreLeased p.caches.out (map at_of p.desks)) (sym same.leases) tracked.kept.leased));
+        supplies = same.made ∙ tracked.kept.supplies ∙ ap (λ (s : Seen). map (needed s.build) s.state.workers) is;
+        some = subst (λ (s : Seen). 0 < length s.state.workers) is tracked.kept.some;
+        few = subst (λ (s : Seen). length s.state.workers ≤ 64) is tracked.kept.few;
+        stop_marks_are = same.marks ∙ tracked.kept.stop_marks_are ∙ ap (λ (s : Seen). stopped s.build s.state.statuses) is;
+      };
+      over = subst (λ (s : Seen). AreOver s.build s.state.statuses n) is tracked.over;
+    }

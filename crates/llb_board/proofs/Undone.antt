@@ -1,0 +1,374 @@
+-- An event taken back, over the board's data: what its type keeps.
+use Rattle.std.proofs.Common.{◌≡◌, ℕ, zero, suc, ◌+◌, ◌-◌, ◌<◌, ◌≤◌, Bool, true, false, ◌||◌, ◌&&◌, List, [], ◌∷◌, ◌++◌, map, length, take, Option}
+use Rattle.std.proofs.Common.{Some, None, unwrap_or, inr, refl, sym, ap, subst, ◌∙◌, arith, length-append}
+use Rattle.std.specs.Prelude.{slice_get, slice_set, nat_lt}
+use Rattle.std.specs.Bool.{OnTrue, OnFalse}
+use Rattle.std.specs.Option.{ForSome}
+use Rattle.std.specs.List.{list_any}
+use Rattle.std.proofs.lemmas.Bool.{ltb-true, ltb-false}
+use Rattle.std.proofs.lemmas.List.{map-append, take_all}
+use Rattle.std.proofs.lemmas.Option.{slice_get_within}
+use Rattle.llb_cache.specs.Caches.{CachesValue, Row, Leases}
+use Rattle.llb_execution.specs.Marks.{Mark, put_back}
+use Rattle.llb_execution.specs.Parts.{mounts_in}
+use Rattle.llb_execution.proofs.Marks.{shown_back}
+use Rattle.llb_loader.specs.declared.graph.Edge.{Edge}
+use Rattle.llb_loader.specs.declared.graph.Vertex.{Vertex}
+use Rattle.llb_model.specs.ByNumber.{by_number}
+use Rattle.llb_model.specs.Kept.{store_of}
+use Rattle.llb_model.specs.Leases.{AreLeased}
+use Rattle.llb_model.specs.Program.{Build}
+use Rattle.llb_model.specs.Run.{is_settled}
+use Rattle.llb_model.specs.State.{Status, Waiting, Running, Execution, At, Idle, Runs, is_waiting, is_failed, ending_of, ending_at, next_stopped}
+use Rattle.llb_model.specs.State.{stopped, is_stopped}
+use Rattle.llb_model.specs.Table.{Event}
+use Rattle.llb_model.proofs.Lists.{get_set_same, get_set_other, get_within, length_set}
+use Rattle.llb_board.specs.Board.{Seen, Replays, opening_with}
+use Rattle.llb_board.specs.Room.{AreOver, Supplies, supplies_for, ready_made, needed}
+use Rattle.llb_board.specs.Undo.{Back, Unclaim, Unstep, Resume, Before, Displaced, Left, left_in, caches_in}
+use Rattle.llb_board.specs.Undo.{statuses_before, workers_before, step_before, rows_before, store_before, front, undone}
+use Rattle.llb_board.specs.Undo.{IsBegun, HasNoPlaces, FitsLeases}
+use Rattle.llb_board.specs.Undoing.{desk_before, desk_leased, leases_before, caches_before, HasPlaceFor}
+use Rattle.llb_board.specs.Views.{status_of, at_of, leased_by, execution_of}
+use Rattle.llb_board.specs.declared.stand.Stand.{Stand}
+use Rattle.llb_board.specs.declared.stand.Stand.TheVariants as stand
+use Rattle.llb_board.specs.declared.stand.Desk.{Desk}
+use Rattle.llb_board.specs.declared.stand.Desk.TheVariants as desk
+use Rattle.llb_board.specs.declared.stand.Execution as own
+use Rattle.llb_board.specs.declared.undo.Before as before
+use Rattle.llb_board.proofs.Kept.{Data, Keeps, seen_as, made_enough, supplies_claimed, leased_claimed}
+use Rattle.llb_board.proofs.Lists.{map_set, get_map, length_map, set_same}
+use Rattle.llb_board.proofs.Sound.{consistent}
+use Rattle.llb_board.proofs.Stepping.{leased_stepped}
+use Rattle.llb_board.proofs.Stopped.{marks_stay}
+
+-- ---- what is over stays so below a vertex
+
+-- a mark stays as it was made
+kept_mark : {A B : Type 0} (next : List B → A → B) (before : List B) (xs : List A) (k : ℕ) → k < length before → slice_get (by_number next before xs) k
+    ≡ slice_get before k
+kept_mark next before [] k low = refl
+kept_mark next before (x ∷ xs) k low =
+    let longer = length-append before (next before x ∷ []) in
+    kept_mark next (before ++ next before x ∷ []) xs k (omega (arith, longer, low)) ∙ first_part before (next before x) k low
+  where
+    first_part : {B : Type 0} (ys : List B) (y : B) (k : ℕ) → k < length ys → slice_get (ys ++ y ∷ []) k ≡ slice_get ys k
+    first_part [] y k low = absurd (omega (arith, low))
+    first_part (z ∷ ys) y zero low = refl
+    first_part (z ∷ ys) y (suc k) low = first_part ys y k (omega (arith, low))
+
+-- the marks below a number hang on the failures below it
+marks_below : (S T : List Status) (n : ℕ) → ((j : ℕ) → j < n → is_failed (ending_at S j) ≡ is_failed (ending_at T j))
+    → (before : List Bool) (vs : List Vertex) (k : ℕ) → k < n
+    → slice_get (by_number (next_stopped S) before vs) k ≡ slice_get (by_number (next_stopped T) before vs) k
+marks_below S T n same before [] k low = refl
+marks_below S T n same before (v ∷ vs) k low =
+    by_place (nat_lt (length before) n) refl (marks_below S T n same (before ++ next_stopped S before v ∷ []) vs k low)
+  where
+    by_place : (b : Bool) → nat_lt (length before) n ≡ b
+        → slice_get (by_number (next_stopped S) (before ++ next_stopped S before v ∷ []) vs) k
+        ≡ slice_get (by_number (next_stopped T) (before ++ next_stopped S before v ∷ []) vs) k
+        → slice_get (by_number (next_stopped S) before (v ∷ vs)) k ≡ slice_get (by_number (next_stopped T) before (v ∷ vs)) k
+    by_place true is rest =
+        rest
+        ∙ ap (λ f. slice_get (by_number (next_stopped T) (before ++ (f || list_any (λ (e : Edge). unwrap_or (slice_get before e.vertex) false) v.inputs) ∷
+        []) vs) k)
+        (same (length before) (ltb-true (length before) n is))
+    by_place false is rest =
+        let past = ltb-false (length before) n is in
+        kept_mark (next_stopped S) before (v ∷ vs) k (omega (arith, past, low)) ∙ sym (kept_mark (next_stopped T) before (v ∷ vs) k (omega (arith, past, low)))
+
+-- what is over below a vertex stays so where it stands otherwise
+pub over_below : (b : Build) (S : List Status) (v : ℕ) (new : Status) (n r : ℕ) → r ≤ n → r ≤ v → AreOver b S n → AreOver b (slice_set S v new) r
+over_below b S v new n r fits below over k low =
+    let other : (j : ℕ) → j < v → slice_get (slice_set S v new) j ≡ slice_get S j = λ j less. get_set_other S v new j (λ e. absurd (omega (arith, less, e))) in
+    let here = other k (omega (arith, low, below)) in
+    let marks : is_stopped b (slice_set S v new) k ≡ is_stopped b S k
+    = ap (λ o. unwrap_or o false) (marks_below (slice_set S v new) S v (λ j less. ap (λ o. is_failed (ending_of o)) (other j less)) [] b.graph.vertices k
+    (omega (arith, low, below))) in
+    (λ i. is_settled (here i) || (is_waiting (here i) && marks i)) ∙ over k (omega (arith, low, fits))
+
+-- ---- what an undo leaves of the data
+
+pub record Leaves (b : Build) (d d' : Data) (u : Displaced) : Type 0 where
+  pub statuses : map status_of d'.stands ≡ statuses_before u.back (map status_of d.stands)
+  pub workers : map at_of d'.desks ≡ workers_before u.back (map at_of d.desks)
+  pub rows : d'.rows ≡ rows_before u.caches d.rows
+  pub leased : AreLeased d'.out (map at_of d'.desks) (map leased_by d'.desks)
+  pub supplies : map ready_made d'.desks ≡ map (needed b) (map at_of d'.desks)
+  pub marks : d'.stop_marks ≡ stopped b (map status_of d'.stands)
+
+as_many : (k : Back) (workers : List At) → length (workers_before k workers) ≡ length workers
+as_many (Unclaim w v) workers = length_set workers w Idle
+as_many (Unstep w mark) workers = length_set workers w (step_before mark (slice_get workers w))
+as_many (Resume w left) workers = length_set workers w (Runs left.execution)
+
+same_desks : (b : Build) (d d' : Data) (u : Displaced) → Leaves b d d' u → length d'.desks ≡ length d.desks
+same_desks b d d' u leaves =
+    sym (length_map at_of d'.desks) ∙ ap length leaves.workers ∙ as_many u.back (map at_of d.desks) ∙ length_map at_of d.desks
+
+store_by : (o : Option Before) (rows : List Row) → store_of (rows_before o rows) ≡ store_before o (store_of rows)
+store_by (Some c) rows = refl
+store_by None rows = refl
+
+pub undone_is : (b : Build) (first : List Row) (d d' : Data) (es : List Event) (u : Displaced) → Leaves b d d' u → seen_as b first d' (front es)
+    ≡ undone u (seen_as b first d es)
+undone_is b first d d' es u leaves =
+    let many = same_desks b d d' u leaves in
+    let store = ap store_of leaves.rows ∙ store_by u.caches d.rows in
+    λ i. record {
+      build = b;
+      opening = opening_with (many i) first;
+      first = first;
+      state = record { statuses = leaves.statuses i; workers = leaves.workers i; store = store i };
+      rows = leaves.rows i;
+      events = front es;
+    }
+
+pub undo_keeps : (b : Build) (first : List Row) (d d' : Data) (es : List Event) (capacity : ℕ) (u : Displaced) → Keeps b first d es capacity
+    → Replays (undone u (seen_as b first d es))
+    → Leaves b d d' u → Keeps b first d' (front es) capacity
+undo_keeps b first d d' es capacity u kept here leaves =
+    let many = same_desks b d d' u leaves in
+    let some = kept.some in
+    let few = kept.few in
+    record {
+      replays = subst Replays (sym (undone_is b first d d' es u leaves)) here;
+      room = kept.room;
+      leased = leaves.leased;
+      supplies = leaves.supplies;
+      some = omega (arith, length_map at_of d'.desks, length_map at_of d.desks, many, some);
+      few = omega (arith, length_map at_of d'.desks, length_map at_of d.desks, many, few);
+      stop_marks_are = leaves.marks;
+    }
+
+-- ---- caches that are put back
+
+-- each lease has a worker that runs
+pub place_for : (out : Leases) (workers : List At) (ls : List (Option ℕ)) → AreLeased out workers ls → HasPlaceFor ls workers
+place_for out workers ls leased = record { count = leased.count; idle = λ w at. by_lease w at (slice_get ls w) refl }
+  where
+    apart : (x : Execution) → ◌≡◌ {A = Option At} (Some (Runs x)) (Some Idle) → ⊥
+    apart x e = cc
+
+    by_lease : (w : ℕ) → slice_get workers w ≡ Some Idle → (o : Option (Option ℕ)) → slice_get ls w ≡ o → slice_get ls w ≡ Some None
+    by_lease w at None is =
+        let low = slice_get_within workers w Idle at in
+        let count = leased.count in
+        let there = get_within ls w (omega (arith, low, count)) in
+        absurd (let same : ◌≡◌ {A = Option (Option ℕ)} None (Some there.0) = sym is ∙ there.1 in cc)
+    by_lease w at (Some None) is = is
+    by_lease w at (Some (Some l)) is = let r = leased.runs w l is in absurd (apart r.0 (sym r.1 ∙ at))
+
+-- where caches are put back their leases fit, and else those that are there
+abbrev pub LeasedSo : Option Before → List At → Leases → List (Option ℕ) → Type 0
+LeasedSo (Some c) workers out ls = AreLeased c.caches.out workers c.leases
+LeasedSo None workers out ls = AreLeased out workers ls
+
+pub leased_so : (u : Displaced) (n : Seen) (o : Option Before) (workers : List At) (out : Leases) (ls : List (Option ℕ)) → FitsLeases u n o → workers
+    ≡ (undone u n).state.workers
+    → (HasNoPlaces u.back → AreLeased out workers ls) → LeasedSo o workers out ls
+leased_so u n (Some c) workers out ls fits same else = subst (λ ws. AreLeased c.caches.out ws c.leases) (sym same) fits
+leased_so u n None workers out ls fits same else = else fits
+
+pub leased_put : (o : Option Before) (ds ds' : List Desk) (c c' : CachesValue) → LeasedSo o (map at_of ds) c.out (map leased_by ds)
+    → map at_of ds' ≡ map at_of ds → map leased_by ds' ≡ leases_before o (map leased_by ds) → c' ≡ caches_before o c
+    → AreLeased c'.out (map at_of ds') (map leased_by ds')
+leased_put (Some k) ds ds' c c' leased workers leases caches =
+    subst (λ ws. AreLeased c'.out ws (map leased_by ds')) (sym workers)
+    (subst (AreLeased c'.out (map at_of ds)) (sym leases) (subst (λ (x : CachesValue). AreLeased x.out (map at_of ds) k.leases) (sym caches) leased))
+leased_put None ds ds' c c' leased workers leases caches =
+    subst (λ ws. AreLeased c'.out ws (map leased_by ds')) (sym workers)
+    (subst (AreLeased c'.out (map at_of ds)) (sym leases) (subst (λ (x : CachesValue). AreLeased x.out (map at_of ds) (map leased_by ds)) (sym caches) leased))
+
+pub rows_put : (o : Option Before) (c c' : CachesValue) (rows : List Row) → c.rows ≡ rows → c' ≡ caches_before o c → c'.rows ≡ rows_before o rows
+rows_put (Some k) c c' rows same caches = ap (λ (x : CachesValue). x.rows) caches
+rows_put None c c' rows same caches = ap (λ (x : CachesValue). x.rows) caches ∙ same
+
+-- the caches that are to be put back have a lease for each worker that runs
+pub places_put : (u : Displaced) (n : Seen) (o : Option before.Before) (workers : List At) → FitsLeases u n (caches_in o) → workers ≡ (undone u n).state.workers
+    → ForSome o (λ c. HasPlaceFor c.leases.items workers)
+places_put u n o workers fits same c is =
+    place_for c.caches.out workers c.leases.items
+    (subst (λ ws. AreLeased c.caches.out ws c.leases.items) (sym same) (subst (λ (x : Option before.Before). FitsLeases u n (caches_in x)) is fits))
+
+-- ---- by the event
+
+-- a worker's desk, by what the worker does
+pub desk_at : (ds : List Desk) (w : ℕ) (x : Execution) → slice_get (map at_of ds) w ≡ Some (Runs x)
+    → (l : Option ℕ) × (y : own.Execution) × (slice_get ds w ≡ Some (desk.Runs l y)) × (execution_of y ≡ x)
+desk_at [] w x at = absurd cc
+desk_at (desk.Idle ∷ ds) zero x at = absurd cc
+desk_at (desk.Runs l y ∷ ds) zero x at = (l, y, refl, runs_inside at)
+  where
+    runs_inside : {x y : Execution} → ◌≡◌ {A = Option At} (Some (Runs x)) (Some (Runs y)) → x ≡ y
+    runs_inside e = cc
+desk_at (d ∷ ds) (suc w) x at = desk_at ds w x at
+
+-- a claim
+pub runs_there : (n : Seen) (w v : ℕ) → Replays n → IsBegun n w v → (x : Execution) × (slice_get n.state.workers w ≡ Some (Runs x))
+runs_there n w v here begun = let r = (consistent n here).running v w begun.runs in (r.0, r.1)
+
+pub unclaimed_workers : (ds : List Desk) (w v : ℕ) → map at_of (slice_set ds w desk.Idle) ≡ workers_before (Unclaim w v) (map at_of ds)
+unclaimed_workers ds w v = map_set at_of ds w desk.Idle
+
+pub unclaimed_marks : (b : Build) (ss : List Stand) (w v : ℕ) (marks : List Bool) → marks ≡ stopped b (map status_of ss) → slice_get (map status_of ss) v
+    ≡ Some (Running w)
+    → marks ≡ stopped b (map status_of (slice_set ss v stand.Waiting))
+unclaimed_marks b ss w v marks are runs =
+    are ∙ sym (ap (stopped b) (map_set status_of ss v stand.Waiting) ∙ marks_stay b.graph.vertices (map status_of ss) v (Running w) Waiting runs refl refl)
+
+-- a micro-step
+unstepped_at : (mark : Mark) (d : Desk) → at_of (desk_before mark (Some d)) ≡ step_before mark (Some (at_of d))
+unstepped_at mark desk.Idle = refl
+unstepped_at mark (desk.Runs l x) = refl
+
+pub unstepped_workers : (ds : List Desk) (w : ℕ) (mark : Mark) (d : Desk) → slice_get ds w ≡ Some d
+    → map at_of (slice_set ds w (desk_before mark (slice_get ds w))) ≡ workers_before (Unstep w mark) (map at_of ds)
+unstepped_workers ds w mark d at =
+    map_set at_of ds w (desk_before mark (slice_get ds w))
+    ∙ ap (λ o. slice_set (map at_of ds) w (at_of (desk_before mark o))) at
+    ∙ ap (slice_set (map at_of ds) w) (unstepped_at mark d)
+    ∙ ap (λ o. slice_set (map at_of ds) w (step_before mark o)) (sym (get_map at_of ds w d at))
+
+unstepped_supplies : (b : Build) (ds : List Desk) (w : ℕ) (mark : Mark) (l : Option ℕ) (x : own.Execution) → map ready_made ds ≡ map (needed b) (map at_of ds)
+    → slice_get ds w ≡ Some (desk.Runs l x) → mounts_in (put_back mark x.view) ≡ (supplies_for (slice_get b.graph.vertices x.vertex)).mounts
+    → map ready_made (slice_set ds w (desk_before mark (Some (desk.Runs l x)))) ≡ map (needed b) (map at_of (slice_set ds w (desk_before mark (Some
+    (desk.Runs l x)))))
+unstepped_supplies b ds w mark l x kept at mounts =
+    let made = made_enough b ds w l x kept at in
+    supplies_claimed b ds w l (record x { done = x.done - 1; fault = None; view = put_back mark x.view }) kept (λ i. record {
+      outputs = (made i).outputs;
+      setting = (made i).setting;
+      mounts = mounts i;
+      shown = (shown_back mark x.view ∙ ap (λ (s : Supplies). s.shown) made) i;
+      keys = (made i).keys;
+    })
+
+pub unstep_leaves : (b : Build) (first : List Row) (ss : List Stand) (ds : List Desk) (c : CachesValue) (es : List Event) (capacity w : ℕ) (mark : Mark)
+    (marks : List Bool)
+    → Keeps b first (record { stands = ss; desks = ds; rows = c.rows; out = c.out; stop_marks = marks }) es capacity
+    → (x : Execution) → slice_get (map at_of ds) w ≡ Some (Runs x) → mounts_in (put_back mark x.own)
+    ≡ (supplies_for (slice_get b.graph.vertices x.vertex)).mounts
+    → (let new = slice_set ds w (desk_before mark (slice_get ds w)) in
+    AreLeased c.out (map at_of new) (map leased_by new) × (map ready_made new ≡ map (needed b) (map at_of new)) × (map at_of new
+    ≡ workers_before (Unstep w mark) (map at_of ds)))
+unstep_leaves b first ss ds c es capacity w mark marks kept x at mounts =
+    let d = desk_at ds w x at in
+    let l = d.0 in
+    let y = d.1 in
+    let there = d.2 in
+    let again : desk_before mark (slice_get ds w) ≡ desk_before mark (Some (desk.Runs l y)) = ap (desk_before mark) there in
+    let fits : mounts_in (put_back mark y.view) ≡ (supplies_for (slice_get b.graph.vertices y.vertex)).mounts
+    = subst (λ (z : Execution). mounts_in (put_back mark z.own) ≡ (supplies_for (slice_get b.graph.vertices z.vertex)).mounts) (sym d.3) mounts in
+    let leased = leased_stepped c.out c.out ds w l y (record y { done = y.done - 1; fault = None; view = put_back mark y.view }) kept.leased there refl
+    refl in (
+      subst (λ e. AreLeased c.out (map at_of (slice_set ds w e)) (map leased_by (slice_set ds w e))) (sym again) leased,
+      subst (λ e. map ready_made (slice_set ds w e) ≡ map (needed b) (map at_of (slice_set ds w e))) (sym again) (unstepped_supplies b ds w mark l y
+          kept.supplies there fits),
+      unstepped_workers ds w mark (desk.Runs l y) there,
+    )
+
+-- a settle
+pub resumed_workers : (ds : List Desk) (w : ℕ) (l : Option ℕ) (x : own.Execution) → map at_of (slice_set ds w (desk.Runs l x))
+    ≡ workers_before (Resume w (left_in x)) (map at_of ds)
+resumed_workers ds w l x = map_set at_of ds w (desk.Runs l x)
+
+-- the vertex that a worker runs again is one of the graph's
+pub resumed_there : (u : Displaced) (n : Seen) (w : ℕ) (left : Left) → u.back ≡ Resume w left → Replays (undone u n) → slice_get n.state.workers w ≡ Some Idle
+    → left.execution.vertex < length n.state.statuses
+resumed_there u n w left is here idle =
+    let runs : slice_get (undone u n).state.workers w ≡ Some (Runs left.execution)
+    = ap (λ k. slice_get (workers_before k n.state.workers) w) is ∙ get_set_same n.state.workers w (Runs left.execution) Idle idle in
+    let ran = (consistent (undone u n) here).working w left.execution runs in
+    let at : slice_get (slice_set n.state.statuses left.execution.vertex (Running w)) left.execution.vertex ≡ Some (Running w)
+    = ap (λ k. slice_get (statuses_before k n.state.statuses) left.execution.vertex) (sym is) ∙ ran in
+    let low = slice_get_within _ left.execution.vertex (Running w) at in
+    let same = length_set n.state.statuses left.execution.vertex (Running w) in
+    omega (arith, low, same)
+
+pub resumed_leased : (b : Build) (first : List Row) (d : Data) (es : List Event) (capacity w : ℕ) (x : own.Execution) → Keeps b first d es capacity
+    → slice_get (map at_of d.desks) w ≡ Some Idle → x.places.items ≡ []
+    → AreLeased d.out (map at_of (slice_set d.desks w (desk.Runs None x))) (map leased_by (slice_set d.desks w (desk.Runs None x)))
+resumed_leased b first d es capacity w x kept idle none = leased_claimed d w None x [] d.out kept.leased idle none (inr (refl, refl, refl))
+
+pub resumed_marks : (b : Build) (ss : List Stand) (w v : ℕ) (had : Stand) (failed : Bool) (old new : List Bool) → old ≡ stopped b (map status_of ss)
+    → slice_get ss v ≡ Some had
+    → failed ≡ is_failed (ending_of (Some (status_of had)))
+    → (failed ≡ true → new ≡ stopped b (map status_of (slice_set ss v (stand.Running w)))) → (failed ≡ false → new ≡ old)
+    → new ≡ stopped b (map status_of (slice_set ss v (stand.Running w)))
+resumed_marks b ss w v had true old new are at is anew same = anew refl
+resumed_marks b ss w v had false old new are at is anew same =
+    same refl ∙ are
+    ∙ sym (ap (stopped b) (map_set status_of ss v (stand.Running w))
+    ∙ marks_stay b.graph.vertices (map status_of ss) v (status_of had) (Running w) (get_map status_of ss v had at) (sym is) refl)
+
+-- ---- leases that are put back one after another
+
+-- the leases of the first so many
+pub record PutSoFar (ds ds' : List Desk) (ls : List (Option ℕ)) (n : ℕ) : Type 0 where
+  pub workers : map at_of ds' ≡ map at_of ds
+  pub made : map ready_made ds' ≡ map ready_made ds
+  pub leases : map leased_by (take n ds') ≡ take n ls
+
+take_set : {A : Type 0} (xs : List A) (n : ℕ) (x : A) → n < length xs → take (suc n) (slice_set xs n x) ≡ take n xs ++ x ∷ []
+take_set [] n x low = absurd (omega (arith, low))
+take_set (y ∷ xs) zero x low = refl
+take_set (y ∷ xs) (suc n) x low = ap (λ l. y ∷ l) (take_set xs n x (omega (arith, low)))
+
+take_next : {A : Type 0} (xs : List A) (n : ℕ) (x : A) → slice_get xs n ≡ Some x → take (suc n) xs ≡ take n xs ++ x ∷ []
+take_next [] n x at = absurd cc
+take_next (y ∷ xs) zero x at = let same : y ≡ x = cc in ap (λ z. z ∷ []) same
+take_next (y ∷ xs) (suc n) x at = ap (λ l. y ∷ l) (take_next xs n x at)
+
+lease_inside : {k l : Option ℕ} → ◌≡◌ {A = Option (Option ℕ)} (Some k) (Some l) → k ≡ l
+lease_inside e = cc
+
+worker_leased : (l : Option ℕ) (d : Desk) → at_of (desk_leased l d) ≡ at_of d
+worker_leased l desk.Idle = refl
+worker_leased l (desk.Runs k x) = refl
+
+made_leased : (l : Option ℕ) (d : Desk) → ready_made (desk_leased l d) ≡ ready_made d
+made_leased l desk.Idle = refl
+made_leased l (desk.Runs k x) = refl
+
+lease_put : (ls : List (Option ℕ)) (workers : List At) (n : ℕ) (l : Option ℕ) (d : Desk) → HasPlaceFor ls workers → slice_get ls n ≡ Some l
+    → slice_get workers n ≡ Some (at_of d)
+    → leased_by (desk_leased l d) ≡ l
+lease_put ls workers n l desk.Idle place at there = lease_inside (sym (place.idle n there) ∙ at)
+lease_put ls workers n l (desk.Runs k x) place at there = refl
+
+pub put_more : (ds ds' new : List Desk) (ls : List (Option ℕ)) (n : ℕ) (l : Option ℕ) (d : Desk) → HasPlaceFor ls (map at_of ds) → PutSoFar ds ds' ls n
+    → slice_get ds' n ≡ Some d → slice_get ls n ≡ Some l → new ≡ slice_set ds' n (desk_leased l d) → PutSoFar ds new ls (n + 1)
+put_more ds ds' new ls n l d place so_far there at is =
+    let next : suc n ≡ n + 1 = omega arith in
+    let worker = get_map at_of ds' n d there in
+    let lease = lease_put ls (map at_of ds) n l d place at (ap (λ ws. slice_get ws n) (sym so_far.workers) ∙ worker) in
+    record {
+      workers = ap (map at_of) is ∙ map_set at_of ds' n (desk_leased l d) ∙ ap (slice_set (map at_of ds') n) (worker_leased l d)
+          ∙ set_same (map at_of ds') n (at_of d) worker ∙ so_far.workers;
+      made = ap (map ready_made) is ∙ map_set ready_made ds' n (desk_leased l d) ∙ ap (slice_set (map ready_made ds') n) (made_leased l d)
+          ∙ set_same (map ready_made ds') n (ready_made d) (get_map ready_made ds' n d there) ∙ so_far.made;
+      leases = ap (λ xs. map leased_by (take (n + 1) xs)) is
+          ∙ ap (λ k. map leased_by (take k (slice_set ds' n (desk_leased l d)))) (sym next)
+          ∙ ap (map leased_by) (take_set ds' n (desk_leased l d) (slice_get_within ds' n d there))
+          ∙ map-append leased_by (take n ds') (desk_leased l d ∷ [])
+          ∙ (λ i. so_far.leases i ++ lease i ∷ [])
+          ∙ sym (take_next ls n l at)
+          ∙ ap (λ k. take k ls) next;
+    }
+
+pub put_whole : (ds ds' : List Desk) (ls : List (Option ℕ)) (n : ℕ) → length ls ≡ length (map at_of ds) → PutSoFar ds ds' ls n → length ds' ≤ n
+    → map leased_by ds' ≡ ls
+put_whole ds ds' ls n count so_far past =
+    let many : length ds' ≡ length ls = sym (length_map at_of ds') ∙ ap length so_far.workers ∙ sym count in
+    ap (map leased_by) (sym (take_all n ds' past)) ∙ so_far.leases ∙ take_all n ls (omega (arith, many, past))
+
+-- facts that hang on a test
+pub on_true : (b : Bool) (P : Type 0) → OnTrue b P → b ≡ true → P
+on_true true P h is = h
+on_true false P h is = absurd cc
+
+pub on_false : (b : Bool) (P : Type 0) → OnFalse b P → b ≡ false → P
+on_false true P h is = absurd cc
+on_false false P h is = h

@@ -1,0 +1,166 @@
+-- A claim, a micro-step and a settle taken back: what the board does is what is told, and its type keeps what it keeps.
+use Rattle.std.proofs.Common.{◌≡◌, ℕ, ◌<◌, ◌≤◌, List, map, length, Option, Some, None, refl, sym, ap, subst, ◌∙◌, arith}
+use Rattle.std.specs.Prelude.{Bool, true, false, slice_get, slice_set}
+use Rattle.std.specs.Option.{ForSome}
+use Rattle.std.proofs.lemmas.Option.{slice_get_within}
+use Rattle.llb_cache.specs.Caches.{CachesValue, Row}
+use Rattle.llb_execution.specs.Marks.{Mark}
+use Rattle.llb_model.specs.Leases.{AreLeased}
+use Rattle.llb_model.specs.Program.{Build}
+use Rattle.llb_model.specs.State.{Running, Idle, Runs, is_failed, ending_of, stopped}
+use Rattle.llb_model.specs.Table.{Event}
+use Rattle.llb_board.specs.Board.{Seen}
+use Rattle.llb_board.specs.Caches.{IsOutIf, given_back}
+use Rattle.llb_board.specs.Room.{AreOver, IsTracked, ready_made, needed}
+use Rattle.llb_board.specs.Undo.{Back, Unclaim, Unstep, Resume, Displaced, left_in, caches_in, front, statuses_before, workers_before, HasNoPlaces, CanUndo}
+use Rattle.llb_board.specs.Undoing.{desk_before, leases_before, caches_before, HasPlaceFor}
+use Rattle.llb_board.specs.Views.{status_of, at_of, leased_by}
+use Rattle.llb_board.specs.declared.stand.Stand.{Stand}
+use Rattle.llb_board.specs.declared.stand.Stand.TheVariants as stand
+use Rattle.llb_board.specs.declared.stand.Desk.{Desk}
+use Rattle.llb_board.specs.declared.stand.Desk.TheVariants as desk
+use Rattle.llb_board.specs.declared.stand.Execution as own
+use Rattle.llb_board.specs.declared.undo.Before as before
+use Rattle.llb_board.proofs.Claiming.{data_of}
+use Rattle.llb_board.proofs.Kept.{Data, Keeps, seen_as, supplies_claimed, supplies_settled}
+use Rattle.llb_board.proofs.Lent.{leased_settled, lease_out}
+use Rattle.llb_board.proofs.Lists.{map_set, length_map}
+use Rattle.llb_board.proofs.Undone.{Leaves, undo_keeps, over_below, leased_so, leased_put, rows_put, places_put, runs_there, unclaimed_workers}
+use Rattle.llb_board.proofs.Undone.{unclaimed_marks, unstep_leaves, resumed_workers, resumed_there, resumed_leased, resumed_marks}
+
+-- what put_caches does to the desks and the caches
+pub record PutsCaches (o : Option before.Before) (ds ds' : List Desk) (c c' : CachesValue) : Type 0 where
+  pub workers : map at_of ds' ≡ map at_of ds
+  pub made : map ready_made ds' ≡ map ready_made ds
+  pub leases : map leased_by ds' ≡ leases_before (caches_in o) (map leased_by ds)
+  pub caches : c' ≡ caches_before (caches_in o) c
+
+module _ (b : Build) (first : List Row) (ss : List Stand) (ds : List Desk) (c : CachesValue) (stop_marks : List Bool) (es : List Event) (capacity : ℕ)
+    (kept : Keeps b first (data_of ss ds c stop_marks) es capacity) where
+  -- the board before
+  abbrev pub board : Seen
+  board = seen_as b first (data_of ss ds c stop_marks) es
+
+  -- what the type keeps, from what is left of the data
+  pub tracked : (d' : Data) (u : Displaced) (r : ℕ) → CanUndo u board → Leaves b (data_of ss ds c stop_marks) d' u → AreOver b (map status_of d'.stands) r
+      → IsTracked (seen_as b first d' (front es)) d'.desks d'.out d'.stop_marks capacity r
+  tracked d' u r can leaves over = record { kept = undo_keeps b first (data_of ss ds c stop_marks) d' es capacity u kept can.replays leaves; over = over }
+
+  -- what stands at a vertex is written
+  pub over_written : (v : ℕ) (s : Stand) (n r : ℕ) → r ≤ n → r ≤ v → AreOver b (map status_of ss) n → AreOver b (map status_of (slice_set ss v s)) r
+  over_written v s n r fits below over =
+      subst (λ S. AreOver b S r) (sym (map_set status_of ss v s)) (over_below b (map status_of ss) v (status_of s) n r fits below over)
+
+  -- what is left, by the desks before the caches are put back
+  leaves_by : (k : Back) (o : Option before.Before) (ds1 ds2 : List Desk) (c1 c2 : CachesValue) (ss' : List Stand) (marks : List Bool)
+      → CanUndo (record { back = k; caches = caches_in o }) board → PutsCaches o ds1 ds2 c1 c2 → c1.rows ≡ c.rows
+      → map status_of ss' ≡ statuses_before k (map status_of ss) → map at_of ds1 ≡ workers_before k (map at_of ds)
+      → (HasNoPlaces k → AreLeased c1.out (map at_of ds1) (map leased_by ds1)) → map ready_made ds1 ≡ map (needed b) (map at_of ds1)
+      → marks ≡ stopped b (map status_of ss')
+      → Leaves b (data_of ss ds c stop_marks) (data_of ss' ds2 c2 marks) (record { back = k; caches = caches_in o })
+  leaves_by k o ds1 ds2 c1 c2 ss' marks can puts same statuses workers leased supplies marked =
+      let u : Displaced = record { back = k; caches = caches_in o } in
+      record {
+        statuses = statuses;
+        workers = puts.workers ∙ workers;
+        rows = rows_put (caches_in o) c1 c2 c.rows same puts.caches;
+        leased = leased_put (caches_in o) ds1 ds2 c1 c2 (leased_so u board (caches_in o) (map at_of ds1) c1.out (map leased_by ds1) can.leased workers leased)
+            puts.workers puts.leases puts.caches;
+        supplies = puts.made ∙ supplies ∙ ap (map (needed b)) (sym puts.workers);
+        marks = marked;
+      }
+
+  -- ---- a claim
+
+  module _ (w v : ℕ) (o : Option before.Before) (can : CanUndo (record { back = Unclaim w v; caches = caches_in o }) board) where
+    pub low_w : w < length ds
+    low_w =
+        let r = runs_there board w v kept.replays can.stands in
+        omega (arith, slice_get_within (map at_of ds) w (Runs r.0) r.1, length_map at_of ds)
+
+    pub low_v : v < length ss
+    low_v =
+        let runs = can.stands.runs in
+        omega (arith, slice_get_within (map status_of ss) v (Running w) runs, length_map status_of ss)
+
+    pub lease_is_out : (l : Option ℕ) → slice_get (map leased_by ds) w ≡ Some l → IsOutIf c.out l
+    lease_is_out l at = lease_out c.out (map at_of ds) (map leased_by ds) w l kept.leased at
+
+    pub places_unclaimed : (ds1 : List Desk) → ds1 ≡ slice_set ds w desk.Idle → ForSome o (λ x. HasPlaceFor x.leases.items (map at_of ds1))
+    places_unclaimed ds1 is =
+        places_put (record { back = Unclaim w v; caches = caches_in o }) board o (map at_of ds1) can.leased (ap (map at_of) is ∙ unclaimed_workers ds w v)
+
+    pub unclaim_leaves : (l : Option ℕ) (ds1 ds2 : List Desk) (c1 c2 : CachesValue) → slice_get (map leased_by ds) w ≡ Some l → ds1
+        ≡ slice_set ds w desk.Idle → c1 ≡ given_back c l
+        → PutsCaches o ds1 ds2 c1 c2
+        → Leaves b (data_of ss ds c stop_marks) (data_of (slice_set ss v stand.Waiting) ds2 c2 stop_marks) (record { back = Unclaim w v; caches = caches_in o })
+    unclaim_leaves l ds1 ds2 c1 c2 at is back puts =
+        leaves_by (Unclaim w v) o ds1 ds2 c1 c2 (slice_set ss v stand.Waiting) stop_marks can puts (ap (λ (x : CachesValue). x.rows) back)
+        (map_set status_of ss v stand.Waiting)
+        (ap (map at_of) is ∙ unclaimed_workers ds w v)
+        (λ none. subst (λ (x : CachesValue). AreLeased x.out (map at_of ds1) (map leased_by ds1)) (sym back)
+        (subst (λ es. AreLeased (given_back c l).out (map at_of es) (map leased_by es)) (sym is) (leased_settled c ds w l kept.leased at)))
+        (subst (λ es. map ready_made es ≡ map (needed b) (map at_of es)) (sym is) (supplies_settled b ds w kept.supplies))
+        (unclaimed_marks b ss w v stop_marks kept.stop_marks_are can.stands.runs)
+
+  -- ---- a micro-step
+
+  module _ (w : ℕ) (mark : Mark) (o : Option before.Before) (can : CanUndo (record { back = Unstep w mark; caches = caches_in o }) board) where
+    pub low_step : w < length ds
+    low_step =
+        let runs = can.stands.runs in
+        omega (arith, slice_get_within (map at_of ds) w (Runs can.stands.x) runs, length_map at_of ds)
+
+    parts : AreLeased c.out (map at_of (slice_set ds w (desk_before mark (slice_get ds w)))) (map leased_by (slice_set ds w (desk_before mark (slice_get ds
+        w))))
+        × (map ready_made (slice_set ds w (desk_before mark (slice_get ds w))) ≡ map (needed b) (map at_of (slice_set ds w (desk_before mark (slice_get ds
+        w)))))
+        × (map at_of (slice_set ds w (desk_before mark (slice_get ds w))) ≡ workers_before (Unstep w mark) (map at_of ds))
+    parts = unstep_leaves b first ss ds c es capacity w mark stop_marks kept can.stands.x can.stands.runs can.stands.mounts
+
+    pub places_unstepped : (ds1 : List Desk) → ds1 ≡ slice_set ds w (desk_before mark (slice_get ds w))
+        → ForSome o (λ x. HasPlaceFor x.leases.items (map at_of ds1))
+    places_unstepped ds1 is =
+        places_put (record { back = Unstep w mark; caches = caches_in o }) board o (map at_of ds1) can.leased (ap (map at_of) is ∙ parts.2)
+
+    pub unstep_leaves_so : (ds1 ds2 : List Desk) (c2 : CachesValue) → ds1 ≡ slice_set ds w (desk_before mark (slice_get ds w)) → PutsCaches o ds1 ds2 c c2
+        → Leaves b (data_of ss ds c stop_marks) (data_of ss ds2 c2 stop_marks) (record { back = Unstep w mark; caches = caches_in o })
+    unstep_leaves_so ds1 ds2 c2 is puts =
+        leaves_by (Unstep w mark) o ds1 ds2 c c2 ss stop_marks can puts refl refl (ap (map at_of) is ∙ parts.2)
+        (λ none. subst (λ es. AreLeased c.out (map at_of es) (map leased_by es)) (sym is) parts.0)
+        (subst (λ es. map ready_made es ≡ map (needed b) (map at_of es)) (sym is) parts.1) kept.stop_marks_are
+
+  -- ---- a settle
+
+  module _ (w : ℕ) (x : own.Execution) (o : Option before.Before) (can : CanUndo (record { back = Resume w (left_in x); caches = caches_in o }) board) where
+    pub low_resumed : w < length ds
+    low_resumed =
+        let idle = can.stands.idle in
+        omega (arith, slice_get_within (map at_of ds) w Idle idle, length_map at_of ds)
+
+    pub low_vertex : x.vertex < length ss
+    low_vertex =
+        let low = resumed_there (record { back = Resume w (left_in x); caches = caches_in o }) board w (left_in x) refl can.replays can.stands.idle in
+        omega (arith, low, length_map status_of ss)
+
+    pub places_resumed : (ds1 : List Desk) → ds1 ≡ slice_set ds w (desk.Runs None x) → ForSome o (λ y. HasPlaceFor y.leases.items (map at_of ds1))
+    places_resumed ds1 is =
+        places_put (record { back = Resume w (left_in x); caches = caches_in o }) board o (map at_of ds1) can.leased (ap (map at_of) is
+        ∙ resumed_workers ds w None x)
+
+    pub resume_leaves : (had : Stand) (failed : Bool) (ds1 ds2 : List Desk) (c2 : CachesValue) (marks : List Bool) → ds1
+        ≡ slice_set ds w (desk.Runs None x) → PutsCaches o ds1 ds2 c c2
+        → slice_get ss x.vertex ≡ Some had → failed ≡ is_failed (ending_of (Some (status_of had)))
+        → (failed ≡ true → marks ≡ stopped b (map status_of (slice_set ss x.vertex (stand.Running w)))) → (failed ≡ false → marks ≡ stop_marks)
+        → Leaves b (data_of ss ds c stop_marks) (data_of (slice_set ss x.vertex (stand.Running w)) ds2 c2 marks) (record {
+          back = Resume w (left_in x);
+          caches = caches_in o;
+        })
+    resume_leaves had failed ds1 ds2 c2 marks is puts at fails anew same =
+        leaves_by (Resume w (left_in x)) o ds1 ds2 c c2 (slice_set ss x.vertex (stand.Running w)) marks can puts refl
+        (map_set status_of ss x.vertex (stand.Running w))
+        (ap (map at_of) is ∙ resumed_workers ds w None x)
+        (λ none. subst (λ es. AreLeased c.out (map at_of es) (map leased_by es)) (sym is)
+        (resumed_leased b first (data_of ss ds c stop_marks) es capacity w x kept can.stands.idle none))
+        (subst (λ es. map ready_made es ≡ map (needed b) (map at_of es)) (sym is) (supplies_claimed b ds w None x kept.supplies can.stands.supplies))
+        (resumed_marks b ss w x.vertex had failed stop_marks marks kept.stop_marks_are at fails anew same)

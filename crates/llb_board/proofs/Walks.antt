@@ -1,0 +1,326 @@
+-- An event that is granted, and the board before it: what undoes the event leads back there, and can be done.
+use Rattle.std.proofs.Common.{◌≡◌, ℕ, ◌+◌, ◌-◌, Bool, true, false, ◌||◌, List, [], ◌∷◌, map, length, Option, Some, None, is_some, refl, sym, ap}
+use Rattle.std.proofs.Common.{subst, ◌∙◌, arith}
+use Rattle.std.specs.Prelude.{Result, Ok, Err, slice_get, slice_set, nat_le, not, ◌==◌, if◌then◌else◌}
+use Rattle.std.proofs.lemmas.Bool.{eqb-true}
+use Rattle.llb_cache.specs.Caches.{Row}
+use Rattle.llb_execution.specs.Marks.{Mark, mark_of}
+use Rattle.llb_execution.specs.Parts.{mounts_in}
+use Rattle.llb_execution.proofs.Marks.{puts_back}
+use Rattle.llb_loader.specs.declared.graph.Vertex.{Vertex}
+use Rattle.llb_model.specs.declared.fault.VertexFault.{VertexFault}
+use Rattle.llb_model.specs.Caches.{Store, put_all, trees_at}
+use Rattle.llb_model.specs.Program.{Build, MicroStep, needs_of, step_on}
+use Rattle.llb_model.specs.State.{Waiting, Running, Settled, Execution, At, Idle, Runs, State, program_in, work_of, next_step, ending_from, held}
+use Rattle.llb_model.specs.State.{places_for, begin_at}
+use Rattle.llb_model.specs.Table.{Event, Claim, Step, Settle, worker_of, with_step, step_by, stepped, settle_with, settled, table}
+use Rattle.llb_model.specs.Leases.{AreLeased}
+use Rattle.llb_model.proofs.Events.{Answer, IsStep, IsSettle, claim_places, claim_is, step_is, settle_is}
+use Rattle.llb_model.proofs.Lists.{get_set_same}
+use Rattle.llb_board.specs.Board.{Seen, Replays, after_event, recorded}
+use Rattle.llb_board.specs.Caches.{written, places_at, rows_after}
+use Rattle.llb_board.specs.Room.{Supplies, supplies_for, ready_made, needed, mounts_at, needs_at}
+use Rattle.llb_board.specs.Rules.{claim_fault, step_fault, settle_fault}
+use Rattle.llb_board.specs.Undo.{told_as, walk_of, Back, Unclaim, Unstep, Resume, Before, Displaced, left_in}
+use Rattle.llb_board.specs.Undo.{statuses_before, with_view_back, step_before, workers_before, rows_before, store_before, undone}
+use Rattle.llb_board.specs.Undo.{StandsBehind, HasNoPlaces, FitsLeases, CanUndo, KeepsWhere, MarksClaim, MarksStep, MarksSettle, Marks}
+use Rattle.llb_board.specs.declared.fault.WalkFault.{WalkFault}
+use Rattle.llb_board.specs.declared.fault.WalkFault.TheVariants as walk
+use Rattle.llb_board.specs.Views.{execution_of, at_of}
+use Rattle.llb_board.specs.Walking.{KeepsIf}
+use Rattle.llb_board.specs.declared.fault.SettleFault.TheVariants as no_settle
+use Rattle.llb_board.specs.declared.fault.StepFault.TheVariants as no_step
+use Rattle.llb_board.specs.declared.stand.Desk.{Desk}
+use Rattle.llb_board.specs.declared.stand.Desk.TheVariants as desk
+use Rattle.llb_board.specs.declared.stand.Execution as own
+use Rattle.llb_board.specs.declared.walk.Reply as replied
+use Rattle.llb_board.proofs.Calls.{claim_done, step_done, settle_done}
+use Rattle.llb_board.proofs.Kept.{made_enough}
+use Rattle.llb_board.proofs.Lists.{get_map, set_back, front_again}
+use Rattle.llb_board.proofs.Sound.{consistent}
+
+-- ---- what a walk answers
+
+told_inside : {x y : Seen × replied.Reply} → ◌≡◌ {A = Result (Seen × replied.Reply) WalkFault} (Ok x) (Ok y) → x ≡ y
+told_inside e = cc
+
+-- an event that is granted, with what it gives
+pub record Granted (b n : Seen) (e : Event) : Type 0 where
+  pub answer : Answer
+  pub grants : table b.build b.state e ≡ Some answer
+  pub is : n ≡ after_event b e answer.0
+
+told_of : {C F : Type 0} (b n : Seen) (e : Event) (fault : C → F) (wrap : F → WalkFault) (answer : Result Answer C) (r : replied.Reply)
+    → ((a : Answer) → answer ≡ Ok a → table b.build b.state e ≡ Some a)
+    → told_as wrap (recorded b e fault answer) ≡ Ok (n, r) → Granted b n e
+told_of b n e fault wrap (Ok (s, reply)) r done is = record { answer = (s, reply); grants = done (s, reply) refl; is = ap (λ p. p.0) (sym (told_inside is)) }
+told_of b n e fault wrap (Err cause) r done is = absurd cc
+
+pub granted : (b n : Seen) (e : Event) (r : replied.Reply) → walk_of b e ≡ Ok (n, r) → Granted b n e
+granted b n (Claim w v) r is = told_of b n (Claim w v) claim_fault walk.Claim _ r (claim_done b.build b.state w v) is
+granted b n (Step w) r is = told_of b n (Step w) step_fault walk.Step _ r (step_done b.build b.state w) is
+granted b n (Settle w) r is = told_of b n (Settle w) settle_fault walk.Settle _ r (settle_done b.build b.state w) is
+
+-- ---- back to the board before
+
+-- part by part
+record LeadsBack (u : Displaced) (b : Seen) (e : Event) (s : State) : Type 0 where
+  statuses : statuses_before u.back s.statuses ≡ b.state.statuses
+  workers : workers_before u.back s.workers ≡ b.state.workers
+  store : store_before u.caches s.store ≡ b.state.store
+  rows : rows_before u.caches (rows_after b.rows s (worker_of e)) ≡ b.rows
+
+leads_back : (u : Displaced) (b : Seen) (e : Event) (s : State) → LeadsBack u b e s → undone u (after_event b e s) ≡ b
+leads_back u b e s to = λ i. record {
+  build = b.build;
+  opening = b.opening;
+  first = b.first;
+  state = record { statuses = to.statuses i; workers = to.workers i; store = to.store i };
+  rows = to.rows i;
+  events = front_again b.events e i;
+}
+
+-- the caches are those that were kept, or nothing of them has changed
+store_back : {A : Type 0} (shown : List A) (b : Seen) (o : Option Before) (store : Store) → KeepsWhere shown b o → (shown ≡ [] → store ≡ b.state.store)
+    → store_before o store ≡ b.state.store
+store_back shown b (Some c) store keeps stays = keeps.store
+store_back shown b None store keeps stays = stays keeps
+
+rows_back : {A : Type 0} (shown : List A) (b : Seen) (o : Option Before) (rows : List Row) → KeepsWhere shown b o → (shown ≡ [] → rows ≡ b.rows)
+    → rows_before o rows ≡ b.rows
+rows_back shown b (Some c) rows keeps stays = keeps.rows
+rows_back shown b None rows keeps stays = stays keeps
+
+fits_leases : {A : Type 0} (shown : List A) (u : Displaced) (b n : Seen) (o : Option Before) → undone u n ≡ b → KeepsWhere shown b o → (shown ≡ []
+    → HasNoPlaces u.back)
+    → FitsLeases u n o
+fits_leases shown u b n (Some c) is keeps none = subst (λ (m : Seen). AreLeased c.caches.out m.state.workers c.leases) (sym is) keeps.leased
+fits_leases shown u b n None is keeps none = none keeps
+
+can_undo : {A : Type 0} (shown : List A) (u : Displaced) (b n : Seen) (k : Back) → Replays b → undone u n ≡ b → u.back ≡ k → StandsBehind k n
+    → KeepsWhere shown b u.caches
+    → (shown ≡ [] → HasNoPlaces k) → CanUndo u n
+can_undo shown u b n k here is same stands keeps none = record {
+  replays = subst Replays (sym is) here;
+  stands = subst (λ (x : Back). StandsBehind x n) (sym same) stands;
+  leased = fits_leases shown u b n u.caches is keeps (λ e. subst HasNoPlaces (sym same) (none e));
+}
+
+-- what an undo of an event does
+pub record Undoes (b : Seen) (e : Event) (s : State) (u : Displaced) : Type 0 where
+  pub back : undone u (after_event b e s) ≡ b
+  pub can : CanUndo u (after_event b e s)
+
+-- ---- of a claim
+
+needs_are : (vertex : Vertex) (o : Option Vertex) → o ≡ Some vertex → needs_at o ≡ [] → needs_of vertex ≡ []
+needs_are vertex o there none = ap needs_at (sym there) ∙ none
+
+claim_back : (b : Seen) (w v : ℕ) (a : Answer) (u : Displaced) → Replays b → table b.build b.state (Claim w v) ≡ Some a → MarksClaim b w v u
+    → Undoes b (Claim w v) a.0 u
+claim_back b w v a u here grants marks =
+    let c = claim_is b.build b.state w v a grants in
+    let s = b.state in
+    let ps = claim_places s c.start in
+    let work = begin_at b.build s.store c.start ps in
+    let z : Execution = record { vertex = v; done = 0; fault = None; own = work.own; places = ps } in
+    let none : needs_at (slice_get b.build.graph.vertices v) ≡ [] → ps ≡ []
+    = λ e. ap (places_for (held s.workers)) (needs_are c.start.vertex _ c.begins.there e) in
+    let runs : slice_get a.0.workers w ≡ Some (Runs z) = ap (λ (t : Answer). slice_get t.0.workers w) c.gives ∙ get_set_same s.workers w (Runs z) Idle c.idle in
+    let is = leads_back u b (Claim w v) a.0 (record {
+      statuses = ap (λ k. statuses_before k a.0.statuses) marks.back
+          ∙ ap (λ (t : Answer). slice_set t.0.statuses v Waiting) c.gives ∙ set_back s.statuses v (Running w) Waiting c.begins.waits;
+      workers = ap (λ k. workers_before k a.0.workers) marks.back
+          ∙ ap (λ (t : Answer). slice_set t.0.workers w Idle) c.gives ∙ set_back s.workers w (Runs z) Idle c.idle;
+      store = store_back (needs_at (slice_get b.build.graph.vertices v)) b u.caches a.0.store marks.caches
+          (λ e. ap (λ (t : Answer). t.0.store) c.gives ∙ ap (λ qs. put_all s.store qs work.trees) (none e));
+      rows = rows_back (needs_at (slice_get b.build.graph.vertices v)) b u.caches (rows_after b.rows a.0 w) marks.caches
+          (λ e. ap (λ o. written a.0.store b.rows (places_at o)) runs ∙ ap (written a.0.store b.rows) (none e));
+    }) in
+    record {
+      back = is;
+      can = can_undo (needs_at (slice_get b.build.graph.vertices v)) u b (after_event b (Claim w v) a.0) (Unclaim w v) here is marks.back
+          (record { runs = ap (λ (t : Answer). slice_get t.0.statuses v) c.gives ∙ get_set_same s.statuses v (Running w) Waiting c.begins.waits })
+          marks.caches (λ e. tt);
+    }
+
+-- ---- of a step
+
+-- the micro-step of an execution that is known
+record StepsBy (b : Build) (s : State) (w : ℕ) (a : Answer) (x : Execution) : Type 0 where
+  step : MicroStep
+  next : next_step (program_in b x).steps x ≡ Some step
+  gives : a ≡ step_by s w x step (step_on x.done (Some step) (work_of s x))
+
+runs_inside : {x y : Execution} → ◌≡◌ {A = Option At} (Some (Runs x)) (Some (Runs y)) → x ≡ y
+runs_inside e = cc
+
+steps_by : (b : Build) (s : State) (w : ℕ) (a : Answer) (x : Execution) → slice_get s.workers w ≡ Some (Runs x) → IsStep b s w a → StepsBy b s w a x
+steps_by b s w a x runs c =
+    subst (StepsBy b s w a) (runs_inside (sym c.there ∙ runs)) (record { step = c.step; next = c.next; gives = c.gives })
+
+-- what goes on has not faulted
+clean_by : (fault : Option VertexFault) (past : Bool) (o : Option MicroStep) (m : MicroStep) → (if (is_some fault || past) then None else o) ≡ Some m
+    → fault ≡ None
+clean_by None past o m e = refl
+clean_by (Some f) past o m e = absurd cc
+
+clean : (steps : List MicroStep) (x : Execution) (m : MicroStep) → next_step steps x ≡ Some m → x.fault ≡ None
+clean steps x m e = clean_by x.fault (nat_le (length steps) x.done) (slice_get steps x.done) m e
+
+view_back : (s : State) (x : Execution) (m : MicroStep) → x.fault ≡ None → with_view_back (mark_of x.own) (with_step x (step_on x.done (Some m) (work_of s
+    x))) ≡ x
+view_back s x m none =
+    let n : x.done + 1 - 1 ≡ x.done = omega arith in
+    λ i. record {
+      vertex = x.vertex;
+      done = n i;
+      fault = sym none i;
+      own = puts_back x.own x.done (Some m) (trees_at s.store x.places) i;
+      places = x.places;
+    }
+
+step_back : (b : Seen) (w : ℕ) (a : Answer) (u : Displaced) → Replays b → table b.build b.state (Step w) ≡ Some a → MarksStep b w u → Undoes b (Step w) a.0 u
+step_back b w a u here grants marks =
+    let s = b.state in
+    let x = marks.x in
+    let c = steps_by b.build s w a x marks.runs (step_is b.build s w a grants) in
+    let left = step_on x.done (Some c.step) (work_of s x) in
+    let z = with_step x left in
+    let mark = mark_of x.own in
+    let runs : slice_get a.0.workers w ≡ Some (Runs z) = ap (λ (t : Answer). slice_get t.0.workers w) c.gives
+    ∙ get_set_same s.workers w (Runs z) (Runs x) marks.runs in
+    let again : step_before mark (slice_get a.0.workers w) ≡ Runs x
+    = ap (step_before mark) runs ∙ ap (λ y. Runs y) (view_back s x c.step (clean (program_in b.build x).steps x c.step c.next)) in
+    let is = leads_back u b (Step w) a.0 (record {
+      statuses = ap (λ k. statuses_before k a.0.statuses) marks.back ∙ ap (λ (t : Answer). t.0.statuses) c.gives;
+      workers = ap (λ k. workers_before k a.0.workers) marks.back
+          ∙ ap (slice_set a.0.workers w) again ∙ ap (λ (t : Answer). slice_set t.0.workers w (Runs x)) c.gives
+          ∙ set_back s.workers w (Runs z) (Runs x) marks.runs;
+      store = store_back x.places b u.caches a.0.store marks.caches
+          (λ e. ap (λ (t : Answer). t.0.store) c.gives ∙ ap (λ qs. put_all s.store qs left.work.trees) e);
+      rows = rows_back x.places b u.caches (rows_after b.rows a.0 w) marks.caches
+          (λ e. ap (λ o. written a.0.store b.rows (places_at o)) runs ∙ ap (written a.0.store b.rows) e);
+    }) in
+    record {
+      back = is;
+      can = can_undo x.places u b (after_event b (Step w) a.0) (Unstep w mark) here is marks.back
+          (record {
+            x = z;
+            runs = runs;
+            mounts = ap mounts_in (puts_back x.own x.done (Some c.step) (trees_at s.store x.places))
+                ∙ marks.mounts;
+          }) marks.caches (λ e. tt);
+    }
+
+-- ---- of a settle
+
+record SettlesBy (b : Build) (s : State) (w : ℕ) (a : Answer) (x : Execution) : Type 0 where
+  gives : a ≡ settle_with s w x.vertex (ending_from (program_in b x) x)
+
+settles_by : (b : Build) (s : State) (w : ℕ) (a : Answer) (x : Execution) → slice_get s.workers w ≡ Some (Runs x) → IsSettle b s w a → SettlesBy b s w a x
+settles_by b s w a x runs c = subst (SettlesBy b s w a) (runs_inside (sym c.there ∙ runs)) (record { gives = c.gives })
+
+settle_back : (b : Seen) (w : ℕ) (a : Answer) (u : Displaced) → Replays b → table b.build b.state (Settle w) ≡ Some a → MarksSettle b w u
+    → Undoes b (Settle w) a.0 u
+settle_back b w a u here grants marks =
+    let s = b.state in
+    let x = marks.left.execution in
+    let c = settles_by b.build s w a x marks.runs (settle_is b.build s w a grants) in
+    let ending = ending_from (program_in b.build x) x in
+    let ran = (consistent b here).working w x marks.runs in
+    let idle : slice_get a.0.workers w ≡ Some Idle = ap (λ (t : Answer). slice_get t.0.workers w) c.gives ∙ get_set_same s.workers w Idle (Runs x) marks.runs in
+    let is = leads_back u b (Settle w) a.0 (record {
+      statuses = ap (λ k. statuses_before k a.0.statuses) marks.back
+          ∙ ap (λ (t : Answer). slice_set t.0.statuses x.vertex (Running w)) c.gives ∙ set_back s.statuses x.vertex (Settled ending) (Running w) ran;
+      workers = ap (λ k. workers_before k a.0.workers) marks.back
+          ∙ ap (λ (t : Answer). slice_set t.0.workers w (Runs x)) c.gives ∙ set_back s.workers w Idle (Runs x) marks.runs;
+      store = store_back x.places b u.caches a.0.store marks.caches (λ e. ap (λ (t : Answer). t.0.store) c.gives);
+      rows = rows_back x.places b u.caches (rows_after b.rows a.0 w) marks.caches (λ e. ap (λ o. written a.0.store b.rows (places_at o)) idle);
+    }) in
+    record {
+      back = is;
+      can = can_undo x.places u b (after_event b (Settle w) a.0) (Resume w marks.left) here is marks.back (record {
+        idle = idle;
+        supplies = marks.supplies;
+      }) marks.caches (λ e. e);
+    }
+
+-- ---- of any event
+
+undoes : (b : Seen) (e : Event) (a : Answer) (u : Displaced) → Replays b → table b.build b.state e ≡ Some a → Marks b e u → Undoes b e a.0 u
+undoes b (Claim w v) a u here grants marks = claim_back b w v a u here grants marks
+undoes b (Step w) a u here grants marks = step_back b w a u here grants marks
+undoes b (Settle w) a u here grants marks = settle_back b w a u here grants marks
+
+pub walk_back : (b n : Seen) (e : Event) (r : replied.Reply) (u : Displaced) → Replays b → walk_of b e ≡ Ok (n, r) → Marks b e u → undone u n ≡ b
+walk_back b n e r u here is marks =
+    let g = granted b n e r is in
+    ap (undone u) g.is ∙ (undoes b e g.answer u here g.grants marks).back
+
+pub walk_can : (b n : Seen) (e : Event) (r : replied.Reply) (u : Displaced) → Replays b → walk_of b e ≡ Ok (n, r) → Marks b e u → CanUndo u n
+walk_can b n e r u here is marks =
+    let g = granted b n e r is in
+    subst (CanUndo u) (sym g.is) (undoes b e g.answer u here g.grants marks).can
+
+-- ---- what is kept before an event
+
+pub keeps_where : {A : Type 0} (xs : List A) (n : Seen) (asked : Bool) (o : Option Before) → KeepsIf asked n o → (asked ≡ false → xs ≡ []) → KeepsWhere xs n o
+keeps_where xs n asked (Some c) keeps none = keeps
+keeps_where xs n true None keeps none = absurd keeps
+keeps_where xs n false None keeps none = none refl
+
+-- what a running worker has
+pub record IsAt (n : Seen) (b : Build) (ds : List Desk) (w : ℕ) (l : Option ℕ) (x : own.Execution) : Type 0 where
+  pub build : n.build ≡ b
+  pub workers : n.state.workers ≡ map at_of ds
+  pub supplies : map ready_made ds ≡ map (needed b) (map at_of ds)
+  pub there : slice_get ds w ≡ Some (desk.Runs l x)
+
+pub marks_step : (n : Seen) (b : Build) (ds : List Desk) (w : ℕ) (l : Option ℕ) (x : own.Execution) (m : Mark) (o : Option Before) (asked : Bool)
+    → IsAt n b ds w l x
+    → m ≡ mark_of x.view → KeepsIf asked n o → (asked ≡ false → x.places.items ≡ []) → MarksStep n w (record { back = Unstep w m; caches = o })
+marks_step n b ds w l x m o asked at is keeps none =
+    let made = made_enough b ds w l x at.supplies at.there in
+    record {
+      x = execution_of x;
+      runs = ap (λ ws. slice_get ws w) at.workers ∙ get_map at_of ds w (desk.Runs l x) at.there;
+      back = ap (Unstep w) is;
+      mounts = ap (λ (s : Supplies). s.mounts) made ∙ ap (λ (c : Build). length (mounts_at (slice_get c.graph.vertices x.vertex))) (sym at.build);
+      caches = keeps_where x.places.items n asked o keeps none;
+    }
+
+pub marks_settle : (n : Seen) (b : Build) (ds : List Desk) (w : ℕ) (l : Option ℕ) (x y : own.Execution) (o : Option Before) (asked : Bool) → IsAt n b ds w l x
+    → left_in y ≡ left_in x → KeepsIf asked n o → (asked ≡ false → x.places.items ≡ []) → MarksSettle n w (record { back = Resume w (left_in y); caches = o })
+marks_settle n b ds w l x y o asked at is keeps none =
+    let made = made_enough b ds w l x at.supplies at.there in
+    record {
+      left = left_in x;
+      runs = ap (λ ws. slice_get ws w) at.workers ∙ get_map at_of ds w (desk.Runs l x) at.there;
+      back = ap (Resume w) is;
+      supplies = made ∙ ap (λ (c : Build). supplies_for (slice_get c.graph.vertices x.vertex)) (sym at.build);
+      caches = keeps_where x.places.items n asked o keeps none;
+    }
+
+-- ---- a worker that runs nothing
+
+pub step_none : (n : Seen) (w : ℕ) → slice_get n.state.workers w ≡ None → walk_of n (Step w) ≡ Err (walk.Step no_step.NoWorker)
+step_none n w at = ap (λ o. told_as walk.Step (recorded n (Step w) step_fault (stepped n.build n.state w o))) at
+
+pub step_idle : (n : Seen) (w : ℕ) → slice_get n.state.workers w ≡ Some Idle → walk_of n (Step w) ≡ Err (walk.Step no_step.NotRunning)
+step_idle n w at = ap (λ o. told_as walk.Step (recorded n (Step w) step_fault (stepped n.build n.state w o))) at
+
+pub settle_none : (n : Seen) (w : ℕ) → slice_get n.state.workers w ≡ None → walk_of n (Settle w) ≡ Err (walk.Settle no_settle.NoWorker)
+settle_none n w at = ap (λ o. told_as walk.Settle (recorded n (Settle w) settle_fault (settled n.build n.state w o))) at
+
+pub settle_idle : (n : Seen) (w : ℕ) → slice_get n.state.workers w ≡ Some Idle → walk_of n (Settle w) ≡ Err (walk.Settle no_settle.NotRunning)
+settle_idle n w at = ap (λ o. told_as walk.Settle (recorded n (Settle w) settle_fault (settled n.build n.state w o))) at
+
+none_of : {A : Type 0} (xs : List A) → length xs ≡ 0 → xs ≡ []
+none_of [] e = refl
+none_of (x ∷ xs) e = absurd (omega (arith, e))
+
+-- a list that is not asked about has nothing
+pub unasked : {A : Type 0} (xs : List A) (n : ℕ) (empty : Bool) → n ≡ length xs → empty ≡ (n == 0) → not empty ≡ false → xs ≡ []
+unasked xs n true len is asked = let zero_is = eqb-true n 0 (sym is) in none_of xs (omega (arith, len, zero_is))
+unasked xs n false len is asked = absurd cc

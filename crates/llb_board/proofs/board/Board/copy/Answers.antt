@@ -1,0 +1,47 @@
+use Rattle.std.proofs.Common.{◌≤◌, ◌∙◌, map, sym, ap, subst, arith}
+use Rattle.llb_model.specs.Room.{most_events}
+use Rattle.llb_model.specs.Program.{Build}
+use Rattle.llb_board.specs.Room.{ready_made}
+use Rattle.llb_board.specs.Views.{at_of, leased_by}
+use Rattle.llb_board.proofs.Copies.{Parts, tracked_same}
+use Rattle.llb_board.proofs.board.Board.copy.Goals as goal
+
+pub invariant_of-result : goal.invariant_of-result
+invariant_of-result c =
+    let b = c.self.inside in
+    let p : Parts = record {
+      build = b.build;
+      first = b.start.rows;
+      stands = b.stands.items;
+      desks = b.desks.items;
+      caches = b.caches;
+      events = b.events.list;
+      marks = b.stop_marks.items;
+    } in
+    let q : Parts = record {
+      build = c.in_ok-copy.field-0;
+      first = c.in_ok-copy-3.field-0.rows;
+      stands = c.in_ok-copied_stands.field-0.items;
+      desks = c.in_ok-copied_desks.field-0.items;
+      caches = c.in_ok-copy-2.field-0;
+      events = c.in_ok-with_same.field-0.list;
+      marks = c.in_ok-from_slice.field-0.items;
+    } in
+    let desks = c.deref-2.ensures.value in
+    let room = c.in_ok-with_same.ensures.room in
+    let most = c.room.ensures in
+    let enough : most_events b.build ≤ c.in_ok-with_same.field-0.room = omega (arith, room, most) in
+    tracked_same p q b.events.room c.in_ok-with_same.field-0.room b.first_open
+    (record {
+      build = c.in_ok-copy.ensures;
+      first = ap (λ x. x.rows) c.in_ok-copy-3.ensures;
+      stands = c.in_ok-copied_stands.ensures ∙ c.deref.ensures.value;
+      workers = c.in_ok-copied_desks.ensures.workers ∙ ap (map at_of) desks;
+      leases = c.in_ok-copied_desks.ensures.leases ∙ ap (map leased_by) desks;
+      made = c.in_ok-copied_desks.ensures.made ∙ ap (map ready_made) desks;
+      caches = c.in_ok-copy-2.ensures;
+      events = c.in_ok-with_same.ensures.list;
+      marks = c.in_ok-from_slice.ensures.items ∙ c.deref-3.ensures.value;
+    })
+    (subst (λ (x : Build). most_events x ≤ c.in_ok-with_same.field-0.room) (sym c.in_ok-copy.ensures) enough)
+    c.self.invariant

@@ -1,0 +1,118 @@
+use Rattle.std.proofs.Common.{◌≡◌, ◌∙◌, List, [], length, map, refl, sym, ap, subst, arith, rules, vec_len}
+use Rattle.std.specs.Prelude.{Some, None, true, false, slice_get, slice_set}
+use Rattle.std.proofs.Math.Nat.{min-le_left, min-le_right}
+use Rattle.std.proofs.lemmas.Option.{slice_get-get_or}
+use Rattle.llb_model.specs.ByNumber.{by_number}
+use Rattle.llb_model.specs.State.{next_stopped, stopped}
+use Rattle.llb_model.proofs.Stopped.{stopped_length}
+use Rattle.llb_board.specs.Undo.{Resume, Displaced, left_in, caches_in, front, undone, CanUndo}
+use Rattle.llb_board.specs.Room.{IsTracked, seen}
+use Rattle.llb_board.specs.Views.{status_of}
+use Rattle.llb_board.specs.declared.stand.Stand.{Stand}
+use Rattle.llb_board.specs.declared.stand.Stand.TheVariants as stand
+use Rattle.llb_board.specs.declared.stand.Desk.TheVariants as desk
+use Rattle.llb_board.proofs.Claiming.{data_of}
+use Rattle.llb_board.proofs.Undone.{on_true, on_false, undone_is}
+use Rattle.llb_board.proofs.Undos.{tracked, over_written, low_vertex, places_resumed, resume_leaves}
+use Rattle.llb_board.proofs.board.Board.resume.Goals as goal
+
+pub put_caches-requires : goal.put_caches-requires
+put_caches-requires c =
+    let b = c.self.inside in
+    places_resumed b.build b.start.rows b.stands.items b.desks.items b.caches b.stop_marks.items b.events.list b.events.room c.self.invariant.kept c.args.w
+    c.args.execution c.args.before
+    (subst (CanUndo (record { back = Resume c.args.w (left_in c.args.execution); caches = caches_in c.args.before })) (sym c.self.view_is) c.requires)
+    (slice_set b.desks.items c.args.w (desk.Runs None c.args.execution)) refl
+
+pub index_mut-requires-2 : goal.index_mut-requires-2
+index_mut-requires-2 c =
+    let b = c.self.inside in
+    let len : vec_len b.stands ≡ length b.stands.items = search rules in
+    let low = low_vertex b.build b.start.rows b.stands.items b.desks.items b.caches b.stop_marks.items b.events.list b.events.room c.self.invariant.kept
+    c.args.w c.args.execution c.args.before
+    (subst (CanUndo (record { back = Resume c.args.w (left_in c.args.execution); caches = caches_in c.args.before })) (sym c.self.view_is) c.requires) in
+    omega (arith, low, len)
+
+pub mark_anew-requires : goal.mark_anew-requires
+mark_anew-requires c =
+    let b = c.self.inside in
+    ap length c.self.invariant.kept.stop_marks_are ∙ stopped_length b.build (map status_of b.stands.items) ∙ ap length (sym c.vertices-vertices.ensures.all)
+
+pub invariant_of-self : goal.invariant_of-self
+invariant_of-self c =
+    let b = c.self.inside in
+    let x = c.args.execution in
+    let ss = b.stands.items in
+    let u : Displaced = record { back = Resume c.args.w (left_in x); caches = caches_in c.args.before } in
+    let can = subst (CanUndo u) (sym c.self.view_is) c.requires in
+    let new = slice_set ss x.vertex (stand.Running c.args.w) in
+    let marks = c.mark_anew.new.stop_marks.items in
+    let low = low_vertex b.build b.start.rows ss b.desks.items b.caches b.stop_marks.items b.events.list b.events.room c.self.invariant.kept c.args.w x
+    c.args.before can in
+    let is : slice_set ss x.vertex c.replace-had.new.dest ≡ new = ap (slice_set ss x.vertex) c.replace-had.ensures.after in
+    let at : slice_get ss x.vertex ≡ Some c.replace-had.result
+    = slice_get-get_or ss x.vertex c.index_mut-5.result.now low ∙ ap (λ s. Some s) (sym (c.replace-had.ensures.value ∙ c.index_mut-5.ensures.value)) in
+    let anew : c.has_failed.result ≡ true → marks ≡ stopped b.build (map status_of new)
+    = λ failed. on_true c.has_failed.result _ c.mark_anew.ensures.anew failed
+    ∙ (λ i. by_number (next_stopped (map status_of (c.deref.ensures.value i))) [] (c.vertices-vertices.ensures.all i))
+    ∙ ap (λ (l : List Stand). stopped b.build (map status_of l)) is in
+    let same : c.has_failed.result ≡ false → marks ≡ b.stop_marks.items = λ done. on_false c.has_failed.result _ c.mark_anew.ensures.same done in
+    let leaves = resume_leaves b.build b.start.rows ss b.desks.items b.caches b.stop_marks.items b.events.list b.events.room c.self.invariant.kept c.args.w
+    x c.args.before can
+    c.replace-had.result c.has_failed.result (slice_set b.desks.items c.args.w (desk.Runs None x)) c.put_caches.new.desks.items c.put_caches.new.caches
+    marks refl
+    (record {
+      workers = c.put_caches.ensures.workers;
+      made = c.put_caches.ensures.made;
+      leases = c.put_caches.ensures.leases;
+      caches =
+          c.put_caches.ensures.caches;
+    })
+    at c.has_failed.ensures anew same in
+    let least = c.min-self-inside.ensures in
+    rw (c.take_back.ensures.list, c.take_back.ensures.room)
+    (subst (λ (l : List Stand). IsTracked (seen b.build b.start.rows l c.put_caches.new.desks.items c.put_caches.new.caches.rows (front b.events.list))
+    c.put_caches.new.desks.items
+    c.put_caches.new.caches.out marks b.events.room c.min-self-inside.result) (sym is)
+    (tracked b.build b.start.rows ss b.desks.items b.caches b.stop_marks.items b.events.list b.events.room c.self.invariant.kept
+    (data_of new c.put_caches.new.desks.items c.put_caches.new.caches marks) u c.min-self-inside.result can leaves
+    (over_written b.build b.start.rows ss b.desks.items b.caches b.stop_marks.items b.events.list b.events.room c.self.invariant.kept x.vertex
+    (stand.Running c.args.w) b.first_open
+    c.min-self-inside.result
+    (omega (arith, least, min-le_left b.first_open x.vertex)) (omega (arith, least, min-le_right b.first_open x.vertex)) c.self.invariant.over)))
+
+pub returns : goal.returns
+returns c =
+    let b = c.self.inside in
+    let x = c.args.execution in
+    let ss = b.stands.items in
+    let u : Displaced = record { back = Resume c.args.w (left_in x); caches = caches_in c.args.before } in
+    let can = subst (CanUndo u) (sym c.self.view_is) c.requires in
+    let new = slice_set ss x.vertex (stand.Running c.args.w) in
+    let marks = c.mark_anew.new.stop_marks.items in
+    let low = low_vertex b.build b.start.rows ss b.desks.items b.caches b.stop_marks.items b.events.list b.events.room c.self.invariant.kept c.args.w x
+    c.args.before can in
+    let is : slice_set ss x.vertex c.replace-had.new.dest ≡ new = ap (slice_set ss x.vertex) c.replace-had.ensures.after in
+    let at : slice_get ss x.vertex ≡ Some c.replace-had.result
+    = slice_get-get_or ss x.vertex c.index_mut-5.result.now low ∙ ap (λ s. Some s) (sym (c.replace-had.ensures.value ∙ c.index_mut-5.ensures.value)) in
+    let anew : c.has_failed.result ≡ true → marks ≡ stopped b.build (map status_of new)
+    = λ failed. on_true c.has_failed.result _ c.mark_anew.ensures.anew failed
+    ∙ (λ i. by_number (next_stopped (map status_of (c.deref.ensures.value i))) [] (c.vertices-vertices.ensures.all i))
+    ∙ ap (λ (l : List Stand). stopped b.build (map status_of l)) is in
+    let same : c.has_failed.result ≡ false → marks ≡ b.stop_marks.items = λ done. on_false c.has_failed.result _ c.mark_anew.ensures.same done in
+    let leaves = resume_leaves b.build b.start.rows ss b.desks.items b.caches b.stop_marks.items b.events.list b.events.room c.self.invariant.kept c.args.w
+    x c.args.before can
+    c.replace-had.result c.has_failed.result (slice_set b.desks.items c.args.w (desk.Runs None x)) c.put_caches.new.desks.items c.put_caches.new.caches
+    marks refl
+    (record {
+      workers = c.put_caches.ensures.workers;
+      made = c.put_caches.ensures.made;
+      leases = c.put_caches.ensures.leases;
+      caches =
+          c.put_caches.ensures.caches;
+    })
+    at c.has_failed.ensures anew same in
+    (λ i. seen b.build b.start.rows (is i) c.put_caches.new.desks.items c.put_caches.new.caches.rows (c.take_back.ensures.list i))
+    ∙ undone_is b.build b.start.rows (data_of ss b.desks.items b.caches b.stop_marks.items)
+    (data_of new c.put_caches.new.desks.items c.put_caches.new.caches marks) b.events.list u leaves
+    ∙ ap (undone u) c.self.view_is

@@ -1,0 +1,214 @@
+-- An event as a walker does it, what it displaces, and the board behind the event taken back.
+use Rattle.std.specs.Prelude.{◌≡◌, ℕ, ◌-◌, Bool, true, false, List, [], length, take, Option, Some, None, Result, Ok, Err, slice_get, slice_set}
+use Rattle.llb_wire.specs.Answer as answer
+use Rattle.llb_cache.specs.Caches.{CachesValue, Row}
+use Rattle.llb_execution.specs.Marks.{Mark, mark_of, put_back}
+use Rattle.llb_execution.specs.Parts.{mounts_in}
+use Rattle.llb_model.specs.Caches.{Store}
+use Rattle.llb_model.specs.Kept.{store_of}
+use Rattle.llb_model.specs.Leases.{AreLeased}
+use Rattle.llb_model.specs.State.{Status, Waiting, Running, Execution, At, Idle, Runs}
+use Rattle.llb_model.specs.Table as table
+use Rattle.llb_board.specs.Board.{Seen, Replays}
+use Rattle.llb_board.specs.Room.{Supplies, supplies_for, supplies_of, mounts_at, needs_at}
+use Rattle.llb_board.specs.Rules.{claim_of, step_of, settle_of}
+use Rattle.llb_board.specs.Views.{execution_of}
+use Rattle.llb_board.specs.declared.event.Stepped.TheVariants as stepped
+use Rattle.llb_board.specs.declared.event.Settled.TheVariants as settled
+use Rattle.llb_board.specs.declared.fault.WalkFault.{WalkFault}
+use Rattle.llb_board.specs.declared.fault.WalkFault.TheVariants as walk
+use Rattle.llb_board.specs.declared.stand.Execution as own
+use Rattle.llb_board.specs.declared.undo.Back as undo
+use Rattle.llb_board.specs.declared.undo.Back.TheVariants as back
+use Rattle.llb_board.specs.declared.undo.Before as before
+use Rattle.llb_board.specs.declared.walk.Reply.{Reply}
+use Rattle.llb_board.specs.declared.walk.Reply.TheVariants as reply
+
+-- ---- what an event of a walker answers
+
+-- the table's reply, a claim's job left out
+abbrev pub told : table.Reply → Reply
+told (table.Claimed job) = reply.Claimed
+told table.HasRead = reply.Stepped stepped.Read
+told (table.Acted a) = reply.Stepped (stepped.Acted a)
+told (table.HasMerged i) = reply.Stepped (stepped.Merged i)
+told (table.HasRun c status) = reply.Stepped (stepped.Ran c status)
+told (table.Faulted f) = reply.Stepped (stepped.Fault f)
+told (table.SettledDone v) = reply.Settled (settled.Done v)
+told (table.SettledFailed v) = reply.Settled (settled.Failed v)
+
+abbrev pub told_as : {F : Type 0} → (F → WalkFault) → Result (Seen × table.Reply) F → Result (Seen × Reply) WalkFault
+told_as fault (Ok (b, r)) = Ok (b, told r)
+told_as fault (Err e) = Err (fault e)
+
+-- what a claim, a step or a settle answers
+abbrev pub walk_of : Seen → table.Event → Result (Seen × Reply) WalkFault
+walk_of b (table.Claim w v) = told_as walk.Claim (claim_of b w v)
+walk_of b (table.Step w) = told_as walk.Step (step_of b w)
+walk_of b (table.Settle w) = told_as walk.Settle (settle_of b w)
+
+abbrev pub walk_memory : WalkFault → Bool
+walk_memory walk.Memory = true
+walk_memory (walk.Claim e) = false
+walk_memory (walk.Step e) = false
+walk_memory (walk.Settle e) = false
+
+abbrev pub GivesWalk : {X Y : Type 0} → (X → Y) → Result X WalkFault → Result Y WalkFault → Type 0
+GivesWalk = answer.Gives walk_memory
+
+-- ---- what an event displaces
+
+-- what a worker has that settles
+pub record Left : Type 0 where
+  pub execution : Execution
+  pub supplies : Supplies
+
+-- a claim the vertex that waited, a step what it can change of a view, a settle what the worker ran
+pub data Back : Type 0 where
+  Unclaim : ℕ → ℕ → Back
+  Unstep : ℕ → Mark → Back
+  Resume : ℕ → Left → Back
+
+-- the caches before an event, and the leases of all workers
+pub record Before : Type 0 where
+  pub caches : CachesValue
+  pub leases : List (Option ℕ)
+
+-- and where the vertex shows caches, these as they were
+pub record Displaced : Type 0 where
+  pub back : Back
+  pub caches : Option Before
+
+abbrev pub left_in : own.Execution → Left
+left_in x = record { execution = execution_of x; supplies = supplies_of x }
+
+abbrev pub back_in : undo.Back → Back
+back_in (back.Unclaim w v) = Unclaim w v
+back_in (back.Unstep w mark) = Unstep w mark
+back_in (back.Resume w x) = Resume w (left_in x)
+
+abbrev pub before_in : before.Before → Before
+before_in c = record { caches = c.caches; leases = c.leases.items }
+
+abbrev pub caches_in : Option before.Before → Option Before
+caches_in (Some c) = Some (before_in c)
+caches_in None = None
+
+-- ---- the event taken back
+
+abbrev pub statuses_before : Back → List Status → List Status
+statuses_before (Unclaim w v) statuses = slice_set statuses v Waiting
+statuses_before (Unstep w mark) statuses = statuses
+statuses_before (Resume w left) statuses = slice_set statuses left.execution.vertex (Running w)
+
+-- one micro-step less is done, and none has faulted
+abbrev pub with_view_back : Mark → Execution → Execution
+with_view_back mark x = record x { done = x.done - 1; fault = None; own = put_back mark x.own }
+
+abbrev pub step_before : Mark → Option At → At
+step_before mark (Some (Runs x)) = Runs (with_view_back mark x)
+step_before mark (Some Idle) = Idle
+step_before mark None = Idle
+
+abbrev pub workers_before : Back → List At → List At
+workers_before (Unclaim w v) workers = slice_set workers w Idle
+workers_before (Unstep w mark) workers = slice_set workers w (step_before mark (slice_get workers w))
+workers_before (Resume w left) workers = slice_set workers w (Runs left.execution)
+
+abbrev pub rows_before : Option Before → List Row → List Row
+rows_before (Some c) rows = c.caches.rows
+rows_before None rows = rows
+
+abbrev pub store_before : Option Before → Store → Store
+store_before (Some c) store = store_of c.caches.rows
+store_before None store = store
+
+-- all but the last
+abbrev pub front : {A : Type 0} → List A → List A
+front xs = take (length xs - 1) xs
+
+-- what an undo leaves of a board
+abbrev pub undone : Displaced → Seen → Seen
+undone u b = record b {
+  state = record {
+    statuses = statuses_before u.back b.state.statuses;
+    workers = workers_before u.back b.state.workers;
+    store = store_before u.caches b.state.store;
+  };
+  rows = rows_before u.caches b.rows;
+  events = front b.events;
+}
+
+-- ---- where it can be taken back
+
+-- the worker and its vertex stand as the event left them, and what is put back has the supplies that the build asks for
+pub record IsBegun (b : Seen) (w v : ℕ) : Type 0 where
+  pub runs : slice_get b.state.statuses v ≡ Some (Running w)
+
+pub record IsStepped (b : Seen) (w : ℕ) (mark : Mark) : Type 0 where
+  pub x : Execution
+  pub runs : slice_get b.state.workers w ≡ Some (Runs x)
+  pub mounts : mounts_in (put_back mark x.own) ≡ length (mounts_at (slice_get b.build.graph.vertices x.vertex))
+
+pub record IsLeft (b : Seen) (w : ℕ) (left : Left) : Type 0 where
+  pub idle : slice_get b.state.workers w ≡ Some Idle
+  pub supplies : left.supplies ≡ supplies_for (slice_get b.build.graph.vertices left.execution.vertex)
+
+abbrev pub StandsBehind : Back → Seen → Type 0
+StandsBehind (Unclaim w v) b = IsBegun b w v
+StandsBehind (Unstep w mark) b = IsStepped b w mark
+StandsBehind (Resume w left) b = IsLeft b w left
+
+-- what a settle left of a vertex that shows no cache has no instances
+abbrev pub HasNoPlaces : Back → Type 0
+HasNoPlaces (Unclaim w v) = Unit {0}
+HasNoPlaces (Unstep w mark) = Unit {0}
+HasNoPlaces (Resume w left) = left.execution.places ≡ []
+
+-- the caches that are put back have the instances of the workers leased, by these leases
+abbrev pub FitsLeases : Displaced → Seen → Option Before → Type 0
+FitsLeases u b (Some c) = AreLeased c.caches.out (undone u b).state.workers c.leases
+FitsLeases u b None = HasNoPlaces u.back
+
+-- the board that an undo leaves is one that events lead to, and whose parts fit
+pub record CanUndo (u : Displaced) (b : Seen) : Type 0 where
+  pub replays : Replays (undone u b)
+  pub stands : StandsBehind u.back b
+  pub leased : FitsLeases u b u.caches
+
+-- ---- what is kept of a board before an event
+
+-- its caches, and the leases of its workers
+pub record KeepsCaches (b : Seen) (c : Before) : Type 0 where
+  pub rows : c.caches.rows ≡ b.rows
+  pub store : store_of c.caches.rows ≡ b.state.store
+  pub leased : AreLeased c.caches.out b.state.workers c.leases
+
+-- where something is shown or held
+abbrev pub KeepsWhere : {A : Type 0} → List A → Seen → Option Before → Type 0
+KeepsWhere shown b (Some c) = KeepsCaches b c
+KeepsWhere shown b None = shown ≡ []
+
+pub record MarksClaim (b : Seen) (w v : ℕ) (u : Displaced) : Type 0 where
+  pub back : u.back ≡ Unclaim w v
+  pub caches : KeepsWhere (needs_at (slice_get b.build.graph.vertices v)) b u.caches
+
+pub record MarksStep (b : Seen) (w : ℕ) (u : Displaced) : Type 0 where
+  pub x : Execution
+  pub runs : slice_get b.state.workers w ≡ Some (Runs x)
+  pub back : u.back ≡ Unstep w (mark_of x.own)
+  pub mounts : mounts_in x.own ≡ length (mounts_at (slice_get b.build.graph.vertices x.vertex))
+  pub caches : KeepsWhere x.places b u.caches
+
+pub record MarksSettle (b : Seen) (w : ℕ) (u : Displaced) : Type 0 where
+  pub left : Left
+  pub runs : slice_get b.state.workers w ≡ Some (Runs left.execution)
+  pub back : u.back ≡ Resume w left
+  pub supplies : left.supplies ≡ supplies_for (slice_get b.build.graph.vertices left.execution.vertex)
+  pub caches : KeepsWhere left.execution.places b u.caches
+
+-- what an undo has, made before an event, is what the event can displace
+abbrev pub Marks : Seen → table.Event → Displaced → Type 0
+Marks b (table.Claim w v) u = MarksClaim b w v u
+Marks b (table.Step w) u = MarksStep b w u
+Marks b (table.Settle w) u = MarksSettle b w u

@@ -1,0 +1,157 @@
+//! An event with what undoes it, for whoever walks a run forwards and back.
+
+ghost use Rattle.std.specs.Prelude.{◌≡◌, [], false, option_map, slice_get, OnErr, IfOk, IfErr, Err};
+ghost use Rattle.llb_board.specs.Room.{needs_at};
+ghost use Rattle.llb_board.specs.Undo.{GivesWalk, walk_of, walk_memory, undone, CanUndo, Marks, MarksClaim, MarksStep, MarksSettle, caches_in};
+ghost use Rattle.llb_board.specs.Walking.{KeepsIf};
+ghost use Rattle.llb_board.specs.Views.{event_of};
+ghost use Rattle.llb_model.specs.Table.{Step, Settle};
+
+use crate::board::Board;
+use crate::build::Build;
+use crate::copying::{copied, copied_leases};
+use crate::event::{Event, Settled, Stepped};
+use crate::fault::{Memory, SettleFault, StepFault, WalkFault};
+use crate::needs::shows_cache;
+use crate::stand::Desk;
+use crate::undo::{Back, Before, Undo};
+
+/// What an event answers.
+#[derive(Clone, Copy, Debug, PartialEq, Eq)]
+pub enum Reply {
+    Claimed,
+    Stepped(Stepped),
+    Settled(Settled),
+}
+
+/// An event that was done: its answer, and what takes it back.
+#[derive(Drop)]
+pub struct Walked {
+    pub reply: Reply,
+    pub undo: Undo,
+}
+
+impl Board {
+    /// Does an event, and answers besides what takes it back: memory for that grows with what the event changes. The fault of the
+    /// claim, the step or the settle, or 141, which may come at any time.
+    pub fn walk(&mut self, event: Event) -> Result<Walked, WalkFault>
+        ensures gives { GivesWalk (λ r. (self.new, r.reply)) result (walk_of self.old (event_of event)) }
+        ensures undo { IfOk result (λ r. undone r.undo self.new ≡ self.old) }
+        ensures can { IfOk result (λ r. CanUndo r.undo self.new) }
+        ensures err { OnErr result (self.new ≡ self.old) }
+    {
+        self.replays();
+        let undo = self.before(event)?;
+        let reply = self.happen(event)?;
+        Ok(Walked { reply, undo })
+    }
+
+    // Does an event.
+    fn happen(&mut self, event: Event) -> Result<Reply, WalkFault>
+        ensures gives { GivesWalk (λ r. (self.new, r)) result (walk_of self.old (event_of event)) }
+        ensures err { OnErr result (self.new ≡ self.old) }
+    {
+        match event {
+            Event::Claim(w, v) => {
+                self.claim(w, v)?;
+                Ok(Reply::Claimed)
+            }
+            Event::Step(w) => {
+                let stepped = self.step(w)?;
+                Ok(Reply::Stepped(stepped))
+            }
+            Event::Settle(w) => {
+                let settled = self.settle(w)?;
+                Ok(Reply::Settled(settled))
+            }
+        }
+    }
+
+    // What takes an event back that is done on the board as it is.
+    fn before(&self, event: Event) -> Result<Undo, WalkFault>
+        ensures marks { IfOk result (λ u. Marks self.now (event_of event) u) }
+        ensures refused { IfErr result (λ e. walk_memory e ≡ false → walk_of self.now (event_of event) ≡ Err e) }
+    {
+        match event {
+            Event::Claim(w, v) => Ok(self.before_claim(w, v)?),
+            Event::Step(w) => self.before_step(w),
+            Event::Settle(w) => self.before_settle(w),
+        }
+    }
+
+    fn before_claim(&self, w: u32, v: u32) -> Result<Undo, Memory>
+        ensures { IfOk result (λ u. MarksClaim self.now w v u) }
+    {
+        let caches = self.caches_if(shows_cache_at(&self.build, v))?;
+        Ok(Undo {
+            back: Back::Unclaim(w, v),
+            caches,
+        })
+    }
+
+    fn before_step(&self, w: u32) -> Result<Undo, WalkFault>
+        ensures marks { IfOk result (λ u. MarksStep self.now w u) }
+        ensures refused { IfErr result (λ e. walk_memory e ≡ false → walk_of self.now (Step w) ≡ Err e) }
+    {
+        match desk_of(&self.desks, w) {
+            None => Err(WalkFault::Step(StepFault::NoWorker)),
+            Some(Desk::Idle) => Err(WalkFault::Step(StepFault::NotRunning)),
+            Some(Desk::Runs(_, execution)) => {
+                let mark = execution.view.mark()?;
+                let caches = self.caches_if(!execution.places.is_empty())?;
+                Ok(Undo {
+                    back: Back::Unstep(w, mark),
+                    caches,
+                })
+            }
+        }
+    }
+
+    fn before_settle(&self, w: u32) -> Result<Undo, WalkFault>
+        ensures marks { IfOk result (λ u. MarksSettle self.now w u) }
+        ensures refused { IfErr result (λ e. walk_memory e ≡ false → walk_of self.now (Settle w) ≡ Err e) }
+    {
+        match desk_of(&self.desks, w) {
+            None => Err(WalkFault::Settle(SettleFault::NoWorker)),
+            Some(Desk::Idle) => Err(WalkFault::Settle(SettleFault::NotRunning)),
+            Some(Desk::Runs(_, execution)) => {
+                let left = copied(self.alloc, execution)?;
+                let caches = self.caches_if(!execution.places.is_empty())?;
+                Ok(Undo {
+                    back: Back::Resume(w, left),
+                    caches,
+                })
+            }
+        }
+    }
+
+    // A copy of the caches and of the leases of all workers, where it is needed.
+    fn caches_if(&self, needed: bool) -> Result<Option<Before>, Memory>
+        ensures { IfOk result (λ o. KeepsIf needed self.now (caches_in o)) }
+    {
+        if !needed {
+            return Ok(None);
+        }
+        Ok(Some(Before {
+            caches: self.caches.copy()?,
+            leases: copied_leases(self.alloc, &self.desks)?,
+        }))
+    }
+}
+
+// What a worker has.
+fn desk_of(desks: &[Desk], w: u32) -> Option<&Desk>
+    ensures { option_map (λ d. d.now) result ≡ slice_get desks.now w }
+{
+    desks.get(w as usize)
+}
+
+// Whether the vertex of a number shows a cache.
+fn shows_cache_at(build: &Build, v: u32) -> bool
+    ensures { result ≡ false → needs_at (slice_get build.now.graph.vertices v) ≡ [] }
+{
+    match build.vertex(v) {
+        Some(vertex) => shows_cache(vertex),
+        None => false,
+    }
+}

@@ -1,0 +1,75 @@
+//! What a micro-step can change of a view, kept before it and put back behind it.
+
+ghost use Rattle.std.specs.Prelude.{◌≡◌, IfOk};
+ghost use Rattle.llb_execution.specs.Marks.{mark_in, mark_of, put_back, PutsBack};
+ghost use Rattle.llb_execution.specs.Parts.{own_of};
+
+use crate::refusal::NoMemory;
+use crate::view::{Own, View};
+use llb_mount::View as Mounts;
+use llb_tree::Tree;
+use llb_wire::Memory;
+use std::marker::Model;
+
+/// What a micro-step can change of a view: of a source nothing, of a file op how many results there are, of a merge what is laid so
+/// far, of an exec its mounts.
+#[derive(Drop)]
+pub struct Mark {
+    was: Was,
+}
+
+#[derive(Drop)]
+pub(crate) enum Was {
+    Nothing,
+    Results(usize),
+    Laid(Tree),
+    Mounts(Mounts),
+}
+
+impl Model for Mark {
+    ghost use Rattle.std.specs.Coded.{codes};
+    ghost use Rattle.llb_tree.specs.Tree.{coded_tree};
+    ghost use Rattle.llb_execution.specs.Marks.{Mark as MarkValue, mark_in};
+
+    ghost Value = { MarkValue };
+
+    ghost coded = { Prim.hlevel (codes, coded_tree) };
+
+    ghost view = { λ m. mark_in m.was };
+}
+
+impl View {
+    /// What the next micro-step can change, and no more of the view: no input of a file op or of a merge. Trees are shared. `Memory` is
+    /// the want of memory, and the one refusal.
+    pub fn mark(&self) -> Result<Mark, Memory>
+        ensures is { IfOk result (λ m. m ≡ mark_of self.now) }
+        ensures back { IfOk result (λ m. PutsBack self.now m) }
+    {
+        let held = was_in(&self.own)?;
+        Ok(Mark { was: held })
+    }
+
+    /// What a mark has is in the view again. Takes no memory.
+    pub fn put_back(&mut self, mark: Mark)
+        ensures { self.new ≡ put_back mark self.old }
+    {
+        match mark.was {
+            Was::Nothing => {}
+            Was::Results(count) => self.keep_results(count),
+            Was::Laid(tree) => self.put_laid(tree),
+            Was::Mounts(mounts) => self.put_mounts(mounts),
+        }
+    }
+}
+
+// What a micro-step can change of what a view has.
+fn was_in(own: &Own) -> Result<Was, NoMemory>
+    ensures { IfOk result (λ w. mark_in w ≡ mark_of (own_of own.now)) }
+{
+    match own {
+        Own::Local(_) => Ok(Was::Nothing),
+        Own::Files(_, results) => Ok(Was::Results(results.len())),
+        Own::Layers(_, laid) => Ok(Was::Laid(laid.copy()?)),
+        Own::Mounted(mounts, _) => Ok(Was::Mounts(mounts.copy()?)),
+    }
+}

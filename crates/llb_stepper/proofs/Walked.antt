@@ -1,0 +1,139 @@
+-- What a walk of the board tells of the table: the board behind the event, and the reply.
+use Rattle.std.proofs.Common.{◌≡◌, suc, Bool, true, false, List, [], ◌∷◌, ◌++◌, length, reverse, Some, option_map, is_some, refl, sym, ap, ◌∙◌, subst}
+use Rattle.std.proofs.lemmas.List.{reverse-append, length-reverse}
+use Rattle.std.specs.Prelude.{Result, Ok, Err}
+use Rattle.std.specs.List.{list_any}
+use Rattle.std.specs.Result.{result_ok}
+use Rattle.llb_model.specs.Run.{chosen}
+use Rattle.llb_model.specs.State.{State}
+use Rattle.llb_model.specs.Table.{Event, Claim, Step, Settle, Reply, Claimed, HasRead, Acted, HasMerged, HasRun, Faulted, SettledDone, SettledFailed}
+use Rattle.llb_model.specs.Table.{claim_grant, step_grant, settle_grant, table}
+use Rattle.llb_board.specs.Board.{Seen, ChosenIsGranted, after_event, recorded}
+use Rattle.llb_board.specs.Rules.{claim_fault, step_fault, settle_fault}
+use Rattle.llb_board.specs.Undo.{told, told_as, undone, walk_of, CanUndo}
+use Rattle.llb_board.specs.declared.fault.WalkFault.{WalkFault}
+use Rattle.llb_board.specs.declared.fault.WalkFault.TheVariants as walk
+use Rattle.llb_board.specs.declared.walk.Reply as short
+use Rattle.llb_board.specs.declared.walk.Walked.{Walked}
+use Rattle.llb_stepper.specs.declared.stop.Break.{Break}
+use Rattle.llb_stepper.specs.declared.stop.Break.TheVariants as stop
+use Rattle.llb_stepper.specs.declared.fault.StepperFault.{StepperFault}
+use Rattle.llb_stepper.specs.Rules.{MeetsOn, done_by, done_of, stepper_memory}
+use Rattle.llb_stepper.specs.Stepping.{Stepping, answered, onward, meets}
+use Rattle.llb_stepper.specs.Told.{meets_told}
+use Rattle.llb_stepper.specs.Kept.{past_of, stepping, Follows, AreWalked}
+
+abbrev Walk : Type 0
+Walk = Result (Seen × short.Reply) WalkFault
+
+inside : {x y : Seen × short.Reply} → ◌≡◌ {A = Walk} (Ok x) (Ok y) → x ≡ y
+inside e = cc
+
+-- an event that is granted: the board behind it, and the reply that is told
+by_grant : {C F : Type 0} (b n : Seen) (e : Event) (q : short.Reply) (fault : C → F) (out : F → WalkFault) (o : Result (State × Reply) C)
+    → told_as out (recorded b e fault o) ≡ Ok (n, q) → (r : Reply) × (option_map {U = Seen × Reply} (λ a. (after_event b e a.0, a.1)) (result_ok o)
+    ≡ Some (n, r)) × (q ≡ told r)
+by_grant b n e q fault out (Err cause) is = absurd cc
+by_grant b n e q fault out (Ok (s, r)) is =
+    let same = inside is in
+    (r, ap (λ (p : Seen × short.Reply). Some (p.0, r)) same, ap (λ (p : Seen × short.Reply). p.1) (sym same))
+
+pub answers : (b n : Seen) (e : Event) (q : short.Reply) → walk_of b e ≡ Ok (n, q) → (r : Reply) × (answered b e ≡ Some (n, r)) × (q ≡ told r)
+unfolding table
+answers b n (Claim w v) q is = by_grant b n (Claim w v) q claim_fault walk.Claim (claim_grant b.build b.state w v) is
+answers b n (Step w) q is = by_grant b n (Step w) q step_fault walk.Step (step_grant b.build b.state w) is
+answers b n (Settle w) q is = by_grant b n (Settle w) q settle_fault walk.Settle (settle_grant b.build b.state w) is
+
+-- where the table grants an event, a walk is not refused
+grants_by : {C F : Type 0} (b : Seen) (e : Event) (fault : C → F) (out : F → WalkFault) (o : Result (State × Reply) C) (f : WalkFault)
+    → is_some (result_ok o) ≡ true → told_as out (recorded b e fault o) ≡ Err f → ⊥
+grants_by b e fault out (Err cause) f granted is = cc
+grants_by b e fault out (Ok p) f granted is = cc
+
+pub not_refused : (b : Seen) (e : Event) (f : WalkFault) → is_some (table b.build b.state e) ≡ true → walk_of b e ≡ Err f → ⊥
+unfolding table
+not_refused b (Claim w v) f granted is = grants_by b (Claim w v) claim_fault walk.Claim (claim_grant b.build b.state w v) f granted is
+not_refused b (Step w) f granted is = grants_by b (Step w) step_fault walk.Step (step_grant b.build b.state w) f granted is
+not_refused b (Settle w) f granted is = grants_by b (Settle w) settle_fault walk.Settle (settle_grant b.build b.state w) f granted is
+
+-- a breakpoint is met by what is told of a reply as by the reply
+met_told : (e : Event) (r : Reply) (k : Break) → meets_told e (told r) k ≡ meets e r k
+met_told e r (stop.Claims v) = refl
+met_told e (Claimed job) (stop.Settles v) = refl
+met_told e HasRead (stop.Settles v) = refl
+met_told e (Acted a) (stop.Settles v) = refl
+met_told e (HasMerged i) (stop.Settles v) = refl
+met_told e (HasRun c status) (stop.Settles v) = refl
+met_told e (Faulted f) (stop.Settles v) = refl
+met_told e (SettledDone u) (stop.Settles v) = refl
+met_told e (SettledFailed u) (stop.Settles v) = refl
+met_told e (Claimed job) stop.Fails = refl
+met_told e HasRead stop.Fails = refl
+met_told e (Acted a) stop.Fails = refl
+met_told e (HasMerged i) stop.Fails = refl
+met_told e (HasRun c status) stop.Fails = refl
+met_told e (Faulted f) stop.Fails = refl
+met_told e (SettledDone u) stop.Fails = refl
+met_told e (SettledFailed u) stop.Fails = refl
+
+pub any_told : (e : Event) (r : Reply) (ks : List Break) → list_any (meets_told e (told r)) ks ≡ list_any (meets e r) ks
+any_told e r ks = ap (λ test. list_any test ks) (λ i k. met_told e r k i)
+
+-- as many boards are before as events were done
+depth : (ws : List Walked) (b : Seen) → length (past_of b ws) ≡ length ws
+depth [] b = refl
+depth (w ∷ ws) b = ap suc (depth ws (undone w.undo b))
+
+pub depth_of : (ws : List Walked) (b : Seen) → length ws ≡ length (past_of b (reverse ws))
+depth_of ws b = sym (length-reverse ws) ∙ sym (depth (reverse ws) b)
+
+-- ---- one event more
+
+module _ (b n : Seen) (e : Event) (ws : List Walked) (w : Walked) (back : undone w.undo n ≡ b) (given : walk_of b e ≡ Ok (n, w.reply)) where
+  follows : Follows (undone w.undo n) n w.reply
+  follows = let a = answers b n e w.reply given in record { event = e; reply = a.0; given = ap (λ x. answered x e) back ∙ a.1; same = a.2 }
+
+  turned : reverse (ws ++ w ∷ []) ≡ w ∷ reverse ws
+  turned = reverse-append ws (w ∷ [])
+
+  -- it can be taken back too
+  pub walked_more : CanUndo w.undo n → AreWalked b (reverse ws) → AreWalked n (reverse (ws ++ w ∷ []))
+  walked_more can before = subst (AreWalked n) (sym turned) (can, follows, subst (λ x. AreWalked x (reverse ws)) (sym back) before)
+
+  -- and the stepper is behind it
+  pub stepping_more : (breaks : List Break) → stepping n (ws ++ w ∷ []) breaks ≡ onward (stepping b ws breaks) n
+  stepping_more breaks =
+      ap (λ us. record { board = n; past = past_of n us; breaks = breaks }) turned
+      ∙ ap (λ x. record { board = n; past = x ∷ past_of x (reverse ws); breaks = breaks }) back
+
+  pub meets_more : (s : Stepping) (ks : List Break) (us : List Walked) (met : Bool) → us ≡ ws ++ w ∷ [] → stepping b ws ks ≡ s
+      → met ≡ list_any (meets_told e w.reply) ks → MeetsOn s e (stepping n us ks) met
+  meets_more s ks us met more view is =
+      let a = answers b n e w.reply given in
+      let breaks : ks ≡ s.breaks = ap (λ (x : Stepping). x.breaks) view in
+      let told_by : met ≡ list_any (meets_told e (told a.0)) ks = is ∙ ap (λ q. list_any (meets_told e q) ks) a.2 in (
+        n,
+        a.0,
+        ap (λ (x : Stepping). answered x.board e) (sym view) ∙ a.1,
+        ap (λ l. stepping n l ks) more ∙ stepping_more ks ∙ ap (λ x. onward x n) view,
+        told_by ∙ any_told e a.0 ks ∙ ap (list_any (meets e a.0)) breaks,
+      )
+
+-- ---- a chosen event is refused for want of memory alone
+
+refused_by : (s : Stepping) (o : Walk) (f : StepperFault) → done_by s o ≡ Err f → (g : WalkFault) × (o ≡ Err g)
+refused_by s (Ok p) f is = absurd cc
+refused_by s (Err g) f is = (g, refl)
+
+pub memory_alone : (s : Stepping) (e : Event) (f : StepperFault) → is_some (table s.board.build s.board.state e) ≡ true
+    → (stepper_memory f ≡ false → done_of s e ≡ Err f) → stepper_memory f ≡ true
+memory_alone s e f granted refused = by_test (stepper_memory f) refl
+  where
+    by_test : (b : Bool) → stepper_memory f ≡ b → stepper_memory f ≡ true
+    by_test true is = is
+    by_test false is = let r = refused_by s (walk_of s.board e) f (refused is) in absurd (not_refused s.board e r.0 granted r.1)
+
+-- what the law of a board says of a stepper's board
+pub chosen_granted : (b : Seen) (s : Stepping) (e : Event) → b ≡ s.board → ChosenIsGranted b → chosen b.build b.state ≡ Some e
+    → is_some (table s.board.build s.board.state e) ≡ true
+chosen_granted b s e same law is = ap (λ (x : Seen). is_some (table x.build x.state e)) (sym same) ∙ law e is

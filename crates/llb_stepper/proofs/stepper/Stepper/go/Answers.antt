@@ -1,0 +1,36 @@
+use Rattle.std.proofs.Common.{◌-◌, length, sym, ap, subst}
+use Rattle.llb_board.specs.Views.{event_of}
+use Rattle.llb_stepper.specs.Rules.{MeetsOn}
+use Rattle.llb_stepper.specs.Stepping.{Stepping}
+use Rattle.llb_stepper.proofs.Stops.{none_chosen, one_chosen, stops_chosen, done_since, chosen_as}
+use Rattle.llb_stepper.proofs.Walked.{memory_alone, chosen_granted}
+use Rattle.llb_stepper.proofs.stepper.Stepper.go.Goals as goal
+
+pub loop-event-init : goal.loop-event-init
+loop-event-init c = (none_chosen c.args.self.now, c.depth-before.ensures)
+
+pub returns-in-Ok-true-clause-goes : goal.returns-in-Ok-true-clause-goes
+returns-in-Ok-true-clause-goes c =
+    let e = event_of c.in-Some.event in
+    let so_far = c.loop-event.invariant.0 in
+    let met = subst (MeetsOn c.loop-event.self e c.walk.new.self) c.in-Ok-true.field-0-test c.in-Ok-true.ensures.met in
+    stops_chosen c.args.self.now c.loop-event.self c.walk.new.self (c.depth.result - c.depth-before.result) e
+    (done_since c.args.self.now c.loop-event.self c.walk.new.self e _ (length so_far.events) c.depth-before.result c.depth.result so_far.gone.depth met
+    c.loop-event.invariant.1 c.depth.ensures)
+    so_far (chosen_as _ c.loop-event.self e c.in-Some.ensures c.self.view_is) met
+
+pub returns-in-Err-clause-refused : goal.returns-in-Err-clause-refused
+returns-in-Err-clause-refused c =
+    memory_alone c.loop-event.self (event_of c.in-Some.event) c.in-Err.fault
+    (chosen_granted c.self.inside.board c.loop-event.self (event_of c.in-Some.event) (ap (λ (x : Stepping). x.board) c.self.view_is) c.chosen_is_granted.ensures
+    (sym c.in-Some.ensures))
+    c.in-Err.ensures.gives
+
+pub loop-event-preserved : goal.loop-event-preserved
+loop-event-preserved c =
+    let e = event_of c.in-Some.event in
+    let met = subst (MeetsOn c.loop-event.self e c.walk.new.self) c.in-Ok-false.field-0-test c.in-Ok-false.ensures.met in (
+      one_chosen c.args.self.now c.loop-event.self c.walk.new.self e c.loop-event.invariant.0 (chosen_as _ c.loop-event.self e c.in-Some.ensures
+          c.self.view_is) met,
+      c.loop-event.invariant.1,
+    )

@@ -1,0 +1,11 @@
+-- The chosen events so far; fewer can come with each.
+use Rattle.std.proofs.Common.{◌≡◌, ◌-◌, length}
+use Rattle.llb_model.specs.Room.{most_events}
+use Rattle.llb_stepper.proofs.Stops.{Chosen}
+use Rattle.llb_stepper.proofs.stepper.Stepper.go.Given as goal
+
+abbrev pub invariant-loop-event : goal.invariant-loop-event
+invariant-loop-event l = Chosen l.fn.self l.self × (l.before ≡ length l.fn.self.past)
+
+abbrev pub decreases-loop-event : goal.decreases-loop-event
+decreases-loop-event l = most_events l.self.board.build - length l.self.board.events

@@ -1,0 +1,24 @@
+use Rattle.std.proofs.Common.{[], ◌∷◌, ◌++◌, reverse, ap, sym, subst, ◌∙◌}
+use Rattle.std.specs.List.{list_any}
+use Rattle.llb_board.specs.Views.{event_of}
+use Rattle.llb_stepper.specs.Kept.{AreWalked}
+use Rattle.llb_stepper.specs.Told.{meets_told}
+use Rattle.llb_stepper.proofs.Walked.{walked_more, meets_more}
+use Rattle.llb_stepper.proofs.stepper.Stepper.walk.Goals as goal
+
+pub invariant_of-self-in-Ok : goal.invariant_of-self-in-Ok
+invariant_of-self-in-Ok c =
+    let w = c.in-Ok.walked in
+    let more = c.push_reserved.ensures.items ∙ ap (λ l. l ++ w ∷ []) c.reserve.ensures.items in
+    subst (λ l. AreWalked c.walk.new.self (reverse l)) (sym more)
+    (walked_more c.self.inside.board c.walk.new.self (event_of c.args.event) c.self.inside.walked.items w c.in-Ok.ensures.undo c.in-Ok.ensures.gives
+    c.in-Ok.ensures.can
+    c.self.invariant)
+
+pub returns-in-Ok-clause-met : goal.returns-in-Ok-clause-met
+returns-in-Ok-clause-met c =
+    let w = c.in-Ok.walked in
+    let more = c.push_reserved.ensures.items ∙ ap (λ l. l ++ w ∷ []) c.reserve.ensures.items in
+    meets_more c.self.inside.board c.walk.new.self (event_of c.args.event) c.self.inside.walked.items w c.in-Ok.ensures.undo c.in-Ok.ensures.gives
+    c.args.self.now c.self.inside.breaks.items c.push_reserved.new.self.items c.meets_any-met.result more c.self.view_is
+    (c.meets_any-met.ensures ∙ ap (list_any (meets_told (event_of c.args.event) w.reply)) c.deref.ensures.value)

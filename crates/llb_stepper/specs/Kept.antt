@@ -1,0 +1,28 @@
+-- What the type of a stepper keeps: each event that was done can be taken back, and its reply is the table's on the board before it.
+use Rattle.std.specs.Prelude.{◌≡◌, List, [], ◌∷◌, reverse, Some}
+use Rattle.llb_model.specs.Table.{Event, Reply}
+use Rattle.llb_board.specs.Board.{Seen}
+use Rattle.llb_board.specs.Undo.{told, undone, CanUndo}
+use Rattle.llb_board.specs.declared.walk.Reply as short
+use Rattle.llb_board.specs.declared.walk.Walked.{Walked}
+use Rattle.llb_stepper.specs.declared.stop.Break.{Break}
+use Rattle.llb_stepper.specs.Stepping.{Stepping, answered}
+
+-- where taking back one event after another leads, the last first
+abbrev pub past_of : Seen → List Walked → List Seen
+past_of b [] = []
+past_of b (w ∷ ws) = undone w.undo b ∷ past_of (undone w.undo b) ws
+
+abbrev pub stepping : Seen → List Walked → List Break → Stepping
+stepping b walked breaks = record { board = b; past = past_of b (reverse walked); breaks = breaks }
+
+-- a board is what an event leaves of one before it, and that is the reply
+pub record Follows (before b : Seen) (r : short.Reply) : Type 0 where
+  pub event : Event
+  pub reply : Reply
+  pub given : answered before event ≡ Some (b, reply)
+  pub same : r ≡ told reply
+
+abbrev pub AreWalked : Seen → List Walked → Type 0
+AreWalked b [] = Unit {0}
+AreWalked b (w ∷ ws) = CanUndo w.undo b × Follows (undone w.undo b) b w.reply × AreWalked (undone w.undo b) ws

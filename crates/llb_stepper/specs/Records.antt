@@ -1,0 +1,76 @@
+-- The lines of a record: an event by its number from 1, and its reply.
+use Rattle.std.specs.Prelude.{ℕ, ◌-◌, ◌&&◌, nat_le, List, ◌++◌, length, codes, Option, Some, None, option_map, slice_get, if◌then◌else◌}
+use Rattle.std.specs.Fmt.{decimal}
+use Rattle.llb_ops.specs.declared.op.Kind.{Kind}
+use Rattle.llb_ops.specs.declared.op.Kind.TheVariants.{Exec, Source, File, Build, Merge, Diff}
+use Rattle.llb_loader.specs.declared.graph.Vertex.{Vertex}
+use Rattle.llb_model.specs.declared.fault.VertexFault.{VertexFault}
+use Rattle.llb_model.specs.declared.fault.VertexFault.TheVariants as vertex
+use Rattle.llb_model.specs.Table.{Event, Claim, Step, Settle, Reply, Claimed, HasRead, Acted, HasMerged, HasRun, Faulted, SettledDone, SettledFailed}
+use Rattle.llb_board.specs.Board.{Seen}
+use Rattle.llb_stepper.specs.Stepping.{Stepping, answered}
+
+-- the kind of an op; no graph has an op of the last two, or of none
+abbrev pub kind_text : Option Kind → List ℕ
+kind_text (Some (Source s)) = codes "source"
+kind_text (Some (File f)) = codes "file"
+kind_text (Some (Merge m)) = codes "merge"
+kind_text (Some (Exec e)) = codes "exec"
+kind_text (Some (Build b)) = codes "build"
+kind_text (Some (Diff d)) = codes "diff"
+kind_text None = codes "none"
+
+abbrev pub event_text : Event → List ℕ
+event_text (Claim w v) = codes "claim " ++ (decimal w ++ (codes " " ++ decimal v))
+event_text (Step w) = codes "step " ++ decimal w
+event_text (Settle w) = codes "settle " ++ decimal w
+
+abbrev pub done_text : ℕ → List ℕ
+done_text v = decimal v ++ codes " done"
+
+abbrev pub failed_text : ℕ → List ℕ
+failed_text v = decimal v ++ codes " failed"
+
+-- two numbers
+abbrev pub pair_text : ℕ → ℕ → List ℕ
+pair_text a b = decimal a ++ (codes " " ++ decimal b)
+
+-- a micro-step's fault; that of a command is told by its status
+abbrev pub fault_text : VertexFault → List ℕ
+fault_text (vertex.Action a n) = codes "fault " ++ pair_text a n
+fault_text (vertex.Exit c s) = codes "ran " ++ pair_text c s
+
+-- what is claimed: the kind of its op, and how many micro-steps it has
+abbrev pub claimed_text : Option Vertex → List ℕ
+claimed_text (Some v) = kind_text v.op.kind ++ (codes " " ++ decimal v.steps)
+claimed_text None = codes "none"
+
+abbrev pub vertex_of : Event → ℕ
+vertex_of (Claim w v) = v
+vertex_of (Step w) = 0
+vertex_of (Settle w) = 0
+
+abbrev pub reply_text : List Vertex → Event → Reply → List ℕ
+reply_text vertices e (Claimed job) = claimed_text (slice_get vertices (vertex_of e))
+reply_text vertices e HasRead = codes "read"
+reply_text vertices e (Acted a) = codes "acted " ++ decimal a
+reply_text vertices e (HasMerged i) = codes "merged " ++ decimal i
+reply_text vertices e (HasRun c status) = codes "ran " ++ pair_text c status
+reply_text vertices e (Faulted f) = fault_text f
+reply_text vertices e (SettledDone v) = done_text v
+reply_text vertices e (SettledFailed v) = failed_text v
+
+-- the line of an event, without its end
+abbrev pub record_text : List Vertex → ℕ → Event × Reply → List ℕ
+record_text vertices number p = decimal number ++ (codes " " ++ (event_text p.0 ++ (codes " -> " ++ reply_text vertices p.0 p.1)))
+
+-- an event with its reply on a board
+abbrev pub replied : Option Seen → Option Event → Option (Event × Reply)
+replied None e = None
+replied (Some b) None = None
+replied (Some b) (Some e) = option_map (λ (p : Seen × Reply). (e, p.1)) (answered b e)
+
+-- event i of the board's record, counted from 1, with its reply: of those alone that were done here
+abbrev pub record_at : Stepping → ℕ → Option (Event × Reply)
+record_at s i =
+    if nat_le 1 i && nat_le i (length s.board.events) then replied (slice_get s.past (length s.board.events - i)) (slice_get s.board.events (i - 1)) else None

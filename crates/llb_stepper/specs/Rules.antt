@@ -1,0 +1,44 @@
+-- What the calls of a stepper answer.
+use Rattle.std.specs.Prelude.{◌≡◌, ℕ, ◌<◌, Bool, true, false, List, take, Some, Result, Ok, Err, slice_get}
+use Rattle.std.specs.List.{list_any}
+use Rattle.llb_wire.specs.Answer as answer
+use Rattle.llb_model.specs.Table.{Event, Reply}
+use Rattle.llb_board.specs.Board.{Seen}
+use Rattle.llb_board.specs.Undo.{walk_of, walk_memory}
+use Rattle.llb_board.specs.declared.walk.Reply as short
+use Rattle.llb_board.specs.declared.fault.WalkFault.{WalkFault}
+use Rattle.llb_stepper.specs.declared.fault.StepperFault.{StepperFault}
+use Rattle.llb_stepper.specs.declared.fault.StepperFault.TheVariants as fault
+use Rattle.llb_stepper.specs.Stepping.{Stepping, answered, onward, meets, meets_at, run_on}
+
+-- want of memory, of the board or of the stepper itself
+abbrev pub stepper_memory : StepperFault → Bool
+stepper_memory (fault.Board e) = walk_memory e
+stepper_memory fault.NothingBefore = false
+stepper_memory (fault.BadCommand n) = false
+stepper_memory fault.Memory = true
+
+abbrev pub GivesEvent : {X Y : Type 0} → (X → Y) → Result X StepperFault → Result Y StepperFault → Type 0
+GivesEvent = answer.Gives stepper_memory
+
+-- one event, or the board's refusal of it
+abbrev pub done_by : Stepping → Result (Seen × short.Reply) WalkFault → Result Stepping StepperFault
+done_by s (Ok p) = Ok (onward s p.0)
+done_by s (Err e) = Err (fault.Board e)
+
+abbrev pub done_of : Stepping → Event → Result Stepping StepperFault
+done_of s e = done_by s (walk_of s.board e)
+
+-- one event was granted, and that tells whether it meets a breakpoint
+abbrev pub MeetsOn : Stepping → Event → Stepping → Bool → Type 0
+MeetsOn s e t met = (b : Seen) × (r : Reply) × (answered s.board e ≡ Some (b, r)) × (t ≡ onward s b) × (met ≡ list_any (meets e r) s.breaks)
+
+-- Some event of a list is refused so, on the board to which those before it lead, of which none meets a breakpoint.
+pub record IsRefusedAt (s : Stepping) (es : List Event) (e : StepperFault) : Type 0 where
+  pub count : ℕ
+  pub board : Seen
+  pub leads : run_on s.board (take count es) ≡ Some board
+  pub unmet : (k : ℕ) → k < count → meets_at s.breaks s.board es k ≡ false
+  pub event : Event
+  pub at : slice_get es count ≡ Some event
+  pub refused : stepper_memory e ≡ false → done_of (record s { board = board }) event ≡ Err e

@@ -1,0 +1,127 @@
+-- A stepper as contracts see it, and what its calls do: one event, one back, and the events up to a stop.
+use Rattle.std.specs.Prelude.{◌≡◌, ℕ, zero, suc, ◌+◌, ◌<◌, ◌==◌, Bool, true, false, List, [], ◌∷◌, length, take, drop, Option, Some, None, option_map}
+use Rattle.std.specs.List.{list_any}
+use Rattle.llb_model.specs.Table.{Event, Claim, Step, Settle, Reply, Claimed, HasRead, Acted, HasMerged, HasRun, Faulted, SettledDone, SettledFailed, table}
+use Rattle.llb_model.specs.State.{State}
+use Rattle.llb_model.specs.Run.{chosen}
+use Rattle.llb_board.specs.Board.{Seen, after_event}
+use Rattle.llb_stepper.specs.declared.stop.Break.{Break}
+use Rattle.llb_stepper.specs.declared.stop.Break.TheVariants as stop
+use Rattle.llb_stepper.specs.declared.stop.Stop.{Stop}
+
+-- the board, the boards before its events, the last first, and the breakpoints
+pub record Stepping : Type 0 where
+  pub board : Seen
+  pub past : List Seen
+  pub breaks : List Break
+
+-- ---- one event
+
+-- the board behind an event that the table grants, and the reply
+abbrev pub answered : Seen → Event → Option (Seen × Reply)
+answered b e = option_map (λ (a : State × Reply). (after_event b e a.0, a.1)) (table b.build b.state e)
+
+-- a stepper on another board, behind the one that it was on
+abbrev pub onward : Stepping → Seen → Stepping
+onward s b = record s { board = b; past = s.board ∷ s.past }
+
+-- one event fewer, and breakpoints as they were
+pub record GoesBack (s t : Stepping) : Type 0 where
+  pub past : s.past ≡ t.board ∷ t.past
+  pub breaks : t.breaks ≡ s.breaks
+
+-- ---- breakpoints
+
+abbrev pub claims : ℕ → Event → Bool
+claims v (Claim w u) = u == v
+claims v (Step w) = false
+claims v (Settle w) = false
+
+abbrev pub settles : ℕ → Reply → Bool
+settles v (SettledDone u) = u == v
+settles v (SettledFailed u) = u == v
+settles v (Claimed job) = false
+settles v HasRead = false
+settles v (Acted a) = false
+settles v (HasMerged i) = false
+settles v (HasRun c status) = false
+settles v (Faulted f) = false
+
+abbrev pub has_failed : Reply → Bool
+has_failed (SettledFailed u) = true
+has_failed (SettledDone u) = false
+has_failed (Claimed job) = false
+has_failed HasRead = false
+has_failed (Acted a) = false
+has_failed (HasMerged i) = false
+has_failed (HasRun c status) = false
+has_failed (Faulted f) = false
+
+-- an event with its reply meets a breakpoint: a claim of the vertex, a settle of the vertex, a settle that failed
+abbrev pub meets : Event → Reply → Break → Bool
+meets e r (stop.Claims v) = claims v e
+meets e r (stop.Settles v) = settles v r
+meets e r stop.Fails = has_failed r
+
+abbrev pub meets_by : List Break → Event → Option (Seen × Reply) → Bool
+meets_by breaks e None = false
+meets_by breaks e (Some p) = list_any (meets e p.1) breaks
+
+-- an event that is done on a board meets one of the breakpoints
+abbrev pub meets_any : List Break → Seen → Event → Bool
+meets_any breaks b e = meets_by breaks e (answered b e)
+
+-- ---- lists of events
+
+-- the board that goes on from what an event gives
+abbrev pub then_on : Option (Seen × Reply) → (Seen → Option Seen) → Option Seen
+then_on None go = None
+then_on (Some p) go = go p.0
+
+-- the board behind events, each of which is granted
+unfoldable pub run_on : Seen → List Event → Option Seen
+run_on b [] = Some b
+run_on b (e ∷ es) = then_on (answered b e) (λ c. run_on c es)
+
+abbrev pub meets_from : Option (Seen × Reply) → (Seen → Bool) → Bool
+meets_from None go = false
+meets_from (Some p) go = go p.0
+
+-- whether event k of a list meets a breakpoint, on the board to which those before it lead
+unfoldable pub meets_at : List Break → Seen → List Event → ℕ → Bool
+meets_at breaks b [] k = false
+meets_at breaks b (e ∷ es) zero = meets_any breaks b e
+meets_at breaks b (e ∷ es) (suc k) = meets_from (answered b e) (λ c. meets_at breaks c es k)
+
+-- the board now, and those before it
+abbrev pub line : Stepping → List Seen
+line s = s.board ∷ s.past
+
+-- the last event meets a breakpoint, or all were done and none does
+abbrev pub EndsAt : Bool → List Break → Seen → List Event → ℕ → Type 0
+EndsAt true breaks b es n = (k : ℕ) × ((n ≡ k + 1) × (meets_at breaks b es k ≡ true))
+EndsAt false breaks b es n = (n ≡ length es) × ((k : ℕ) → k < n → meets_at breaks b es k ≡ false)
+
+-- of a list of events the shortest prefix that is not empty and whose last event meets a breakpoint was done, or the whole list where there is none
+pub record IsStop (s : Stepping) (es : List Event) (t : Stepping) (p : Stop) : Type 0 where
+  pub leads : run_on s.board (take p.events es) ≡ Some t.board
+  pub past : drop p.events (line t) ≡ line s
+  pub breaks : t.breaks ≡ s.breaks
+  pub shortest : (k : ℕ) → k + 1 < p.events → meets_at s.breaks s.board es k ≡ false
+  pub ends : EndsAt p.at_break s.breaks s.board es p.events
+
+abbrev pub ChosenThen : Option (Seen × Reply) → (Seen → Type 0) → Type 0
+ChosenThen None Are = ⊥
+ChosenThen (Some p) Are = Are p.0
+
+-- each event is granted, and is the chosen one on the board to which those before it lead
+unfoldable pub AreChosen : Seen → List Event → Type 0
+AreChosen b [] = Unit {0}
+AreChosen b (e ∷ es) = (chosen b.build b.state ≡ Some e) × ChosenThen (answered b e) (λ c. AreChosen c es)
+
+-- the chosen events were done as a stop tells; where no breakpoint was met, up to where none is chosen
+pub record IsGo (s t : Stepping) (p : Stop) : Type 0 where
+  pub events : List Event
+  pub are : AreChosen s.board events
+  pub stop : IsStop s events t p
+  pub ends : p.at_break ≡ false → chosen t.board.build t.board.state ≡ None

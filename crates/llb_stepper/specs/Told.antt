@@ -1,0 +1,65 @@
+-- Breakpoints and lines by what the board's own type tells of a reply, in which a claim's job is left out.
+use Rattle.std.specs.Prelude.{ℕ, ◌==◌, Bool, true, false, List, ◌++◌, codes, slice_get}
+use Rattle.std.specs.Fmt.{decimal}
+use Rattle.llb_loader.specs.declared.graph.Vertex.{Vertex}
+use Rattle.llb_model.specs.Table.{Event}
+use Rattle.llb_model.specs.Table as table
+use Rattle.llb_board.specs.Undo.{told}
+use Rattle.llb_board.specs.Views.{event_of}
+use Rattle.llb_board.specs.declared.event.Event as own
+use Rattle.llb_board.specs.declared.event.Stepped.{Stepped}
+use Rattle.llb_board.specs.declared.event.Stepped.TheVariants.{Read, Acted, Merged, Ran, Fault}
+use Rattle.llb_board.specs.declared.event.Settled.{Settled}
+use Rattle.llb_board.specs.declared.event.Settled.TheVariants as settled
+use Rattle.llb_board.specs.declared.walk.Reply.{Reply}
+use Rattle.llb_board.specs.declared.walk.Reply.TheVariants as reply
+use Rattle.llb_stepper.specs.declared.stop.Break.{Break}
+use Rattle.llb_stepper.specs.declared.stop.Break.TheVariants as stop
+use Rattle.llb_stepper.specs.Stepping.{claims}
+use Rattle.llb_stepper.specs.Records.{event_text, claimed_text, vertex_of, pair_text, fault_text, done_text, failed_text}
+
+abbrev pub settles_told : ℕ → Reply → Bool
+settles_told v (reply.Settled (settled.Done u)) = u == v
+settles_told v (reply.Settled (settled.Failed u)) = u == v
+settles_told v reply.Claimed = false
+settles_told v (reply.Stepped s) = false
+
+abbrev pub failed_told : Reply → Bool
+failed_told (reply.Settled (settled.Failed u)) = true
+failed_told (reply.Settled (settled.Done u)) = false
+failed_told reply.Claimed = false
+failed_told (reply.Stepped s) = false
+
+-- an event with its reply meets a breakpoint
+abbrev pub meets_told : Event → Reply → Break → Bool
+meets_told e r (stop.Claims v) = claims v e
+meets_told e r (stop.Settles v) = settles_told v r
+meets_told e r stop.Fails = failed_told r
+
+-- the reply of a micro-step, and of a settle, as text
+abbrev pub step_text : Stepped → List ℕ
+step_text Read = codes "read"
+step_text (Acted a) = codes "acted " ++ decimal a
+step_text (Merged i) = codes "merged " ++ decimal i
+step_text (Ran c status) = codes "ran " ++ pair_text c status
+step_text (Fault f) = fault_text f
+
+abbrev pub settle_text : Settled → List ℕ
+settle_text (settled.Done v) = done_text v
+settle_text (settled.Failed v) = failed_text v
+
+abbrev pub told_text : List Vertex → Event → Reply → List ℕ
+told_text vertices e reply.Claimed = claimed_text (slice_get vertices (vertex_of e))
+told_text vertices e (reply.Stepped s) = step_text s
+told_text vertices e (reply.Settled s) = settle_text s
+
+-- the line of an event, without its end
+abbrev pub line_text : List Vertex → ℕ → Event → Reply → List ℕ
+line_text vertices number e r = decimal number ++ (codes " " ++ (event_text e ++ (codes " -> " ++ told_text vertices e r)))
+
+-- an event with its reply, as the board's own types tell them
+abbrev pub seen_pair : own.Event × Reply → Event × Reply
+seen_pair p = (event_of p.0, p.1)
+
+abbrev pub told_pair : Event × table.Reply → Event × Reply
+told_pair p = (p.0, told p.1)

@@ -1,0 +1,13 @@
+//! A run is gone through, forwards and back: event by event, up to breakpoints, over a record that is given; and each event that was done is
+//! taken back without memory. Stands on the board alone.
+#![tactic(auto)]
+
+mod fault;
+mod record_text;
+mod stepper;
+mod stop;
+
+pub use fault::StepperFault;
+pub use record_text::kind_name;
+pub use stepper::{Stepper, there_and_back};
+pub use stop::{Break, Stop};

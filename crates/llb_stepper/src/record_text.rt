@@ -1,0 +1,123 @@
+//! The lines of a record as text: an event by its number, and what it was answered.
+
+ghost use Rattle.std.specs.Prelude.{◌≡◌, IfOk, option_map, string_bytes};
+ghost use Rattle.llb_board.specs.Views.{event_of};
+ghost use Rattle.llb_stepper.specs.Records.{kind_text, event_text, claimed_text, fault_text, vertex_of};
+ghost use Rattle.llb_stepper.specs.Told.{step_text, settle_text, told_text, line_text};
+
+use llb_board::{Event, Reply, Settled, Stepped};
+use llb_loader::Vertex;
+use llb_model::VertexFault;
+use llb_ops::{Kind, Op};
+use std::alloc::{AllocError, Global};
+
+/// The name of an op's kind. No graph has an op of the last two, or of none.
+pub fn kind_name(op: &Op) -> &'static str
+    ensures { result.now ≡ kind_text op.now.kind }
+{
+    match &op.kind {
+        Some(kind) => match kind {
+            Kind::Source(_) => "source",
+            Kind::File(_) => "file",
+            Kind::Merge(_) => "merge",
+            Kind::Exec(_) => "exec",
+            Kind::Build(_) => "build",
+            Kind::Diff(_) => "diff",
+        },
+        None => "none",
+    }
+}
+
+fn event_text(alloc: Global, event: Event) -> Result<String, AllocError>
+    ensures { IfOk result (λ s. string_bytes s ≡ event_text (event_of event)) }
+{
+    match event {
+        Event::Claim(w, v) => format!(in alloc; "claim {w} {v}"),
+        Event::Step(w) => format!(in alloc; "step {w}"),
+        Event::Settle(w) => format!(in alloc; "settle {w}"),
+    }
+}
+
+// What is claimed: the kind of its op, and how many micro-steps it has.
+fn claimed_text(alloc: Global, vertex: Option<&Vertex>) -> Result<String, AllocError>
+    ensures { IfOk result (λ s. string_bytes s ≡ claimed_text (option_map (λ v. v.now) vertex.entry)) }
+{
+    match vertex {
+        Some(vertex) => {
+            let kind = kind_name(&vertex.op);
+            let steps = vertex.steps;
+            format!(in alloc; "{kind} {steps}")
+        }
+        None => format!(in alloc; "none"),
+    }
+}
+
+fn fault_text(alloc: Global, fault: VertexFault) -> Result<String, AllocError>
+    ensures { IfOk result (λ s. string_bytes s ≡ fault_text fault) }
+{
+    match fault {
+        VertexFault::Action(a, n) => format!(in alloc; "fault {a} {n}"),
+        VertexFault::Exit(c, status) => format!(in alloc; "ran {c} {status}"),
+    }
+}
+
+fn step_text(alloc: Global, stepped: Stepped) -> Result<String, AllocError>
+    ensures { IfOk result (λ s. string_bytes s ≡ step_text stepped) }
+{
+    match stepped {
+        Stepped::Read => format!(in alloc; "read"),
+        Stepped::Acted(a) => format!(in alloc; "acted {a}"),
+        Stepped::Merged(i) => format!(in alloc; "merged {i}"),
+        Stepped::Ran(c, status) => format!(in alloc; "ran {c} {status}"),
+        Stepped::Fault(fault) => fault_text(alloc, fault),
+    }
+}
+
+fn settle_text(alloc: Global, settled: Settled) -> Result<String, AllocError>
+    ensures { IfOk result (λ s. string_bytes s ≡ settle_text settled) }
+{
+    match settled {
+        Settled::Done(v) => format!(in alloc; "{v} done"),
+        Settled::Failed(v) => format!(in alloc; "{v} failed"),
+    }
+}
+
+// The vertex of a claim; of another event 0, which is not asked for.
+fn vertex_of(event: Event) -> u32
+    ensures { result ≡ vertex_of (event_of event) }
+{
+    match event {
+        Event::Claim(_, v) => v,
+        Event::Step(_) | Event::Settle(_) => 0,
+    }
+}
+
+fn reply_text(
+    alloc: Global,
+    vertices: &[Vertex],
+    event: Event,
+    reply: Reply,
+) -> Result<String, AllocError>
+    ensures { IfOk result (λ s. string_bytes s ≡ told_text vertices.now (event_of event) reply) }
+{
+    match reply {
+        Reply::Claimed => claimed_text(alloc, vertices.get(vertex_of(event) as usize)),
+        Reply::Stepped(stepped) => step_text(alloc, stepped),
+        Reply::Settled(settled) => settle_text(alloc, settled),
+    }
+}
+
+/// The line of an event under its number, with its reply, and without its end.
+pub(crate) fn line_text(
+    alloc: Global,
+    vertices: &[Vertex],
+    number: u64,
+    event: Event,
+    reply: Reply,
+) -> Result<String, AllocError>
+    ensures { IfOk result (λ s. string_bytes s ≡ line_text vertices.now number (event_of event) reply) }
+{
+    let event_text = event_text(alloc, event)?;
+    let reply_text = reply_text(alloc, vertices, event, reply)?;
+    format!(in alloc; "{number} {event_text} -> {reply_text}")
+}

@@ -1,0 +1,250 @@
+//! The board that is gone through, what undoes each event that was done here, and the breakpoints.
+
+ghost use Rattle.std.specs.Prelude.{◌≡◌, ◌≤◌, ◌++◌, ◌∷◌, [], length, drop, Bool, true, map, option_map, false, IfOk, IfErr, OnOk, OnErr, Some, string_bytes};
+ghost use Rattle.llb_model.specs.Run.{chosen};
+ghost use Rattle.llb_board.specs.Views.{event_of};
+ghost use Rattle.llb_stepper.specs.Rules.{GivesEvent, done_of, stepper_memory, IsRefusedAt, MeetsOn};
+ghost use Rattle.llb_stepper.specs.Stepping.{GoesBack, IsStop, IsGo, line};
+ghost use Rattle.llb_stepper.specs.Records.{record_at, record_text};
+ghost use Rattle.llb_stepper.specs.Told.{seen_pair, told_pair};
+ghost use Rattle.llb_stepper.specs.declared.fault.StepperFault.TheVariants as fault;
+
+use crate::fault::StepperFault;
+use crate::record_text::line_text;
+use crate::stop::{Break, Stop, meets_any};
+use llb_board::laws::chosen_is_granted;
+use llb_board::{Board, Event, Reply, Walked};
+use llb_wire::Text;
+use std::alloc::Global;
+use std::marker::Model;
+
+/// A board, what undoes each event that was done on it here, and breakpoints. Contracts see the board, the boards before these events,
+/// the last first, and the breakpoints.
+#[derive(Drop)]
+pub struct Stepper {
+    alloc: Global,
+    board: Board,
+    walked: Vec<Walked>,
+    breaks: Vec<Break>,
+}
+
+impl Model for Stepper {
+    ghost use Rattle.std.specs.Coded.{codes};
+    ghost use Rattle.std.specs.Prelude.{reverse};
+    ghost use Rattle.llb_tree.specs.Tree.{coded_tree};
+    ghost use Rattle.llb_board.specs.Store.{coded_store};
+    ghost use Rattle.llb_stepper.specs.Stepping.{Stepping};
+    ghost use Rattle.llb_stepper.specs.Kept.{stepping, AreWalked};
+
+    ghost Value = { Stepping };
+
+    ghost coded = { Prim.hlevel (codes, coded_tree, coded_store) };
+
+    ghost view = { λ s. stepping s.board s.walked.items s.breaks.items };
+
+    ghost invariant = { λ s. AreWalked s.board (reverse s.walked.items) };
+}
+
+impl Stepper {
+    /// Over a board, without breakpoints. What the board has done before is not taken back. No memory.
+    pub fn new(alloc: Global, board: Board) -> Stepper
+        ensures { result ≡ record { board = board; past = []; breaks = [] } }
+    {
+        Stepper {
+            alloc,
+            board,
+            walked: Vec::new(alloc),
+            breaks: Vec::new(alloc),
+        }
+    }
+
+    /// The board as it is now. No memory.
+    pub fn board(&self) -> &Board
+        ensures { result.now ≡ self.now.board }
+    {
+        &self.board
+    }
+
+    /// One breakpoint more. 174.
+    pub fn break_at(&mut self, stop: Break) -> Result<(), StepperFault>
+        ensures ok { OnOk result (self.new ≡ record self.old { breaks = self.old.breaks ++ stop ∷ [] }) }
+        ensures memory { IfErr result (λ e. e ≡ fault.Memory) }
+        ensures err { OnErr result (self.new ≡ self.old) }
+    {
+        self.breaks.push(stop)?;
+        Ok(())
+    }
+
+    /// No breakpoint is left. No memory.
+    pub fn clear(&mut self)
+        ensures { self.new ≡ record self.old { breaks = [] } }
+    {
+        self.breaks.clear();
+    }
+
+    /// One event: 171 with the board's refusal, or 174. Want of memory, 171 141 or 174, may come at any growth.
+    pub fn do_event(&mut self, event: Event) -> Result<(), StepperFault>
+        ensures gives { GivesEvent (λ _. self.new) result (done_of self.old (event_of event)) }
+        ensures err { OnErr result (self.new ≡ self.old) }
+    {
+        self.walk(event)?;
+        Ok(())
+    }
+
+    /// The chosen event, which is not done: none where the board is complete. No memory.
+    pub fn next(&self) -> Option<Event>
+        ensures { option_map event_of result ≡ chosen self.now.board.build self.now.board.state }
+    {
+        self.board.chosen()
+    }
+
+    /// Back to the board before the last event; breakpoints stay. 172 where no event was done here, or all were taken back. No memory.
+    pub fn back(&mut self) -> Result<(), StepperFault>
+        ensures ok { OnOk result (GoesBack self.old self.new) }
+        ensures nothing { IfErr result (λ e. e ≡ fault.NothingBefore) }
+        ensures none { OnErr result (self.old.past ≡ []) }
+        ensures err { OnErr result (self.new ≡ self.old) }
+    {
+        match self.walked.pop() {
+            None => Err(StepperFault::NothingBefore),
+            Some(walked) => {
+                self.board.undo(walked.undo);
+                Ok(())
+            }
+        }
+    }
+
+    /// The line of event i of the board's record, counted from 1, with its reply: none past the end, at 0, and of events that the board had
+    /// at first. 174.
+    pub fn record_line(&self, i: u64) -> Result<Option<Text>, StepperFault>
+        ensures line { IfOk result (λ o. option_map (λ t. t) o ≡ option_map (record_text self.now.board.build.graph.vertices i) (record_at self.now i)) }
+        ensures memory { IfErr result (λ e. e ≡ fault.Memory) }
+    {
+        let Some((event, reply)) = self.recorded(i) else {
+            return Ok(None);
+        };
+        let line = line_text(self.alloc, self.board.graph().vertices(), i, event, reply)?;
+        Ok(Some(Text::new(line)))
+    }
+
+    // Event i with its reply.
+    fn recorded(&self, i: u64) -> Option<(Event, Reply)>
+        ensures { option_map seen_pair result ≡ option_map told_pair (record_at self.now i) }
+    {
+        let events = self.board.events().as_slice();
+        let number = i as usize;
+        if number == 0 || number > events.len() {
+            return None;
+        }
+        let after = events.len() - number;
+        if after >= self.walked.len() {
+            return None;
+        }
+        let walked = &self.walked[self.walked.len() - 1 - after];
+        Some((events[number - 1], walked.reply))
+    }
+
+    // How many events were done here, and not taken back.
+    #[tactic(auto, using(crate::proofs::Walked::depth_of))]
+    fn depth(&self) -> usize
+        ensures { result ≡ length self.now.past }
+    {
+        self.walked.len()
+    }
+
+    // One event, and whether it meets a breakpoint.
+    fn walk(&mut self, event: Event) -> Result<bool, StepperFault>
+        ensures gives { GivesEvent (λ _. self.new) result (done_of self.old (event_of event)) }
+        ensures met { IfOk result (MeetsOn self.old (event_of event) self.new) }
+        ensures err { OnErr result (self.new ≡ self.old) }
+    {
+        self.walked.reserve(1)?;
+        match self.board.walk(event) {
+            Ok(walked) => {
+                let met = meets_any(&self.breaks, event, walked.reply);
+                self.walked.push_reserved(walked);
+                Ok(met)
+            }
+            Err(fault) => Err(StepperFault::Board(fault)),
+        }
+    }
+
+    // So many events are taken back. No memory.
+    fn back_by(&mut self, count: usize)
+        requires { count ≤ length self.old.past }
+        ensures line { line self.new ≡ drop count (line self.old) }
+        ensures breaks { self.new.breaks ≡ self.old.breaks }
+    {
+        for _i in 0..count {
+            let _ = self.back();
+        }
+    }
+
+    /// The chosen events, up to the first that meets a breakpoint, or to where none is chosen; at least one where there is one. 171 141 and
+    /// 174 alone: then all that it did is taken back.
+    pub fn go(&mut self) -> Result<Stop, StepperFault>
+        ensures goes { IfOk result (IsGo self.old self.new) }
+        ensures refused { IfErr result (λ e. stepper_memory e ≡ true) }
+        ensures err { OnErr result (self.new ≡ self.old) }
+    {
+        let before = self.depth();
+        while let Some(event) = self.board.chosen() {
+            chosen_is_granted(&self.board);
+            match self.walk(event) {
+                Ok(true) => {
+                    return Ok(Stop {
+                        events: (self.depth() - before) as u64,
+                        at_break: true,
+                    });
+                }
+                Ok(false) => {}
+                Err(fault) => {
+                    self.back_by(self.depth() - before);
+                    return Err(fault);
+                }
+            }
+            let _ = self.board.events();
+        }
+        Ok(Stop {
+            events: (self.depth() - before) as u64,
+            at_break: false,
+        })
+    }
+
+    /// The events that are given, up to the first that meets a breakpoint. Where one is refused, 171 or 174, all that it did is taken back.
+    pub fn replay(&mut self, events: &[Event]) -> Result<Stop, StepperFault>
+        ensures stops { IfOk result (IsStop self.old (map event_of events.now) self.new) }
+        ensures refused { IfErr result (IsRefusedAt self.old (map event_of events.now)) }
+        ensures err { OnErr result (self.new ≡ self.old) }
+    {
+        let start = self.depth();
+        for event in events {
+            match self.walk(*event) {
+                Ok(true) => {
+                    return Ok(Stop {
+                        events: (self.depth() - start) as u64,
+                        at_break: true,
+                    });
+                }
+                Ok(false) => {}
+                Err(fault) => {
+                    self.back_by(self.depth() - start);
+                    return Err(fault);
+                }
+            }
+        }
+        Ok(Stop {
+            events: (self.depth() - start) as u64,
+            at_break: false,
+        })
+    }
+}
+
+/// A law: an event, and back, is nothing, whatever the event.
+pub fn there_and_back(stepper: &mut Stepper, event: Event) -> Result<(), StepperFault>
+    ensures { stepper.new ≡ stepper.old }
+{
+    stepper.do_event(event)?;
+    let _ = stepper.back();
+    Ok(())
+}

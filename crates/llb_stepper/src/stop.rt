@@ -1,0 +1,55 @@
+//! Breakpoints, and how far a walk came.
+
+ghost use Rattle.std.specs.Prelude.{◌≡◌};
+ghost use Rattle.std.specs.List.{list_any};
+ghost use Rattle.llb_board.specs.Views.{event_of};
+ghost use Rattle.llb_stepper.specs.Told.{meets_told};
+
+use llb_board::{Event, Reply, Settled};
+
+/// Where a walk stops: behind an event that meets it.
+#[derive(Clone, Copy, Debug, PartialEq, Eq)]
+pub enum Break {
+    /// Behind a claim of that vertex.
+    Claims(u32),
+    /// Behind a settle of that vertex.
+    Settles(u32),
+    /// Behind a settle of a vertex that failed.
+    Fails,
+}
+
+/// How many events a walk did, and whether the last of them meets a breakpoint.
+#[derive(Clone, Copy, Debug, PartialEq, Eq)]
+pub struct Stop {
+    pub events: u64,
+    pub at_break: bool,
+}
+
+impl Break {
+    /// Whether an event that was done, with its reply, meets it.
+    pub(crate) fn is_met_by(self, event: Event, reply: Reply) -> bool
+        ensures { result ≡ meets_told (event_of event) reply self }
+    {
+        match self {
+            Break::Claims(v) => match event {
+                Event::Claim(_, u) => u == v,
+                Event::Step(_) | Event::Settle(_) => false,
+            },
+            Break::Settles(v) => match reply {
+                Reply::Settled(Settled::Done(u)) | Reply::Settled(Settled::Failed(u)) => u == v,
+                Reply::Claimed | Reply::Stepped(_) => false,
+            },
+            Break::Fails => match reply {
+                Reply::Settled(Settled::Failed(_)) => true,
+                _ => false,
+            },
+        }
+    }
+}
+
+/// Whether an event that was done meets one of the breakpoints.
+pub(crate) fn meets_any(breaks: &[Break], event: Event, reply: Reply) -> bool
+    ensures { result ≡ list_any (meets_told (event_of event) reply) breaks.now }
+{
+    breaks.iter().any(|stop| stop.is_met_by(event, reply))
+}
