@@ -10,6 +10,7 @@ mod board_caches;
 mod faults;
 #[cfg(test)]
 mod sessions;
+#[cfg(test)]
 mod told;
 #[cfg(test)]
 mod walks;
