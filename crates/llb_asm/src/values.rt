@@ -14,9 +14,9 @@ use llb_wire::{Bytes, Memory, is_hex, read_hex};
 use std::alloc::Global;
 use std::str::from_utf8;
 
-/// The number that decimal digits are, the greatest one for all that are greater than it; `None` of other texts, and of none.
+/// The number that decimal digits are, the greatest of 64 bits for all that are greater than it; `None` of other texts, and of none.
 #[tactic(auto, unfolding(crate::specs::Values::magnitude))]
-fn magnitude(text: &[u8]) -> Option<u64>
+pub fn magnitude(text: &[u8]) -> Option<u64>
     ensures { result ≡ option_map capped (magnitude text.now) }
 {
     if text.is_empty() {

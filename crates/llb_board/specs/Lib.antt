@@ -1,3 +1,4 @@
+pub mod Faults
 pub mod Events
 pub mod Store
 pub mod Caches

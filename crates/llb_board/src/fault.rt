@@ -1,11 +1,14 @@
 //! Why a call on a board is refused. A fault prints its number. What comes back from a refused call is in its fault.
 
+ghost use Rattle.std.specs.Prelude.{Some};
+ghost use Rattle.llb_board.specs.Faults.{claim_text, step_text, settle_text, walk_text};
+
 use llb_cache::{Caches, Key};
 use llb_loader::{Graph, Locals};
 use llb_tree::TreeFault;
 use llb_wire::Text;
 use std::alloc::{AllocError, AllocFailed};
-use std::fmt;
+use std::{error, fmt};
 use thiserror::Error;
 
 /// 141: memory was refused.
@@ -34,75 +37,119 @@ impl fmt::Debug for OpenFault {
 }
 
 /// Why a vertex is not claimed: the first cause that stands.
-#[derive(Debug, Drop, Error)]
+#[derive(Debug, Drop)]
 pub enum ClaimFault {
     /// 131: there is no worker of that number.
-    #[error("131")]
     NoWorker,
     /// 132: the worker runs a vertex.
-    #[error("132")]
     Busy,
     /// 133: there is no vertex of that number.
-    #[error("133")]
     NoVertex,
     /// 134: the vertex does not wait, or an input of it is not done.
-    #[error("134")]
     NotReady,
     /// 135: a running worker has the locked cache of this key, the first such key in the order of the mounts.
-    #[error("135 {0}")]
     Held(Key),
     /// 141: memory was refused.
-    #[error("141")]
     Memory,
 }
+
+impl fmt::Display for ClaimFault {
+    ghost output = { λ e. Some (claim_text e) };
+
+    fn fmt<W: fmt::Write>(&self, f: &mut fmt::Formatter<W>) -> fmt::Result {
+        match self {
+            ClaimFault::NoWorker => write!(f, "131"),
+            ClaimFault::Busy => write!(f, "132"),
+            ClaimFault::NoVertex => write!(f, "133"),
+            ClaimFault::NotReady => write!(f, "134"),
+            ClaimFault::Held(key) => write!(f, "135 {key}"),
+            ClaimFault::Memory => write!(f, "141"),
+        }
+    }
+}
+
+impl error::Error for ClaimFault {}
 
 /// Why a micro-step is not done: the first cause that stands.
-#[derive(Clone, Copy, Debug, PartialEq, Eq, Error)]
+#[derive(Clone, Copy, Debug, PartialEq, Eq)]
 pub enum StepFault {
     /// 131: there is no worker of that number.
-    #[error("131")]
     NoWorker,
     /// 136: the worker is idle.
-    #[error("136")]
     NotRunning,
     /// 137: what the worker runs is finished.
-    #[error("137")]
     NothingLeft,
     /// 141: memory was refused.
-    #[error("141")]
     Memory,
 }
 
+impl fmt::Display for StepFault {
+    ghost output = { λ e. Some (step_text e) };
+
+    fn fmt<W: fmt::Write>(&self, f: &mut fmt::Formatter<W>) -> fmt::Result {
+        match self {
+            StepFault::NoWorker => write!(f, "131"),
+            StepFault::NotRunning => write!(f, "136"),
+            StepFault::NothingLeft => write!(f, "137"),
+            StepFault::Memory => write!(f, "141"),
+        }
+    }
+}
+
+impl error::Error for StepFault {}
+
 /// Why a vertex is not settled: the first cause that stands.
-#[derive(Clone, Copy, Debug, PartialEq, Eq, Error)]
+#[derive(Clone, Copy, Debug, PartialEq, Eq)]
 pub enum SettleFault {
     /// 131: there is no worker of that number.
-    #[error("131")]
     NoWorker,
     /// 136: the worker is idle.
-    #[error("136")]
     NotRunning,
     /// 138: what the worker runs is not finished.
-    #[error("138")]
     NotFinished,
 }
 
+impl fmt::Display for SettleFault {
+    ghost output = { λ e. Some (settle_text e) };
+
+    fn fmt<W: fmt::Write>(&self, f: &mut fmt::Formatter<W>) -> fmt::Result {
+        match self {
+            SettleFault::NoWorker => write!(f, "131"),
+            SettleFault::NotRunning => write!(f, "136"),
+            SettleFault::NotFinished => write!(f, "138"),
+        }
+    }
+}
+
+impl error::Error for SettleFault {}
+
 /// Why an event of a walk is refused: the fault of the claim, the step or the settle, or want of memory, whoever has it.
-#[derive(Debug, Drop, Error)]
+#[derive(Debug, Drop)]
 pub enum WalkFault {
     /// 131 to 135.
-    #[error("{0}")]
     Claim(ClaimFault),
     /// 131, 136, 137.
-    #[error("{0}")]
     Step(StepFault),
     /// 131, 136, 138.
-    #[error("{0}")]
     Settle(SettleFault),
     /// 141: memory was refused.
-    #[error("141")]
     Memory,
 }
+
+impl fmt::Display for WalkFault {
+    ghost output = { λ e. Some (walk_text e) };
+
+    fn fmt<W: fmt::Write>(&self, f: &mut fmt::Formatter<W>) -> fmt::Result {
+        match self {
+            WalkFault::Claim(fault) => write!(f, "{fault}"),
+            WalkFault::Step(fault) => write!(f, "{fault}"),
+            WalkFault::Settle(fault) => write!(f, "{fault}"),
+            WalkFault::Memory => write!(f, "141"),
+        }
+    }
+}
+
+impl error::Error for WalkFault {}
 
 impl From<AllocError> for Memory {
     fn from(_: AllocError) -> Memory {

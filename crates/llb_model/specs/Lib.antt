@@ -1,3 +1,4 @@
+pub mod Failure
 pub mod ByNumber
 pub mod Caches
 pub mod Program

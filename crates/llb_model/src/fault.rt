@@ -1,14 +1,29 @@
 //! Why a vertex fails. A failure prints what stands behind the vertex in its line.
 
-use thiserror::Error;
+ghost use Rattle.std.specs.Prelude.{Some};
+ghost use Rattle.llb_model.specs.Failure.{failure_text};
+
+use std::error::Error;
+use std::fmt;
 
 /// Why a vertex fails: its first micro-step that could not be done.
-#[derive(Clone, Copy, Debug, PartialEq, Eq, Error)]
+#[derive(Clone, Copy, Debug, PartialEq, Eq)]
 pub enum VertexFault {
     /// The number of the action, and that of its fault: 21 to 26, or 52 for a text that is no pattern.
-    #[error("action {0} fault {1}")]
     Action(u32, u32),
     /// The number of the command, and its status.
-    #[error("command {0} status {1}")]
     Exit(u32, u32),
 }
+
+impl fmt::Display for VertexFault {
+    ghost output = { λ f. Some (failure_text f) };
+
+    fn fmt<W: fmt::Write>(&self, f: &mut fmt::Formatter<W>) -> fmt::Result {
+        match self {
+            VertexFault::Action(a, n) => write!(f, "action {a} fault {n}"),
+            VertexFault::Exit(c, status) => write!(f, "command {c} status {status}"),
+        }
+    }
+}
+
+impl Error for VertexFault {}

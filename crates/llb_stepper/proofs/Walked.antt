@@ -1,6 +1,6 @@
 -- What a walk of the board tells of the table: the board behind the event, and the reply.
-use Rattle.std.proofs.Common.{◌≡◌, suc, Bool, true, false, List, [], ◌∷◌, ◌++◌, length, reverse, Some, option_map, is_some, refl, sym, ap, ◌∙◌, subst}
-use Rattle.std.proofs.lemmas.List.{reverse-append, length-reverse}
+use Rattle.std.proofs.Common.{◌≡◌, suc, ◌+◌, Bool, true, false, List, [], ◌∷◌, ◌++◌, length, reverse, Option, Some, None, option_map, is_some, refl, sym, ap, ◌∙◌, subst}
+use Rattle.std.proofs.lemmas.List.{reverse-append, length-reverse, length-append}
 use Rattle.std.specs.Prelude.{Result, Ok, Err}
 use Rattle.std.specs.List.{list_any}
 use Rattle.std.specs.Result.{result_ok}
@@ -137,3 +137,29 @@ memory_alone s e f granted refused = by_test (stepper_memory f) refl
 pub chosen_granted : (b : Seen) (s : Stepping) (e : Event) → b ≡ s.board → ChosenIsGranted b → chosen b.build b.state ≡ Some e
     → is_some (table s.board.build s.board.state e) ≡ true
 chosen_granted b s e same law is = ap (λ (x : Seen). is_some (table x.build x.state e)) (sym same) ∙ law e is
+
+pub chosen_done : (b : Seen) (s : Stepping) → b ≡ s.board → ChosenIsGranted b → (e : Event) (f : StepperFault) → chosen s.board.build s.board.state ≡ Some e
+    → done_of s e ≡ Err f → stepper_memory f ≡ true
+chosen_done b s same law e f is refused =
+    memory_alone s e f (chosen_granted b s e same law (ap (λ (x : Seen). chosen x.build x.state) same ∙ is)) (λ told. refused)
+
+-- ---- one event fewer
+
+some_inside : {x y : Seen × Reply} → Some x ≡ Some y → x ≡ y
+some_inside e = cc
+
+fewer_by : (before b : Seen) (e : Event) (r : Reply) (o : Option (State × Reply))
+    → option_map {U = Seen × Reply} (λ a. (after_event before e a.0, a.1)) o ≡ Some (b, r) → length b.events ≡ length before.events + 1
+fewer_by before b e r None is = absurd cc
+fewer_by before b e r (Some a) is = ap (λ (x : Seen). length x.events) (sym (ap (λ (p : Seen × Reply). p.0) (some_inside is))) ∙ length-append before.events (e ∷ [])
+
+fewer_in : (b : Seen) (w : Walked) (ws : List Walked) → AreWalked b (w ∷ ws) → length b.events ≡ length (undone w.undo b).events + 1
+fewer_in b w ws (can, follows, before) =
+    fewer_by (undone w.undo b) b follows.event follows.reply (table (undone w.undo b).build (undone w.undo b).state follows.event) follows.given
+
+-- the record of the board before the last event is by that event shorter
+pub fewer : (b n s : Seen) (all ws : List Walked) (w : Walked) → all ≡ ws ++ w ∷ [] → AreWalked b (reverse all) → b ≡ s → n ≡ undone w.undo b
+    → length s.events ≡ length n.events + 1
+fewer b n s all ws w last are same back =
+    let by_last : AreWalked b (w ∷ reverse ws) = subst (AreWalked b) (ap reverse last ∙ reverse-append ws (w ∷ [])) are in
+    ap (λ (x : Seen). length x.events) (sym same) ∙ fewer_in b w (reverse ws) by_last ∙ ap (λ (x : Seen). length x.events + 1) (sym back)

@@ -1,7 +1,8 @@
--- Read first Stepping (what a stepper is, what events and stops are), then Records (the lines of a record) and Rules (what calls answer); Kept and Told are
--- what the type keeps, and what the board's own types tell of replies.
+-- Read first Stepping (what a stepper is, what events and stops are), then Records (the lines of a record), Rules (what calls answer) and
+-- Faults (how refusals are told); Kept and Told are what the type keeps, and what the board's own types tell of replies.
 pub mod Stepping
 pub mod Records
 pub mod Rules
+pub mod Faults
 pub mod Kept
 pub mod Told

@@ -3,6 +3,7 @@ use Rattle.std.specs.Prelude.{◌≡◌, ℕ, ◌<◌, Bool, true, false, List, 
 use Rattle.std.specs.List.{list_any}
 use Rattle.llb_wire.specs.Answer as answer
 use Rattle.llb_model.specs.Table.{Event, Reply}
+use Rattle.llb_model.specs.Run.{chosen}
 use Rattle.llb_board.specs.Board.{Seen}
 use Rattle.llb_board.specs.Undo.{walk_of, walk_memory}
 use Rattle.llb_board.specs.declared.walk.Reply as short
@@ -28,6 +29,10 @@ done_by s (Err e) = Err (fault.Board e)
 
 abbrev pub done_of : Stepping → Event → Result Stepping StepperFault
 done_of s e = done_by s (walk_of s.board e)
+
+-- the chosen event is refused for want of memory alone
+abbrev pub ChosenIsDone : Stepping → Type 0
+ChosenIsDone s = (e : Event) (fault : StepperFault) → chosen s.board.build s.board.state ≡ Some e → done_of s e ≡ Err fault → stepper_memory fault ≡ true
 
 -- one event was granted, and that tells whether it meets a breakpoint
 abbrev pub MeetsOn : Stepping → Event → Stepping → Bool → Type 0

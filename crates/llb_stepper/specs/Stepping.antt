@@ -1,5 +1,5 @@
 -- A stepper as contracts see it, and what its calls do: one event, one back, and the events up to a stop.
-use Rattle.std.specs.Prelude.{◌≡◌, ℕ, zero, suc, ◌+◌, ◌<◌, ◌==◌, Bool, true, false, List, [], ◌∷◌, length, take, drop, Option, Some, None, option_map}
+use Rattle.std.specs.Prelude.{◌≡◌, ℕ, zero, suc, ◌+◌, ◌<◌, ◌==◌, nat_lt, if◌then◌else◌, Bool, true, false, List, [], ◌∷◌, length, take, drop, Option, Some, None, option_map}
 use Rattle.std.specs.List.{list_any}
 use Rattle.llb_model.specs.Table.{Event, Claim, Step, Settle, Reply, Claimed, HasRead, Acted, HasMerged, HasRun, Faulted, SettledDone, SettledFailed, table}
 use Rattle.llb_model.specs.State.{State}
@@ -24,6 +24,9 @@ answered b e = option_map (λ (a : State × Reply). (after_event b e a.0, a.1)) 
 -- a stepper on another board, behind the one that it was on
 abbrev pub onward : Stepping → Seen → Stepping
 onward s b = record s { board = b; past = s.board ∷ s.past }
+
+abbrev pub lesser : ℕ → ℕ → ℕ
+lesser a b = if nat_lt a b then a else b
 
 -- one event fewer, and breakpoints as they were
 pub record GoesBack (s t : Stepping) : Type 0 where

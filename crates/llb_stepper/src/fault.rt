@@ -1,25 +1,39 @@
 //! Why a call on a stepper is refused. A fault prints its number and its arguments.
 
+ghost use Rattle.std.specs.Prelude.{Some};
+ghost use Rattle.llb_stepper.specs.Faults.{stepper_text};
+
 use llb_board::WalkFault;
 use std::alloc::{AllocError, AllocFailed};
-use thiserror::Error;
+use std::{error, fmt};
 
 /// Why a stepper does not do what it is asked for.
-#[derive(Debug, Drop, Error)]
+#[derive(Debug, Drop)]
 pub enum StepperFault {
     /// 171: the board refuses the event, 131 to 138 and 141.
-    #[error("171 {0}")]
     Board(WalkFault),
     /// 172: there is no event that was done here.
-    #[error("172")]
     NothingBefore,
     /// 173 N: line N of a session is no command.
-    #[error("173 {0}")]
     BadCommand(u64),
     /// 174: memory was refused to the stepper itself.
-    #[error("174")]
     Memory,
 }
+
+impl fmt::Display for StepperFault {
+    ghost output = { λ e. Some (stepper_text e) };
+
+    fn fmt<W: fmt::Write>(&self, f: &mut fmt::Formatter<W>) -> fmt::Result {
+        match self {
+            StepperFault::Board(fault) => write!(f, "171 {fault}"),
+            StepperFault::NothingBefore => write!(f, "172"),
+            StepperFault::BadCommand(line) => write!(f, "173 {line}"),
+            StepperFault::Memory => write!(f, "174"),
+        }
+    }
+}
+
+impl error::Error for StepperFault {}
 
 impl From<AllocError> for StepperFault {
     ghost use Rattle.std.specs.Prelude.{◌≡◌};

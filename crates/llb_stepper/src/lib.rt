@@ -9,5 +9,5 @@ mod stop;
 
 pub use fault::StepperFault;
 pub use record_text::kind_name;
-pub use stepper::{Stepper, there_and_back};
+pub use stepper::{Stepper, chosen_is_done, there_and_back};
 pub use stop::{Break, Stop};

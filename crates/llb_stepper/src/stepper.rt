@@ -1,10 +1,10 @@
 //! The board that is gone through, what undoes each event that was done here, and the breakpoints.
 
-ghost use Rattle.std.specs.Prelude.{◌≡◌, ◌≤◌, ◌++◌, ◌∷◌, [], length, drop, Bool, true, map, option_map, false, IfOk, IfErr, OnOk, OnErr, Some, string_bytes};
+ghost use Rattle.std.specs.Prelude.{◌≡◌, ◌≤◌, ◌+◌, ◌++◌, ◌∷◌, [], length, drop, Bool, true, map, option_map, false, IfOk, IfErr, OnOk, OnErr, Some, string_bytes};
 ghost use Rattle.llb_model.specs.Run.{chosen};
 ghost use Rattle.llb_board.specs.Views.{event_of};
-ghost use Rattle.llb_stepper.specs.Rules.{GivesEvent, done_of, stepper_memory, IsRefusedAt, MeetsOn};
-ghost use Rattle.llb_stepper.specs.Stepping.{GoesBack, IsStop, IsGo, line};
+ghost use Rattle.llb_stepper.specs.Rules.{GivesEvent, done_of, stepper_memory, IsRefusedAt, MeetsOn, ChosenIsDone};
+ghost use Rattle.llb_stepper.specs.Stepping.{GoesBack, IsStop, IsGo, line, lesser};
 ghost use Rattle.llb_stepper.specs.Records.{record_at, record_text};
 ghost use Rattle.llb_stepper.specs.Told.{seen_pair, told_pair};
 ghost use Rattle.llb_stepper.specs.declared.fault.StepperFault.TheVariants as fault;
@@ -101,6 +101,7 @@ impl Stepper {
     /// Back to the board before the last event; breakpoints stay. 172 where no event was done here, or all were taken back. No memory.
     pub fn back(&mut self) -> Result<(), StepperFault>
         ensures ok { OnOk result (GoesBack self.old self.new) }
+        ensures fewer { OnOk result (length self.old.board.events ≡ length self.new.board.events + 1) }
         ensures nothing { IfErr result (λ e. e ≡ fault.NothingBefore) }
         ensures none { OnErr result (self.old.past ≡ []) }
         ensures err { OnErr result (self.new ≡ self.old) }
@@ -180,6 +181,15 @@ impl Stepper {
         }
     }
 
+    /// So many of the last events are taken back, or all that were done here where they are fewer; breakpoints stay. No memory.
+    pub fn back_many(&mut self, count: usize)
+        ensures line { line self.new ≡ drop (lesser count (length self.old.past)) (line self.old) }
+        ensures breaks { self.new.breaks ≡ self.old.breaks }
+    {
+        let depth = self.depth();
+        self.back_by(if count < depth { count } else { depth });
+    }
+
     /// The chosen events, up to the first that meets a breakpoint, or to where none is chosen; at least one where there is one. 171 141 and
     /// 174 alone: then all that it did is taken back.
     pub fn go(&mut self) -> Result<Stop, StepperFault>
@@ -238,6 +248,13 @@ impl Stepper {
             at_break: false,
         })
     }
+}
+
+/// A law: the chosen event is refused for want of memory alone.
+pub fn chosen_is_done(stepper: &Stepper)
+    ensures { ChosenIsDone stepper.now }
+{
+    chosen_is_granted(&stepper.board);
 }
 
 /// A law: an event, and back, is nothing, whatever the event.

@@ -1,12 +1,20 @@
-//! Sessions on a stepper: a graph as text, what is asked for line by line, and what each line tells.
+//! Sessions on a stepper: a graph as text, lines of commands, and what they print.
 
 use llb_asm::assemble;
-use llb_board::{Board, Event};
+use llb_board::{At, Board, Event, Status};
 use llb_cache::Caches;
 use llb_loader::{Graph, Locals, load};
 use llb_ops::write_definition;
-use llb_stepper::{Break, Stepper, StepperFault};
-use std::alloc::{AllocError, Global};
+use llb_session::{SessionFault, converse};
+use llb_stepper::{Break, Stepper, Stop};
+use std::alloc::Global;
+use std::cell::Cell;
+use std::io;
+use std::io::{ErrorKind, Read, Write};
+
+const LIMIT: usize = 1 << 20;
+
+const READS: u64 = 1 << 20;
 
 // A file `/a`.
 const ONE_FILE: &str =
@@ -29,6 +37,15 @@ const WRITES_TO_A_CACHE: &str =
         dest \"/\"\n }\n mounts {\n input -1\n dest \"/c\"\n output -1\n mountType 3\n cacheOpt {\n ID \"k\"\n sharing 2\n }\n }\n }\n}\n\
         op {\n inputs {\n digest %0\n }\n}\n";
 
+// Two executions on one locked cache, and both their outputs.
+const TWO_ON_A_CACHE: &str =
+    "op {\n exec {\n meta {\n args \"/bin/sh\"\n args \"-c\"\n args \"write /c/a x && false\"\n cwd \"/\"\n }\n mounts {\n input -1\n \
+        dest \"/\"\n }\n mounts {\n input -1\n dest \"/c\"\n output -1\n mountType 3\n cacheOpt {\n ID \"k\"\n sharing 2\n }\n }\n }\n}\n\
+        op {\n exec {\n meta {\n args \"/bin/sh\"\n args \"-c\"\n args \"write /c/b y\"\n cwd \"/\"\n }\n mounts {\n input -1\n \
+        dest \"/\"\n }\n mounts {\n input -1\n dest \"/c\"\n output -1\n mountType 3\n cacheOpt {\n ID \"k\"\n sharing 2\n }\n }\n }\n}\n\
+        op {\n inputs {\n digest %0\n }\n inputs {\n digest %1\n }\n merge {\n inputs {\n }\n inputs {\n input 1\n }\n }\n}\n\
+        op {\n inputs {\n digest %2\n }\n}\n";
+
 fn graph_of(alloc: Global, text: &str) -> Option<Graph> {
     let entries = assemble(alloc, text.as_bytes()).ok()?;
     let definition = write_definition(alloc, &entries).ok()?;
@@ -47,171 +64,245 @@ fn stepper_on(alloc: Global, text: &str, workers: u32) -> Option<Stepper> {
     Some(Stepper::new(alloc, board.ok()?))
 }
 
-// What a line asks for.
-#[derive(Clone, Copy)]
-enum Asked {
-    Do(Event),
-    Next,
-    Go,
-    Back,
-    Stop(Break),
-    Clear,
+// What the lines of a session print, where it ends.
+fn printed(alloc: Global, text: &str, workers: u32, commands: &str) -> Option<Vec<u8>> {
+    let mut stepper = stepper_on(alloc, text, workers)?;
+    let mut lines = commands.as_bytes();
+    let mut out = Vec::new(alloc);
+    converse(alloc, &mut stepper, &mut lines, &mut out, LIMIT, READS).ok()?;
+    Some(out)
 }
 
-fn told_fault(out: &mut String, fault: &StepperFault) -> Result<(), AllocError> {
-    write!(out, "fault {fault}\n")
-}
-
-// The lines of the events behind those that there were.
-fn told_lines(out: &mut String, stepper: &Stepper, before: u64) -> Result<(), AllocError> {
-    let count = stepper.board().events().len() as u64;
-    for i in before..count {
-        if let Ok(Some(line)) = stepper.record_line(i + 1) {
-            let line = line.as_str();
-            write!(out, "{line}\n")?;
-        }
-    }
-    Ok(())
-}
-
-fn told_event(out: &mut String, stepper: &mut Stepper, event: Event) -> Result<(), AllocError> {
-    let before = stepper.board().events().len() as u64;
-    match stepper.do_event(event) {
-        Ok(()) => told_lines(out, stepper, before),
-        Err(fault) => told_fault(out, &fault),
-    }
-}
-
-fn told_walk(out: &mut String, stepper: &mut Stepper) -> Result<(), AllocError> {
-    let before = stepper.board().events().len() as u64;
-    match stepper.go() {
-        Ok(stop) => {
-            told_lines(out, stepper, before)?;
-            out.push_str(if stop.at_break { "stop\n" } else { "end\n" })
-        }
-        Err(fault) => told_fault(out, &fault),
-    }
-}
-
-fn told(out: &mut String, stepper: &mut Stepper, asked: Asked) -> Result<(), AllocError> {
-    match asked {
-        Asked::Do(event) => told_event(out, stepper, event),
-        Asked::Next => match stepper.next() {
-            Some(event) => told_event(out, stepper, event),
-            None => out.push_str("end\n"),
-        },
-        Asked::Go => told_walk(out, stepper),
-        Asked::Back => match stepper.back() {
-            Ok(()) => {
-                let count = stepper.board().events().len();
-                write!(out, "back {count}\n")
-            }
-            Err(fault) => told_fault(out, &fault),
-        },
-        Asked::Stop(stop) => match stepper.break_at(stop) {
-            Ok(()) => Ok(()),
-            Err(fault) => told_fault(out, &fault),
-        },
-        Asked::Clear => {
-            stepper.clear();
-            Ok(())
-        }
-    }
-}
-
-// What a session tells.
-fn session(alloc: Global, text: &str, workers: u32, asked: &[Asked]) -> Result<String, AllocError> {
-    let mut out = String::new(alloc);
-    let Some(mut stepper) = stepper_on(alloc, text, workers) else {
-        return Ok(out);
-    };
-    for one in asked {
-        told(&mut out, &mut stepper, *one)?;
-    }
-    Ok(out)
-}
-
-fn tells(alloc: Global, text: &str, workers: u32, asked: &[Asked], wanted: &str) -> bool {
-    match session(alloc, text, workers, asked) {
-        Ok(out) => out.as_str() == wanted,
-        Err(_) => false,
+fn prints(alloc: Global, text: &str, workers: u32, commands: &str, wanted: &str) -> bool {
+    match printed(alloc, text, workers, commands) {
+        Some(out) => out.as_slice() == wanted.as_bytes(),
+        None => false,
     }
 }
 
 #[test]
 fn a_run_goes_to_a_breakpoint_and_back(rt: HostRuntime) {
-    let asked = [
-        Asked::Stop(Break::Settles(0)),
-        Asked::Go,
-        Asked::Back,
-        Asked::Next,
-        Asked::Next,
-    ];
+    let commands = "break settle 0\ngo\nback\nstatus\nnext\ntree 0 0\nquit\n";
     let wanted =
-        "1 claim 0 0 -> file 1\n2 step 0 -> acted 0\n3 settle 0 -> 0 done\nstop\nback 2\n3 settle 0 -> 0 done\nend\n";
-    assert!(rt; tells(rt.alloc(), ONE_FILE, 2, &asked, wanted));
+        "1 claim 0 0 -> file 1\n2 step 0 -> acted 0\n3 settle 0 -> 0 done\nstop\nback 2\n0 running 0\n3 settle 0 -> 0 done\n\
+        d 0755 0 0 /\nf 0644 0 0 6869 /a\n";
+    assert!(rt; prints(rt.alloc(), ONE_FILE, 2, commands, wanted));
+}
+
+#[test]
+fn a_session_ends_with_its_commands(rt: HostRuntime) {
+    let rows = [
+        ("", ""),
+        ("next", "1 claim 0 0 -> file 1\n"),
+        (
+            "go\nnext\ngo\n",
+            "1 claim 0 0 -> file 1\n2 step 0 -> acted 0\n3 settle 0 -> 0 done\nend\nend\nend\n",
+        ),
+        ("quit\nnext\n", ""),
+        ("next\nquit", "1 claim 0 0 -> file 1\n"),
+        ("tree 0 0\ntree 0 1\ntree 7 0\n", "none\nnone\nnone\n"),
+    ];
+    for (commands, wanted) in rows {
+        assert!(rt;
+            prints(rt.alloc(), ONE_FILE, 1, commands, wanted),
+            "{commands}"
+        );
+    }
+}
+
+#[test]
+fn any_other_line_is_refused_by_its_number(rt: HostRuntime) {
+    let commands =
+        "\nnext \n next\nbreak\nbreak fail 1\nclaim 0\nclaim 0  0\nstep +0\nstep 4294967296\ngo\r\nclaim 00 00\nQUIT\n";
+    let wanted =
+        "fault 173 1\nfault 173 2\nfault 173 3\nfault 173 4\nfault 173 5\nfault 173 6\nfault 173 7\nfault 173 8\nfault 173 9\n\
+        fault 173 10\n1 claim 0 0 -> file 1\nfault 173 12\n";
+    assert!(rt; prints(rt.alloc(), ONE_FILE, 1, commands, wanted));
 }
 
 #[test]
 fn there_is_nothing_before_the_first_event(rt: HostRuntime) {
-    let asked = [Asked::Back, Asked::Next, Asked::Back, Asked::Back];
     let wanted = "fault 172\n1 claim 0 0 -> file 1\nback 0\nfault 172\n";
-    assert!(rt; tells(rt.alloc(), ONE_FILE, 1, &asked, wanted));
+    assert!(rt; prints(rt.alloc(), ONE_FILE, 1, "back\nnext\nback\nback\n", wanted));
 }
 
 #[test]
 fn a_refused_event_is_told_and_changes_nothing(rt: HostRuntime) {
-    let asked = [
-        Asked::Do(Event::Claim(5, 0)),
-        Asked::Do(Event::Claim(0, 9)),
-        Asked::Do(Event::Claim(0, 2)),
-        Asked::Do(Event::Step(0)),
-        Asked::Do(Event::Claim(0, 0)),
-        Asked::Do(Event::Claim(0, 1)),
-        Asked::Do(Event::Settle(0)),
-        Asked::Do(Event::Step(0)),
-        Asked::Do(Event::Step(0)),
-        Asked::Back,
-    ];
+    let commands =
+        "claim 5 0\nclaim 0 9\nclaim 0 2\nstep 0\nclaim 0 0\nclaim 0 1\nsettle 0\nstep 0\nstep 0\nback\nstatus\n";
     let wanted =
         "fault 171 131\nfault 171 133\nfault 171 134\nfault 171 136\n1 claim 0 0 -> file 1\nfault 171 132\nfault 171 138\n\
-            2 step 0 -> acted 0\nfault 171 137\nback 1\n";
-    assert!(rt; tells(rt.alloc(), TWO_FILES, 2, &asked, wanted));
+        2 step 0 -> acted 0\nfault 171 137\nback 1\n0 running 0\n1 ready\n2 waiting\n";
+    assert!(rt; prints(rt.alloc(), TWO_FILES, 2, commands, wanted));
 }
 
 #[test]
 fn what_a_failure_stopped_is_open_again_behind_it(rt: HostRuntime) {
-    let asked = [
-        Asked::Stop(Break::Fails),
-        Asked::Go,
-        Asked::Back,
-        Asked::Back,
-        Asked::Back,
-        Asked::Clear,
-        Asked::Go,
-    ];
+    let commands = "break fail\ngo\nstatus\nback\nstatus\nback\nback\nclear\ngo\n";
     let wanted =
-        "1 claim 0 0 -> file 1\n2 step 0 -> fault 0 21\n3 settle 0 -> 0 failed\nstop\nback 2\nback 1\nback 0\n1 claim 0 0 -> file 1\n\
-            2 step 0 -> fault 0 21\n3 settle 0 -> 0 failed\nend\n";
-    assert!(rt; tells(rt.alloc(), FAILS_FIRST, 1, &asked, wanted));
+        "1 claim 0 0 -> file 1\n2 step 0 -> fault 0 21\n3 settle 0 -> 0 failed\nstop\n0 failed action 0 fault 21\n1 blocked\n\
+        back 2\n0 running 0\n1 waiting\nback 1\nback 0\n1 claim 0 0 -> file 1\n2 step 0 -> fault 0 21\n3 settle 0 -> 0 failed\nend\n";
+    assert!(rt; prints(rt.alloc(), FAILS_FIRST, 1, commands, wanted));
 }
 
 #[test]
 fn a_cache_is_as_it_was_before_a_command(rt: HostRuntime) {
-    let asked = [
-        Asked::Go,
-        Asked::Back,
-        Asked::Back,
-        Asked::Back,
-        Asked::Back,
-        Asked::Go,
-    ];
-    let run =
-        "1 claim 0 0 -> exec 2\n2 step 0 -> ran 0 0\n3 step 0 -> ran 1 1\n4 settle 0 -> 0 failed\nend\n";
-    let back = "back 3\nback 2\nback 1\nback 0\n";
-    let mut wanted = String::new(rt.alloc());
-    let is_made = wanted.push_str(run).is_ok()
-        && wanted.push_str(back).is_ok()
-        && wanted.push_str(run).is_ok();
-    assert!(rt; is_made && tells(rt.alloc(), WRITES_TO_A_CACHE, 1, &asked, wanted.as_str()));
+    let commands = "go\nback\nback\nback\nback\ngo\nstatus\n";
+    let wanted =
+        "1 claim 0 0 -> exec 2\n2 step 0 -> ran 0 0\n3 step 0 -> ran 1 1\n4 settle 0 -> 0 failed\nend\n\
+        back 3\nback 2\nback 1\nback 0\n\
+        1 claim 0 0 -> exec 2\n2 step 0 -> ran 0 0\n3 step 0 -> ran 1 1\n4 settle 0 -> 0 failed\nend\n0 failed command 1 status 1\n";
+    assert!(rt; prints(rt.alloc(), WRITES_TO_A_CACHE, 1, commands, wanted));
+}
+
+#[test]
+fn a_locked_cache_is_told_by_its_id(rt: HostRuntime) {
+    let commands = "claim 0 0\nclaim 1 1\nstep 0\nstep 0\nsettle 0\nclaim 1 1\n";
+    let wanted =
+        "1 claim 0 0 -> exec 2\nfault 171 135 k\n2 step 0 -> ran 0 0\n3 step 0 -> ran 1 1\n4 settle 0 -> 0 failed\n\
+        5 claim 1 1 -> exec 1\n";
+    assert!(rt; prints(rt.alloc(), TWO_ON_A_CACHE, 2, commands, wanted));
+}
+
+// The record of two workers on two files and both of them.
+const OF_TWO_WORKERS: [Event; 10] = [
+    Event::Claim(0, 0),
+    Event::Claim(1, 1),
+    Event::Step(0),
+    Event::Step(1),
+    Event::Settle(0),
+    Event::Settle(1),
+    Event::Claim(0, 2),
+    Event::Step(0),
+    Event::Step(0),
+    Event::Settle(0),
+];
+
+// Where a replay of that record stops with a breakpoint at a claim of the merge, and the stepper there.
+fn replayed(alloc: Global) -> Option<(Stop, Stepper)> {
+    let mut stepper = stepper_on(alloc, TWO_FILES, 2)?;
+    stepper.break_at(Break::Claims(2)).ok()?;
+    let stop = stepper.replay(&OF_TWO_WORKERS).ok()?;
+    Some((stop, stepper))
+}
+
+// Whether the stepper is two events before that: one file is done, and the other is finished and not settled.
+fn is_two_before(mut stepper: Stepper) -> bool {
+    if stepper.back().is_err() || stepper.back().is_err() {
+        return false;
+    }
+    let board = stepper.board();
+    board.events().len() == 5
+        && board.status(0) == Some(Status::Done)
+        && board.status(1) == Some(Status::Running(1))
+        && board.worker(1) == Some(At::Runs(1, 1, true))
+}
+
+#[test]
+fn a_record_is_replayed_up_to_a_breakpoint(rt: HostRuntime) {
+    let Some((stop, stepper)) = replayed(rt.alloc()) else {
+        assert!(rt; false);
+        return;
+    };
+    assert!(rt;
+        stop == Stop {
+            events: 7,
+            at_break: true
+        }
+    );
+    assert!(rt; is_two_before(stepper));
+}
+
+// A reader that gives a byte a read, and those of a line only once the lines before it are answered.
+#[derive(Drop)]
+struct Waits<'a> {
+    bytes: &'a [u8],
+    ended: u32,
+    answered: &'a Cell<u32>,
+}
+
+impl Read for Waits<'_> {
+    fn read(&mut self, piece: &mut [u8]) -> io::Result<usize> {
+        if self.answered.get() < self.ended {
+            return Err(ErrorKind::WouldBlock.into());
+        }
+        match self.bytes.split_first() {
+            Some((first, rest)) if !piece.is_empty() => {
+                piece[0] = *first;
+                self.bytes = rest;
+                if *first == b'\n' {
+                    self.ended = self.ended.saturating_add(1);
+                }
+                Ok(1)
+            }
+            _ => Ok(0),
+        }
+    }
+}
+
+// A writer that counts the answers that are out.
+#[derive(Drop)]
+struct Counts<'a> {
+    text: Vec<u8>,
+    answered: &'a Cell<u32>,
+}
+
+impl Write for Counts<'_> {
+    fn write(&mut self, bytes: &[u8]) -> io::Result<usize> {
+        self.text.write(bytes)
+    }
+
+    fn flush(&mut self) -> io::Result<()> {
+        self.answered.set(self.answered.get().saturating_add(1));
+        Ok(())
+    }
+}
+
+// Whether each line is answered before the next is waited for.
+fn is_conversation(alloc: Global, commands: &str, wanted: &str) -> bool {
+    let Some(mut stepper) = stepper_on(alloc, ONE_FILE, 1) else {
+        return false;
+    };
+    let answered = Cell::new(0);
+    let mut lines = Waits {
+        bytes: commands.as_bytes(),
+        ended: 0,
+        answered: &answered,
+    };
+    let mut out = Counts {
+        text: Vec::new(alloc),
+        answered: &answered,
+    };
+    match converse(alloc, &mut stepper, &mut lines, &mut out, LIMIT, READS) {
+        Ok(()) => out.text.as_slice() == wanted.as_bytes(),
+        Err(_) => false,
+    }
+}
+
+#[test]
+fn each_line_is_answered_before_the_next_is_waited_for(rt: HostRuntime) {
+    let wanted = "1 claim 0 0 -> file 1\n2 step 0 -> acted 0\nback 1\n";
+    assert!(rt; is_conversation(rt.alloc(), "next\nbreak fail\nnext\nback\n", wanted));
+}
+
+// How a session ends whose commands are bounded so.
+fn ended(alloc: Global, limit: usize, reads: u64, wanted: &str) -> Option<SessionFault> {
+    let mut stepper = stepper_on(alloc, ONE_FILE, 1)?;
+    let mut lines = "next\nnext\n".as_bytes();
+    let mut out: Vec<u8> = Vec::new(alloc);
+    let end = converse(alloc, &mut stepper, &mut lines, &mut out, limit, reads);
+    if out.as_slice() != wanted.as_bytes() {
+        return None;
+    }
+    end.err()
+}
+
+#[test]
+fn lines_within_the_bounds_are_answered(rt: HostRuntime) {
+    let first = "1 claim 0 0 -> file 1\n";
+    let both = "1 claim 0 0 -> file 1\n2 step 0 -> acted 0\n";
+    assert!(rt; matches!(ended(rt.alloc(), 9, 5, first), Some(SessionFault::TooLong)));
+    assert!(rt; matches!(ended(rt.alloc(), 5, 5, first), Some(SessionFault::TooLong)));
+    assert!(rt; matches!(ended(rt.alloc(), 10, 1, both), Some(SessionFault::Read)));
+    assert!(rt; ended(rt.alloc(), 10, 2, both).is_none());
 }

@@ -1,0 +1,6 @@
+pub mod Requests
+pub mod Granting
+pub mod Lines
+pub mod Talking
+pub mod Heard
+pub mod Ending

@@ -1,0 +1,15 @@
+-- What a line asks for, by whether it is UTF-8.
+use Rattle.std.proofs.Common.{◌≡◌, ℕ, Bool, true, false, cond, List, None, refl, ap}
+use Rattle.std.specs.Str.{IsUtf8, is_utf8}
+use Rattle.std.proofs.lemmas.Str.{IsUtf8-from_is_utf8, is_utf8-from_IsUtf8}
+use Rattle.llb_session.specs.Request.{request_in, by_words, parted}
+
+pub of_text : (line : List ℕ) → IsUtf8 line → by_words line (parted line) ≡ request_in line
+of_text line is = rw (is_utf8-from_IsUtf8 line is) refl
+
+pub of_none : (line : List ℕ) → (IsUtf8 line → ⊥) → None ≡ request_in line
+of_none line none = by_test (is_utf8 line) refl
+  where
+    by_test : (b : Bool) → is_utf8 line ≡ b → None ≡ cond b (by_words line (parted line)) None
+    by_test true is = absurd (none (IsUtf8-from_is_utf8 line is))
+    by_test false is = refl

@@ -1,0 +1,111 @@
+-- What each line of a session is answered, and where it leads.
+use Rattle.std.specs.Prelude.{◌≡◌, ◌⊎◌, ◌-◌, ◌++◌, ◌∷◌, ℕ, Bool, true, false, if◌then◌else◌, List, [], length, codes, Option, Some, None, Result, Ok, Err, Vec}
+use Rattle.std.specs.Global.{Global}
+use Rattle.std.specs.Io.KnownBytes.{Appends, Keeps}
+use Rattle.llb_wire.specs.Sink.{PartOut}
+use Rattle.llb_wire.specs.declared.sink.Failed.{Failed}
+use Rattle.llb_model.specs.State.{ending_at}
+use Rattle.llb_model.specs.Outcome.{output_in}
+use Rattle.llb_model.specs.Run.{chosen}
+use Rattle.llb_model.specs.Table.{Event}
+use Rattle.llb_board.specs.Views.{event_of}
+use Rattle.llb_stepper.specs.declared.stop.Stop.{Stop}
+use Rattle.llb_stepper.specs.declared.fault.StepperFault.{StepperFault}
+use Rattle.llb_stepper.specs.declared.fault.StepperFault.TheVariants.{NothingBefore, BadCommand}
+use Rattle.llb_stepper.specs.Rules.{done_of, stepper_memory}
+use Rattle.llb_stepper.specs.Stepping.{Stepping, GoesBack, IsGo}
+use Rattle.llb_session.specs.declared.request.Request.{Request}
+use Rattle.llb_session.specs.declared.request.Request.TheVariants as ask
+use Rattle.llb_session.specs.Request.{request_in}
+use Rattle.llb_session.specs.Texts.{status_lines, record_line, record_lines, tree_lines, fault_line, back_line}
+
+-- ---- a request that is granted: what it prints, and where it leads
+
+-- an event: the line of the record that it adds
+abbrev pub GrantsEvent : Event → Stepping → List ℕ → Stepping → Type 0
+GrantsEvent e s text t = (done_of s e ≡ Ok t) × (text ≡ record_line t (length t.board.events))
+
+-- the chosen event, where there is one
+abbrev pub GrantsNext : Option Event → Stepping → List ℕ → Stepping → Type 0
+GrantsNext None s text t = (t ≡ s) × (text ≡ codes "end\n")
+GrantsNext (Some e) s text t = GrantsEvent e s text t
+
+-- how a walk ends
+abbrev pub stop_line : Bool → List ℕ
+stop_line at_break = if at_break then codes "stop\n" else codes "end\n"
+
+-- the chosen events up to a stop: their lines, and how the walk ends
+pub record GrantsGo (s : Stepping) (text : List ℕ) (t : Stepping) : Type 0 where
+  pub stop : Stop
+  pub goes : IsGo s t stop
+  pub lines : text ≡ record_lines t (length s.board.events) (length t.board.events - length s.board.events) ++ stop_line stop.at_break
+
+abbrev pub Grants : Request → Stepping → List ℕ → Stepping → Type 0
+Grants (ask.Break b) s text t = (t ≡ record s { breaks = s.breaks ++ b ∷ [] }) × (text ≡ [])
+Grants ask.Clear s text t = (t ≡ record s { breaks = [] }) × (text ≡ [])
+Grants (ask.Event e) s text t = GrantsEvent (event_of e) s text t
+Grants ask.Next s text t = GrantsNext (chosen s.board.build s.board.state) s text t
+Grants ask.Go s text t = GrantsGo s text t
+Grants ask.Back s text t = GoesBack s t × (text ≡ back_line (length t.board.events))
+Grants ask.Status s text t = (t ≡ s) × (text ≡ status_lines s.board (length s.board.build.graph.vertices))
+Grants (ask.Tree v i) s text t = (t ≡ s) × (text ≡ tree_lines (output_in (ending_at s.board.state.statuses v) i))
+Grants ask.Quit s text t = (t ≡ s) × (text ≡ [])
+
+-- ---- a request that is refused for another cause than memory
+
+abbrev pub Refuses : Request → Stepping → StepperFault → Type 0
+Refuses (ask.Event e) s fault = done_of s (event_of e) ≡ Err fault
+Refuses ask.Back s fault = (s.past ≡ []) × (fault ≡ NothingBefore)
+Refuses (ask.Break b) s fault = ⊥
+Refuses ask.Clear s fault = ⊥
+Refuses ask.Next s fault = ⊥
+Refuses ask.Go s fault = ⊥
+Refuses ask.Status s fault = ⊥
+Refuses (ask.Tree v i) s fault = ⊥
+Refuses ask.Quit s fault = ⊥
+
+-- what a request comes to: it is granted, or all is as before, and memory was refused or a cause stands
+abbrev pub Comes : Request → Stepping → Stepping → Result (Vec ℕ Global) StepperFault → Type 0
+Comes r s t (Ok text) = Grants r s text.items t
+Comes r s t (Err fault) = (t ≡ s) × (stepper_memory fault ≡ false → Refuses r s fault)
+
+-- ---- a line
+
+-- a refusal is told in a line, and changes nothing
+pub record TellsRefusal (r : Request) (s : Stepping) (text : List ℕ) (t : Stepping) : Type 0 where
+  pub fault : StepperFault
+  pub refused : stepper_memory fault ≡ false → Refuses r s fault
+  pub told : text ≡ fault_line fault
+  pub same : t ≡ s
+
+-- memory was refused, and nothing is changed
+pub record TellsWant (s : Stepping) (text : List ℕ) (t : Stepping) : Type 0 where
+  pub fault : StepperFault
+  pub want : stepper_memory fault ≡ true
+  pub told : text ≡ fault_line fault
+  pub same : t ≡ s
+
+abbrev pub AnswersAs : Option Request → Stepping → ℕ → List ℕ → Stepping → Type 0
+AnswersAs None s n text t = ((t ≡ s) × (text ≡ fault_line (BadCommand n))) ⊎ TellsWant s text t
+AnswersAs (Some r) s n text t = Grants r s text t ⊎ TellsRefusal r s text t
+
+-- the line ends the session
+abbrev pub Quits : List ℕ → Type 0
+Quits line = request_in line ≡ Some ask.Quit
+
+-- line n of a session, from 1, where it does not end the session: what it prints, and where it leads
+pub record Answers (s : Stepping) (n : ℕ) (line text : List ℕ) (t : Stepping) : Type 0 where
+  pub goes_on : ¬ Quits line
+  pub answers : AnswersAs (request_in line) s n text t
+
+-- bytes are out, and the session goes on; or a front of them is, where the writer failed
+abbrev pub Puts : List ℕ → Option (List ℕ) → Option (List ℕ) → Result Bool Failed → Type 0
+Puts bytes out out' (Ok true) = Appends out out' bytes
+Puts bytes out out' (Ok false) = ⊥
+Puts bytes out out' (Err e) = PartOut out out' bytes
+
+-- what is out behind a line: its answer, a front of it where the writer failed, or nothing where it ends the session
+abbrev pub Says : Stepping → ℕ → List ℕ → Stepping → Option (List ℕ) → Option (List ℕ) → Result Bool Failed → Type 0
+Says s n line t out out' (Ok true) = (text : List ℕ) × Answers s n line text t × Appends out out' text
+Says s n line t out out' (Ok false) = Quits line × (t ≡ s) × Keeps out out'
+Says s n line t out out' (Err e) = (text : List ℕ) × Answers s n line text t × PartOut out out' text

@@ -1,0 +1,64 @@
+-- What a line of a session asks for: words with one space between them, and nothing around them.
+use Rattle.std.specs.Prelude.{ℕ, ◌^◌, ◌==◌, nat_lt, Bool, if◌then◌else◌, List, length, codes, Option, Some, None, option_map}
+use Rattle.std.specs.List.{position_or_len, before_first, after_first}
+use Rattle.std.specs.Str.{is_utf8}
+use Rattle.llb_asm.specs.Values.{is_text, magnitude, then_in, below}
+use Rattle.llb_board.specs.declared.event.Event.TheVariants.{Claim, Step, Settle}
+use Rattle.llb_stepper.specs.declared.stop.Break.TheVariants.{Claims, Settles, Fails}
+use Rattle.llb_session.specs.declared.request.Request.{Request}
+use Rattle.llb_session.specs.declared.request.Request.TheVariants as ask
+
+abbrev pub is_space : ℕ → Bool
+is_space b = b == 32
+
+-- the word before the first space of a text, and what stands behind it
+abbrev pub parted : List ℕ → Option (List ℕ × List ℕ)
+parted text = if nat_lt (position_or_len is_space text) (length text) then Some (before_first is_space text, after_first is_space text) else None
+
+-- a number of 32 bits, by its decimal digits
+abbrev pub number_in : List ℕ → Option ℕ
+number_in text = then_in (magnitude text) (below (2 ^ 32))
+
+-- two numbers
+abbrev pub pair_in : List ℕ → Option (ℕ × ℕ)
+pair_in text = then_in (parted text) (λ p. then_in (number_in p.0) (λ a. option_map (λ b. (a, b)) (number_in p.1)))
+
+-- a line of one word
+abbrev pub alone : List ℕ → Option Request
+alone word =
+    if is_text word (codes "clear") then Some ask.Clear
+    else if is_text word (codes "next") then Some ask.Next
+    else if is_text word (codes "go") then Some ask.Go
+    else if is_text word (codes "back") then Some ask.Back
+    else if is_text word (codes "status") then Some ask.Status
+    else if is_text word (codes "quit") then Some ask.Quit
+    else None
+
+-- a breakpoint at a vertex
+abbrev pub break_at : List ℕ → List ℕ → Option Request
+break_at word rest =
+    if is_text word (codes "claim") then option_map (λ v. ask.Break (Claims v)) (number_in rest)
+    else if is_text word (codes "settle") then option_map (λ v. ask.Break (Settles v)) (number_in rest)
+    else None
+
+-- what stands behind `break`
+abbrev pub break_in : List ℕ → Option Request
+break_in rest = if is_text rest (codes "fail") then Some (ask.Break Fails) else then_in (parted rest) (λ p. break_at p.0 p.1)
+
+-- a line of a word and what stands behind it
+abbrev pub behind : List ℕ → List ℕ → Option Request
+behind word rest =
+    if is_text word (codes "break") then break_in rest
+    else if is_text word (codes "claim") then option_map (λ (p : ℕ × ℕ). ask.Event (Claim p.0 p.1)) (pair_in rest)
+    else if is_text word (codes "step") then option_map (λ w. ask.Event (Step w)) (number_in rest)
+    else if is_text word (codes "settle") then option_map (λ w. ask.Event (Settle w)) (number_in rest)
+    else if is_text word (codes "tree") then option_map (λ (p : ℕ × ℕ). ask.Tree p.0 p.1) (pair_in rest)
+    else None
+
+abbrev pub by_words : List ℕ → Option (List ℕ × List ℕ) → Option Request
+by_words line None = alone line
+by_words line (Some p) = behind p.0 p.1
+
+-- the request that a line spells, if any; a line that is not UTF-8 spells none
+abbrev pub request_in : List ℕ → Option Request
+request_in line = if is_utf8 line then by_words line (parted line) else None

@@ -1,0 +1,192 @@
+//! A line of a session: what it asks for is done on the stepper, and told in a text.
+
+ghost use Rattle.std.specs.Prelude.{◌≡◌, ◌++◌, ◌-◌, length, true, IfOk, IfErr, OnErr, string_bytes};
+ghost use Rattle.llb_session.specs.declared.request.Request.TheVariants as ask;
+ghost use Rattle.llb_session.specs.Answers.{Comes, AnswersAs, Puts, Says, stop_line};
+ghost use Rattle.llb_session.specs.Texts.{record_lines};
+ghost use Rattle.llb_stepper.specs.Rules.{stepper_memory};
+
+use crate::request::{Request, request_in};
+use crate::text::{back_line, fault_line, line_text, record_text, status_text, tree_text};
+use llb_board::Event;
+use llb_stepper::{Break, Stepper, StepperFault, chosen_is_done};
+use llb_wire::{Failed, Over, write_all};
+use std::alloc::{AllocError, Global};
+use std::io::Write;
+
+// One breakpoint more.
+fn breaks(alloc: Global, stepper: &mut Stepper, stop: Break) -> Result<Vec<u8>, StepperFault>
+    ensures { Comes (ask.Break stop) stepper.old stepper.new result }
+{
+    stepper.break_at(stop)?;
+    Ok(Vec::new(alloc))
+}
+
+// No breakpoint is left.
+fn clears(alloc: Global, stepper: &mut Stepper) -> Result<Vec<u8>, StepperFault>
+    ensures { Comes ask.Clear stepper.old stepper.new result }
+{
+    stepper.clear();
+    Ok(Vec::new(alloc))
+}
+
+// One event, and its line; where memory for the line is refused, the event is taken back.
+fn does(alloc: Global, stepper: &mut Stepper, event: Event) -> Result<Vec<u8>, StepperFault>
+    ensures { Comes (ask.Event event) stepper.old stepper.new result }
+{
+    stepper.do_event(event)?;
+    let number = stepper.board().events().len() as u64;
+    match line_text(alloc, stepper, number) {
+        Ok(text) => Ok(text.into_bytes()),
+        Err(fault) => {
+            let _ = stepper.back();
+            Err(fault)
+        }
+    }
+}
+
+// The chosen event, where there is one.
+fn does_next(alloc: Global, stepper: &mut Stepper) -> Result<Vec<u8>, StepperFault>
+    ensures { Comes ask.Next stepper.old stepper.new result }
+{
+    let Some(event) = stepper.next() else {
+        return Ok(bytes_of(alloc, "end\n")?);
+    };
+    chosen_is_done(stepper);
+    does(alloc, stepper, event)
+}
+
+fn bytes_of(alloc: Global, text: &str) -> Result<Vec<u8>, AllocError>
+    ensures { IfOk result (λ v. v.items ≡ text.now) }
+{
+    let mut bytes = Vec::new(alloc);
+    bytes.extend_from_slice(text.as_bytes())?;
+    Ok(bytes)
+}
+
+// The lines of a walk, and how it ends.
+fn walk_text(
+    alloc: Global,
+    stepper: &Stepper,
+    from: u64,
+    at_break: bool,
+) -> Result<String, StepperFault>
+    ensures lines { IfOk result (λ s. string_bytes s ≡ record_lines stepper.now from (length stepper.now.board.events - from) ++ stop_line at_break) }
+    ensures memory { IfErr result (λ e. stepper_memory e ≡ true) }
+{
+    let to = stepper.board().events().len() as u64;
+    let mut text = record_text(alloc, stepper, from, to)?;
+    text.push_str(if at_break { "stop\n" } else { "end\n" })?;
+    Ok(text)
+}
+
+// The chosen events up to a stop, with their lines; where memory for the lines is refused, they are taken back.
+fn goes(alloc: Global, stepper: &mut Stepper) -> Result<Vec<u8>, StepperFault>
+    ensures { Comes ask.Go stepper.old stepper.new result }
+{
+    let from = stepper.board().events().len() as u64;
+    let stop = stepper.go()?;
+    match walk_text(alloc, stepper, from, stop.at_break) {
+        Ok(text) => Ok(text.into_bytes()),
+        Err(fault) => {
+            stepper.back_many(stop.events as usize);
+            Err(fault)
+        }
+    }
+}
+
+// The last event is taken back. Its line is made first, since an event that was taken back is not done again.
+fn goes_back(alloc: Global, stepper: &mut Stepper) -> Result<Vec<u8>, StepperFault>
+    ensures { Comes ask.Back stepper.old stepper.new result }
+{
+    let left = stepper.board().events().len().saturating_sub(1);
+    let text = back_line(alloc, left)?;
+    stepper.back()?;
+    Ok(text.into_bytes())
+}
+
+// How the vertices look.
+fn tells_status(alloc: Global, stepper: &mut Stepper) -> Result<Vec<u8>, StepperFault>
+    ensures { Comes ask.Status stepper.old stepper.new result }
+{
+    Ok(status_text(alloc, stepper.board())?.into_bytes())
+}
+
+// An output as text.
+fn tells_tree(alloc: Global, stepper: &mut Stepper, v: u32, i: u32) -> Result<Vec<u8>, StepperFault>
+    ensures { Comes (ask.Tree v i) stepper.old stepper.new result }
+{
+    tree_text(alloc, stepper.board().output(v, i))
+}
+
+// What is asked for, and what it prints.
+fn performed(
+    alloc: Global,
+    stepper: &mut Stepper,
+    request: Request,
+) -> Result<Vec<u8>, StepperFault>
+    ensures { Comes request stepper.old stepper.new result }
+{
+    match request {
+        Request::Break(stop) => breaks(alloc, stepper, stop),
+        Request::Clear => clears(alloc, stepper),
+        Request::Event(event) => does(alloc, stepper, event),
+        Request::Next => does_next(alloc, stepper),
+        Request::Go => goes(alloc, stepper),
+        Request::Back => goes_back(alloc, stepper),
+        Request::Status => tells_status(alloc, stepper),
+        Request::Tree(v, i) => tells_tree(alloc, stepper, v, i),
+        Request::Quit => Ok(Vec::new(alloc)),
+    }
+}
+
+// What a line prints: 173 and its number where it asks for nothing. Where memory for the line of a refusal is refused, nothing is changed.
+fn told(
+    alloc: Global,
+    stepper: &mut Stepper,
+    number: u64,
+    request: Option<Request>,
+) -> Result<Vec<u8>, AllocError>
+    ensures ok { IfOk result (λ text. AnswersAs request stepper.old number text.items stepper.new) }
+    ensures err { OnErr result (stepper.new ≡ stepper.old) }
+{
+    let fault = match request {
+        None => StepperFault::BadCommand(number),
+        Some(request) => match performed(alloc, stepper, request) {
+            Ok(text) => return Ok(text),
+            Err(fault) => fault,
+        },
+    };
+    Ok(fault_line(alloc, &fault)?.into_bytes())
+}
+
+// Writes an answer, and the session goes on.
+fn put<W: Write>(bytes: &[u8], out: &mut W) -> Result<bool, Failed>
+    ensures { Puts bytes.now (W.contents out.old) (W.contents out.new) result }
+{
+    write_all(&mut Over::new(out), bytes)?;
+    Ok(true)
+}
+
+/// Answers line `number` of a session, counted from 1, on the stepper, and writes the answer to `out`: no line where it is granted and
+/// prints nothing; `fault 173` and its number where it asks for nothing; `fault` and 171, 172 or 174 where what it asks for is refused,
+/// and then nothing is changed. Where memory is refused for the line of a refusal itself it is `fault 174`. False where the line ends
+/// the session; nothing is written then. `Failed` where the writer failed, and a front of the answer is out.
+pub fn answer<W: Write>(
+    alloc: Global,
+    stepper: &mut Stepper,
+    number: u64,
+    line: &[u8],
+    out: &mut W,
+) -> Result<bool, Failed>
+    ensures { Says stepper.old number line.now stepper.new (W.contents out.old) (W.contents out.new) result }
+{
+    let request = request_in(line);
+    if request == Some(Request::Quit) {
+        return Ok(false);
+    }
+    match told(alloc, stepper, number, request) {
+        Ok(text) => put(text.as_slice(), out),
+        Err(_) => put(b"fault 174\n", out),
+    }
+}

@@ -1,0 +1,147 @@
+//! A session as a conversation: each line is answered, and the answer flushed, before the next bytes are waited for.
+
+ghost use Rattle.std.specs.Prelude.{◌≡◌, ◌≤◌, ◌<◌, ◌+◌, ◌∷◌, ◌^◌, [], length};
+ghost use Rattle.llb_session.specs.Conversation.{IsLine, Converses};
+ghost use Rattle.llb_session.specs.Hearing.{standing, IsSaid, IsLast, Hears};
+
+use crate::answering::answer;
+use crate::fault::SessionFault;
+use llb_stepper::Stepper;
+use std::alloc::Global;
+use std::io::{ErrorKind, Read, Write};
+
+const PIECE: usize = 4096;
+
+const LINE_END: u8 = b'\n';
+
+// How many lines were answered, and what was heard of the next one.
+#[derive(Drop)]
+struct Pending {
+    answered: u64,
+    line: Vec<u8>,
+}
+
+// Answers the line that was heard, under its number, and flushes the answer. False where it ends the session.
+fn say<W: Write>(
+    alloc: Global,
+    session: &mut Stepper,
+    pending: &Pending,
+    out: &mut W,
+) -> Result<bool, SessionFault>
+    requires { pending.now.answered + 1 < 2 ^ 64 }
+    ensures { IsSaid (standing session.old pending.now) session.new (W.contents out.old) (W.contents out.new) result }
+{
+    let number = pending.answered + 1;
+    match answer(alloc, session, number, pending.line.as_slice(), out) {
+        Err(_) => Err(SessionFault::Write),
+        Ok(false) => Ok(false),
+        Ok(true) => match out.flush() {
+            Err(_) => Err(SessionFault::Write),
+            Ok(()) => Ok(true),
+        },
+    }
+}
+
+// Hears a byte. False where the line that it ends ends the session.
+fn hear<W: Write>(
+    alloc: Global,
+    session: &mut Stepper,
+    pending: &mut Pending,
+    byte: u8,
+    out: &mut W,
+) -> Result<bool, SessionFault>
+    requires line { IsLine pending.old.line.items }
+    requires counts { pending.old.answered + 1 < 2 ^ 64 }
+    ensures { Hears (standing session.old pending.old) (byte ∷ []) (standing session.new pending.new) (W.contents out.old) (W.contents out.new) result }
+{
+    if byte != LINE_END {
+        return match pending.line.push(byte) {
+            Err(_) => Err(SessionFault::Memory),
+            Ok(()) => Ok(true),
+        };
+    }
+    let goes_on = say(alloc, session, pending, out)?;
+    pending.answered += 1;
+    pending.line.clear();
+    Ok(goes_on)
+}
+
+// Hears bytes one by one, up to one that ends the session.
+fn hear_all<W: Write>(
+    alloc: Global,
+    session: &mut Stepper,
+    pending: &mut Pending,
+    bytes: &[u8],
+    out: &mut W,
+) -> Result<bool, SessionFault>
+    requires line { IsLine pending.old.line.items }
+    requires counts { pending.old.answered + (length pending.old.line.items + length bytes.now) < 2 ^ 64 }
+    ensures { Hears (standing session.old pending.old) bytes.now (standing session.new pending.new) (W.contents out.old) (W.contents out.new) result }
+{
+    for byte in bytes {
+        if !hear(alloc, session, pending, *byte, out)? {
+            return Ok(false);
+        }
+    }
+    Ok(true)
+}
+
+// At the end of the input: a last line without its end counts.
+fn conclude<W: Write>(
+    alloc: Global,
+    session: &mut Stepper,
+    pending: &Pending,
+    out: &mut W,
+) -> Result<(), SessionFault>
+    requires { pending.now.answered + length pending.now.line.items < 2 ^ 64 }
+    ensures { IsLast (standing session.old pending.now) session.new (W.contents out.old) (W.contents out.new) result }
+{
+    if pending.line.as_slice().is_empty() {
+        return Ok(());
+    }
+    say(alloc, session, pending, out)?;
+    Ok(())
+}
+
+/// Answers the lines that are read from `commands`, each as soon as it has ended, under its number from 1, and flushes each answer before
+/// more is read. A last line without its end counts; nothing behind the last line end is no line. A line that says quit ends the session.
+/// No more than `limit` bytes are heard, and the end is met in `reads` reads; an interrupted read is done again, and counts.
+pub fn converse<R: Read, W: Write>(
+    alloc: Global,
+    session: &mut Stepper,
+    commands: &mut R,
+    out: &mut W,
+    limit: usize,
+    reads: u64,
+) -> Result<(), SessionFault>
+    ensures { Converses limit session.old session.new (R.remaining commands.old) (R.remaining commands.new) (W.contents out.old) (W.contents out.new) result }
+{
+    let mut pending = Pending {
+        answered: 0,
+        line: Vec::new(alloc),
+    };
+    let mut buffer = [0; PIECE];
+    let mut room = limit;
+    for _i in 0..reads {
+        match commands.read(&mut buffer) {
+            Ok(0) => return conclude(alloc, session, &pending, out),
+            Ok(n) => {
+                let (piece, _) = buffer.split_at(n);
+                let (heard, over) = piece.split_at(n.min(room));
+                if !hear_all(alloc, session, &mut pending, heard, out)? {
+                    return Ok(());
+                }
+                if !over.is_empty() {
+                    return Err(SessionFault::TooLong);
+                }
+                room -= n;
+            }
+            Err(error) => {
+                if error.kind() != ErrorKind::Interrupted {
+                    return Err(SessionFault::Read);
+                }
+            }
+        }
+    }
+    Err(SessionFault::Read)
+}

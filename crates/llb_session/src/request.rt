@@ -1,0 +1,144 @@
+//! What a line of a session asks for.
+
+ghost use Rattle.std.specs.Prelude.{◌≡◌, option_map};
+ghost use Rattle.llb_session.specs.Request.{parted, number_in, pair_in, request_in, alone, break_in, break_at, behind, by_words};
+
+use llb_asm::magnitude;
+use llb_board::Event;
+use llb_stepper::Break;
+use std::str::from_utf8;
+
+/// What is asked for.
+#[derive(Clone, Copy, Debug, PartialEq, Eq)]
+pub enum Request {
+    /// One breakpoint more.
+    Break(Break),
+    /// No breakpoint is left.
+    Clear,
+    /// That event.
+    Event(Event),
+    /// The chosen event.
+    Next,
+    /// The chosen events, up to a breakpoint.
+    Go,
+    /// The last event taken back.
+    Back,
+    /// How the vertices look.
+    Status,
+    /// Output I of vertex V, as text.
+    Tree(u32, u32),
+    /// The end of the session.
+    Quit,
+}
+
+// A number of 32 bits, by its decimal digits.
+fn number(text: &str) -> Option<u32>
+    ensures { result ≡ number_in text.now }
+{
+    let number = magnitude(text.as_bytes())?;
+    if number < 1 << 32 {
+        Some(number as u32)
+    } else {
+        None
+    }
+}
+
+// Two numbers, with a space between them.
+fn pair(text: &str) -> Option<(u32, u32)>
+    ensures { result ≡ pair_in text.now }
+{
+    let (first, second) = text.split_once(' ')?;
+    let (first, second) = (number(first)?, number(second)?);
+    Some((first, second))
+}
+
+// A line of one word.
+fn alone(word: &str) -> Option<Request>
+    ensures { result ≡ alone word.now }
+{
+    if word == "clear" {
+        Some(Request::Clear)
+    } else if word == "next" {
+        Some(Request::Next)
+    } else if word == "go" {
+        Some(Request::Go)
+    } else if word == "back" {
+        Some(Request::Back)
+    } else if word == "status" {
+        Some(Request::Status)
+    } else if word == "quit" {
+        Some(Request::Quit)
+    } else {
+        None
+    }
+}
+
+// A breakpoint at a vertex.
+fn break_at(word: &str, rest: &str) -> Option<Request>
+    ensures { result ≡ break_at word.now rest.now }
+{
+    if word == "claim" {
+        let v = number(rest)?;
+        Some(Request::Break(Break::Claims(v)))
+    } else if word == "settle" {
+        let v = number(rest)?;
+        Some(Request::Break(Break::Settles(v)))
+    } else {
+        None
+    }
+}
+
+// What stands behind `break`.
+fn break_in(rest: &str) -> Option<Request>
+    ensures { result ≡ break_in rest.now }
+{
+    if rest == "fail" {
+        return Some(Request::Break(Break::Fails));
+    }
+    let (word, number) = rest.split_once(' ')?;
+    break_at(word, number)
+}
+
+// A line of a word and what stands behind it.
+fn behind(word: &str, rest: &str) -> Option<Request>
+    ensures { result ≡ behind word.now rest.now }
+{
+    if word == "break" {
+        break_in(rest)
+    } else if word == "claim" {
+        let (w, v) = pair(rest)?;
+        Some(Request::Event(Event::Claim(w, v)))
+    } else if word == "step" {
+        let w = number(rest)?;
+        Some(Request::Event(Event::Step(w)))
+    } else if word == "settle" {
+        let w = number(rest)?;
+        Some(Request::Event(Event::Settle(w)))
+    } else if word == "tree" {
+        let (v, i) = pair(rest)?;
+        Some(Request::Tree(v, i))
+    } else {
+        None
+    }
+}
+
+// The words of a line.
+fn by_words(line: &str) -> Option<Request>
+    ensures { result ≡ by_words line.now (parted line.now) }
+{
+    match line.split_once(' ') {
+        None => alone(line),
+        Some((word, rest)) => behind(word, rest),
+    }
+}
+
+/// What a line without its end asks for: `None` of any other line, an empty one and one that is not UTF-8 among them. Words are parted by
+/// exactly one space, and numbers are decimal digits below 2^32. No memory.
+pub fn request_in(line: &[u8]) -> Option<Request>
+    ensures { result ≡ request_in line.now }
+{
+    match from_utf8(line) {
+        Ok(line) => by_words(line),
+        Err(_) => None,
+    }
+}
