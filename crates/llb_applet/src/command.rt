@@ -9,7 +9,7 @@ use crate::applet::{Applet, is_word};
 use crate::fault::ScriptFault;
 use crate::texts::copies;
 use llb_tree::Mode;
-use llb_wire::{Many, Text};
+use llb_wire::{Many, Same, Text};
 use std::alloc::Global;
 
 /// What `test` asks about a path.
@@ -109,6 +109,58 @@ impl Command {
                 let (path, out) = both(path, out)?;
                 Ok(Command::Sha256 { path, out })
             }
+        }
+    }
+}
+
+impl Same for Kind {
+    fn same(&self, other: &Kind) -> bool {
+        match (self, other) {
+            (Kind::Something, Kind::Something) => true,
+            (Kind::File, Kind::File) => true,
+            (Kind::Dir, Kind::Dir) => true,
+            _ => false,
+        }
+    }
+}
+
+impl Same for Command {
+    fn same(&self, other: &Command) -> bool {
+        match (self, other) {
+            (Self::True, Self::True) => true,
+            (Self::False, Self::False) => true,
+            (
+                Self::Mkdir { parents, path },
+                Self::Mkdir {
+                    parents: also,
+                    path: p,
+                },
+            ) => { parents == also && path.same(p) }
+            (Self::Rm { path }, Self::Rm { path: p }) => path.same(p),
+            (Self::Write { path, word }, Self::Write { path: p, word: w }) => {
+                path.same(p) && word.same(w)
+            }
+            (Self::Append { path, word }, Self::Append { path: p, word: w }) => {
+                path.same(p) && word.same(w)
+            }
+            (Self::Cp { from, to }, Self::Cp { from: f, to: t }) => from.same(f) && to.same(t),
+            (Self::Concat { out, parts }, Self::Concat { out: o, parts: p }) => {
+                out.same(o) && parts.same(p)
+            }
+            (Self::Chmod { mode, path }, Self::Chmod { mode: m, path: p }) => {
+                mode.same(m) && path.same(p)
+            }
+            (Self::Test { kind, path }, Self::Test { kind: k, path: p }) => {
+                kind.same(k) && path.same(p)
+            }
+            (Self::Listing { path, out }, Self::Listing { path: p, out: o }) => {
+                path.same(p) && out.same(o)
+            }
+            (Self::Envfile { out }, Self::Envfile { out: o }) => out.same(o),
+            (Self::Sha256 { path, out }, Self::Sha256 { path: p, out: o }) => {
+                path.same(p) && out.same(o)
+            }
+            _ => false,
         }
     }
 }

@@ -12,7 +12,7 @@ use crate::command::{Command, command_of};
 use crate::fault::ScriptFault;
 use crate::texts::copies;
 use crate::words::{bad_place, is_and};
-use llb_wire::Text;
+use llb_wire::{Same, Text, all_same};
 use std::alloc::Global;
 use std::marker::Model;
 use std::mem;
@@ -50,6 +50,12 @@ impl Script {
             commands.push(command.copy()?)?;
         }
         Ok(Script { commands })
+    }
+}
+
+impl Same for Script {
+    fn same(&self, other: &Script) -> bool {
+        all_same(self.commands(), other.commands())
     }
 }
 

@@ -5,7 +5,7 @@ ghost use Rattle.std.specs.Prelude.{◌≡◌, IfOk};
 use crate::fault::Memory;
 use crate::texts::copies;
 use llb_tree::Path;
-use llb_wire::{Many, Text};
+use llb_wire::{Many, Same, Text};
 
 /// Where commands run: paths are read from `cwd`, and `env` is what `envfile` writes.
 #[derive(Drop)]
@@ -25,5 +25,11 @@ impl Setting {
             cwd,
             env: Many::new(env),
         })
+    }
+}
+
+impl Same for Setting {
+    fn same(&self, other: &Setting) -> bool {
+        self.cwd.same(&other.cwd) && self.env.same(&other.env)
     }
 }

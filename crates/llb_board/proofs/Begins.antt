@@ -1,20 +1,27 @@
 -- What a claim begins, put together from its parts.
-use Rattle.std.proofs.Common.{◌≡◌, ℕ, List, map, Option, Some, None, sym, ap, ◌∙◌}
+use Rattle.std.proofs.Common.{◌≡◌, ℕ, ◌<◌, ◌^◌, List, length, map, Option, Some, None, sym, ap, subst, ◌∙◌}
 use Rattle.std.specs.Prelude.{Result, Ok}
+use Rattle.std.specs.List.{All}
 use Rattle.llb_cache.specs.declared.need.Need as cache_need
-use Rattle.llb_cache.specs.Caches.{CachesValue}
+use Rattle.llb_cache.specs.Caches.{CachesValue, place_for}
+use Rattle.llb_loader.specs.Rules.{kind_mounts}
 use Rattle.llb_loader.specs.declared.graph.Vertex.{Vertex}
 use Rattle.llb_tree.specs.Tree.{TreeMap}
-use Rattle.llb_model.specs.Caches.{Place}
-use Rattle.llb_model.specs.Program.{Build, View, needs_of, view_on}
+use Rattle.llb_model.specs.Caches.{Place, Distinct}
+use Rattle.llb_model.specs.Kept.{store_of}
+use Rattle.llb_model.specs.Program.{Build, View, Need, mount_of, needs_of, program_of, view_on}
 use Rattle.llb_model.specs.Table.{Claimed}
-use Rattle.llb_board.specs.Caches.{Taking, taken_with}
-use Rattle.llb_execution.specs.Parts.{mounts_in, shown_in}
+use Rattle.llb_model.proofs.Claims.{first_length}
+use Rattle.llb_board.specs.Caches.{Taking, taken_with, places_taken}
+use Rattle.llb_board.specs.Jobs.{IsWorkable}
+use Rattle.llb_execution.specs.Parts.{work_with, mounts_in, shown_in}
 use Rattle.llb_board.specs.Room.{Supplies, supplies_for}
 use Rattle.llb_board.specs.Rules.{or_not_ready, Begun, begun}
 use Rattle.llb_board.specs.Begun.{Outfitted, outfit_of}
 use Rattle.llb_board.specs.declared.fault.ClaimFault.{ClaimFault}
+use Rattle.llb_board.proofs.Lists.{length_map}
 use Rattle.llb_board.proofs.Needed.{mounts_on, shown_on, keys_taken}
+use Rattle.llb_board.proofs.Wanting.{needs_apart, needs_within}
 
 inside_ok : {A : Type 0} {x y : A} → ◌≡◌ {A = Result A ClaimFault} (Ok x) (Ok y) → x ≡ y
 inside_ok e = cc
@@ -82,3 +89,21 @@ supplied b c x trees p are = λ i. record {
   shown = (ap shown_in (sym are.own) ∙ shown_on b.locals x trees) i;
   keys = (ap (λ (t : Taking). map (λ (q : Place). q.key) t.0) (sym are.taking) ∙ keys_taken c.out (needs_of x)) i;
 }
+
+-- its micro-steps can be done
+pub workable : (b : Build) (c : CachesValue) (x : Vertex) (trees : List TreeMap) (p : Parts) → AreParts b c x trees p → length (program_of x).steps < 2 ^ 32
+    → IsWorkable p.outfit.program (work_with p.view p.trees)
+workable b c x trees p are few =
+    let needs = needs_of x in
+    let shown : shown_in p.view ≡ map mount_of needs = ap shown_in (sym are.view) ∙ shown_on b.locals x trees in
+    let mounts : mounts_in p.view ≡ length (kind_mounts x.op.kind) = ap mounts_in (sym are.view) ∙ mounts_on b.locals x x.op.kind trees in
+    let places = places_taken c.out needs in
+    let many : length places ≡ length needs = length_map (λ (n : Need). place_for c.out n.key) needs in
+    record {
+      apart = subst Distinct (sym shown) (needs_apart x);
+      within = subst (λ (n : ℕ). All (λ m. m < n) (shown_in p.view)) (sym mounts)
+          (subst (λ (ms : List ℕ). All (λ m. m < length (kind_mounts x.op.kind)) ms) (sym shown) (needs_within x));
+      count = ap (λ (t : Taking). length t.2) (sym are.taking) ∙ first_length (store_of c.rows) trees places needs many ∙ many
+          ∙ sym (length_map mount_of needs) ∙ ap length (sym shown);
+      few = subst (λ (o : Outfitted). length o.program.steps < 2 ^ 32) are.outfit few;
+    }

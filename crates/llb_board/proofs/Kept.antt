@@ -35,7 +35,7 @@ use Rattle.llb_board.specs.declared.stand.Execution as own
 use Rattle.llb_board.proofs.Lists.{map_set, set_same, length_map, get_map}
 use Rattle.llb_board.proofs.Calls.{Claims, LeasedNew, steps, CanSettle, left_if}
 use Rattle.llb_board.proofs.Sound.{consistent}
-use Rattle.llb_board.proofs.Stopped.{marks_stay}
+use Rattle.llb_board.proofs.Marked.{marks_stay}
 
 -- a board's data: what stands at the vertices, what the workers do, the lists of instances, the leases, the marks
 pub record Data : Type 0 where
@@ -70,7 +70,8 @@ pub record Stays (b : Build) (w : ℕ) (d d' : Data) : Type 0 where
   pub marks : d'.stop_marks ≡ stopped b (map status_of d'.stands)
 
 -- the lists of instances behind one event more
-kept_more : (b : Build) (s : State) (first rows : List Row) (t u : State) (es : List Event) (e : Event) (r : Reply) → kept_along b s first es ≡ Some (t, rows)
+pub kept_more : (b : Build) (s : State) (first rows : List Row) (t u : State) (es : List Event) (e : Event) (r : Reply)
+    → kept_along b s first es ≡ Some (t, rows)
     → table b t e ≡ Some (u, r) → kept_along b s first (es ++ e ∷ []) ≡ Some (u, rows_after rows u (worker_of e))
 kept_more b s first rows t u es e r so_far granted =
     fold-append (kept_next b) (Some (s, first)) es (e ∷ [])

@@ -1,12 +1,13 @@
 pub mod Lists
 pub mod Needed
 pub mod Inputs
-pub mod Stopped
+pub mod Marked
 pub mod Counted
 pub mod Steps
 pub mod Choices
 pub mod Wanting
 pub mod Written
+pub mod Rewritten
 pub mod Returned
 pub mod Lent
 pub mod Begins
@@ -22,3 +23,4 @@ pub mod Walks
 pub mod Undone
 pub mod Undos
 pub mod Copies
+pub mod Landed

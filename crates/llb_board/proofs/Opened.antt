@@ -20,7 +20,7 @@ use Rattle.llb_board.specs.declared.stand.Stand.TheVariants.{Waiting}
 use Rattle.llb_board.specs.declared.stand.Desk.{Desk}
 use Rattle.llb_board.specs.declared.stand.Desk.TheVariants.{Idle}
 use Rattle.llb_board.proofs.Returned.{none_leased}
-use Rattle.llb_board.proofs.Stopped.{unmarked}
+use Rattle.llb_board.proofs.Marked.{unmarked}
 
 map_replicate : {A B : Type 0} (f : A → B) (n : ℕ) (x : A) → map f (replicate n x) ≡ replicate n (f x)
 map_replicate f zero x = refl

@@ -29,6 +29,7 @@ use Rattle.llb_board.specs.declared.stand.Execution as own
 use Rattle.llb_board.proofs.Lists.{length_map, get_map, map_set, set_same}
 use Rattle.llb_board.proofs.Calls.{granted_by}
 use Rattle.llb_board.proofs.Written.{written_each}
+use Rattle.llb_board.proofs.Rewritten.{AreKeysApart}
 
 inside_ok : {A E : Type 0} {x y : A} → ◌≡◌ {A = Result A E} (Ok x) (Ok y) → x ≡ y
 inside_ok e = cc
@@ -106,6 +107,21 @@ apart_distinct (p ∷ ps) apart = (
   apart_distinct ps (λ i j d less low. apart (suc i) (suc j) d (omega (arith, less)) (omega (arith, low))),
 )
 
+-- no two instances of a lease have one key
+pub keys_apart : (ps : List Place) → AllPairs (λ p q. p.key ≢ q.key) ps → AreKeysApart ps
+keys_apart [] apart = tt
+keys_apart (p ∷ ps) apart = (
+  λ q h. let r = has_index ps q h in λ e. apart 0 (suc r.0) p (omega arith) (omega (arith, r.1)) (e
+      ∙ ap (λ (s : Place). s.key) (sym (other_default ps r.0 p q r.1 ∙ r.2))),
+  keys_apart ps (λ i j d less low. apart (suc i) (suc j) d (omega (arith, less)) (omega (arith, low))),
+)
+
+pub held_keys : (out : Leases) (l : Option (Option ℕ)) (ps : List Place) → AreApart out → HasLease out l ps → AreKeysApart ps
+held_keys out l ps apart has = elim has [
+  | inl h ↦ keys_apart ps (apart h.0 ps h.2)
+  | inr h ↦ subst AreKeysApart (sym h.1) tt
+]
+
 -- the lease of a running worker, and what holds of its instances
 pub record Holding (rows : List Row) (out : Leases) (ds : List Desk) (w : ℕ) (l : Option ℕ) (x : own.Execution) : Type 0 where
   pub has : HasLease out (Some l) x.places.items
@@ -118,7 +134,7 @@ held_distinct out l ps apart has = elim has [
   | inr h ↦ subst Distinct (sym h.1) tt
 ]
 
-held_within : (rows : List Row) (out : Leases) (l : Option (Option ℕ)) (ps : List Place) → AreThere rows out → HasLease out l ps
+pub held_within : (rows : List Row) (out : Leases) (l : Option (Option ℕ)) (ps : List Place) → AreThere rows out → HasLease out l ps
     → (p : Place) → Has ps p → p.number < length (trees_of rows p.key)
 held_within rows out l ps there has = elim has [
   | inl h ↦ all_has (λ p. p.number < length (trees_of rows p.key)) ps (there h.0 ps h.2)

@@ -40,7 +40,7 @@ use Rattle.llb_board.proofs.Kept.{Data, Keeps, seen_as, made_enough, supplies_cl
 use Rattle.llb_board.proofs.Lists.{map_set, get_map, length_map, set_same}
 use Rattle.llb_board.proofs.Sound.{consistent}
 use Rattle.llb_board.proofs.Stepping.{leased_stepped}
-use Rattle.llb_board.proofs.Stopped.{marks_stay}
+use Rattle.llb_board.proofs.Marked.{marks_stay}
 
 -- ---- what is over stays so below a vertex
 

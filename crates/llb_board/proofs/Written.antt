@@ -45,7 +45,7 @@ written_each rows ps ts apart count within = each_written (put_all (store_of row
 -- ---- instances that come next
 
 -- a key that is there keeps its row under the trees that it has
-same_rows : (rows : List Row) (k : Key) → 0 < length (trees_of rows k) → with_trees rows k (trees_of rows k) ≡ rows
+pub same_rows : (rows : List Row) (k : Key) → 0 < length (trees_of rows k) → with_trees rows k (trees_of rows k) ≡ rows
 same_rows [] k some = absurd (omega (arith, some))
 same_rows (r ∷ rows) k some = go (same_key k r.0) some (same_rows rows k)
   where
@@ -54,7 +54,7 @@ same_rows (r ∷ rows) k some = go (same_key k r.0) some (same_rows rows k)
     go true some rest = refl
     go false some rest = ap (λ rs. r ∷ rs) (rest some)
 
-set_got : (ts : List TreeMap) (n : ℕ) (t : TreeMap) → slice_get ts n ≡ Some t → slice_set ts n t ≡ ts
+pub set_got : (ts : List TreeMap) (n : ℕ) (t : TreeMap) → slice_get ts n ≡ Some t → slice_set ts n t ≡ ts
 set_got [] n t at = refl
 set_got (u ∷ ts) zero t at = let same : t ≡ u = ap (λ o. unwrap_or o u) (sym at) in ap (λ v. v ∷ ts) same
 set_got (u ∷ ts) (suc n) t at = ap (λ vs. u ∷ vs) (set_got ts n t at)

@@ -2,10 +2,12 @@ pub mod Faults
 pub mod Events
 pub mod Store
 pub mod Caches
+pub mod Jobs
 pub mod Views
 pub mod Board
 pub mod Headline
 pub mod Rules
+pub mod Landing
 pub mod Room
 pub mod Begun
 pub mod Undo

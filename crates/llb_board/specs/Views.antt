@@ -17,7 +17,6 @@ use Rattle.llb_board.specs.declared.event.Status.{Status}
 use Rattle.llb_board.specs.declared.event.Status.TheVariants as seen
 use Rattle.llb_board.specs.declared.event.At.{At}
 use Rattle.llb_board.specs.declared.event.At.TheVariants as at
-use Rattle.llb_board.specs.declared.job.Job.{Job}
 use Rattle.llb_board.specs.declared.stand.Stand.{Stand}
 use Rattle.llb_board.specs.declared.stand.Stand.TheVariants as stand
 use Rattle.llb_board.specs.declared.stand.Desk.{Desk}
@@ -53,8 +52,8 @@ event_of (event.Step w) = table.Step w
 event_of (event.Settle w) = table.Settle w
 
 -- the replies
-abbrev pub claim_reply : Job → table.Reply
-claim_reply j = table.Claimed (record { worker = j.worker; vertex = j.vertex; program = j.program; done = j.done; work = record { own = j.view; trees = j.trees }; instances = j.instances })
+abbrev pub claim_reply : table.Job → table.Reply
+claim_reply j = table.Claimed j
 
 abbrev pub step_reply : Stepped → table.Reply
 step_reply Read = table.HasRead

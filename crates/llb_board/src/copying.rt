@@ -58,7 +58,8 @@ fn copied_stand(alloc: Global, stand: &Stand) -> Result<Stand, Memory>
     }
 }
 
-fn copied_trees(alloc: Global, trees: &[Tree]) -> Result<Vec<Tree>, Memory>
+/// Second owners of trees.
+pub(crate) fn copied_trees(alloc: Global, trees: &[Tree]) -> Result<Vec<Tree>, Memory>
     ensures { IfOk result (λ t. t.items ≡ trees.now) }
 {
     let mut copies = Vec::new(alloc);

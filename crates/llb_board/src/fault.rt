@@ -3,6 +3,8 @@
 ghost use Rattle.std.specs.Prelude.{Some};
 ghost use Rattle.llb_board.specs.Faults.{claim_text, step_text, settle_text, walk_text};
 
+use crate::gate::Stopped;
+use crate::outcome::Outcome;
 use llb_cache::{Caches, Key};
 use llb_loader::{Graph, Locals};
 use llb_tree::TreeFault;
@@ -15,6 +17,40 @@ use thiserror::Error;
 #[derive(Clone, Copy, Debug, Error)]
 #[error("141")]
 pub struct Memory;
+
+/// Why a job comes to no outcome.
+#[derive(Clone, Copy, Debug, Error)]
+pub enum WorkFault {
+    /// 143: the gate let no work begin.
+    #[error("143")]
+    Stopped,
+    /// 142: memory was refused.
+    #[error("142")]
+    Memory,
+}
+
+/// Why an outcome does not land: the first cause that stands. The outcome comes back.
+#[derive(Drop, Error)]
+pub enum LandFault {
+    /// 131: there is no worker of that number.
+    #[error("131")]
+    NoWorker(Outcome),
+    /// 136: the worker is idle.
+    #[error("136")]
+    NotRunning(Outcome),
+    /// 140: a cache of the vertex that the worker runs is in shared mode.
+    #[error("140")]
+    HasShared(Outcome),
+    /// 139: the outcome's job is not what the worker runs now, with the caches as they are now.
+    #[error("139")]
+    Stranger(Outcome),
+}
+
+impl fmt::Debug for LandFault {
+    fn fmt<W: fmt::Write>(&self, f: &mut fmt::Formatter<W>) -> fmt::Result {
+        write!(f, "{self}")
+    }
+}
 
 /// Why a graph is not opened. The graph, the local trees and the caches come back.
 #[derive(Drop, Error)]
@@ -195,6 +231,28 @@ impl From<llb_loader::Memory> for Memory {
 impl From<llb_applet::Memory> for Memory {
     fn from(_: llb_applet::Memory) -> Memory {
         Memory
+    }
+}
+
+impl From<Stopped> for WorkFault {
+    ghost use Rattle.std.specs.Prelude.{◌≡◌};
+    ghost use Rattle.llb_board.specs.declared.fault.WorkFault.TheVariants as work;
+
+    ghost from_gives = { λ _ e. e ≡ work.Stopped };
+
+    fn from(_: Stopped) -> WorkFault {
+        WorkFault::Stopped
+    }
+}
+
+impl From<Memory> for WorkFault {
+    ghost use Rattle.std.specs.Prelude.{◌≡◌};
+    ghost use Rattle.llb_board.specs.declared.fault.WorkFault.TheVariants as work;
+
+    ghost from_gives = { λ _ e. e ≡ work.Memory };
+
+    fn from(_: Memory) -> WorkFault {
+        WorkFault::Memory
     }
 }
 

@@ -5,6 +5,7 @@ ghost use Rattle.std.specs.Prelude.{◌≡◌, ◌↔◌, ◌<◌, ℕ, None, tr
 ghost use Rattle.llb_model.specs.Outcome.{outcome};
 ghost use Rattle.llb_model.specs.Run.{chosen, is_complete, StandsPlainly};
 ghost use Rattle.llb_model.specs.Consistent.{IsConsistent};
+ghost use Rattle.llb_model.specs.Landing.{LandsAsBlock};
 ghost use Rattle.llb_model.specs.Laws as machine;
 ghost use Rattle.llb_board.specs.Board.{SettledArePlain, ChosenIsGranted, OthersKeep, OneWorkerEach, ReadyBehindDone, BlockedBehindAFailure, OutcomeByInputs};
 ghost use Rattle.llb_board.specs.Headline.{Headline};
@@ -115,6 +116,14 @@ pub fn alone_in_claim_order(board: &Board)
     ensures { machine.AloneInClaimOrder board.now.build }
 {
     board.is_graph();
+}
+
+/// What was worked out away from the machine, on a worker's view and on the trees of its instances as they are now, has, landed, the effect
+/// of the block of its micro-steps and its settle.
+pub fn lands_as_block(board: &Board)
+    ensures { LandsAsBlock board.now.build }
+{
+    let _ = board;
 }
 
 /// No two workers run one vertex.

@@ -1,11 +1,11 @@
 //! One worker's execution of a vertex: how it begins, a micro-step of it, and how it ends.
 
-ghost use Rattle.std.specs.Prelude.{◌≡◌, [], map, option_map, slice_get, slice_set, is_ok, is_some, nat_le, ◌||◌, true, Some, Err};
+ghost use Rattle.std.specs.Prelude.{◌≡◌, ◌<◌, ◌^◌, [], length, map, option_map, slice_get, slice_set, is_ok, is_some, nat_le, ◌||◌, true, Some, Err};
 ghost use Rattle.std.specs.Prelude.{Ok, OnErr, OnOk, IfOk, MatchResult};
 ghost use Rattle.llb_model.specs.Outcome.{inputs_from};
 ghost use Rattle.llb_model.specs.State.{ending_at};
 ghost use Rattle.llb_model.specs.Table.{claim_start, step_grant};
-ghost use Rattle.llb_model.specs.Program.{needs_of};
+ghost use Rattle.llb_model.specs.Program.{needs_of, program_of};
 ghost use Rattle.llb_model.specs.Leases.{AreLeased, HasLease};
 ghost use Rattle.llb_board.specs.Caches.{need_of, rows_after};
 ghost use Rattle.llb_board.specs.Begun.{begun_as, outfit_as, outfit_of};
@@ -52,6 +52,7 @@ pub(crate) fn claimable<'a>(
 ) -> Result<&'a Vertex, ClaimFault>
     ensures there { IfOk result (λ x. slice_get build.now.graph.vertices v ≡ Some x.now) }
     ensures kind { IfOk result (λ x. IsVertexOf x.now x.now.op.kind) }
+    ensures few { IfOk result (λ x. length (program_of x.now).steps < 2 ^ 32) }
     ensures graph { IfOk result (λ _. IsGraph build.now.graph) }
     ensures first { MatchResult result
         (λ _. is_ok (claim_start (map status_of stands.now) v (slice_get (map at_of desks.now) w) (slice_get build.now.graph.vertices v)) ≡ true)
@@ -112,6 +113,7 @@ pub(crate) fn begin(
     wanted: Vec<Wanted>,
 ) -> Result<Begun, ClaimFault>
     requires kind { IsVertexOf vertex.now vertex.now.op.kind }
+    requires few { length (program_of vertex.now).steps < 2 ^ 32 }
     requires wanted { map need_of wanted.items ≡ needs_of vertex.now }
     ensures gives { GivesClaim begun_as result
         (begun build.now caches.now at.0 at.1 vertex.now (inputs_from (ending_at (map status_of stands.now)) vertex.now.inputs)) }

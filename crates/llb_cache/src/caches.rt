@@ -6,7 +6,7 @@ ghost use Rattle.std.specs.Map.{keys_of};
 ghost use Rattle.llb_cache.specs.Caches.{IsOut, place_for, AreExclusive, IsCaches, leases, lease_of, place_at, places_of, trees_of, tree_at, with_content, given_back, is_locked, is_held, number_for, place};
 ghost use Rattle.llb_cache.specs.Faults.{Gives, MemoryLast};
 
-use crate::copying::{copied_leases, copied_rows, same_leases, same_rows};
+use crate::copying::{copied_leases, copied_rows, same_rows};
 use crate::fault::{LeaseFault, Memory};
 use crate::growing::{
     admitted, make_all, places_at, places_for, readied, set_at, take_back, take_lease,
@@ -18,7 +18,7 @@ use crate::search::{count, is_shut, keys_differ, number_for};
 use crate::trees::Trees;
 use indexmap::IndexMap;
 use llb_tree::Tree;
-use llb_wire::Many;
+use llb_wire::{Many, all_same};
 use std::alloc::Global;
 use std::marker::Model;
 
@@ -220,7 +220,7 @@ impl Caches {
     pub fn same(&self, other: &Caches) -> bool
         ensures { IsTrue result ↔ (self.now ≡ other.now) }
     {
-        same_rows(&self.rows, &other.rows) && same_leases(&self.out, &other.out)
+        same_rows(&self.rows, &other.rows) && all_same(self.out.as_slice(), other.out.as_slice())
     }
 
     /// A law: no key stands twice.

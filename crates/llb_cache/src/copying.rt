@@ -9,7 +9,7 @@ use crate::key::Key;
 use crate::need::Place;
 use crate::trees::Trees;
 use indexmap::IndexMap;
-use llb_wire::Many;
+use llb_wire::{Many, Same};
 use std::alloc::Global;
 
 // Puts a copy of the row at an index behind the copies.
@@ -98,48 +98,8 @@ pub(crate) fn same_rows(rows: &IndexMap<Key, Trees>, others: &IndexMap<Key, Tree
     true
 }
 
-fn same_place(place: &Place, other: &Place) -> bool
-    ensures { IsTrue result ↔ (place.now ≡ other.now) }
-{
-    place.number == other.number && place.key.same(&other.key)
-}
-
-fn same_places(places: &[Place], others: &[Place]) -> bool
-    ensures { IsTrue result ↔ (places.now ≡ others.now) }
-{
-    if places.len() != others.len() {
-        return false;
+impl Same for Place {
+    fn same(&self, other: &Place) -> bool {
+        self.number == other.number && self.key.same(&other.key)
     }
-    for i in 0..places.len() {
-        if !same_place(&places[i], &others[i]) {
-            return false;
-        }
-    }
-    true
-}
-
-fn same_lease(lease: &Option<Many<Place>>, other: &Option<Many<Place>>) -> bool
-    ensures { IsTrue result ↔ (lease.now ≡ other.now) }
-{
-    match lease {
-        Some(places) => match other {
-            Some(others) => same_places(places.as_slice(), others.as_slice()),
-            None => false,
-        },
-        None => other.is_none(),
-    }
-}
-
-pub(crate) fn same_leases(out: &[Option<Many<Place>>], others: &[Option<Many<Place>>]) -> bool
-    ensures { IsTrue result ↔ (out.now ≡ others.now) }
-{
-    if out.len() != others.len() {
-        return false;
-    }
-    for i in 0..out.len() {
-        if !same_lease(&out[i], &others[i]) {
-            return false;
-        }
-    }
-    true
 }

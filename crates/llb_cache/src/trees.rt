@@ -5,6 +5,7 @@ ghost use Rattle.std.specs.Prelude.{◌≡◌, ◌↔◌, IsTrue, ◌<◌, ◌++
 
 use crate::fault::Memory;
 use llb_tree::Tree;
+use llb_wire::all_same;
 use std::alloc::Global;
 use std::marker::Model;
 
@@ -111,14 +112,6 @@ impl Trees {
     pub(crate) fn same(&self, other: &Trees) -> bool
         ensures { IsTrue result ↔ (self.now ≡ other.now) }
     {
-        if self.items.len() != other.items.len() {
-            return false;
-        }
-        for i in 0..self.items.len() {
-            if !self.items[i].same(&other.items[i]) {
-                return false;
-            }
-        }
-        true
+        all_same(self.items.as_slice(), other.items.as_slice())
     }
 }

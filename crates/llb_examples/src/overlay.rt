@@ -3,6 +3,7 @@
 use super::told::{Row, is_told, tree_of, tree_text};
 use llb_merge::{Memory, lay, lay_onto, lay_over};
 use llb_tree::{Tree, TreeFault, Way};
+use llb_wire::Same;
 use std::alloc::Global;
 
 const LOWER: &[Row<'static>] = &[

@@ -2,6 +2,7 @@
 
 use super::told::{Row, Step, is_told, push_tree, take_step, tree_of};
 use llb_tree::{Path, Tree, TreeFault};
+use llb_wire::Same;
 use std::alloc::Global;
 
 const SHARED: &[Row<'_>] = &[

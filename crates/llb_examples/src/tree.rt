@@ -3,6 +3,7 @@
 
 use super::told::{Row, Step, file, is_told, push_path, push_tree, take_step, tree_of};
 use llb_tree::{Meta, Name, Path, Tree, TreeFault};
+use llb_wire::Same;
 use std::alloc::Global;
 
 // The path of a text, read from another path where there is one.

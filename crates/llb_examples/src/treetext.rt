@@ -3,7 +3,7 @@
 use super::told::{file, is_told, tree_of};
 use llb_tree::{Tree, TreeFault};
 use llb_treetext::{TextFault, one_answer, print_tree, read_tree, reads_back, tree_digest};
-use llb_wire::Over;
+use llb_wire::{Over, Same};
 use std::alloc::{AllocError, Global};
 
 // The text of a tree, as it is printed.

@@ -1,8 +1,8 @@
 //! The wire: numbers, records, texts and lists, and writers that fail.
 
 use llb_wire::{
-    Bytes, Failed, Field, Many, Memory, Over, Sink, Text, Wire, WireFault, is_hex, next_record,
-    push_hex, read_hex, text_of_digest, varint, write_all, write_record, write_varint,
+    Bytes, Failed, Field, Many, Memory, Over, Same, Sink, Text, Wire, WireFault, is_hex,
+    next_record, push_hex, read_hex, text_of_digest, varint, write_all, write_record, write_varint,
 };
 use std::alloc::Global;
 use std::io;

@@ -6,3 +6,5 @@ pub mod Exchanges
 pub mod Stepping
 pub mod Places
 pub mod Marks
+pub mod Doing
+pub mod Matching

@@ -3,6 +3,7 @@
 #![tactic(auto)]
 
 mod filling;
+mod further;
 mod mark;
 mod micro_step;
 mod missing;
@@ -10,9 +11,11 @@ mod mounting;
 mod outputs;
 mod program;
 mod refusal;
+mod same;
 mod view;
 
 pub use filling::empty_trees;
+pub use further::{Further, do_further};
 pub use llb_wire::Memory;
 pub use mark::Mark;
 pub use micro_step::{MicroStep, step_count, step_of};

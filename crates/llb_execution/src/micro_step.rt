@@ -88,8 +88,8 @@ pub(crate) fn run_at<'a>(
     }
 }
 
-// The commands of a script, where there is one.
-fn commands_of(script: &Option<Script>) -> &[Command]
+/// The commands of a script, where there is one.
+pub(crate) fn commands_of(script: &Option<Script>) -> &[Command]
     ensures { result.now ≡ unwrap_or script.now [] }
 {
     match script {

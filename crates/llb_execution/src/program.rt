@@ -21,13 +21,13 @@ use std::marker::Model;
 /// exec; and the outputs that they give.
 #[derive(Drop)]
 pub struct Program {
-    steps: Steps,
-    outputs: u32,
-    given: Vec<i64>,
+    pub(crate) steps: Steps,
+    pub(crate) outputs: u32,
+    pub(crate) given: Vec<i64>,
 }
 
 #[derive(Drop)]
-enum Steps {
+pub(crate) enum Steps {
     Nothing,
     Read,
     Actions(Actions),

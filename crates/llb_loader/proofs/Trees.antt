@@ -1,7 +1,8 @@
 -- A map of trees by owned texts, seen as the list of names and trees.
 use Rattle.std.proofs.Common.{◌≡◌, ℕ, Bool, true, false, List, [], ◌∷◌, Option, Some, None, cond, refl, sym, ◌∙◌, ap}
-use Rattle.std.specs.Prelude.{if◌then◌else◌, String, string_bytes, string_eq}
+use Rattle.std.specs.Prelude.{if◌then◌else◌, option_map, slice_get, String, string_bytes, string_eq}
 use Rattle.std.specs.Cmp.Lexicographic.{bytes_decides, nat_list_eq_equiv}
+use Rattle.std.proofs.lemmas.Option.{slice_get-map}
 use Rattle.std.specs.Map.{lookup}
 use Rattle.std.specs.Str.{bytes_eq}
 use Rattle.indexmap.specs.IndexMap.{insert_entry}
@@ -50,3 +51,8 @@ given_case false l ls rest name other tree e h =
 pub last_given : (ls : List Local) (name : List ℕ) (tree : TreeMap) (other : List ℕ) → tree_of_local (with_local ls name tree) other ≡ cond (bytes_eq name other) (Some tree) (tree_of_local ls other)
 last_given [] name tree other = ap (λ (b : Bool). cond b (Some tree) None) (nat_list_eq_equiv.symm other name)
 last_given (l ∷ ls) name tree other = given_case (bytes_eq name l.0) l ls (with_local ls name tree) name other tree refl (last_given ls name tree other)
+
+-- the local at a place is that of the entry there
+pub local_at : {Z : Type 0} (es : List (String Z × TreeMap)) (i : ℕ) → slice_get (locals_of es) i ≡ option_map (λ e. (string_bytes e.0, e.1)) (slice_get es i)
+unfolding locals_of
+local_at es i = slice_get-map (λ e. (string_bytes e.0, e.1)) es i

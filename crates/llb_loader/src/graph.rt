@@ -7,7 +7,7 @@ ghost use Rattle.llb_loader.specs.Locals.{local_name};
 use crate::fault::Memory;
 use llb_applet::Script;
 use llb_ops::{Kind, Op};
-use llb_wire::{Many, Text};
+use llb_wire::{Many, Same, Text, all_same};
 use std::alloc::{AllocError, Global};
 use std::marker::Model;
 use std::sync::Arc;
@@ -113,5 +113,28 @@ impl Graph {
         ensures { result ≡ self.now.result }
     {
         self.result
+    }
+}
+
+impl Same for Edge {
+    fn same(&self, other: &Edge) -> bool {
+        self.vertex == other.vertex && self.index == other.index
+    }
+}
+
+impl Same for Vertex {
+    fn same(&self, other: &Vertex) -> bool {
+        self.digest.same(&other.digest)
+            && self.op.same(&other.op)
+            && self.script.same(&other.script)
+            && self.inputs.same(&other.inputs)
+            && self.steps == other.steps
+            && self.outputs == other.outputs
+    }
+}
+
+impl Same for Graph {
+    fn same(&self, other: &Graph) -> bool {
+        self.result.same(&other.result) && all_same(self.vertices(), other.vertices())
     }
 }

@@ -1,13 +1,13 @@
 //! The trees of local sources, by name, in the order in which the names were first given.
 
-ghost use Rattle.std.specs.Prelude.{◌≡◌, ℕ, List, [], Some, cond, IfOk, OnOk, OnErr, IfSome, option_map, slice_get, string_bytes};
+ghost use Rattle.std.specs.Prelude.{◌≡◌, ◌↔◌, ℕ, IsTrue, List, [], Some, cond, IfOk, OnOk, OnErr, IfSome, option_map, slice_get, string_bytes};
 ghost use Rattle.std.specs.Str.{bytes_eq};
 ghost use Rattle.llb_loader.specs.Locals.{locals_of, tree_of_local, with_local};
 
 use crate::fault::Memory;
 use indexmap::IndexMap;
 use llb_tree::Tree;
-use llb_wire::Text;
+use llb_wire::{Same, Text};
 use std::alloc::Global;
 use std::marker::Model;
 
@@ -90,5 +90,40 @@ fn copy_at(copies: &mut Locals, trees: &IndexMap<String, Tree>, i: usize) -> Res
             copies.add(name, tree.copy()?)
         }
         None => Ok(()),
+    }
+}
+
+impl Same for Locals {
+    fn same(&self, other: &Locals) -> bool {
+        same_trees(&self.trees, &other.trees)
+    }
+}
+
+// Whether both have the same trees under the same names, in the same order.
+fn same_trees(trees: &IndexMap<String, Tree>, others: &IndexMap<String, Tree>) -> bool
+    ensures { IsTrue result ↔ (locals_of trees.now.entries ≡ locals_of others.now.entries) }
+{
+    if trees.len() != others.len() {
+        return false;
+    }
+    for i in 0..trees.len() {
+        if !same_at(trees, others, i) {
+            return false;
+        }
+    }
+    true
+}
+
+// Whether both have the same tree under the same name at an index.
+#[tactic(auto, using(crate::proofs::Trees::local_at))]
+fn same_at(trees: &IndexMap<String, Tree>, others: &IndexMap<String, Tree>, i: usize) -> bool
+    ensures { IsTrue result ↔ (slice_get (locals_of trees.now.entries) i ≡ slice_get (locals_of others.now.entries) i) }
+{
+    match (trees.get_index(i), others.get_index(i)) {
+        (Some((name, tree)), Some((other_name, other))) => {
+            name.as_str() == other_name.as_str() && tree.same(other)
+        }
+        (None, None) => true,
+        _ => false,
     }
 }

@@ -11,7 +11,7 @@ use crate::fault::LoadFault;
 use crate::row::Row;
 use indexmap::IndexMap;
 use llb_ops::Op;
-use llb_wire::Text;
+use llb_wire::{Same, Text};
 use std::alloc::{AllocError, Global};
 
 /// Whether there are fewer than two distinct rows.

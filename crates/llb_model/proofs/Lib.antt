@@ -26,3 +26,4 @@ pub mod Kept
 pub mod Leases
 pub mod Leasing
 pub mod Vertices
+pub mod Landing

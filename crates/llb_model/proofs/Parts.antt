@@ -119,7 +119,7 @@ step_keeps k (Some (Act action)) work = own_keeps work (act_on k action work.own
 step_keeps k (Some (LayInput i)) work = refl
 step_keeps k (Some (Run setting command)) work = command_keeps k setting command work work.own
 
-go_keeps : (steps : List MicroStep) (k : ℕ) (left : Left) → length (go_on steps k left).work.trees ≡ length left.work.trees
+pub go_keeps : (steps : List MicroStep) (k : ℕ) (left : Left) → length (go_on steps k left).work.trees ≡ length left.work.trees
 go_keeps steps k left = by_fault left.fault
   where
     by_fault : (o : Option VertexFault) → length (unless_faulted o left (step_on k (slice_get steps k) left.work)).work.trees ≡ length left.work.trees

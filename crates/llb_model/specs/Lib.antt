@@ -16,3 +16,4 @@ pub mod Order
 pub mod Laws
 pub mod Kept
 pub mod Leases
+pub mod Landing

@@ -5,6 +5,7 @@ ghost use Rattle.std.specs.Prelude.{◌≡◌, IfOk};
 
 use crate::fault::Memory;
 use llb_tree::{Path, Tree};
+use llb_wire::Same;
 
 /// A tree that is shown at a dest: what is below the dest is looked up in the tree below the selector, which need not be
 /// there. `View::set_tree` refuses a read-only mount.
@@ -31,5 +32,14 @@ impl Shown {
             readonly,
             tree,
         })
+    }
+}
+
+impl Same for Shown {
+    fn same(&self, other: &Shown) -> bool {
+        self.dest.same(&other.dest)
+            && self.selector.same(&other.selector)
+            && self.readonly == other.readonly
+            && self.tree.same(&other.tree)
     }
 }

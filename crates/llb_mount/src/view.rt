@@ -8,7 +8,7 @@ ghost use Rattle.llb_mount.specs.Route.{IsRoute, route};
 use crate::fault::{Memory, ReadOnly};
 use crate::shown::Shown;
 use llb_tree::{Name, Path, Tree};
-use llb_wire::Many;
+use llb_wire::{Many, Same, all_same};
 use std::marker::Model;
 use std::mem;
 
@@ -190,5 +190,11 @@ impl View {
             mounts.push(shown.copy()?)?;
         }
         Ok(View { mounts })
+    }
+}
+
+impl Same for View {
+    fn same(&self, other: &View) -> bool {
+        all_same(self.mounts(), other.mounts())
     }
 }

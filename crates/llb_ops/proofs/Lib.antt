@@ -35,3 +35,4 @@ pub mod SourceFields
 pub mod OpFields
 pub mod TableRows
 pub mod Unnamed
+pub mod Alike

@@ -12,6 +12,7 @@ mod message;
 mod op;
 mod owners;
 mod records;
+mod same;
 mod shape;
 mod source;
 mod table;

@@ -15,7 +15,8 @@ use Rattle.llb_session.specs.declared.request.Request.TheVariants as ask
 use Rattle.llb_session.specs.Request.{request_in}
 use Rattle.llb_session.specs.Answers.{Comes, GrantsNext, AnswersAs, Answers, Quits, Puts, Says}
 
-pub chosen_comes : (s t : Stepping) (e : own.Event) (r : Result (Vec ℕ Global) StepperFault) → ChosenIsDone s → Some (event_of e) ≡ chosen s.board.build s.board.state
+pub chosen_comes : (s t : Stepping) (e : own.Event) (r : Result (Vec ℕ Global) StepperFault) → ChosenIsDone s
+    → Some (event_of e) ≡ chosen s.board.build s.board.state
     → Comes (ask.Event e) s t r → Comes ask.Next s t r
 chosen_comes s t e (Ok text) law is comes = subst (λ o. GrantsNext o s text.items t) is comes
 chosen_comes s t e (Err fault) law is (same, refused) = (same, λ not. absurd (differ (law (event_of e) fault (sym is) (refused not)) not))

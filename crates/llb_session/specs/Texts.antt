@@ -1,5 +1,5 @@
 -- What a session prints: how vertices look, lines of the record, trees, and refusals.
-use Rattle.std.specs.Prelude.{ℕ, zero, suc, ◌+◌, List, [], ◌++◌, codes, length, Option, Some, None, option_map}
+use Rattle.std.specs.Prelude.{ℕ, zero, suc, ◌+◌, List, [], ◌++◌, codes, Option, Some, None, option_map}
 use Rattle.std.specs.Fmt.{decimal}
 use Rattle.llb_tree.specs.Tree.{TreeMap}
 use Rattle.llb_treetext.specs.TreeText.{tree_text}

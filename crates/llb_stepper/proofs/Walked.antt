@@ -1,5 +1,6 @@
 -- What a walk of the board tells of the table: the board behind the event, and the reply.
-use Rattle.std.proofs.Common.{◌≡◌, suc, ◌+◌, Bool, true, false, List, [], ◌∷◌, ◌++◌, length, reverse, Option, Some, None, option_map, is_some, refl, sym, ap, ◌∙◌, subst}
+use Rattle.std.proofs.Common.{◌≡◌, suc, ◌+◌, Bool, true, false, List, [], ◌∷◌, ◌++◌, length, reverse, Option, Some, None, option_map}
+use Rattle.std.proofs.Common.{is_some, refl, sym, ap, ◌∙◌, subst}
 use Rattle.std.proofs.lemmas.List.{reverse-append, length-reverse, length-append}
 use Rattle.std.specs.Prelude.{Result, Ok, Err}
 use Rattle.std.specs.List.{list_any}
@@ -19,7 +20,7 @@ use Rattle.llb_stepper.specs.declared.stop.Break.{Break}
 use Rattle.llb_stepper.specs.declared.stop.Break.TheVariants as stop
 use Rattle.llb_stepper.specs.declared.fault.StepperFault.{StepperFault}
 use Rattle.llb_stepper.specs.Rules.{MeetsOn, done_by, done_of, stepper_memory}
-use Rattle.llb_stepper.specs.Stepping.{Stepping, answered, onward, meets}
+use Rattle.llb_stepper.specs.Stepping.{Stepping, GoesBack, answered, onward, meets}
 use Rattle.llb_stepper.specs.Told.{meets_told}
 use Rattle.llb_stepper.specs.Kept.{past_of, stepping, Follows, AreWalked}
 
@@ -143,6 +144,26 @@ pub chosen_done : (b : Seen) (s : Stepping) → b ≡ s.board → ChosenIsGrante
 chosen_done b s same law e f is refused =
     memory_alone s e f (chosen_granted b s e same law (ap (λ (x : Seen). chosen x.build x.state) same ∙ is)) (λ told. refused)
 
+-- ---- an event, and back
+
+done_inside : (s t : Stepping) (o : Walk) → done_by s o ≡ Ok t → (p : Seen × short.Reply) × (t ≡ onward s p.0)
+done_inside s t (Ok p) e = (p, cc)
+done_inside s t (Err f) e = absurd cc
+
+abbrev stood : Seen → List Seen → List Break → Stepping
+stood b past breaks = record { board = b; past = past; breaks = breaks }
+
+parts : (s u : Stepping) → s.board ∷ s.past ≡ u.board ∷ u.past → u.breaks ≡ s.breaks → u ≡ s
+parts s u past breaks =
+    let board : u.board ≡ s.board = cc in
+    let before : u.past ≡ s.past = cc in
+    ap (λ b. stood b u.past u.breaks) board ∙ ap (λ p. stood s.board p u.breaks) before ∙ ap (λ k. stood s.board s.past k) breaks
+
+pub gone_and_back : (s : Stepping) (e : Event) (t u : Stepping) → done_of s e ≡ Ok t → GoesBack t u → u ≡ s
+gone_and_back s e t u done back =
+    let d = done_inside s t (walk_of s.board e) done in
+    parts s u (sym (ap (λ (x : Stepping). x.past) d.1) ∙ back.past) (back.breaks ∙ ap (λ (x : Stepping). x.breaks) d.1)
+
 -- ---- one event fewer
 
 some_inside : {x y : Seen × Reply} → Some x ≡ Some y → x ≡ y
@@ -151,7 +172,8 @@ some_inside e = cc
 fewer_by : (before b : Seen) (e : Event) (r : Reply) (o : Option (State × Reply))
     → option_map {U = Seen × Reply} (λ a. (after_event before e a.0, a.1)) o ≡ Some (b, r) → length b.events ≡ length before.events + 1
 fewer_by before b e r None is = absurd cc
-fewer_by before b e r (Some a) is = ap (λ (x : Seen). length x.events) (sym (ap (λ (p : Seen × Reply). p.0) (some_inside is))) ∙ length-append before.events (e ∷ [])
+fewer_by before b e r (Some a) is =
+    ap (λ (x : Seen). length x.events) (sym (ap (λ (p : Seen × Reply). p.0) (some_inside is))) ∙ length-append before.events (e ∷ [])
 
 fewer_in : (b : Seen) (w : Walked) (ws : List Walked) → AreWalked b (w ∷ ws) → length b.events ≡ length (undone w.undo b).events + 1
 fewer_in b w ws (can, follows, before) =

@@ -10,7 +10,7 @@ use Rattle.llb_board.specs.declared.walk.Reply as short
 use Rattle.llb_board.specs.declared.fault.WalkFault.{WalkFault}
 use Rattle.llb_stepper.specs.declared.fault.StepperFault.{StepperFault}
 use Rattle.llb_stepper.specs.declared.fault.StepperFault.TheVariants as fault
-use Rattle.llb_stepper.specs.Stepping.{Stepping, answered, onward, meets, meets_at, run_on}
+use Rattle.llb_stepper.specs.Stepping.{Stepping, GoesBack, answered, onward, meets, meets_at, run_on}
 
 -- want of memory, of the board or of the stepper itself
 abbrev pub stepper_memory : StepperFault → Bool
@@ -33,6 +33,10 @@ done_of s e = done_by s (walk_of s.board e)
 -- the chosen event is refused for want of memory alone
 abbrev pub ChosenIsDone : Stepping → Type 0
 ChosenIsDone s = (e : Event) (fault : StepperFault) → chosen s.board.build s.board.state ≡ Some e → done_of s e ≡ Err fault → stepper_memory fault ≡ true
+
+-- an event, and back, is nothing, whatever the event
+abbrev pub ThereAndBack : Stepping → Type 0
+ThereAndBack s = (e : Event) (t u : Stepping) → done_of s e ≡ Ok t → GoesBack t u → u ≡ s
 
 -- one event was granted, and that tells whether it meets a breakpoint
 abbrev pub MeetsOn : Stepping → Event → Stepping → Bool → Type 0

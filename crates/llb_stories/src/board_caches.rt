@@ -10,7 +10,8 @@ use llb_loader::{Graph, Locals};
 use std::alloc::Global;
 
 // The cache in each of the ways in which one is shared, as a mount and as a key.
-const SHARED: &[u8] = b"\x20\xFF\xFF\xFF\xFF\xFF\xFF\xFF\xFF\xFF\x01\x30\x03\xA2\x01\x03\x0A\x01k";
+pub const SHARED: &[u8] =
+    b"\x20\xFF\xFF\xFF\xFF\xFF\xFF\xFF\xFF\xFF\x01\x30\x03\xA2\x01\x03\x0A\x01k";
 
 const PRIVATE: &[u8] =
     b"\x20\xFF\xFF\xFF\xFF\xFF\xFF\xFF\xFF\xFF\x01\x30\x03\xA2\x01\x05\x0A\x01k\x10\x01";
@@ -65,7 +66,7 @@ pub fn one(alloc: Global, exec: Exec) -> Option<Graph> {
 }
 
 // What two executions leave, laid over each other.
-fn two(alloc: Global, first: Exec, second: Exec) -> Option<Graph> {
+pub fn two(alloc: Global, first: Exec, second: Exec) -> Option<Graph> {
     let a = entry_of(alloc, b"", first)?;
     let b = entry_of(alloc, b"", second)?;
     graph_of(

@@ -9,6 +9,10 @@ mod board_caches;
 #[cfg(test)]
 mod faults;
 #[cfg(test)]
+mod landings;
+#[cfg(test)]
+mod outcomes;
+#[cfg(test)]
 mod sessions;
 #[cfg(test)]
 mod told;

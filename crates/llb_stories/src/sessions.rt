@@ -7,6 +7,8 @@ use llb_loader::{Graph, Locals, load};
 use llb_ops::write_definition;
 use llb_session::{SessionFault, converse};
 use llb_stepper::{Break, Stepper, Stop};
+use llb_treetext::read_tree;
+use llb_wire::Text;
 use std::alloc::Global;
 use std::cell::Cell;
 use std::io;
@@ -67,9 +69,14 @@ fn stepper_on(alloc: Global, text: &str, workers: u32) -> Option<Stepper> {
 // What the lines of a session print, where it ends.
 fn printed(alloc: Global, text: &str, workers: u32, commands: &str) -> Option<Vec<u8>> {
     let mut stepper = stepper_on(alloc, text, workers)?;
+    answered(alloc, &mut stepper, commands)
+}
+
+// What lines print on a stepper, where they end.
+fn answered(alloc: Global, stepper: &mut Stepper, commands: &str) -> Option<Vec<u8>> {
     let mut lines = commands.as_bytes();
     let mut out = Vec::new(alloc);
-    converse(alloc, &mut stepper, &mut lines, &mut out, LIMIT, READS).ok()?;
+    converse(alloc, stepper, &mut lines, &mut out, LIMIT, READS).ok()?;
     Some(out)
 }
 
@@ -305,4 +312,55 @@ fn lines_within_the_bounds_are_answered(rt: HostRuntime) {
     assert!(rt; matches!(ended(rt.alloc(), 5, 5, first), Some(SessionFault::TooLong)));
     assert!(rt; matches!(ended(rt.alloc(), 10, 1, both), Some(SessionFault::Read)));
     assert!(rt; ended(rt.alloc(), 10, 2, both).is_none());
+}
+
+// The graph of `examples/execution.text`, its local source, and the session of `examples/session.commands` with its answers.
+const EXAMPLE: &str =
+    "op {\nsource {\nidentifier \"local://source\"\n}\n}\nop {\nfile {\nactions {\ninput -1\nsecondaryInput -1\nmkdir {\npath \"/out\"\nmode 493\n}\n}\n}\n\
+        }\nop {\ninputs {\ndigest %1\n}\ninputs {\ndigest %0\n}\nexec {\nmeta {\nargs \"/bin/sh\"\nargs \"-c\"\n\
+        args \"mkdir -p bin && concat bin/all /src/head /src/tail && sha256 bin/all /tmp/digest && cp /tmp/digest bin/digest && chmod 0444 bin/all && envfile \
+        env && test -f bin/all\"\nenv \"LANG=C\"\ncwd \"/out\"\n}\nmounts {\ndest \"/\"\n}\nmounts {\ninput 1\nselector \"/text\"\ndest \"/src\"\noutput -1\n\
+        readonly true\n}\nmounts {\ninput -1\ndest \"/tmp\"\noutput -1\nmountType 4\n}\n}\n}\nop {\ninputs {\ndigest %2\n}\n}\n";
+
+const EXAMPLE_SOURCE: &str =
+    "d 0755 0 0 /\nd 0755 0 0 /text\nf 0644 0 0 68656c6c6f2c0a /text/head\nf 0644 0 0 776f726c640a /text/tail\n";
+
+const EXAMPLE_COMMANDS: &str =
+    "break settle 1\ngo\ntree 1 0\nback\nback\nstatus\nclaim 1 2\ngo\nclear\ngo\ntree 2 0\nquit\n";
+
+const EXAMPLE_ANSWERS: &str =
+    "1 claim 0 0 -> source 1\n2 step 0 -> read\n3 settle 0 -> 0 done\n4 claim 0 1 -> file 1\n5 step 0 -> acted 0\n6 settle 0 -> 1 done\nstop\n\
+        d 0755 0 0 /\nd 0755 0 0 /out\nback 5\nback 4\n0 done\n1 running 0\n2 waiting\nfault 171 134\n5 step 0 -> acted 0\n6 settle 0 -> 1 done\nstop\n\
+        7 claim 0 2 -> exec 7\n8 step 0 -> ran 0 0\n9 step 0 -> ran 1 0\n10 step 0 -> ran 2 0\n11 step 0 -> ran 3 0\n12 step 0 -> ran 4 0\n\
+        13 step 0 -> ran 5 0\n14 step 0 -> ran 6 0\n15 settle 0 -> 2 done\nend\nd 0755 0 0 /\nd 0755 0 0 /out\nd 0755 0 0 /out/bin\n\
+        f 0444 0 0 68656c6c6f2c0a776f726c640a /out/bin/all\n\
+        f 0644 0 0 643263636365636364386166303765366232323737653234616162376338623763396161663063336134303638363064636666373632636639366461336135610a /out/bin\
+        /digest\nf 0644 0 0 4c414e473d430a /out/env\n";
+
+fn example_source(alloc: Global) -> Option<Locals> {
+    let tree = read_tree(alloc, EXAMPLE_SOURCE.as_bytes()).ok()?;
+    let name = Text::from_str(alloc, "source").ok()?;
+    let mut locals = Locals::new(alloc);
+    locals.add(name, tree).ok()?;
+    Some(locals)
+}
+
+fn example_stepper(alloc: Global) -> Option<Stepper> {
+    let graph = graph_of(alloc, EXAMPLE)?;
+    let locals = example_source(alloc)?;
+    let board = Board::open(alloc, graph, locals, Caches::new(alloc), 2);
+    Some(Stepper::new(alloc, board.ok()?))
+}
+
+#[test]
+fn the_example_goes_behind_a_vertex_and_back_and_on(rt: HostRuntime) {
+    let Some(mut stepper) = example_stepper(rt.alloc()) else {
+        assert!(rt; false);
+        return;
+    };
+    let Some(out) = answered(rt.alloc(), &mut stepper, EXAMPLE_COMMANDS) else {
+        assert!(rt; false);
+        return;
+    };
+    assert_eq!(rt; out.as_slice(), EXAMPLE_ANSWERS.as_bytes());
 }

@@ -68,7 +68,7 @@ fn worker_text(alloc: Global, at: Option<At>) -> Result<String, AllocError> {
 fn claim(alloc: Global, board: &mut Board, w: u32, v: u32) -> Result<String, AllocError> {
     match board.claim(w, v) {
         Ok(job) => {
-            let (worker, vertex, done) = (job.worker, job.vertex, job.done);
+            let (worker, vertex, done) = (job.worker(), job.vertex(), job.done());
             format!(in alloc; "worker {worker}, vertex {vertex}, {done} done")
         }
         Err(fault) => fault.to_string(alloc),
@@ -87,7 +87,7 @@ fn taken(alloc: Global, instances: &[u32], trees: &[Tree]) -> Result<String, All
 
 fn begin(alloc: Global, board: &mut Board, w: u32, v: u32) -> Result<String, AllocError> {
     match board.claim(w, v) {
-        Ok(job) => taken(alloc, job.instances.as_slice(), job.trees.as_slice()),
+        Ok(job) => taken(alloc, job.instances(), job.trees()),
         Err(fault) => fault.to_string(alloc),
     }
 }

@@ -23,3 +23,4 @@ pub mod Merging
 pub mod Compared
 pub mod Fitting
 pub mod Walked
+pub mod Sharing

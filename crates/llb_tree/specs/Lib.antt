@@ -13,3 +13,4 @@ pub mod Rows
 pub mod Overlay
 pub mod Laying
 pub mod Walks
+pub mod Shared

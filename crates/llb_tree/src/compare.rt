@@ -5,12 +5,11 @@ ghost use Rattle.std.specs.Prelude.{◌≡◌, ◌↔◌, IsTrue};
 
 use crate::node::{Kind, Node};
 use crate::tree::Tree;
+use llb_wire::Same;
 
-impl Tree {
-    /// Whether both have the same entries at the same paths. Takes no memory.
-    pub fn same(&self, other: &Tree) -> bool
-        ensures { IsTrue result ↔ (self.now ≡ other.now) }
-    {
+/// Two trees are the same where both have the same entries at the same paths.
+impl Same for Tree {
+    fn same(&self, other: &Tree) -> bool {
         self.root.same(&other.root)
     }
 }

@@ -16,6 +16,7 @@ mod node;
 mod overlay;
 mod overlay_in_place;
 mod path;
+mod reads;
 mod tree;
 mod walk;
 mod way;

@@ -1,9 +1,10 @@
 //! The mode and the owner of an entry. A value has a mode of at most 4095 by its type, and contracts see
 //! its three numbers. Nothing here takes memory.
 
-ghost use Rattle.std.specs.Prelude.{◌≡◌, ◌≤◌, ◌↔◌, IsTrue};
+ghost use Rattle.std.specs.Prelude.{◌≡◌, ◌≤◌};
 ghost use Rattle.llb_tree.specs.Meta.{IsMeta, meta_of, new_dir_meta};
 
+use llb_wire::Same;
 use std::marker::Model;
 
 /// The mode and the owner of an entry. The mode is at most 4095, its permission bits and the three above them.
@@ -50,13 +51,6 @@ impl Meta {
         }
     }
 
-    // Whether the mode and the owner are the same.
-    pub(crate) fn same(&self, other: &Meta) -> bool
-        ensures { IsTrue result ↔ (self.now ≡ other.now) }
-    {
-        self.mode == other.mode && self.uid == other.uid && self.gid == other.gid
-    }
-
     /// A law: the mode is at most 4095, and the owners are numbers of 32 bits.
     pub fn is_meta(&self)
         ensures { IsMeta self.now }
@@ -85,5 +79,11 @@ impl Meta {
         ensures { result ≡ self.now.gid }
     {
         self.gid
+    }
+}
+
+impl Same for Meta {
+    fn same(&self, other: &Meta) -> bool {
+        self.mode == other.mode && self.uid == other.uid && self.gid == other.gid
     }
 }

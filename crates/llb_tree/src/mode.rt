@@ -3,6 +3,7 @@
 ghost use Rattle.std.specs.Prelude.{◌≡◌, ◌≤◌};
 ghost use Rattle.llb_tree.specs.Modes.{mode_of, is_octal_digit};
 
+use llb_wire::Same;
 use std::marker::Model;
 
 /// A mode, at most 4095. Contracts see the number.
@@ -51,6 +52,12 @@ impl Mode {
         ensures small { result ≤ 4095 }
     {
         self.bits
+    }
+}
+
+impl Same for Mode {
+    fn same(&self, other: &Mode) -> bool {
+        self.bits == other.bits
     }
 }
 

@@ -8,6 +8,7 @@ ghost use Rattle.llb_tree.specs.Path.{is_name, below, enter, follow, parts_of, d
 
 use crate::fault::TreeFault;
 use crate::name::Name;
+use llb_wire::Same;
 use std::alloc::Global;
 use std::cmp::Ordering;
 use std::marker::Model;
@@ -153,13 +154,6 @@ impl Path {
         Ok(copied)
     }
 
-    /// Whether both are the same path.
-    pub fn same(&self, other: &Path) -> bool
-        ensures { IsTrue result ↔ (self.now ≡ other.now) }
-    {
-        self == other
-    }
-
     /// A law: a path that is written with `/` between its names, and `/` before them or not, reads as itself.
     pub fn reads_back(&self)
         ensures { ReadsBack self.now }
@@ -193,8 +187,8 @@ fn depth_of(start: usize, text: &str) -> Result<usize, TreeFault>
     Ok(names)
 }
 
-// How many names there are behind a part, where so many are before it.
-fn depth_after(names: usize, part: &str) -> Result<usize, TreeFault>
+/// How many names there are behind a part, where so many are before it.
+pub(crate) fn depth_after(names: usize, part: &str) -> Result<usize, TreeFault>
     ensures depth { (path : List (List ℕ)) → length path ≡ names → result ≡ depth (enter path part.now) }
     ensures known { IfErr result (λ e. is_memory e ≡ false) }
 {
@@ -214,6 +208,12 @@ fn depth_after(names: usize, part: &str) -> Result<usize, TreeFault>
         return Err(TreeFault::BadName);
     }
     Ok(names + 1)
+}
+
+impl Same for Path {
+    fn same(&self, other: &Path) -> bool {
+        self == other
+    }
 }
 
 impl PartialEq for Path {

@@ -3,6 +3,7 @@
 ghost use Rattle.std.specs.Prelude.{◌≡◌, IfOk};
 
 use crate::fault::Memory;
+use crate::same::Same;
 use std::alloc::Global;
 use std::marker::Model;
 
@@ -40,5 +41,11 @@ impl<T> Boxed<T> {
         ensures { result ≡ self }
     {
         Box::into_inner(self.place)
+    }
+}
+
+impl<T: Same> Same for Boxed<T> {
+    fn same(&self, other: &Boxed<T>) -> bool {
+        self.get().same(other.get())
     }
 }

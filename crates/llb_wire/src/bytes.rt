@@ -1,9 +1,10 @@
 //! Byte strings, which contracts see as lists. That the elements are bytes is kept by the type.
 
-ghost use Rattle.std.specs.Prelude.{◌≡◌, ◌↔◌, IfOk, IsTrue};
+ghost use Rattle.std.specs.Prelude.{◌≡◌, IfOk};
 ghost use Rattle.llb_wire.specs.Spelling.{AreBytes};
 
 use crate::fault::Memory;
+use crate::same::Same;
 use std::alloc::Global;
 use std::marker::Model;
 
@@ -68,11 +69,10 @@ impl Bytes {
         let content = self.content.clone()?;
         Ok(Bytes { content })
     }
+}
 
-    /// Whether both hold the same bytes.
-    pub fn same(&self, other: &Bytes) -> bool
-        ensures { IsTrue result ↔ (self.now ≡ other.now) }
-    {
+impl Same for Bytes {
+    fn same(&self, other: &Bytes) -> bool {
         self == other
     }
 }

@@ -2,6 +2,7 @@
 
 ghost use Rattle.std.specs.Prelude.{◌≡◌, ◌==◌, length};
 
+use crate::same::{Same, all_same};
 use std::alloc::Global;
 use std::marker::Model;
 
@@ -55,5 +56,11 @@ impl<T> Many<T> {
         ensures { result.items ≡ self }
     {
         self.items
+    }
+}
+
+impl<T: Same> Same for Many<T> {
+    fn same(&self, other: &Many<T>) -> bool {
+        all_same(self.as_slice(), other.as_slice())
     }
 }

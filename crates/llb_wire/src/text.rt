@@ -1,10 +1,11 @@
 //! Texts, which contracts see as the lists of their bytes.
 
-ghost use Rattle.std.specs.Prelude.{◌≡◌, ◌↔◌, IfOk, IsTrue};
+ghost use Rattle.std.specs.Prelude.{◌≡◌, IfOk};
 ghost use Rattle.std.specs.String.{string_bytes};
 ghost use Rattle.std.specs.Str.{IsUtf8};
 
 use crate::fault::Memory;
+use crate::same::Same;
 use std::alloc::Global;
 use std::fmt;
 use std::hash::{Hash, Hasher};
@@ -62,11 +63,10 @@ impl Text {
         let content = self.content.clone()?;
         Ok(Text { content })
     }
+}
 
-    /// Whether both are the same text.
-    pub fn same(&self, other: &Text) -> bool
-        ensures { IsTrue result ↔ (self.now ≡ other.now) }
-    {
+impl Same for Text {
+    fn same(&self, other: &Text) -> bool {
         self == other
     }
 }

@@ -1,23 +1,20 @@
 -- Definitions of the same entries run to the same text.
-use Rattle.std.proofs.Common.{◌≡◌, ℕ, List, refl, sym, ap, subst, ◌∙◌}
+use Rattle.std.proofs.Common.{◌≡◌, ℕ, List, sym, ap, subst, ◌∙◌}
 use Rattle.std.specs.Prelude.{Option, Some, None, Result, Ok, Err}
 use Rattle.llb_wire.specs.Spelling.{AreBytes}
-use Rattle.llb_tree.specs.Tree.{TreeMap}
 use Rattle.llb_treetext.specs.TreeText.{tree_text}
 use Rattle.llb_ops.specs.declared.fault.OpFault.{OpFault}
 use Rattle.llb_ops.specs.Definition.{definition_of, definition_bytes}
 use Rattle.llb_ops.specs.Laws.{AreReadAgain}
-use Rattle.llb_asm.specs.Lines.{kept}
-use Rattle.llb_asm.specs.Reading.{StandsFor, HasOneAnswer}
+use Rattle.llb_asm.specs.Reading.{HasOneAnswer}
 use Rattle.llb_loader.specs.Graph.{Numbered}
 use Rattle.llb_loader.specs.Laws.{HasOneAnswerIn}
 use Rattle.llb_loader.specs.Link.{IsGraphOf}
 use Rattle.llb_loader.specs.Load.{rows_from, IsGraphIn}
 use Rattle.llb_loader.specs.Locals.{Local}
 use Rattle.llb_model.specs.State.{State}
-use Rattle.llbm.specs.Alone.{EndsInClaimOrder}
-use Rattle.llbm.specs.Answer.{build_of, run_opening, result_in, IsEnd, Yields}
-use Rattle.llbm.specs.Assembly.{IsAssembled, RunsAlike}
+use Rattle.llbm.specs.Answer.{build_of, result_in, IsEnd, Yields}
+use Rattle.llbm.specs.Assembly.{RunsAlike}
 
 -- what stands in the place of an `Ok` or a `Some`
 abbrev ok_of : {A F : Type 0} → A → Result A F → A

@@ -17,7 +17,8 @@ IsNameIn [] n = ⊥
 IsNameIn (s ∷ subs) n = (n ≡ s.name) ⊎ IsNameIn subs n
 
 -- the first that passes is one of them
-found_named : (test : Shape → Bool) (words : List Text) (subs : List Shape) (p : Text × List Row) → option_map (λ s. rows_at s words) (find test subs) ≡ Some p → IsNameIn subs p.0
+found_named : (test : Shape → Bool) (words : List Text) (subs : List Shape) (p : Text × List Row)
+    → option_map (λ s. rows_at s words) (find test subs) ≡ Some p → IsNameIn subs p.0
 found_named test words [] p is = absurd cc
 found_named test words (s ∷ subs) p is =
     elim (test s) as (λ b. option_map (λ x. rows_at x words) (cond b (Some s) (find test subs)) ≡ Some p → IsNameIn (s ∷ subs) p.0) [
@@ -25,16 +26,17 @@ found_named test words (s ∷ subs) p is =
       | false ↦ λ e. inr (found_named test words subs p e)
     ] is
 
-one_of_four : (n : Text) → IsNameIn (built llbm_app).subs n → IsName n
-one_of_four n (inl run) = inl run
-one_of_four n (inr (inl show)) = inr (inl show)
-one_of_four n (inr (inr (inl asm))) = inr (inr (inl asm))
-one_of_four n (inr (inr (inr (inl dis)))) = inr (inr (inr dis))
-one_of_four n (inr (inr (inr (inr none)))) = absurd none
+one_of_five : (n : Text) → IsNameIn (built llbm_app).subs n → IsName n
+one_of_five n (inl run) = inl run
+one_of_five n (inr (inl show)) = inr (inl show)
+one_of_five n (inr (inr (inl step))) = inr (inr (inl step))
+one_of_five n (inr (inr (inr (inl asm)))) = inr (inr (inr (inl asm)))
+one_of_five n (inr (inr (inr (inr (inl dis))))) = inr (inr (inr (inr dis)))
+one_of_five n (inr (inr (inr (inr (inr none))))) = absurd none
 
 entered_named : (stop : Option (Text × List Text)) (p : Text × List Row) → entered (built llbm_app) stop ≡ Some p → IsName p.0
 entered_named None p is = absurd cc
-entered_named (Some q) p is = one_of_four p.0 (found_named (λ s. answers_to q.0 (label_of s)) q.1 (built llbm_app).subs p is)
+entered_named (Some q) p is = one_of_five p.0 (found_named (λ s. answers_to q.0 (label_of s)) q.1 (built llbm_app).subs p is)
 
 abbrev first_of : Text × List Row → Text
 first_of p = p.0
@@ -51,4 +53,6 @@ by_rows (Some p) n is named = let same : p.0 ≡ n = cc in subst IsName same (na
 -- the name of the subcommand that a parse met
 pub met_named : (m : ArgMatches) (words : List Text) (n : Text) → subcommand_rows_of m ≡ subcommand_of llbm_app words → Some n ≡ subcommand_name_of m → IsName n
 met_named m words n rows name =
-    by_rows (subcommand_of llbm_app words) n (ap (option_map first_of) (sym rows) ∙ sym (same_name (out-ArgMatches m).subcommand) ∙ sym name) (entered_named (stop_after (built llbm_app).top.rules (names_of (built llbm_app)) (argument_words llbm_app words)))
+    let app = built llbm_app in
+    by_rows (subcommand_of llbm_app words) n (ap (option_map first_of) (sym rows) ∙ sym (same_name (out-ArgMatches m).subcommand) ∙ sym name)
+    (entered_named (stop_after app.top.rules (names_of app) (argument_words llbm_app words)))

@@ -1,5 +1,4 @@
 pub mod Printing
-pub mod Driving
 pub mod Reaching
 pub mod Ending
 pub mod Answering
@@ -8,3 +7,6 @@ pub mod Matching
 pub mod Gathering
 pub mod Alike
 pub mod Texts
+pub mod Numbers
+mod StepFacts
+pub mod Stepped

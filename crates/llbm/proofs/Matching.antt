@@ -1,6 +1,6 @@
 -- The words that the matches have for an argument, read off their rows.
-use Rattle.std.proofs.Common.{◌≡◌, List, [], ◌∷◌, map, refl, subst, ap, true, false, cond, Option, Some, None, option_map}
-use Rattle.std.specs.Prelude.{find, Result, Ok, Err}
+use Rattle.std.proofs.Common.{◌≡◌, List, [], ◌∷◌, map, refl, ap, true, false, cond, Option, Some, None, option_map}
+use Rattle.std.specs.Prelude.{find, IfErr, Result, Ok, Err}
 use Rattle.std.specs.Str.{bytes_eq}
 use Rattle.clap.specs.Facts.{Entry}
 use Rattle.clap.specs.Walk.{row_of}
@@ -32,8 +32,8 @@ own_words None rows is = absurd cc
 own_words (Some p) rows is = let same : rows ≡ p.1 = cc in ap local_words same
 
 -- where `clap` takes the words, a fault refuses one of them, or memory
-pub by_word : (kinds : Kinds) (words : List Text) (r : Result Line WordsFault) (e : WordsFault) → r ≡ Err e → kinds ≡ [] → RefusesWord words e → IsByWords kinds words r
-by_word kinds words (Ok line) e is none refuses = absurd cc
-by_word kinds words (Err (Words None)) e is none refuses = let same : e ≡ Words None = cc in absurd (subst (RefusesWord words) same refuses)
-by_word kinds words (Err (Words (Some w))) e is none refuses = let same : e ≡ Words (Some w) = cc in (none, subst (RefusesWord words) same refuses)
-by_word kinds words (Err Memory) e is none refuses = tt
+pub by_word : (kinds : Kinds) (words : List Text) (r : Result Line WordsFault) → kinds ≡ [] → IfErr r (RefusesWord words) → IsByWords kinds words r
+by_word kinds words (Ok line) none refuses = none
+by_word kinds words (Err (Words None)) none refuses = absurd refuses
+by_word kinds words (Err (Words (Some w))) none refuses = (none, refuses)
+by_word kinds words (Err Memory) none refuses = tt

@@ -16,7 +16,7 @@ use Rattle.llb_model.specs.Table.{Event}
 use Rattle.llb_model.specs.Run.{StandsPlainly}
 use Rattle.llb_model.specs.Laws.{HasNoCaches}
 use Rattle.llb_treetext.specs.TreeText.{tree_text}
-use Rattle.llbm.specs.Alone.{EndsInClaimOrder}
+use Rattle.llb_work.specs.Alone.{EndsInClaimOrder}
 use Rattle.llbm.specs.GraphText.{graph_text}
 
 -- a run is over a graph and the local trees

@@ -1,13 +1,18 @@
 -- The command line of the program, as `clap` sees it, and what its words say.
-use Rattle.std.specs.Prelude.{◌≡◌, ◌≢◌, ◌⊎◌, ◌==◌, ℕ, nat_lt, Bool, true, not, if◌then◌else◌, List, [], ◌++◌, length, map, find, Option, Some, None, is_some, unwrap_or, Result, Ok, Err, codes}
+use Rattle.std.specs.Prelude.{◌≡◌, ◌≢◌, ◌⊎◌, ◌==◌, ℕ, nat_lt, pos, Bool, true, not, if◌then◌else◌, List, [], ◌++◌, length, map, find, codes}
+use Rattle.std.specs.Prelude.{Option, Some, None, is_some, option_map, option_and_then, unwrap_or, Result, Ok, Err}
+use Rattle.std.specs.Borrow.{Bor}
 use Rattle.std.specs.List.{position_or_len, before_first, after_first}
+use Rattle.std.specs.Str.Parse.{digits_value, without_leading_plus}
 use Rattle.std.specs.Io.KnownBytes.{Appends}
-use Rattle.clap.specs.Words.{App, Kinds, Row, Rule, Text, all_of, new_app, new_rule, with_rule, with_subcommand}
-use Rattle.clap.specs.declared.builder.action.ArgAction.TheVariants.{Append}
+use Rattle.clap.specs.Words.{App, Kinds, Row, Rule, Text, all_of, first_of, new_app, new_rule, one_of, with_rule, with_subcommand}
+use Rattle.clap.specs.ValueTests.{is_unsigned_in}
+use Rattle.clap.specs.declared.builder.action.ArgAction.TheVariants.{Append, Set}
+use Rattle.clap.specs.declared.builder.value_parser.ValueParser.TheVariants.{Signed}
 use Rattle.clap.specs.declared.error.kind.ErrorKind.{ErrorKind}
 use Rattle.clap.specs.declared.error.kind.ErrorKind.TheVariants.{OutOfMemory}
 use Rattle.llbm.specs.declared.words.Command.{Command}
-use Rattle.llbm.specs.declared.words.Command.TheVariants.{Run, Show, Assemble, Disassemble}
+use Rattle.llbm.specs.declared.words.Command.TheVariants.{Run, Show, Step, Assemble, Disassemble}
 use Rattle.llbm.specs.declared.words.Line.{Line}
 use Rattle.llbm.specs.declared.words.Local.{Local}
 use Rattle.llbm.specs.declared.words.WordsFault.{WordsFault}
@@ -27,27 +32,44 @@ local_rule = record (new_rule (codes "local")) { action = Some Append }
 abbrev pub run_app : App
 run_app = with_rule (new_app (codes "run")) local_rule
 
+-- the file of the definition, which has to be there
+abbrev pub file_rule : Rule
+file_rule = record (new_rule (codes "file")) { action = Some Set; required = true }
+
+-- the number of workers, one of 32 bits, behind `--workers`
+abbrev pub workers_rule : Rule
+workers_rule = record (new_rule (codes "workers")) {
+  long = Some (codes "workers");
+  action = Some Set;
+  parser = Some (Signed (pos 0) (pos 4294967295));
+}
+
+-- the file stands before the local sources
+abbrev pub step_app : App
+step_app = with_rule (with_rule (with_rule (new_app (codes "step")) workers_rule) file_rule) local_rule
+
 -- a command that takes no word
 abbrev pub with_plain : App → Text → App
 with_plain app name = with_subcommand app (new_app name).top
 
 -- those on graphs
 abbrev pub graph_app : App
-graph_app = with_plain (with_subcommand base_app run_app.top) (codes "show")
+graph_app = with_subcommand (with_plain (with_subcommand base_app run_app.top) (codes "show")) step_app.top
 
--- the commands: `run` takes local sources, and the others no word
+-- the commands: `run` takes local sources, `step` a file, workers and local sources, and the others no word
 abbrev pub llbm_app : App
 llbm_app = with_plain (with_plain graph_app (codes "asm")) (codes "dis")
 
 abbrev pub name_of : Command → Text
 name_of Run = codes "run"
 name_of Show = codes "show"
+name_of Step = codes "step"
 name_of Assemble = codes "asm"
 name_of Disassemble = codes "dis"
 
 -- the name of a command
 abbrev pub IsName : Text → Type 0
-IsName name = (name ≡ codes "run") ⊎ ((name ≡ codes "show") ⊎ ((name ≡ codes "asm") ⊎ (name ≡ codes "dis")))
+IsName name = (name ≡ codes "run") ⊎ ((name ≡ codes "show") ⊎ ((name ≡ codes "step") ⊎ ((name ≡ codes "asm") ⊎ (name ≡ codes "dis"))))
 
 -- the byte `=`
 abbrev pub is_equals : ℕ → Bool
@@ -84,16 +106,36 @@ abbrev pub given : Option (Text × List Row) → List Text
 given None = []
 given (Some p) = local_words p.1
 
--- the command of that name, on local sources of these words
-pub record SaysCommand (name : Text) (words : List Text) (line : Line) : Type 0 where
+-- the number that a text is read as, where it is one of 32 bits: digits, behind a plus or none
+abbrev pub number_of : Text → Option ℕ
+number_of text = if is_unsigned_in 0 4294967295 text then Some (digits_value 10 (without_leading_plus text)) else None
+
+-- The workers are as many as the word for them says, and 2 where there is none; no other command takes a number.
+-- `clap` reads the word without a hyphen before it, and takes one there only at 0.
+abbrev pub IsWorkers : Command → List Row → ℕ → Type 0
+IsWorkers Step rows n = n ≡ unwrap_or (option_and_then number_of (one_of (codes "workers") rows)) 2
+IsWorkers _ rows n = n ≡ 1
+
+-- the file is the word for it; no other command takes one
+abbrev pub IsFile : Command → List Row → Option (Bor Text) → Type 0
+IsFile Step rows file = option_map (λ w. w.now) file ≡ first_of (codes "file") rows
+IsFile _ rows file = file ≡ None
+
+-- the command of that name, with these matches
+pub record SaysCommand (name : Text) (rows : List Row) (line : Line) : Type 0 where
   pub command : name_of line.command ≡ name
-  pub workers : line.workers ≡ 1
-  pub file : line.file ≡ None
-  pub locals : AreSplit words line.locals
+  pub workers : IsWorkers line.command rows line.workers
+  pub file : IsFile line.command rows line.file
+  pub locals : AreSplit (local_words rows) line.locals
+
+-- the matches of the command that is named
+abbrev pub matches_named : Option (Text × List Row) → List Row
+matches_named None = []
+matches_named (Some p) = p.1
 
 -- what a line says, by the subcommand in the matches
 abbrev pub Says : Option (Text × List Row) → Line → Type 0
-Says met line = SaysCommand (named met) (given met) line
+Says met line = SaysCommand (named met) (matches_named met) line
 
 -- No word is named where `clap` refuses for another cause than memory. Where it does not, a word is: the first for a local source that has no `=`.
 abbrev pub Refuses : Kinds → List Text → WordsFault → Type 0

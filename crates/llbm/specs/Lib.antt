@@ -1,5 +1,4 @@
 pub mod Bounded
-pub mod Alone
 pub mod Answer
 pub mod Running
 pub mod Output
@@ -9,4 +8,5 @@ pub mod Sources
 pub use Rattle.std.specs.Io.KnownBytes.{Appends, Consumes, IsAtEnd, Keeps}
 pub mod Assembly
 pub mod AssemblyParts
+pub mod Stepping
 pub mod Commands

@@ -7,10 +7,11 @@ use Rattle.llb_loader.specs.Graph.{Numbered}
 use Rattle.llb_loader.specs.Load.{IsGraphIn}
 use Rattle.llb_loader.specs.Locals.{Local}
 use Rattle.llb_board.specs.Board.{Seen}
+use Rattle.llb_board.specs.Rules.{may_work}
 use Rattle.llb_treetext.specs.TreeText.{tree_text}
-use Rattle.llbm.specs.Answer.{build_of, IsEnd, Yields, YieldsNone, IsRefused, IsNotRun, YieldsPart, DrawsAll, DrawsPart}
+use Rattle.llbm.specs.Answer.{build_of, IsEnd, Yields, YieldsNone, IsRefused, Lacks, IsNotRun, YieldsPart, DrawsAll, DrawsPart}
 use Rattle.llbm.specs.declared.fault.ProgramFault.{ProgramFault}
-use Rattle.llbm.specs.declared.fault.ProgramFault.TheVariants.{Refused, MissingLocal, Loading, Read, Memory, Unread, Assembling, TooLong}
+use Rattle.llbm.specs.declared.fault.ProgramFault.TheVariants.{Refused, MissingLocal, Workers, Loading, Read, Memory, Unread, Assembling, TooLong}
 use Rattle.llbm.specs.declared.bounded.ReadFault.{ReadFault}
 use Rattle.llbm.specs.declared.bounded.ReadFault.TheVariants as reading
 use Rattle.llb_ops.specs.declared.fault.OpFault.TheVariants.{OverLimit}
@@ -33,6 +34,7 @@ unread_as reading.Memory = Memory
 abbrev pub IsRefusal : ProgramFault → Type 0
 IsRefusal (Refused e) = ⊤
 IsRefusal (MissingLocal name) = ⊤
+IsRefusal Workers = ⊤
 IsRefusal (Unread e) = ⊤
 IsRefusal (Assembling e) = ⊤
 IsRefusal TooLong = ⊤
@@ -41,6 +43,10 @@ IsRefusal _ = ⊥
 -- a refusal of the input stands only where the input is refused
 abbrev pub TellsRefusal : (List ℕ → Type 0) → Option (List ℕ) → ProgramFault → Type 0
 TellsRefusal IsSo input e = IsRefusal e → IfSome input IsSo
+
+-- no board is opened on a graph: a local tree is missing, or the number of workers is 0 or more than 64
+abbrev pub IsUnopened : List Local → Numbered → ℕ → Type 0
+IsUnopened locals g workers = Lacks locals g ⊎ (may_work workers ≡ false)
 
 -- the graph of the input, or why there is none
 abbrev pub Loads : Option (List ℕ) → Result Numbered ProgramFault → Type 0

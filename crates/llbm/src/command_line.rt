@@ -1,19 +1,26 @@
-//! The command line, which `clap` reads: no words or `run`, which takes local sources as NAME=FILE, and `show`, `asm` and `dis`.
+//! The command line, which `clap` reads: no words or `run`, which takes local sources as NAME=FILE, `step`, which takes a file and the
+//! number of workers too, and `show`, `asm` and `dis`.
 
-ghost use Rattle.std.specs.Prelude.{◌≡◌, false, None, map, IfOk, IfErr};
+ghost use Rattle.std.specs.Prelude.{◌≡◌, false, map, IfOk, IfErr};
 ghost use Rattle.clap.specs.Words.{app_of, kind_of, fault_of, found_of, rows_of, rule_of, subcommand_of};
 ghost use Rattle.clap.specs.declared.builder.command.Command.TheViews.{out-Command as fields_of};
 ghost use Rattle.llbm.specs.CommandLine.{
   llbm_app,
   graph_app,
   run_app,
+  step_app,
   local_rule,
+  file_rule,
+  workers_rule,
   local_words,
   given,
   AreSplit,
+  IsFile,
   IsName,
+  IsWorkers,
   name_of,
   Says,
+  SaysCommand,
   IsByWords,
   RefusesWord,
   StandsFor,
@@ -21,7 +28,7 @@ ghost use Rattle.llbm.specs.CommandLine.{
 
 use crate::words::{Command, Line, Local, WordsFault};
 use clap::error::ErrorKind;
-use clap::{Arg, ArgAction, ArgMatches, Error};
+use clap::{Arg, ArgAction, ArgMatches, Error, value_parser};
 use llb_wire::Many;
 use std::alloc::{AllocError, Global};
 use std::convert::AsStr;
@@ -41,6 +48,37 @@ fn run_command<'a>(alloc: Global) -> Result<clap::Command<'a>, AllocError>
     clap::Command::new(alloc, "run").arg(local_arg(alloc))
 }
 
+// The file of the definition, which has to be there.
+fn file_arg<'a>(alloc: Global) -> Arg<'a>
+    ensures rule { rule_of result ≡ file_rule }
+    ensures plain { result.global ≡ false }
+{
+    Arg::new(alloc, "file")
+        .required(true)
+        .action(ArgAction::Set)
+}
+
+// The number of workers, behind `--workers`.
+fn workers_arg<'a>(alloc: Global) -> Arg<'a>
+    ensures rule { rule_of result ≡ workers_rule }
+    ensures plain { result.global ≡ false }
+{
+    Arg::new(alloc, "workers")
+        .long("workers")
+        .action(ArgAction::Set)
+        .value_parser(value_parser!(u32))
+}
+
+fn step_command<'a>(alloc: Global) -> Result<clap::Command<'a>, AllocError>
+    ensures app { IfOk result (λ c. app_of c ≡ step_app) }
+    ensures plain { IfOk result (λ c. (fields_of c).has_globals ≡ false) }
+{
+    clap::Command::new(alloc, "step")
+        .arg(workers_arg(alloc))?
+        .arg(file_arg(alloc))?
+        .arg(local_arg(alloc))
+}
+
 // The commands on graphs.
 fn graph_commands<'a>(alloc: Global) -> Result<clap::Command<'a>, AllocError>
     ensures { IfOk result (λ c. app_of c ≡ graph_app) }
@@ -49,7 +87,8 @@ fn graph_commands<'a>(alloc: Global) -> Result<clap::Command<'a>, AllocError>
         .no_binary_name(true)
         .disable_help_subcommand(true)
         .subcommand(run_command(alloc)?)?
-        .subcommand(clap::Command::new(alloc, "show"))
+        .subcommand(clap::Command::new(alloc, "show"))?
+        .subcommand(step_command(alloc)?)
 }
 
 // All commands.
@@ -68,6 +107,8 @@ fn command_named(name: &str) -> Command
 {
     if name == "show" {
         Command::Show
+    } else if name == "step" {
+        Command::Step
     } else if name == "asm" {
         Command::Assemble
     } else if name == "dis" {
@@ -103,18 +144,53 @@ fn locals_in<'a>(alloc: Global, matches: &ArgMatches<'a>) -> Result<Many<Local<'
     }
 }
 
-// A command on its local sources.
-fn line_of<'a>(command: Command, locals: Many<Local<'a>>) -> Line<'a>
-    ensures command { result.command ≡ command }
-    ensures workers { result.workers ≡ 1 }
-    ensures file { result.file ≡ None }
-    ensures locals { result.locals ≡ locals.entry }
+// How many workers the matches of a command name.
+fn workers_in(command: Command, matches: &ArgMatches<'_>) -> u32
+    ensures { IsWorkers command (rows_of (found_of matches.now)) result }
+{
+    match command {
+        Command::Step => matches.get_one("workers").unwrap_or(2),
+        _ => 1,
+    }
+}
+
+// The file that the matches of a command name.
+fn file_in<'a>(command: Command, matches: &ArgMatches<'a>) -> Option<&'a str>
+    ensures { IsFile command (rows_of (found_of matches.now)) result }
+{
+    match command {
+        Command::Step => matches.get_str("file"),
+        _ => None,
+    }
+}
+
+// A command with its matches.
+fn line_of<'a>(
+    alloc: Global,
+    command: Command,
+    matches: &ArgMatches<'a>,
+) -> Result<Line<'a>, WordsFault<'a>>
+    ensures says { IfOk result (SaysCommand (name_of command) (rows_of (found_of matches.now))) }
+    ensures refuses { IfErr result (RefusesWord (local_words (rows_of (found_of matches.now)))) }
+{
+    let locals = locals_in(alloc, matches)?;
+    Ok(Line {
+        command,
+        workers: workers_in(command, matches),
+        file: file_in(command, matches),
+        locals,
+    })
+}
+
+// The command `run` on no local sources.
+fn run_alone<'a>(alloc: Global) -> Line<'a>
+    ensures { Says None result }
 {
     Line {
-        command,
+        command: Command::Run,
         workers: 1,
         file: None,
-        locals,
+        locals: Many::new(Vec::new(alloc)),
     }
 }
 
@@ -141,7 +217,7 @@ pub fn command_of<'a, S: AsStr>(alloc: Global, words: &'a [S]) -> Result<Line<'a
         Err(error) => return Err(refused_by(error)),
     };
     match matches.subcommand() {
-        Some((name, own)) => Ok(line_of(command_named(name), locals_in(alloc, own)?)),
-        None => Ok(line_of(Command::Run, Many::new(Vec::new(alloc)))),
+        Some((name, own)) => line_of(alloc, command_named(name), own),
+        None => Ok(run_alone(alloc)),
     }
 }

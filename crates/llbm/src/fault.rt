@@ -4,12 +4,12 @@
 ghost use Rattle.std.specs.Prelude.{◌≡◌, ◌⊎◌};
 ghost use Rattle.llbm.specs.Running.{IsRefusal};
 
-use crate::alone::RunFault;
 use llb_asm::AsmFault;
 use llb_loader::LoadFault;
 use llb_ops::OpFault;
 use llb_treetext::PrintFault;
 use llb_wire::Text;
+use llb_work::RunFault;
 use std::alloc::AllocError;
 use std::io::Write;
 use thiserror::Error;
@@ -48,6 +48,9 @@ pub enum ProgramFault {
     /// 121: a local source has no tree; its name.
     #[error("121 {0}")]
     MissingLocal(Text),
+    /// 122: the number of workers is 0 or more than 64.
+    #[error("122")]
+    Workers,
     /// 123: memory was refused while the board was opened.
     #[error("123")]
     Opening,
@@ -72,7 +75,7 @@ pub enum ProgramFault {
     /// 163 and 164: memory was refused while a text was read, or it is not out.
     #[error("{0}")]
     Text(AsmFault),
-    /// 185: a text has more than 67,108,864 bytes.
+    /// 185: a text, or the commands of a session, have more than 67,108,864 bytes.
     #[error("185")]
     TooLong,
     /// 181: a read failed, or the bound on reads was met.
@@ -93,6 +96,7 @@ pub fn refusal<E: Write>(fault: &ProgramFault, err: &mut E) -> u8
     match fault {
         ProgramFault::Refused(_)
         | ProgramFault::MissingLocal(_)
+        | ProgramFault::Workers
         | ProgramFault::Unread(_)
         | ProgramFault::Assembling(_)
         | ProgramFault::TooLong => 2,

@@ -1,10 +1,9 @@
 //! The program: its words, its files, its readers and writers, and its exit status. What it does stands in `run`, `show`,
-//! `assembling` and `disassembling`.
+//! `assembling`, `disassembling` and `stepping`.
 #![tactic(auto)]
 
-ghost use Rattle.llbm.specs.Commands.{Performs};
+ghost use Rattle.llbm.specs.Commands.{Performs, StepsAt};
 
-pub mod alone;
 pub mod assembling;
 pub mod bounded;
 pub mod command_line;
@@ -13,9 +12,11 @@ pub mod fault;
 pub mod graph_text;
 mod input;
 pub mod laws;
+mod opening;
 pub mod run;
 pub mod show;
 pub mod sources;
+pub mod stepping;
 #[cfg(test)]
 mod tests;
 pub mod words;
@@ -27,7 +28,8 @@ use crate::fault::{ProgramFault, refusal};
 use crate::run::run_over;
 use crate::show::show_over;
 use crate::sources::{Sources, locals_of, source_refusal};
-use crate::words::{Command, WordsFault, words_refusal};
+use crate::stepping::step_over;
+use crate::words::{Command, Line, WordsFault, words_refusal};
 use llb_loader::Locals;
 use std::alloc::Global;
 use std::fs::File;
@@ -58,20 +60,51 @@ impl Sources for HostRuntime {
     }
 }
 
-// Does what the command says.
-fn perform<R: Read, W: Write, E: Write>(
+// Steps through the definition in a file. 181 where it is not opened.
+fn step_in<S: Sources, R: Read, W: Write, E: Write>(
     alloc: Global,
-    command: Command,
+    sources: &S,
+    line: &Line<'_>,
     locals: Locals,
     input: &mut R,
     out: &mut W,
     err: &mut E,
 ) -> u8
-    ensures { Performs command locals (R.remaining input.old) (W.contents out.old) (W.contents out.new) result }
+    ensures { StepsAt S.bytes line.now.file sources.now line.now.workers locals (R.remaining input.old) (R.remaining input.new) (W.contents out.old) (W.contents out.new) result }
 {
-    match command {
+    let Some(file) = line.file else {
+        return words_refusal(&WordsFault::Words(None), err);
+    };
+    match sources.open(file) {
+        Ok(mut definition) => step_over(
+            alloc,
+            &mut definition,
+            input,
+            out,
+            err,
+            locals,
+            line.workers,
+        ),
+        Err(_) => refusal(&ProgramFault::Read, err),
+    }
+}
+
+// Does what the line says.
+fn perform<S: Sources, R: Read, W: Write, E: Write>(
+    alloc: Global,
+    sources: &S,
+    line: &Line<'_>,
+    locals: Locals,
+    input: &mut R,
+    out: &mut W,
+    err: &mut E,
+) -> u8
+    ensures { Performs S.bytes sources.now line.now locals (R.remaining input.old) (R.remaining input.new) (W.contents out.old) (W.contents out.new) result }
+{
+    match line.command {
         Command::Run => run_over(alloc, input, out, err, locals),
         Command::Show => show_over(alloc, input, out, err),
+        Command::Step => step_in(alloc, sources, line, locals, input, out, err),
         Command::Assemble => asm_over(alloc, input, out, err),
         Command::Disassemble => dis_over(alloc, input, out, err),
     }
@@ -96,5 +129,5 @@ fn main(rt: HostRuntime) -> ExitCode {
     let Ok(mut out) = BufWriter::new(alloc, io::writer(&rt)) else {
         return ExitCode::from(refusal(&ProgramFault::Memory, &mut err));
     };
-    ExitCode::from(perform(alloc, line.command, locals, &mut input, &mut out, &mut err))
+    ExitCode::from(perform(alloc, &rt, &line, locals, &mut input, &mut out, &mut err))
 }

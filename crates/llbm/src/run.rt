@@ -1,38 +1,25 @@
 //! From the bytes of a definition to the text of its result: read, load, open a board, do the chosen events, print.
 
-ghost use Rattle.std.specs.Prelude.{◌≡◌, [], IfOk, IfErr};
+ghost use Rattle.std.specs.Prelude.{◌≡◌, IfOk, IfErr};
 ghost use Rattle.llb_model.specs.Outcome.{output_in};
 ghost use Rattle.llb_model.specs.State.{ending_at};
-ghost use Rattle.llb_board.specs.Board.{opened};
-ghost use Rattle.llbm.specs.Answer.{build_of, Lacks, Runs};
+ghost use Rattle.llbm.specs.Answer.{Lacks, Runs};
 ghost use Rattle.llbm.specs.Output.{PrintsOut};
 ghost use Rattle.llb_treetext.specs.TreeText.{tree_text};
 ghost use Rattle.llbm.specs.Running.{IsFinished, IsRefusal, Shows, Answers};
 
-use crate::alone::{RunEnd, run_alone};
 use crate::fault::{ProgramFault, refusal};
 use crate::input::loaded;
-use llb_board::{Board, OpenFault, Status};
-use llb_cache::Caches;
+use crate::opening::opened;
+use llb_board::{Board, Status};
 use llb_loader::{Edge, Graph, Locals};
 use llb_tree::Tree;
 use llb_treetext::{PrintFault, print_tree};
 use llb_wire::Over;
+use llb_work::{RunEnd, run_alone};
 use std::alloc::Global;
 use std::io;
 use std::io::{Read, Write};
-
-// A board with one worker and no caches, or why there is none.
-fn opened(alloc: Global, graph: Graph, locals: Locals) -> Result<Board, ProgramFault>
-    ensures board { IfOk result (λ b. b ≡ opened (build_of locals graph) 1 []) }
-    ensures fault { IfErr result (λ e. IsRefusal e → Lacks locals graph) }
-{
-    match Board::open(alloc, graph, locals, Caches::new(alloc), 1) {
-        Ok(board) => Ok(board),
-        Err(OpenFault::MissingLocal(name, _, _, _)) => Err(ProgramFault::MissingLocal(name)),
-        Err(_) => Err(ProgramFault::Opening),
-    }
-}
 
 // Runs the graph to its end.
 fn finished(alloc: Global, graph: Graph, locals: Locals) -> Result<Board, ProgramFault>
@@ -40,7 +27,7 @@ fn finished(alloc: Global, graph: Graph, locals: Locals) -> Result<Board, Progra
     ensures fault { IfErr result (λ e. IsRefusal e → Lacks locals graph) }
 {
     graph.is_graph();
-    let board = opened(alloc, graph, locals)?;
+    let board = opened(alloc, graph, locals, 1)?;
     let RunEnd { board, fault, .. } = run_alone(board);
     match fault {
         None => Ok(board),

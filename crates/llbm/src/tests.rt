@@ -8,4 +8,5 @@ mod reading;
 mod run;
 mod show;
 mod sources;
+mod stepping;
 mod words;

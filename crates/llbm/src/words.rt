@@ -15,6 +15,8 @@ pub enum Command {
     Run,
     /// To print the graph of a definition.
     Show,
+    /// To step through the run of a definition.
+    Step,
     /// To write the definition of the entries that a text stands for.
     Assemble,
     /// To write the entries of a definition as text.
@@ -32,7 +34,7 @@ pub struct Local<'a> {
 #[derive(Debug, Drop)]
 pub struct Line<'a> {
     pub command: Command,
-    /// 1 where the command takes no number.
+    /// 1 where the command takes no number, and 2 where it takes one and none is given.
     pub workers: u32,
     /// The file of the definition, where the command takes one.
     pub file: Option<&'a str>,

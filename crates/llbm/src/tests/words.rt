@@ -76,9 +76,101 @@ fn words_behind_run_are_names_and_files(rt: HostRuntime) -> Result<(), Fail> {
     Ok(())
 }
 
+// The workers, the file and the local sources that the words give to the command `step`, in one line.
+fn step_of(alloc: Global, words: &[&str]) -> Result<String, Fail> {
+    let mut text = String::new(alloc);
+    let line = match command_of(alloc, words) {
+        Ok(line) => line,
+        Err(fault) => {
+            write!(text, "fault {fault}")?;
+            return Ok(text);
+        }
+    };
+    if line.command != Command::Step {
+        write!(text, "another command")?;
+        return Ok(text);
+    }
+    let file = line.file.unwrap_or("no file");
+    write!(text, "{} {file}", line.workers)?;
+    for Local { name, file } in line.locals.as_slice() {
+        write!(text, " ({name})({file})")?;
+    }
+    Ok(text)
+}
+
+#[test]
+fn words_behind_step_are_a_file_workers_and_local_sources(rt: HostRuntime) -> Result<(), Fail> {
+    let rows: [(&[&str], &str); 19] = [
+        (&["step", "FILE"], "2 FILE"),
+        (
+            &["step", "FILE", "--workers", "3", "a=b", "c=d"],
+            "3 FILE (a)(b) (c)(d)",
+        ),
+        (&["step", "--workers", "64", "FILE"], "64 FILE"),
+        (
+            &["step", "FILE", "a=b", "--workers", "3", "c=d"],
+            "3 FILE (a)(b) (c)(d)",
+        ),
+        (
+            &["step", "FILE", "a=b", "c=d=e", "--workers=1"],
+            "1 FILE (a)(b) (c)(d=e)",
+        ),
+        (&["step", "--workers", "0", "FILE", "a="], "0 FILE (a)()"),
+        (
+            &["step", "--workers", "4294967295", "FILE"],
+            "4294967295 FILE",
+        ),
+        (&["step", "--workers", "+7", "FILE"], "7 FILE"),
+        (&["step", "FILE", "--workers=-0"], "0 FILE"),
+        (&["step", "x=y"], "2 x=y"),
+        (&["step", "x=y", "a=b"], "2 x=y (a)(b)"),
+        (&["step", "run", "a=b"], "2 run (a)(b)"),
+        (&["step", "help"], "2 help"),
+        (&["step", ""], "2 "),
+        (&["step", "-", "a=b"], "2 - (a)(b)"),
+        (&["step", "--", "--workers", "-x=3"], "2 --workers (-x)(3)"),
+        (&["step", "FILE", "nosuch"], "fault 183 nosuch"),
+        (&["step", "FILE", "a=b", "one", "two"], "fault 183 one"),
+        (&["step", "FILE", "3", "--workers", "4"], "fault 183 3"),
+    ];
+    for (words, wanted) in rows {
+        let text = step_of(rt.alloc(), words)?;
+        assert_eq!(rt; text.as_str(), wanted);
+    }
+    Ok(())
+}
+
+#[test]
+fn a_step_that_clap_refuses_names_no_word(rt: HostRuntime) -> Result<(), Fail> {
+    let rows: [&[&str]; 17] = [
+        &["step"],
+        &["step", "--workers", "3"],
+        &["step", "--workers", "FILE"],
+        &["step", "FILE", "--workers"],
+        &["step", "FILE", "--workers", "3", "--workers", "3"],
+        &["step", "--workers=3", "FILE", "--workers", "4"],
+        &["step", "FILE", "--workers", "x"],
+        &["step", "FILE", "--workers", ""],
+        &["step", "FILE", "--workers="],
+        &["step", "FILE", "--workers", "4294967296"],
+        &["step", "FILE", "--workers=-1"],
+        &["step", "FILE", "--workers", "-0"],
+        &["step", "FILE", "--workers", "1.5"],
+        &["step", "FILE", "nosuch", "--workers", "x"],
+        &["step", "FILE", "-x"],
+        &["step", "--help"],
+        &["--workers", "3", "step", "FILE"],
+    ];
+    for words in rows {
+        let text = step_of(rt.alloc(), words)?;
+        assert_eq!(rt; text.as_str(), "fault 183");
+    }
+    Ok(())
+}
+
 #[test]
 fn any_other_words_are_refused_without_a_word(rt: HostRuntime) -> Result<(), Fail> {
-    let rows: [&[&str]; 13] = [
+    let rows: [&[&str]; 15] = [
         &["asm", "x"],
         &["dis", "a=b"],
         &["show", "x"],
@@ -90,6 +182,8 @@ fn any_other_words_are_refused_without_a_word(rt: HostRuntime) -> Result<(), Fai
         &["help"],
         &["--help"],
         &["show", "--workers", "2"],
+        &["run", "--workers", "2"],
+        &["Step", "FILE"],
         &["run", "-x"],
         &["run", "nosuch", "-x=y"],
     ];

@@ -1,4 +1,4 @@
-use Rattle.llb_board.proofs.Stopped.{behind_marked, behind_next, behind_end}
+use Rattle.llb_board.proofs.Marked.{behind_marked, behind_next, behind_end}
 use Rattle.std.proofs.Common.{sym, ◌∙◌}
 use Rattle.llb_board.proofs.ready.is_behind.Goals as goal
 

@@ -9,8 +9,9 @@ use Rattle.llb_board.specs.Begun.{outfit_as}
 use Rattle.llb_board.specs.Rules.{or_not_ready}
 use Rattle.llb_board.specs.Views.{status_of}
 use Rattle.llb_board.specs.declared.fault.ClaimFault.{ClaimFault}
-use Rattle.llb_board.proofs.Begins.{Parts, AreParts, begun_of, supplied}
+use Rattle.llb_board.proofs.Begins.{Parts, AreParts, begun_of, supplied, workable}
 use Rattle.llb_board.proofs.step.begin.Goals as goal
+use Rattle.llb_board.proofs.step.begin.Goals.{After-new-2}
 
 inside_ok : {A : Type 0} {x y : A} → ◌≡◌ {A = Result A ClaimFault} (Ok x) (Ok y) → x ≡ y
 inside_ok e = cc
@@ -53,3 +54,9 @@ returns-clause-gives c =
 pub returns-clause-supplies : goal.returns-clause-supplies
 unfolding parts
 returns-clause-supplies c = supplied c.args.build.now c.args.caches.now c.args.vertex.now c.in_ok-inputs.inputs.items (parts c) (are_parts c)
+
+pub invariant_of-job : goal.invariant_of-job
+unfolding parts
+invariant_of-job c =
+    let p = (goal.at.invariant_of-job c).After-new-2 in
+    workable c.args.build.now c.args.caches.now c.args.vertex.now c.in_ok-inputs.inputs.items (parts p) (are_parts p) c.requires.few

@@ -1,13 +1,10 @@
-use Rattle.std.proofs.Common.{◌≡◌, List, [], ◌∷◌, map, refl, sym, ap, ◌∙◌, rules}
+use Rattle.std.proofs.Common.{◌≡◌, map, sym, ap, ◌∙◌, rules}
 use Rattle.std.specs.Prelude.{Some}
 use Rattle.llb_ops.specs.declared.merge.MergeInput.{MergeInput}
 use Rattle.llb_ops.specs.declared.op.Kind.TheVariants as kind
 use Rattle.llb_model.specs.Program.{LayInput, steps_of}
+use Rattle.llb_execution.proofs.Matching.{laid_by}
 use Rattle.llb_execution.proofs.program.steps_of.Goals as goal
-
-laid_by : (inputs : List MergeInput) → map LayInput (map (λ (i : MergeInput). i.input) inputs) ≡ map (λ (i : MergeInput). LayInput i.input) inputs
-laid_by [] = refl
-laid_by (i ∷ inputs) = ap (λ steps. LayInput i.input ∷ steps) (laid_by inputs)
 
 pub returns-in_ok-numbers-in-Some-Merge : goal.returns-in_ok-numbers-in-Some-Merge
 returns-in_ok-numbers-in-Some-Merge c =

@@ -7,11 +7,13 @@ use Rattle.llbm.proofs.command_line.locals_in.Goals as goal
 
 pub returns-in-Some-clause-split : goal.returns-in-Some-clause-split
 returns-in-Some-clause-split c =
-    subst (λ o. IfOk c.split_words.result (AreSplit (unwrap_or o []))) (c.in-Some.ensures ∙ words_in_rows (found_of c.args.matches.now) (codes "local")) c.split_words.ensures.split
+    let words = c.in-Some.ensures ∙ words_in_rows (found_of c.args.matches.now) (codes "local") in
+    subst (λ o. IfOk c.split_words.result (AreSplit (unwrap_or o []))) words c.split_words.ensures.split
 
 pub returns-in-Some-clause-refuses : goal.returns-in-Some-clause-refuses
 returns-in-Some-clause-refuses c =
-    subst (λ o. IfErr c.split_words.result (RefusesWord (unwrap_or o []))) (c.in-Some.ensures ∙ words_in_rows (found_of c.args.matches.now) (codes "local")) c.split_words.ensures.refuses
+    let words = c.in-Some.ensures ∙ words_in_rows (found_of c.args.matches.now) (codes "local") in
+    subst (λ o. IfErr c.split_words.result (RefusesWord (unwrap_or o []))) words c.split_words.ensures.refuses
 
 pub returns-in-None-clause-split : goal.returns-in-None-clause-split
 returns-in-None-clause-split c =

@@ -1,0 +1,96 @@
+use Rattle.std.proofs.Common.{◌++◌, sym, subst}
+use Rattle.llb_execution.specs.Parts.{left_with}
+use Rattle.llb_model.specs.Landing.{steps_by}
+use Rattle.llb_board.specs.Board.{Seen}
+use Rattle.llb_board.specs.Jobs.{OutcomeValue}
+use Rattle.llb_board.specs.Landing.{CanLand, IsThrough}
+use Rattle.llb_board.specs.Room.{seen}
+use Rattle.llb_board.proofs.Claiming.{data_of}
+use Rattle.llb_board.proofs.Kept.{Data, seen_as, kept_written}
+use Rattle.llb_board.proofs.Landed.{HasDesk, has_desk, keeps, room, few_trees, through, leased_count, data_is}
+use Rattle.llb_board.proofs.board.Board.go_through.Goals as goal
+use Rattle.llb_board.proofs.board.Board.go_through.Goals.{After-put_left-lease}
+
+before : After-put_left-lease → Data
+before c = let b = c.self.inside in data_of b.stands.items b.desks.items b.caches b.stop_marks.items
+
+outcome : After-put_left-lease → OutcomeValue
+outcome c = let o = c.outcome.inside in record { job = o.job; count = o.count; left = left_with o.view o.trees.items o.fault }
+
+desk_so : (c : After-put_left-lease) → HasDesk c.self.inside.build (before c) c.args.w c.outcome.inside.job
+unfolding before
+desk_so c =
+    let b = c.self.inside in
+    has_desk b.build b.start.rows (before c) b.events.list c.args.w c.outcome.inside.job
+    (subst (λ (m : Seen). CanLand m c.args.w c.outcome.inside.job) (sym c.self.view_is)
+    (subst (λ (v : OutcomeValue). CanLand c.args.self.now c.args.w v.job) (sym c.outcome.view_is) c.requires))
+
+pub write_back-requires-clause-count : goal.write_back-requires-clause-count
+unfolding before outcome
+write_back-requires-clause-count c =
+    let p = (goal.at.write_back-requires-clause-count c).After-put_left-lease in
+    let b = c.self.inside in
+    let k = desk_so p in
+    leased_count b.build b.start.rows (before p) b.events.list b.events.room c.args.w k.l k.own (outcome p) c.self.invariant.kept k.at
+    c.is_exclusive.ensures.apart c.is_exclusive.ensures.there
+    c.vertices.ensures.graph k.run c.outcome.invariant c.put_left-lease.result c.put_left-lease.ensures.leased
+
+pub write_back-requires-clause-few : goal.write_back-requires-clause-few
+unfolding before outcome
+write_back-requires-clause-few c =
+    let p = (goal.at.write_back-requires-clause-few c).After-put_left-lease in
+    let b = c.self.inside in
+    let k = desk_so p in
+    few_trees b.build b.start.rows (before p) b.events.list b.events.room c.args.w k.l k.own (outcome p) c.self.invariant.kept k.at
+    c.is_exclusive.ensures.apart c.is_exclusive.ensures.there
+    c.vertices.ensures.graph k.run c.outcome.invariant
+
+pub record_steps-requires : goal.record_steps-requires
+unfolding before outcome
+record_steps-requires c =
+    let p = (goal.at.record_steps-requires c).After-put_left-lease in
+    let b = c.self.inside in
+    let k = desk_so p in
+    room b.build b.start.rows (before p) b.events.list b.events.room c.args.w k.l k.own (outcome p) c.self.invariant.kept k.at c.is_exclusive.ensures.apart
+    c.is_exclusive.ensures.there
+    c.vertices.ensures.graph k.run c.outcome.invariant
+
+pub invariant_of-self : goal.invariant_of-self
+unfolding before outcome
+invariant_of-self c =
+    let p = (goal.at.invariant_of-self c).After-put_left-lease in
+    let b = c.self.inside in
+    let k = desk_so p in
+    let is = data_is b.build b.start.rows (before p) b.events.list b.events.room c.args.w k.l k.own (outcome p) c.self.invariant.kept k.at
+    c.is_exclusive.ensures.apart c.is_exclusive.ensures.there
+    c.vertices.ensures.graph k.run c.outcome.invariant c.put_left-lease.result c.put_left-lease.new.desks.items c.write_back.new.caches.rows
+    c.write_back.new.caches.out c.put_left-lease.ensures.leased
+    c.put_left-lease.ensures.left c.write_back.ensures.rows c.write_back.ensures.out in
+    record {
+      kept = rw (c.record_steps.ensures.list, c.record_steps.ensures.room)
+          (kept_written b.build b.start.rows _ _ (b.events.list ++ steps_by c.args.w c.outcome.inside.count) b.events.room is
+          (keeps b.build b.start.rows (before p) b.events.list b.events.room c.args.w k.l k.own (outcome p) c.self.invariant.kept k.at
+          c.is_exclusive.ensures.apart c.is_exclusive.ensures.there
+          c.vertices.ensures.graph k.run c.outcome.invariant));
+      over = c.self.invariant.over;
+    }
+
+pub returns : goal.returns
+unfolding before outcome
+returns c =
+    let p = (goal.at.returns c).After-put_left-lease in
+    let b = c.self.inside in
+    let k = desk_so p in
+    let is = data_is b.build b.start.rows (before p) b.events.list b.events.room c.args.w k.l k.own (outcome p) c.self.invariant.kept k.at
+    c.is_exclusive.ensures.apart c.is_exclusive.ensures.there
+    c.vertices.ensures.graph k.run c.outcome.invariant c.put_left-lease.result c.put_left-lease.new.desks.items c.write_back.new.caches.rows
+    c.write_back.new.caches.out c.put_left-lease.ensures.leased
+    c.put_left-lease.ensures.left c.write_back.ensures.rows c.write_back.ensures.out in
+    let new : Seen = seen b.build b.start.rows b.stands.items c.put_left-lease.new.desks.items c.write_back.new.caches.rows c.record_steps.new.events.list in
+    let done = through b.build b.start.rows (before p) b.events.list b.events.room c.args.w k.l k.own (outcome p) c.self.invariant.kept k.at
+    c.is_exclusive.ensures.apart c.is_exclusive.ensures.there
+    c.vertices.ensures.graph k.run c.outcome.invariant in
+    subst (λ (v : OutcomeValue). IsThrough c.args.self.now c.args.w v.count new) c.outcome.view_is
+    (subst (λ (m : Seen). IsThrough m c.args.w c.outcome.inside.count new) c.self.view_is
+    (subst (λ (n : Seen). IsThrough (seen_as b.build b.start.rows (before p) b.events.list) c.args.w c.outcome.inside.count n)
+    (λ i. seen_as b.build b.start.rows (sym is i) (sym c.record_steps.ensures.list i)) done))

@@ -1,0 +1,20 @@
+//! What stands before work: a worker passes it once before it works, and it may stop the worker there.
+
+ghost use Rattle.std.specs.Prelude.{ℕ, Bool, IfErr, IsTrue};
+
+use thiserror::Error;
+
+/// 143: the gate let no work begin.
+#[derive(Clone, Copy, Debug, Error)]
+#[error("143")]
+pub struct Stopped;
+
+/// What a worker passes before it works on a vertex.
+pub trait Gate {
+    /// At which workers and vertices it may stop.
+    ghost may_stop: { ℕ → ℕ → Bool };
+
+    /// Lets worker w work on vertex v, or stops it. It answers after a bounded number of turns.
+    fn pass(&self, w: u32, v: u32) -> Result<(), Stopped>
+        ensures { IfErr result (λ _. IsTrue (may_stop w v)) };
+}

@@ -1,0 +1,12 @@
+-- Lists that have the same at each place are the same.
+use Rattle.std.proofs.Common.{◌≡◌, ℕ, zero, suc, ◌<◌, List, [], ◌∷◌, length, slice_get, unwrap_or, refl, ap, arith}
+
+-- for maps in insertion order, which are looked at place by place
+pub all_same : {A : Type 0} → (xs ys : List A) → length xs ≡ length ys → ((k : ℕ) → k < length xs → slice_get xs k ≡ slice_get ys k) → xs ≡ ys
+all_same [] [] count each = refl
+all_same [] (y ∷ ys) count each = absurd (omega (arith, count))
+all_same (x ∷ xs) [] count each = absurd (omega (arith, count))
+all_same (x ∷ xs) (y ∷ ys) count each =
+    let head : x ≡ y = ap (λ o. unwrap_or o x) (each 0 (omega arith)) in
+    let tail = all_same xs ys (omega (arith, count)) (λ k below. each (suc k) (omega (arith, below))) in
+    λ i. head i ∷ tail i

@@ -1,0 +1,153 @@
+//! Landings: the work of a job away from the board, and its outcome, which lands where its worker still has just that to do.
+
+use super::board_caches::{SHARED, two};
+use super::written::{A_AND_B, MAKES_A, MAKES_B, NAMES_D, graph_of};
+use llb_board::{Board, Event, Gate, LandFault, Outcome, Settled, Stopped, WorkFault, work};
+use llb_cache::Caches;
+use llb_loader::{Graph, Locals};
+use std::alloc::Global;
+
+// A file `/z` with the content `hi` on nothing.
+const MAKES_Z: &[u8] =
+    b"\x22\x1A\x12\x18\x08\xFF\xFF\xFF\xFF\xFF\xFF\xFF\xFF\xFF\x01\x2A\x0B\x0A\x02/z\x10\xA4\x03\x1A\x02hi";
+
+struct Passes;
+
+impl Gate for Passes {
+    ghost use Rattle.std.specs.Prelude.{false};
+
+    ghost may_stop = { λ w v. false };
+
+    fn pass(&self, _: u32, _: u32) -> Result<(), Stopped> {
+        Ok(())
+    }
+}
+
+struct Stops;
+
+impl Gate for Stops {
+    ghost use Rattle.std.specs.Prelude.{true};
+
+    ghost may_stop = { λ w v. true };
+
+    fn pass(&self, _: u32, _: u32) -> Result<(), Stopped> {
+        Err(Stopped)
+    }
+}
+
+fn opened(alloc: Global, graph: Option<Graph>) -> Option<Board> {
+    Board::open(alloc, graph?, Locals::new(alloc), Caches::new(alloc), 2).ok()
+}
+
+// A file, the file `/b`, and both of them, for two workers.
+fn with_file(alloc: Global, file: &[u8]) -> Option<Board> {
+    let rows = [("A", file), ("B", MAKES_B), ("D", A_AND_B), ("T", NAMES_D)];
+    opened(alloc, graph_of(alloc, &rows))
+}
+
+// What worker 0 works out of vertex 0, which it claims.
+fn outcome_of(alloc: Global, board: &mut Board) -> Option<Outcome> {
+    let job = board.claim(0, 0).ok()?;
+    work(alloc, job, &Passes).ok()
+}
+
+// By which fault an outcome does not land; 0 where it does.
+fn landed(board: &mut Board, w: u32, outcome: Outcome) -> u32 {
+    match board.land(w, outcome) {
+        Ok(_) => 0,
+        Err(LandFault::NoWorker(_)) => 131,
+        Err(LandFault::NotRunning(_)) => 136,
+        Err(LandFault::Stranger(_)) => 139,
+        Err(LandFault::HasShared(_)) => 140,
+    }
+}
+
+// A board on which an outcome has just landed, and what that answered.
+fn just_landed(alloc: Global) -> Option<(Board, Settled)> {
+    let mut board = with_file(alloc, MAKES_A)?;
+    let outcome = outcome_of(alloc, &mut board)?;
+    let settled = board.land(0, outcome).ok()?;
+    Some((board, settled))
+}
+
+#[test]
+fn a_landing_is_the_steps_that_are_left_and_the_settle(rt: HostRuntime) {
+    let Some((board, settled)) = just_landed(rt.alloc()) else {
+        assert!(rt; false);
+        return;
+    };
+    let record = [Event::Claim(0, 0), Event::Step(0), Event::Settle(0)];
+    assert!(rt; settled == Settled::Done(0));
+    assert!(rt; board.events().as_slice() == record.as_slice());
+    assert!(rt; board.output(0, 0).is_some());
+}
+
+// What the outcomes of another board, of this one for other workers, and of this one behind a step come to.
+fn strangers(alloc: Global) -> Option<[u32; 4]> {
+    let mut other = with_file(alloc, MAKES_Z)?;
+    let stranger = outcome_of(alloc, &mut other)?;
+    let mut board = with_file(alloc, MAKES_A)?;
+    let own = outcome_of(alloc, &mut board)?;
+    let by_another_graph = landed(&mut board, 0, stranger);
+    board.step(0).ok()?;
+    let behind_a_step = landed(&mut board, 0, own);
+    let settled = u32::from(board.settle(0) == Ok(Settled::Done(0)));
+    Some([
+        by_another_graph,
+        behind_a_step,
+        settled,
+        board.events().as_slice().len() as u32,
+    ])
+}
+
+#[test]
+fn an_outcome_lands_only_where_its_worker_has_just_that_to_do(rt: HostRuntime) {
+    assert!(rt; strangers(rt.alloc()) == Some([139, 139, 1, 3]));
+}
+
+// What worker w is answered with the outcome of worker 0.
+fn brought_by(alloc: Global, w: u32) -> Option<u32> {
+    let mut board = with_file(alloc, MAKES_A)?;
+    let outcome = outcome_of(alloc, &mut board)?;
+    Some(landed(&mut board, w, outcome))
+}
+
+#[test]
+fn an_outcome_is_brought_by_a_worker_that_runs(rt: HostRuntime) {
+    assert!(rt; brought_by(rt.alloc(), 0) == Some(0));
+    assert!(rt; brought_by(rt.alloc(), 1) == Some(136));
+    assert!(rt; brought_by(rt.alloc(), 5) == Some(131));
+}
+
+// What an outcome is answered whose vertex has a shared cache.
+fn with_a_shared_cache(alloc: Global) -> Option<u32> {
+    let graph = two(
+        alloc,
+        ("append /c/l a && append /c/l b", SHARED),
+        ("append /c/l c && append /c/l d", SHARED),
+    );
+    let mut board = opened(alloc, graph)?;
+    let outcome = outcome_of(alloc, &mut board)?;
+    Some(landed(&mut board, 0, outcome))
+}
+
+#[test]
+fn a_vertex_with_a_shared_cache_can_not_land(rt: HostRuntime) {
+    assert!(rt; with_a_shared_cache(rt.alloc()) == Some(140));
+}
+
+// Whether a gate that stops lets no work begin.
+fn is_stopped(alloc: Global) -> Option<bool> {
+    let board = with_file(alloc, MAKES_A)?;
+    let mut copy = board.copy().ok()?;
+    let job = copy.claim(0, 0).ok()?;
+    match work(alloc, job, &Stops) {
+        Ok(_) => Some(false),
+        Err(fault) => Some(matches!(fault, WorkFault::Stopped)),
+    }
+}
+
+#[test]
+fn a_gate_that_stops_lets_no_work_begin(rt: HostRuntime) {
+    assert!(rt; is_stopped(rt.alloc()) == Some(true));
+}

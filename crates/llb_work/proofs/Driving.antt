@@ -1,0 +1,180 @@
+-- What a driver's events do to a board.
+use Rattle.std.proofs.Common.{◌≡◌, ◌≢◌, ℕ, zero, suc, ◌+◌, ◌<◌, ◌≤◌, ◌==◌, Bool, true, false, cond, List, [], ◌∷◌, ◌++◌, length, map, take, get_or, get_or-set_same, get_or-set_other, Some, None, is_some, Result, Ok, Err, inl, inr, refl, sym, ap, subst, ◌∙◌, append_assoc, arith}
+use Rattle.std.proofs.Math.ListN.{set}
+use Rattle.std.proofs.lemmas.Bool.{cases_eq, eq-eqb, ne_eqb}
+use Rattle.std.proofs.lemmas.List.{append-nil, length-append, length-set}
+use Rattle.std.proofs.lemmas.List.Sums.{count_by_more_yes, count_by_more_no, sum_by-cons}
+use Rattle.std.specs.Prelude.{slice_index, replicate, is_ok}
+use Rattle.std.specs.Bool.{OnTrue, OnFalse}
+use Rattle.std.specs.List.{count_by}
+use Rattle.std.specs.Result.{result_ok}
+use Rattle.llb_loader.specs.Graph.{IsGraph}
+use Rattle.llb_model.specs.Consistent.{IsConsistent}
+use Rattle.llb_model.specs.Program.{Build}
+use Rattle.llb_model.specs.SettleCause.{SettleCause}
+use Rattle.llb_model.specs.State.{State}
+use Rattle.llb_model.specs.Table.{Job, Event, Claim, Step, Settle, Reply, worker_of, claim_grant, step_grant, settle_grant, table}
+use Rattle.llb_model.specs.Run.{run, events_by, chosen}
+use Rattle.llb_model.specs.Laws.{AreChosen}
+use Rattle.llb_model.proofs.Lists.{inside as some_inside}
+use Rattle.llb_model.proofs.Runs.{run_none, run_first, run_more}
+use Rattle.llb_model.proofs.Alone.{Ascends, alone_step}
+use Rattle.llb_board.specs.Board.{Seen, ChosenIsGranted, after_event, recorded}
+use Rattle.llb_board.specs.Rules.{GivesClaim, claim_of, claim_fault, GivesStep, step_of, step_fault, GivesSettle, settle_of, settle_fault}
+use Rattle.llb_board.specs.Views.{event_of, step_reply, settle_reply}
+use Rattle.llb_board.specs.declared.event.Event as event
+use Rattle.llb_board.specs.declared.event.Stepped.{Stepped}
+use Rattle.llb_board.specs.declared.event.Settled.{Settled}
+use Rattle.llb_board.specs.declared.fault.ClaimFault.{ClaimFault}
+use Rattle.llb_board.specs.declared.fault.StepFault.{StepFault}
+use Rattle.llb_board.specs.declared.fault.SettleFault.{SettleFault}
+use Rattle.llb_work.specs.Alone.{Takes, IsLeft, Goes, TakesMemory}
+
+abbrev ok_of : {A F : Type 0} → A → Result A F
+ok_of x = Ok x
+
+inside : {A F : Type 0} {x y : A} → ok_of {F = F} x ≡ ok_of y → x ≡ y
+inside e = cc
+
+-- a call that is granted takes its event
+pub takes_of : {C F : Type 0} (b : Seen) (e : Event) (fault : C → F) (o : Result (State × Reply) C) (n : Seen) (r : Reply) → table b.build b.state e ≡ result_ok o → recorded b e fault o ≡ Ok (n, r) → Takes b e n
+takes_of {C} {F} b e fault (Err cause) n r is given = absurd cc
+takes_of {C} {F} b e fault (Ok (s, q)) n r is given =
+    let same : after_event b e s ≡ n = ap (λ (x : Seen × Reply). x.0) (inside {F = F} given) in
+    subst (Takes b e) same (record { build = refl; opening = refl; first = refl; reply = q; given = is; events = refl })
+
+pub goes_nil : (b : Seen) → Goes b b
+unfolding run
+goes_nil b = record { build = refl; opening = refl; first = refl; more = []; replies = []; leads = refl; chosen = tt; events = sym (append-nil b.events) }
+
+-- a chosen event more
+chosen_more : (b : Build) (s t : State) (es : List Event) (rs : List Reply) (e : Event) → run b s es ≡ Some (t, rs) → AreChosen b s es → chosen b t ≡ Some e → AreChosen b s (es ++ e ∷ [])
+chosen_more b s t [] rs e leads all next = (ap (chosen b) (run_none b s t rs leads).0 ∙ next, λ a given. tt)
+chosen_more b s t (x ∷ es) rs e leads all next =
+    let first = run_first b s x es t rs leads in (
+      all.0,
+      λ a given.
+          let same : first.a ≡ a = some_inside (sym first.given ∙ given) in
+          chosen_more b a.0 t es first.rest e (ap (λ (y : State × Reply). run b y.0 es) (sym same) ∙ first.goes_on) (all.1 a given) next,
+    )
+
+pub goes_on : (a b c : Seen) (e : Event) → Goes a b → chosen b.build b.state ≡ Some e → Takes b e c → Goes a c
+goes_on a b c e goes next takes = record {
+  build = takes.build ∙ goes.build;
+  opening = takes.opening ∙ goes.opening;
+  first = takes.first ∙ goes.first;
+  more = goes.more ++ e ∷ [];
+  replies = goes.replies ++ takes.reply ∷ [];
+  leads = run_more a.build a.state b.state c.state goes.more goes.replies e takes.reply goes.leads given;
+  chosen = chosen_more a.build a.state b.state goes.more goes.replies e goes.leads goes.chosen (ap (λ x. chosen x b.state) (sym goes.build) ∙ next);
+  events = takes.events ∙ ap (λ es. es ++ e ∷ []) goes.events ∙ append_assoc a.events goes.more (e ∷ []);
+}
+  where
+    given : table a.build b.state e ≡ Some (c.state, takes.reply)
+    given = ap (λ x. table x b.state e) (sym goes.build) ∙ takes.given
+
+-- the claims so far ascend, and go on to
+pub ascends_on : (b c : Seen) (e : Event) → IsGraph b.build.graph → IsConsistent b.build b.state → chosen b.build b.state ≡ Some e → Takes b e c → Ascends b.build b.state b.events → Ascends c.build c.state c.events
+ascends_on b c e graph here is takes up =
+    subst (λ x. Ascends x c.state c.events) (sym takes.build) (subst (Ascends b.build c.state) (sym takes.events)
+    (alone_step b.build graph b.state c.state e takes.reply b.events here is takes.given up))
+
+pub longer : (b c : Seen) (e : Event) → Takes b e c → length c.events ≡ length b.events + 1
+longer b c e takes = ap length takes.events ∙ length-append b.events (e ∷ [])
+
+-- ---- the three calls
+
+pub claim_takes : {J : Type 0} (reply : J → Reply) (b n : Seen) (w v : ℕ) (r : Result J ClaimFault) → GivesClaim (λ job. (n, reply job)) r (claim_of b w v) → is_ok r ≡ true
+    → Takes b (Claim w v) n
+unfolding table
+claim_takes reply b n w v (Ok job) gives ok = takes_of b (Claim w v) claim_fault (claim_grant b.build b.state w v) n (reply job) refl gives
+claim_takes reply b n w v (Err e) gives ok = absurd cc
+
+pub step_takes : (b n : Seen) (w : ℕ) (r : Result Stepped StepFault) → GivesStep (λ s. (n, step_reply s)) r (step_of b w) → is_ok r ≡ true → Takes b (Step w) n
+unfolding table
+step_takes b n w (Ok s) gives ok = takes_of b (Step w) step_fault (step_grant b.build b.state w) n (step_reply s) refl gives
+step_takes b n w (Err e) gives ok = absurd cc
+
+pub settle_takes : (b n : Seen) (w : ℕ) (r : Result Settled SettleFault) → GivesSettle (λ s. (n, settle_reply s)) r (settle_of b w) → is_ok r ≡ true → Takes b (Settle w) n
+unfolding table
+settle_takes b n w (Ok s) gives ok = takes_of b (Settle w) settle_fault (settle_grant b.build b.state w) n (settle_reply s) refl gives
+settle_takes b n w (Err e) gives ok = absurd cc
+
+-- a settle that is refused is not granted
+pub settle_left : (b n : Seen) (w : ℕ) (r : Result Settled SettleFault) → GivesSettle (λ s. (n, settle_reply s)) r (settle_of b w) → is_ok r ≡ false → IsLeft b (Settle w)
+unfolding table
+settle_left b n w (Ok s) gives refused = absurd cc
+settle_left b n w (Err e) gives refused = by_grant (settle_grant b.build b.state w) (gives refl)
+  where
+    by_grant : (o : Result (State × Reply) SettleCause) → recorded b (Settle w) settle_fault o ≡ Err e → result_ok o ≡ None
+    by_grant (Err cause) is = refl
+    by_grant (Ok p) is = absurd cc
+
+-- a chosen event that was not done takes memory
+pub left_over : (b : Seen) (e : Event) → ChosenIsGranted b → chosen b.build b.state ≡ Some e → IsLeft b e → TakesMemory (chosen b.build b.state)
+left_over b e granted is left = subst TakesMemory (sym is) (by_event e is left)
+  where
+    by_event : (e : Event) → chosen b.build b.state ≡ Some e → IsLeft b e → TakesMemory (Some e)
+    by_event (Claim w v) is left = tt
+    by_event (Step w) is left = tt
+    by_event (Settle w) is left = let none : is_some (table b.build b.state (Settle w)) ≡ false = ap is_some left in absurd (cc (none, granted (Settle w) is))
+
+-- a fact where a test is true, or false
+pub on_true : (b : Bool) (P : Type 0) → (b ≡ true → P) → OnTrue b P
+on_true true P f = f refl
+on_true false P f = tt
+
+pub on_false : (b : Bool) (P : Type 0) → (b ≡ false → P) → OnFalse b P
+on_false true P f = tt
+on_false false P f = f refl
+
+pub when_true : (b : Bool) (P : Type 0) → OnTrue b P → b ≡ true → P
+when_true true P h is = h
+when_true false P h is = absurd cc
+
+-- a front of a longer record
+pub goes_longer : (a b : Seen) → Goes a b → length a.events ≤ length b.events
+goes_longer a b goes = omega (arith, ap length goes.events, length-append a.events goes.more)
+
+pub zeros : (k w : ℕ) → slice_index (replicate k 0) w ≡ 0
+zeros zero w = refl
+zeros (suc k) zero = refl
+zeros (suc k) (suc w) = zeros k w
+
+-- ---- each worker's events
+
+abbrev pub of_worker : ℕ → event.Event → Bool
+of_worker w e = worker_of (event_of e) == w
+
+-- what is counted of seen events is counted of the events
+pub count_seen : (w : ℕ) (es : List event.Event) → events_by w (map event_of es) ≡ count_by (of_worker w) es
+count_seen w [] = refl
+count_seen w (e ∷ es) =
+    sum_by-cons (λ x. cond (worker_of x == w) 1 0) (event_of e) (map event_of es) ∙ ap (λ n. cond (of_worker w e) 1 0 + n) (count_seen w es) ∙ sym (sum_by-cons (λ x. cond (of_worker w x) 1 0) e es)
+
+-- the counts of so many events
+abbrev pub Counts : List ℕ → List event.Event → ℕ → Type 0
+Counts made es i = (length made ≡ 64) × ((w : ℕ) → w < 64 → slice_index made w ≡ count_by (of_worker w) (take i es))
+
+-- one more event is one more of its worker, and of no other
+module _ (made : List ℕ) (es : List event.Event) (i u : ℕ) (d : event.Event) (fits : i < length es) (is : u ≡ worker_of (event_of (get_or es i d))) (so_far : Counts made es i) where
+  other : (w : ℕ) → w ≢ u → count_by (of_worker w) (take (i + 1) es) ≡ count_by (of_worker w) (take i es)
+  other w apart = count_by_more_no (of_worker w) es i d fits (ne_eqb _ _ (λ e. apart (sym e ∙ sym is)))
+
+  pub not_counted : 64 ≤ u → Counts made es (i + 1)
+  not_counted past = (so_far.0, λ w lt. so_far.1 w lt ∙ sym (other w (λ e. omega (arith, e, past, lt))))
+
+  pub counted : u < 64 → Counts (set made u (slice_index made u + 1)) es (i + 1)
+  counted low = (length-set made u (slice_index made u + 1) ∙ so_far.0, each)
+    where
+      each : (w : ℕ) → w < 64 → slice_index (set made u (slice_index made u + 1)) w ≡ count_by (of_worker w) (take (i + 1) es)
+      each w lt = elim (cases_eq w u) [
+        | inl same ↦
+            let here : slice_index (set made u (slice_index made u + 1)) u ≡ slice_index made u + 1 = get_or-set_same made u (slice_index made u + 1) 0 (omega (arith, so_far.0, low)) in
+            ap (slice_index (set made u (slice_index made u + 1))) same ∙ here ∙ ap (λ n. n + 1) (so_far.1 u low)
+            ∙ sym (count_by_more_yes (of_worker u) es i d fits (eq-eqb _ _ (sym is)))
+            ∙ ap (λ v. count_by (of_worker v) (take (i + 1) es)) (sym same)
+        | inr apart ↦
+            let there : slice_index (set made u (slice_index made u + 1)) w ≡ slice_index made w = get_or-set_other made u w (slice_index made u + 1) 0 apart in
+            there ∙ so_far.1 w lt ∙ sym (other w apart)
+      ]

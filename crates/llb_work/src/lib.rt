@@ -1,0 +1,9 @@
+//! Runs of a board to its end: by one driver on the caller's own thread, and by threads round one lock. Stands on the board alone, and
+//! changes it by its calls only.
+#![tactic(auto)]
+
+mod alone;
+mod end;
+
+pub use alone::run_alone;
+pub use end::{RunEnd, RunFault};
