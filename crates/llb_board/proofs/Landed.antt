@@ -1,22 +1,22 @@
 -- A landing: the board's data behind the steps that an outcome counts, and the block of these and of the settle.
-use Rattle.std.proofs.Common.{◌≡◌, ◌≢◌, ℕ, zero, suc, ◌+◌, ◌<◌, ◌≤◌, ◌^◌, List, [], ◌∷◌, ◌++◌, map, length, refl, sym, ap, subst, ◌∙◌, arith, get_or}
+use Rattle.std.proofs.Common.{◌≡◌, ℕ, zero, suc, ◌+◌, ◌<◌, ◌≤◌, ◌^◌, List, [], ◌∷◌, ◌++◌, map, length, refl, sym, ap, subst, ◌∙◌, arith}
 use Rattle.std.proofs.Common.{length-append}
-use Rattle.std.specs.Prelude.{Bool, true, Option, Some, None, option_map, Result, Ok, Err, is_ok, is_some, slice_get, slice_set, replicate, fold, AllPairs}
+use Rattle.std.specs.Prelude.{Bool, true, Option, Some, None, option_map, Result, Ok, Err, is_ok, is_some, slice_get, slice_set, fold}
 use Rattle.std.specs.Prelude.{if◌then◌else◌}
 use Rattle.std.specs.Result.{result_unwrap_or}
 use Rattle.std.proofs.lemmas.List.{length-replicate, append_assoc}
 use Rattle.std.proofs.lemmas.List.Sums.{fold-append}
-use Rattle.llb_cache.specs.Caches.{Row, Leases, AreApart, AreThere as AreAllThere, trees_of}
+use Rattle.llb_cache.specs.Caches.{Row, Leases, AreApart, AreThere as AreAllThere}
 use Rattle.llb_loader.specs.Graph.{IsGraph}
 use Rattle.llb_tree.specs.Tree.{TreeMap}
-use Rattle.llb_model.specs.Caches.{Place, Store, Has, Hold, Distinct, put_all, trees_at}
-use Rattle.llb_model.specs.Program.{Build, Left, Need, key_of}
-use Rattle.llb_model.specs.State.{State, Status, Running, At, Runs, Execution, opening, program_in, is_finished, ending_from}
+use Rattle.llb_model.specs.Caches.{Place, Store, Hold, Distinct, put_all, trees_at}
+use Rattle.llb_model.specs.Program.{Build, Left, key_of}
+use Rattle.llb_model.specs.State.{State, Running, At, Runs, Execution, opening, program_in, is_finished, ending_from}
 use Rattle.llb_model.specs.Kept.{store_of}
-use Rattle.llb_model.specs.Leases.{HasLease, put_each}
-use Rattle.llb_model.specs.Landing.{steps_by, landing, further, AreThere, AreLeft, left_so_far, with_steps, after_steps}
+use Rattle.llb_model.specs.Leases.{put_each}
+use Rattle.llb_model.specs.Landing.{steps_by, further, AreThere, AreLeft, left_so_far, with_steps, after_steps}
 use Rattle.llb_model.specs.SettleCause.{SettleCause, NotFinished}
-use Rattle.llb_model.specs.Table.{Event, Step, Settle, Reply, Job, worker_of, settle_with, settled, settle_grant, table}
+use Rattle.llb_model.specs.Table.{Event, Step, Settle, Reply, Job, settle_with, settled, settle_grant, table}
 use Rattle.llb_model.specs.Run.{run}
 use Rattle.std.proofs.lemmas.Option.{slice_get-map}
 use Rattle.llb_model.proofs.Lists.{inside, get_set_same, length_set, got_within, get_within}
@@ -28,12 +28,11 @@ use Rattle.llb_model.proofs.There.{held_are_there}
 use Rattle.llb_model.proofs.Rooms.{run_has_few}
 use Rattle.llb_model.proofs.Runs.{run_none, run_one, run_on}
 use Rattle.llb_model.proofs.Landing.{first_step, steps_as_block, after_again, further_keeps}
-use Rattle.llb_execution.specs.Parts.{mounts_in, shown_in}
 use Rattle.llb_board.specs.Board.{Seen, Replays, kept_next, kept_along, opening_with, after_event, recorded}
 use Rattle.llb_board.specs.Caches.{written, places_at, rows_after, leased_places, number_of}
 use Rattle.llb_board.specs.Jobs.{OutcomeValue, IsOutcome, begun_on}
 use Rattle.llb_board.specs.Landing.{job_now, IsBegun, IsRunOf, CanLand, IsThrough, Lands, desk_left}
-use Rattle.llb_board.specs.Room.{Supplies, supplies_of, supplies_for, needs_at, needed, ready_made}
+use Rattle.llb_board.specs.Room.{Supplies, supplies_of, supplies_for, needs_at}
 use Rattle.llb_board.specs.Rules.{settle_fault, settle_of, GivesSettle}
 use Rattle.llb_board.specs.Views.{at_of, leased_by, execution_of, settle_reply}
 use Rattle.llb_board.specs.declared.event.Settled.{Settled}

@@ -24,3 +24,4 @@ pub mod Undone
 pub mod Undos
 pub mod Copies
 pub mod Landed
+pub mod Alike

@@ -7,6 +7,7 @@ ghost use Rattle.llb_model.specs.State.{missing_local};
 
 use llb_execution::missing_local;
 use llb_loader::{Graph, Locals, Memory, Vertex};
+use llb_wire::Same;
 use std::marker::Model;
 
 /// A graph, and the trees of its local sources.
@@ -100,5 +101,11 @@ impl Build {
         ensures locals { result.1 ≡ self.locals }
     {
         (self.graph, self.locals)
+    }
+}
+
+impl Same for Build {
+    fn same(&self, other: &Build) -> bool {
+        self.graph.same(&other.graph) && self.locals.same(&other.locals)
     }
 }

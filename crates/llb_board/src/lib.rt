@@ -20,6 +20,7 @@ mod micro_step;
 mod needs;
 mod outcome;
 mod ready;
+mod same;
 mod stand;
 mod step;
 mod undo;

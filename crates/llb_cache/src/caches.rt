@@ -223,6 +223,13 @@ impl Caches {
         same_rows(&self.rows, &other.rows) && all_same(self.out.as_slice(), other.out.as_slice())
     }
 
+    /// Whether both have the same keys in the same order with the same trees, whatever leases are out. Takes no memory.
+    pub fn has_same_trees(&self, other: &Caches) -> bool
+        ensures { IsTrue result ↔ (self.now.rows ≡ other.now.rows) }
+    {
+        same_rows(&self.rows, &other.rows)
+    }
+
     /// A law: no key stands twice.
     pub fn keys_differ(&self)
         ensures { AllPairs (λ k l. k ≢ l) (keys_of self.now.rows) }

@@ -3,6 +3,7 @@
 ghost use Rattle.std.specs.Prelude.{Some};
 ghost use Rattle.llb_model.specs.Failure.{failure_text};
 
+use llb_wire::Same;
 use std::error::Error;
 use std::fmt;
 
@@ -27,3 +28,14 @@ impl fmt::Display for VertexFault {
 }
 
 impl Error for VertexFault {}
+
+impl Same for VertexFault {
+    fn same(&self, other: &VertexFault) -> bool {
+        match (self, other) {
+            (VertexFault::Action(a, n), VertexFault::Action(b, m)) => a == b && n == m,
+            (VertexFault::Exit(c, status), VertexFault::Exit(d, other)) => c == d
+                && status == other,
+            _ => false,
+        }
+    }
+}
