@@ -1,6 +1,7 @@
 //! Landings: the work of a job away from the board, and its outcome, which lands where its worker still has just that to do.
 
 use super::board_caches::{SHARED, two};
+use super::told::is_done;
 use super::written::{A_AND_B, MAKES_A, MAKES_B, NAMES_D, graph_of};
 use llb_board::{Board, Event, Gate, LandFault, Outcome, Settled, Stopped, WorkFault, work};
 use llb_cache::Caches;
@@ -8,7 +9,7 @@ use llb_loader::{Graph, Locals};
 use std::alloc::Global;
 
 // A file `/z` with the content `hi` on nothing.
-const MAKES_Z: &[u8] =
+pub(crate) const MAKES_Z: &[u8] =
     b"\x22\x1A\x12\x18\x08\xFF\xFF\xFF\xFF\xFF\xFF\xFF\xFF\xFF\x01\x2A\x0B\x0A\x02/z\x10\xA4\x03\x1A\x02hi";
 
 struct Passes;
@@ -82,27 +83,42 @@ fn a_landing_is_the_steps_that_are_left_and_the_settle(rt: HostRuntime) {
     assert!(rt; board.output(0, 0).is_some());
 }
 
-// What the outcomes of another board, of this one for other workers, and of this one behind a step come to.
-fn strangers(alloc: Global) -> Option<[u32; 4]> {
+// By which fault the outcome of a board over another graph does not land.
+fn landed_from_another(alloc: Global, board: &mut Board) -> Option<u32> {
     let mut other = with_file(alloc, MAKES_Z)?;
     let stranger = outcome_of(alloc, &mut other)?;
+    Some(landed(board, 0, stranger))
+}
+
+// The same on a board whose worker 0 runs the vertex of that number.
+fn by_another_graph(alloc: Global) -> Option<u32> {
+    let mut board = with_file(alloc, MAKES_A)?;
+    if !is_done(&mut board, Event::Claim(0, 0)) {
+        return None;
+    }
+    landed_from_another(alloc, &mut board)
+}
+
+// By which fault a worker's own outcome does not land once a step of it was done, whether the worker can still settle, and the length of
+// the record then.
+fn landed_late(board: &mut Board, own: Outcome) -> (u32, bool, usize) {
+    let stepped = is_done(board, Event::Step(0));
+    let refused = landed(board, 0, own);
+    let settled = is_done(board, Event::Settle(0));
+    (refused, stepped && settled, board.events().as_slice().len())
+}
+
+fn behind_a_step(alloc: Global) -> Option<(u32, bool, usize)> {
     let mut board = with_file(alloc, MAKES_A)?;
     let own = outcome_of(alloc, &mut board)?;
-    let by_another_graph = landed(&mut board, 0, stranger);
-    board.step(0).ok()?;
-    let behind_a_step = landed(&mut board, 0, own);
-    let settled = u32::from(board.settle(0) == Ok(Settled::Done(0)));
-    Some([
-        by_another_graph,
-        behind_a_step,
-        settled,
-        board.events().as_slice().len() as u32,
-    ])
+    Some(landed_late(&mut board, own))
 }
 
 #[test]
 fn an_outcome_lands_only_where_its_worker_has_just_that_to_do(rt: HostRuntime) {
-    assert!(rt; strangers(rt.alloc()) == Some([139, 139, 1, 3]));
+    let alloc = rt.alloc();
+    assert!(rt; by_another_graph(alloc) == Some(139));
+    assert!(rt; behind_a_step(alloc) == Some((139, true, 3)));
 }
 
 // What worker w is answered with the outcome of worker 0.
