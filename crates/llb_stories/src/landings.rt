@@ -3,7 +3,7 @@
 use super::board_caches::{SHARED, two};
 use super::told::is_done;
 use super::written::{A_AND_B, MAKES_A, MAKES_B, NAMES_D, graph_of};
-use llb_board::{Board, Event, Gate, LandFault, Outcome, Settled, Stopped, WorkFault, work};
+use llb_board::{Board, Event, Gate, LandFault, Outcome, Settled, Stopped, work};
 use llb_cache::Caches;
 use llb_loader::{Graph, Locals};
 use std::alloc::Global;
@@ -21,18 +21,6 @@ impl Gate for Passes {
 
     fn pass(&self, _: u32, _: u32) -> Result<(), Stopped> {
         Ok(())
-    }
-}
-
-struct Stops;
-
-impl Gate for Stops {
-    ghost use Rattle.std.specs.Prelude.{true};
-
-    ghost may_stop = { λ w v. true };
-
-    fn pass(&self, _: u32, _: u32) -> Result<(), Stopped> {
-        Err(Stopped)
     }
 }
 
@@ -150,20 +138,4 @@ fn with_a_shared_cache(alloc: Global) -> Option<u32> {
 #[test]
 fn a_vertex_with_a_shared_cache_can_not_land(rt: HostRuntime) {
     assert!(rt; with_a_shared_cache(rt.alloc()) == Some(140));
-}
-
-// Whether a gate that stops lets no work begin.
-fn is_stopped(alloc: Global) -> Option<bool> {
-    let board = with_file(alloc, MAKES_A)?;
-    let mut copy = board.copy().ok()?;
-    let job = copy.claim(0, 0).ok()?;
-    match work(alloc, job, &Stops) {
-        Ok(_) => Some(false),
-        Err(fault) => Some(matches!(fault, WorkFault::Stopped)),
-    }
-}
-
-#[test]
-fn a_gate_that_stops_lets_no_work_begin(rt: HostRuntime) {
-    assert!(rt; is_stopped(rt.alloc()) == Some(true));
 }
