@@ -2,7 +2,8 @@
 use Rattle.std.proofs.Common.{◌≡◌, ℕ, ◌<◌, List, length, map, Some, option_map, get_or, slice_get, IsTrue, true≢false, false, refl, sym, ap, subst, ◌∙◌}
 use Rattle.std.proofs.lemmas.Option.{slice_get-map, slice_get-get_or, slice_get_read, same_Some}
 
-alike_items : {A B : Type 0} (f : A → B) (xs ys : List A) (i : ℕ) (x y : A) → slice_get xs i ≡ Some x → slice_get ys i ≡ Some y → map f xs ≡ map f ys → f x ≡ f y
+alike_items : {A B : Type 0} (f : A → B) (xs ys : List A) (i : ℕ) (x y : A) → slice_get xs i ≡ Some x → slice_get ys i ≡ Some y
+    → map f xs ≡ map f ys → f x ≡ f y
 alike_items f xs ys i x y first second e =
     same_Some _ _ (sym (ap (option_map f) first) ∙ sym (slice_get-map f xs i) ∙ ap (λ l. slice_get l i) e ∙ slice_get-map f ys i ∙ ap (option_map f) second)
 
