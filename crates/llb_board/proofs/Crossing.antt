@@ -38,13 +38,24 @@ places_send = as_row_send (vec.the_field place.the_row heap.the_row ghosts) (Vec
 
 execution_send : IsSend execution.the_row
 execution_send = declared_send execution.the_type (
+  search sendable,
+  (
     search sendable,
-    (search sendable,
-    (search (crosses, sendable) depth 20,
-    (as_row_send view.the_field view_crosses,
-    (places_send,
-    (as_row_send (vec.the_field tree.the_row heap.the_row ghosts) trees_send,
-    (setting_send, tt)))))))
+    (
+      search (crosses, sendable) depth 20,
+      (
+        as_row_send view.the_field view_crosses,
+        (
+          places_send,
+          (
+            as_row_send (vec.the_field tree.the_row heap.the_row ghosts) trees_send,
+            (setting_send, tt),
+          ),
+        ),
+      ),
+    ),
+  ),
+)
 
 desk_send : IsSend desk.the_row
 desk_send = variants_send desk.enum (tt, ((search (lease_crosses.the_send, crosses, sendable) depth 20, (execution_send, tt)), tt))
@@ -66,10 +77,15 @@ build_send = view_send build_inside.the_row _ _ _ _ build_inside_send
 
 stand_send : IsSend stand.the_row
 stand_send = variants_send stand.enum (
-    tt,
-    ((search sendable, tt),
-    ((search (many_crosses.the_send, tree_send, crosses, sendable) depth 20, tt),
-    ((search (fault_crosses.the_send, crosses, sendable) depth 20, tt), tt))))
+  tt,
+  (
+    (search sendable, tt),
+    (
+      (search (many_crosses.the_send, tree_send, crosses, sendable) depth 20, tt),
+      ((search (fault_crosses.the_send, crosses, sendable) depth 20, tt), tt),
+    ),
+  ),
+)
 
 stands_send : IsSend (as_row (vec.the_field stand.the_row heap.the_row ghosts))
 stands_send = as_row_send (vec.the_field stand.the_row heap.the_row ghosts) (Vec-send stand.the_row stand_send)
@@ -85,15 +101,30 @@ caches_field_send = as_row_send caches.the_field caches_send
 
 inside_send : IsSend inside.the_row
 inside_send = declared_send inside.the_type (
-    search (crosses, sendable) depth 20,
-    (as_row_send build.the_field build_send,
-    (caches_field_send,
-    (caches_field_send,
-    (stands_send,
-    (desks_send,
-    (search (crosses, sendable) depth 20,
-    (search sendable,
-    (as_row_send events.the_field events_send, tt)))))))))
+  search (crosses, sendable) depth 20,
+  (
+    as_row_send build.the_field build_send,
+    (
+      caches_field_send,
+      (
+        caches_field_send,
+        (
+          stands_send,
+          (
+            desks_send,
+            (
+              search (crosses, sendable) depth 20,
+              (
+                search sendable,
+                (as_row_send events.the_field events_send, tt),
+              ),
+            ),
+          ),
+        ),
+      ),
+    ),
+  ),
+)
 
 pub board_crosses : IsSend board.the_row
 board_crosses = view_send inside.the_row _ _ _ _ inside_send

@@ -9,6 +9,8 @@ mod board;
 #[cfg(test)]
 mod board_caches;
 #[cfg(test)]
+mod crew;
+#[cfg(test)]
 mod faults;
 #[cfg(test)]
 mod landings;

@@ -13,7 +13,7 @@ use Rattle.llb_model.specs.Consistent.{IsConsistent}
 use Rattle.llb_model.specs.Program.{Build}
 use Rattle.llb_model.specs.SettleCause.{SettleCause}
 use Rattle.llb_model.specs.State.{State}
-use Rattle.llb_model.specs.Table.{Job, Event, Claim, Step, Settle, Reply, worker_of, claim_grant, step_grant, settle_grant, table}
+use Rattle.llb_model.specs.Table.{Event, Claim, Step, Settle, Reply, worker_of, claim_grant, step_grant, settle_grant, table}
 use Rattle.llb_model.specs.Run.{run, events_by, chosen}
 use Rattle.llb_model.specs.Laws.{AreChosen}
 use Rattle.llb_model.proofs.Lists.{inside as some_inside}

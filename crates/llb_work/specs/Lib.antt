@@ -1,2 +1,5 @@
--- Alone: what a driver does to a board, and how it leaves a build.
+-- Read first Alone (what one driver does to a board, and how it leaves a build), then Crew (what workers round one lock do to it) and RunEnds (what a run
+-- gives back).
 pub mod Alone
+pub mod Crew
+pub mod RunEnds

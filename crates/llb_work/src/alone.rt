@@ -39,8 +39,8 @@ fn settles(board: &mut Board, w: u32) -> bool
     board.settle(w).is_ok()
 }
 
-// Does one event; where that is refused, the board is as before.
-fn do_event(board: &mut Board, event: Event) -> bool
+/// Does one event; where that is refused, the board is as before.
+pub(crate) fn do_event(board: &mut Board, event: Event) -> bool
     ensures taken { OnTrue result (Takes board.old (event_of event) board.new) }
     ensures kept { OnFalse result (board.new ≡ board.old) }
     ensures left { OnFalse result (IsLeft board.old (event_of event)) }
@@ -71,8 +71,8 @@ fn go_alone(board: &mut Board) -> bool
     true
 }
 
-// The worker whose event it is.
-fn worker_of(event: Event) -> u32
+/// The worker whose event it is.
+pub(crate) fn worker_of(event: Event) -> u32
     ensures { result ≡ worker_of (event_of event) }
 {
     match event {

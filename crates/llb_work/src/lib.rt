@@ -3,7 +3,15 @@
 #![tactic(auto)]
 
 mod alone;
+mod crew;
+mod desk;
 mod end;
+mod granted;
+mod noted;
+mod rest;
+mod run;
+mod worker;
 
 pub use alone::run_alone;
 pub use end::{RunEnd, RunFault};
+pub use run::run_workers;

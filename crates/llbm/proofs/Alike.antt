@@ -1,5 +1,5 @@
 -- Definitions of the same entries run to the same text.
-use Rattle.std.proofs.Common.{◌≡◌, ℕ, List, sym, ap, subst, ◌∙◌}
+use Rattle.std.proofs.Common.{◌≡◌, ℕ, List, refl, sym, ap, subst, ◌∙◌}
 use Rattle.std.specs.Prelude.{Option, Some, None, Result, Ok, Err}
 use Rattle.llb_wire.specs.Spelling.{AreBytes}
 use Rattle.llb_treetext.specs.TreeText.{tree_text}
@@ -36,14 +36,14 @@ moved bytes other entries g read again loaded =
     (entries, again, subst (λ es. IsGraphOf (rows_from es) g) same loaded.2)
 
 -- one graph on the same trees runs to one text
-one_text : (locals : List Local) (bytes other one two : List ℕ) (y : Yields locals bytes one) (z : Yields locals other two) → y.graph ≡ z.graph → one ≡ two
+one_text : (locals : List Local) (bytes other one two : List ℕ) (y : Yields 1 locals bytes one) (z : Yields 1 locals other two) → y.graph ≡ z.graph → one ≡ two
 one_text locals bytes other one two y z graphs = y.printed ∙ ap tree_text trees ∙ sym z.printed
   where
-    ended : IsEnd (build_of locals z.graph) y.state
-    ended = subst (λ g. IsEnd (build_of locals g) y.state) graphs y.ended
+    ended : IsEnd 1 (build_of locals z.graph) y.state
+    ended = subst (λ g. IsEnd 1 (build_of locals g) y.state) graphs y.ended
 
     states : y.state ≡ z.state
-    states = z.ended.only ended.events y.state ended.ends
+    states = (z.ended.alone refl).only ended.events y.state (ended.alone refl).ends
 
     results : Some y.tree ≡ Some z.tree
     results = sym y.result ∙ ap (λ (s : State). result_in s y.graph) states ∙ ap (result_in z.state) graphs ∙ z.result

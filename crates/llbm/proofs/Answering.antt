@@ -16,23 +16,22 @@ use Rattle.llb_loader.specs.Locals.{Local}
 use Rattle.llb_loader.specs.Load.{IsGraphIn, IsRefusalIn}
 use Rattle.llb_board.specs.Board.{Seen}
 use Rattle.llbm.specs.declared.fault.ProgramFault.{ProgramFault}
-use Rattle.llbm.specs.declared.fault.ProgramFault.TheVariants.{Refused, Loading, Print}
+use Rattle.llbm.specs.declared.fault.ProgramFault.TheVariants.{Refused, Loading}
 use Rattle.llb_treetext.specs.TreeText.{tree_text}
 use Rattle.llbm.specs.GraphText.{graph_text}
-use Rattle.llbm.specs.Answer.{build_of, result_in, Yields, YieldsNone, IsRefused, Lacks, IsNotRun, YieldsPart, DrawsPart}
+use Rattle.llbm.specs.Answer.{build_of, result_in, Yields, YieldsNone, YieldsAll, IsRefused, IsUnrun, IsNotRun, YieldsPart, DrawsPart}
 use Rattle.llbm.specs.Answer.{Runs}
-use Rattle.llbm.proofs.Ending.{result_fails, tree_fails_none}
-use Rattle.llbm.specs.Running.{passed_on, unread_as, IsRefusal, TellsRefusal, IsFinished, Shows, Answers}
+use Rattle.llbm.proofs.Ending.{result_fails, tree_fails_none, plain_tree}
+use Rattle.llbm.specs.Running.{passed_on, unread_as, IsRefusal, TellsRefusal, IsFinished, Shows, Answers, Tells}
 use Rattle.llbm.specs.Assembly.{IsUnread}
 use Rattle.llbm.specs.Bounded.{ReadsAll}
 use Rattle.llbm.specs.declared.bounded.ReadFault.{ReadFault}
 use Rattle.llbm.specs.declared.bounded.ReadFault.TheVariants.{TooLong, Failed, Unending}
 use Rattle.llbm.specs.declared.bounded.ReadFault.TheVariants as reading
-use Rattle.llb_treetext.specs.declared.fault.PrintFault.{PrintFault}
 use Rattle.std.specs.Prelude.{Vec}
 use Rattle.std.specs.Global.{Global}
 use Rattle.std.specs.Io.KnownBytes.{Keeps}
-use Rattle.std.proofs.KnownBytes.{Appends-kept}
+use Rattle.std.proofs.KnownBytes.{Appends-kept, Keeps-refl, Keeps-trans}
 use Rattle.std.proofs.lemmas.List.{append-nil}
 
 pub some_map : {A : Type 0} (P Q : A → Type 0) (o : Option A) → ((x : A) → P x → Q x) → IfSome o P → IfSome o Q
@@ -63,31 +62,42 @@ tells left e bytes read refused h =
 pub reads_graph : (left : Option (List ℕ)) (g : Numbered) (bytes : List ℕ) → IfSome left (λ xs. bytes ≡ xs) → IsGraphIn bytes g → IfSome left (λ xs. IsGraphIn xs g)
 reads_graph left g bytes read loaded = some_map (λ xs. bytes ≡ xs) (λ xs. IsGraphIn xs g) left (λ xs same. subst (λ ys. IsGraphIn ys g) same loaded) read
 
-module _ (ls : List Local) (left : Option (List ℕ)) (g : Numbered) (graph : IsGraph g) (b : Seen) (fin : IsFinished ls g b) (loads : IfSome left (λ bytes. IsGraphIn bytes g)) where
-  yields : (bytes : List ℕ) → IsGraphIn bytes g → (t : TreeMap) → result_in b.state g ≡ Some t → Yields ls bytes (tree_text t)
-  yields bytes loaded t is = record { graph = g; loaded = loaded; state = b.state; ended = fin.ended; tree = t; result = is; none_failed = tree_fails_none (build_of ls g) graph b.state fin.ended t is; printed = refl }
+module _ (workers : ℕ) (ls : List Local) (left : Option (List ℕ)) (g : Numbered) (graph : IsGraph g) (b : Seen) (fin : IsFinished workers ls g b)
+    (loads : IfSome left (λ bytes. IsGraphIn bytes g)) where
+  yields : (bytes : List ℕ) → IsGraphIn bytes g → (t : TreeMap) → result_in b.state g ≡ Some t → Yields workers ls bytes (tree_text t)
+  yields bytes loaded t is = record {
+    graph = g;
+    loaded = loaded;
+    state = b.state;
+    ended = fin.ended;
+    tree = t;
+    result = is;
+    plainly = plain_tree (build_of ls g) graph b.state fin.ended.plain t is;
+    none_failed = tree_fails_none (build_of ls g) graph b.state fin.here t is;
+    printed = refl;
+  }
 
-  pub answers_text : (out out' : Option (List ℕ)) (t : TreeMap) → result_in b.state g ≡ Some t → Appends out out' (tree_text t) → IfSome left (λ bytes. (text : List ℕ) × Yields ls bytes text × Appends out out' text)
-  answers_text out out' t is app = some_map (λ bytes. IsGraphIn bytes g) (λ bytes. (text : List ℕ) × Yields ls bytes text × Appends out out' text) left (λ bytes loaded. (tree_text t, yields bytes loaded t is, app)) loads
+  answers_text : (out out' : Option (List ℕ)) (t : TreeMap) → result_in b.state g ≡ Some t → Appends out out' (tree_text t) → IfSome left (YieldsAll workers ls out out')
+  answers_text out out' t is app = some_map (λ bytes. IsGraphIn bytes g) (YieldsAll workers ls out out') left (λ bytes loaded. (tree_text t, yields bytes loaded t is, app)) loads
 
-  pub answers_part : (out out' : Option (List ℕ)) (t : TreeMap) → result_in b.state g ≡ Some t → PartOut out out' (tree_text t) → IfSome left (YieldsPart ls out out')
-  answers_part out out' t is part = some_map (λ bytes. IsGraphIn bytes g) (YieldsPart ls out out') left (λ bytes loaded. (tree_text t, yields bytes loaded t is, part)) loads
+  answers_part : (out out' : Option (List ℕ)) (t : TreeMap) → result_in b.state g ≡ Some t → PartOut out out' (tree_text t) → IfSome left (YieldsPart workers ls out out')
+  answers_part out out' t is part = some_map (λ bytes. IsGraphIn bytes g) (YieldsPart workers ls out out') left (λ bytes loaded. (tree_text t, yields bytes loaded t is, part)) loads
 
-  pub answers_none : result_in b.state g ≡ None → IfSome left (YieldsNone ls)
+  answers_none : result_in b.state g ≡ None → IfSome left (YieldsNone workers ls)
   answers_none none =
-      let fails = result_fails (build_of ls g) graph b.state fin.ended none in
-      some_map (λ bytes. IsGraphIn bytes g) (YieldsNone ls) left (λ bytes loaded. record { graph = g; loaded = loaded; state = b.state; ended = fin.ended; result = none; fails = fails }) loads
+      let fails = result_fails (build_of ls g) graph b.state fin.here fin.ended.complete none in
+      some_map (λ bytes. IsGraphIn bytes g) (YieldsNone workers ls) left (λ bytes loaded. record { graph = g; loaded = loaded; state = b.state; ended = fin.ended; result = none; fails = fails }) loads
+
+  -- what is shown of the result is the answer
+  pub answers : {B : Type 0} (out out' : Option (List ℕ)) (r : Result (Option B) ProgramFault) → Shows out out' (result_in b.state g) r → Answers workers ls left out out' r
+  answers out out' (Ok None) s = answers_text out out' s.0 s.1 s.2
+  answers out out' (Ok (Some x)) s = (s.1, answers_none s.0)
+  answers out out' (Err e) s = inr (s.0, answers_part out out' s.1.0 s.1.1 s.1.2)
 
 -- ---- what the parts answered, where the answer is known
 
 abbrev read_err : ReadFault → Result (Vec ℕ Global) ReadFault
 read_err e = Err e
-
-abbrev shown_ok : Bool → Result Bool ProgramFault
-shown_ok b = Ok b
-
-abbrev answer_ok : {B : Type 0} → Option B → Result (Option B) ProgramFault
-answer_ok o = Ok o
 
 too_long : (left left' : Option (List ℕ)) (r : Result (Vec ℕ Global) ReadFault) (e : ReadFault) → r ≡ Err e → e ≡ TooLong → ReadsAll 67108864 134217728 left left' r → IfSome left (λ xs. 67108864 < length xs)
 too_long left left' r e is same reads =
@@ -119,39 +129,33 @@ pub all_read : (left left' : Option (List ℕ)) (r : Result (Vec ℕ Global) Rea
 all_read left left' r bytes is reads =
     let h : ReadsAll 67108864 134217728 left left' (Ok bytes) = subst (ReadsAll 67108864 134217728 left left') is reads in h.1
 
-pub shows_true : (out out' : Option (List ℕ)) (tree : Option TreeMap) (r : Result Bool ProgramFault) (b : Bool) → r ≡ Ok b → b ≡ true → Shows out out' tree r → (t : TreeMap) × (tree ≡ Some t) × Appends out out' (tree_text t)
-shows_true out out' tree r b is same shows =
-    let h : Shows out out' tree (Ok true) = subst (Shows out out' tree) (is ∙ ap shown_ok same) shows in h
-
-pub shows_false : (out out' : Option (List ℕ)) (tree : Option TreeMap) (b : Bool) → b ≡ false → Shows out out' tree (Ok b) → (tree ≡ None) × Keeps out out'
-shows_false out out' tree b same shows =
-    let h : Shows out out' tree (Ok false) = subst (λ x. Shows out out' tree (Ok x)) same shows in h
-
-pub answer_done : {B : Type 0} (ls : List Local) (left out out' : Option (List ℕ)) (r : Result (Option B) ProgramFault) (o : Option B) → r ≡ Ok o → o ≡ None → Answers ls left out out' r → IfSome left (λ bytes. (text : List ℕ) × Yields ls bytes text × Appends out out' text)
-answer_done {B} ls left out out' r o is same answers =
-    let h : Answers {B = B} ls left out out' (Ok None) = subst (Answers ls left out out') (is ∙ ap answer_ok same) answers in h
-
 -- ---- a whole run
 
-pub run_done : (ls : List Local) (left out out' last : Option (List ℕ)) → IfSome left (λ bytes. (text : List ℕ) × Yields ls bytes text × Appends out out' text) → Keeps out' last → Runs ls left out last 0
-run_done ls left out out' last done keeps =
-    inl (
-      refl,
-      some_map (λ bytes. (text : List ℕ) × Yields ls bytes text × Appends out out' text) (λ bytes. (text : List ℕ) × Yields ls bytes text × Appends out last text) left
-          (λ bytes y. (y.0, y.1, Appends-kept out out' last y.0 y.2 keeps)) done,
-    )
+-- the status for a fault tells it
+pub tells_fault : {B : Type 0} (out : Option (List ℕ)) (r : Result (Option B) ProgramFault) (e : ProgramFault) (status : ℕ) → r ≡ Err e
+    → (status ≡ 3) ⊎ ((status ≡ 2) × IsRefusal e) → Tells out out r status
+tells_fault out r e status is told = subst (λ x. Tells out out x status) (sym is) (Keeps-refl out, told)
 
-pub run_unflushed : (ls : List Local) (left out out' last : Option (List ℕ)) (status : ℕ) → IfSome left (λ bytes. (text : List ℕ) × Yields ls bytes text × Appends out out' text) → Keeps out' last → status ≡ 3 → Runs ls left out last status
-run_unflushed ls left out out' last status done keeps three =
-    inr (inr (inr (
-      three,
-      inr (some_map (λ bytes. (text : List ℕ) × Yields ls bytes text × Appends out out' text) (YieldsPart ls out last) left
-          (λ bytes y. (y.0, y.1, (y.0, [], sym (append-nil y.0), Appends-kept out out' last y.0 y.2 keeps))) done),
-    )))
+module _ (workers : ℕ) (ls : List Local) (left out out' last : Option (List ℕ)) where
+  all_kept : Keeps out' last → (bytes : List ℕ) → YieldsAll workers ls out out' bytes → YieldsAll workers ls out last bytes
+  all_kept keeps bytes y = (y.0, y.1, Appends-kept out out' last y.0 y.2 keeps)
 
-pub no_refusal : (status : ℕ) (e : PrintFault) → (status ≡ 3) ⊎ ((status ≡ 2) × IsRefusal (Print e)) → status ≡ 3
-no_refusal status e (inl h) = h
-no_refusal status e (inr h) = absurd h.1
+  all_part : Keeps out' last → (bytes : List ℕ) → YieldsAll workers ls out out' bytes → YieldsPart workers ls out last bytes
+  all_part keeps bytes y = (y.0, y.1, (y.0, [], sym (append-nil y.0), Appends-kept out out' last y.0 y.2 keeps))
+
+  part_kept : Keeps out' last → (bytes : List ℕ) → YieldsPart workers ls out out' bytes → YieldsPart workers ls out last bytes
+  part_kept keeps bytes (text, yields, (front, rest, split, app)) = (text, yields, (front, rest, split, Appends-kept out out' last front app keeps))
+
+  -- an answer and the status that is told for it are a run
+  pub run_told : {B : Type 0} (r : Result (Option B) ProgramFault) (status : ℕ) → Answers workers ls left out out' r → Tells out' last r status → Runs workers ls left out last status
+  run_told (Ok None) status done (keeps, inl zero) = inl (zero, some_map (YieldsAll workers ls out out') (YieldsAll workers ls out last) left (all_kept keeps) done)
+  run_told (Ok None) status done (keeps, inr three) = inr (inr (inr (three, inr (some_map (YieldsAll workers ls out out') (YieldsPart workers ls out last) left (all_part keeps) done))))
+  run_told (Ok (Some b)) status (kept, lacks) (keeps, inl one) = inr (inl (one, Keeps-trans out out' last kept keeps, lacks))
+  run_told (Ok (Some b)) status (kept, lacks) (keeps, inr three) = inr (inr (inr (three, inl (Keeps-trans out out' last kept keeps))))
+  run_told (Err e) status (inl (kept, tells)) (keeps, inl three) = inr (inr (inr (three, inl (Keeps-trans out out' last kept keeps))))
+  run_told (Err e) status (inl (kept, tells)) (keeps, inr (two, is)) = inr (inr (inl (two, Keeps-trans out out' last kept keeps, tells is)))
+  run_told (Err e) status (inr (none, part)) (keeps, inl three) = inr (inr (inr (three, inr (some_map (YieldsPart workers ls out out') (YieldsPart workers ls out last) left (part_kept keeps) part))))
+  run_told (Err e) status (inr (none, part)) (keeps, inr (two, is)) = absurd (none is)
 
 -- ---- a show
 
@@ -164,10 +168,10 @@ drawn_unflushed left out out' last g loads whole keeps =
 -- ---- a definition that is not run
 
 -- what is refused is not run
-pub tells_not_run : (ls : List Local) (left : Option (List ℕ)) (e : ProgramFault) → TellsRefusal IsRefused left e → TellsRefusal (IsNotRun ls) left e
-tells_not_run ls left e tells h = some_map IsRefused (IsNotRun ls) left (λ bytes refused. inl refused) (tells h)
+pub tells_not_run : (workers : ℕ) (ls : List Local) (left : Option (List ℕ)) (e : ProgramFault) → TellsRefusal IsRefused left e → TellsRefusal (IsNotRun workers ls) left e
+tells_not_run workers ls left e tells h = some_map IsRefused (IsNotRun workers ls) left (λ bytes refused. inl refused) (tells h)
 
--- nor is what lacks a local tree
-pub tells_lacks : (ls : List Local) (left : Option (List ℕ)) (g : Numbered) (e : ProgramFault) → IfSome left (λ bytes. IsGraphIn bytes g) → (IsRefusal e → Lacks ls g)
-    → TellsRefusal (IsNotRun ls) left e
-tells_lacks ls left g e loads lacks h = some_map (λ bytes. IsGraphIn bytes g) (IsNotRun ls) left (λ bytes loaded. inr (g, loaded, lacks h)) loads
+-- nor is what has no board, or too many workers
+pub tells_unrun : (workers : ℕ) (ls : List Local) (left : Option (List ℕ)) (g : Numbered) (e : ProgramFault) → IfSome left (λ bytes. IsGraphIn bytes g)
+    → (IsRefusal e → IsUnrun ls g workers) → TellsRefusal (IsNotRun workers ls) left e
+tells_unrun workers ls left g e loads unrun h = some_map (λ bytes. IsGraphIn bytes g) (IsNotRun workers ls) left (λ bytes loaded. inr (g, loaded, unrun h)) loads

@@ -1,5 +1,5 @@
 -- How a driver's run ends: in one way only, and with a vertex that failed where the result is no tree.
-use Rattle.std.proofs.Common.{◌≡◌, ℕ, zero, suc, ◌<◌, true, false, List, [], ◌∷◌, ◌++◌, length, Option, Some, None, is_some, inl, inr, refl, sym, ap, subst, ◌∙◌, arith}
+use Rattle.std.proofs.Common.{◌≡◌, ℕ, zero, suc, ◌<◌, true, false, List, [], ◌∷◌, length, Option, Some, None, is_some, inl, inr, refl, sym, ap, subst, ◌∙◌, arith}
 use Rattle.std.specs.Prelude.{slice_get}
 use Rattle.llb_loader.specs.declared.graph.Edge.{Edge}
 use Rattle.llb_loader.specs.Graph.{Numbered, LeadsBelow, IsGraph}
@@ -9,12 +9,12 @@ use Rattle.llb_tree.specs.Tree.{TreeMap}
 use Rattle.llb_model.specs.Caches.{no_instances}
 use Rattle.llb_model.specs.Kept.{store_of}
 use Rattle.llb_model.specs.Program.{Build}
-use Rattle.llb_model.specs.Outcome.{Ending, Done, Failed, outcome, output_in}
+use Rattle.llb_model.specs.Outcome.{Ending, Done, Failed, Outcome, ending_in, outcome, output_in}
 use Rattle.llb_model.specs.State.{Status, Waiting, Running, Settled, State, Opening, opening, ending_of, ending_at, is_done, is_failed, is_stopped}
 use Rattle.llb_model.specs.Table.{Event, Reply, table}
 use Rattle.llb_model.specs.Run.{run, chosen, is_complete, StandsPlainly}
 use Rattle.llb_model.specs.Consistent.{IsConsistent}
-use Rattle.llb_model.specs.Laws.{HasNoCaches, IsAtRest, AreChosen, AloneInClaimOrder}
+use Rattle.llb_model.specs.Laws.{HasNoCaches, AreChosen}
 use Rattle.llb_model.proofs.Lists.{inside, get_within, any_true, some_with}
 use Rattle.llb_model.proofs.Events.{Answer}
 use Rattle.llb_model.proofs.Runs.{run_none, run_first}
@@ -22,10 +22,11 @@ use Rattle.llb_model.proofs.Outcomes.{each_below, edge_there}
 use Rattle.llb_model.proofs.Consistent.{opening_consistent, run_consistent}
 use Rattle.llb_model.proofs.Stopped.{stopped_there, stopped_cases, done_count}
 use Rattle.llb_model.proofs.Complete.{is_over, over_by, each_true, complete_is_none}
-use Rattle.llb_board.specs.Board.{Seen, Replays, opened}
+use Rattle.llb_board.specs.Board.{Seen, opened}
 use Rattle.llbm.proofs.Reaching.{none_fails}
 use Rattle.llb_work.specs.Alone.{Goes, EndsInClaimOrder}
-use Rattle.llbm.specs.Answer.{build_of, run_opening, IsEnd, FailsBy}
+use Rattle.llb_work.specs.Crew.{GoesOn}
+use Rattle.llbm.specs.Answer.{build_of, run_opening, plain_result, FailsBy}
 use Rattle.llbm.specs.Running.{IsFinished}
 
 -- ---- in one way only
@@ -61,27 +62,58 @@ no_rows : store_of [] ≡ no_instances
 unfolding store_of
 no_rows = refl
 
+abbrev IsPlain : Build → State → Type 0
+IsPlain b s = HasNoCaches b → (v : ℕ) → v < length b.graph.vertices → StandsPlainly (slice_get s.statuses v) (outcome b v)
+
+module _ (ls : List Local) (g : Numbered) (workers : ℕ) (old new : Seen) (fresh : old ≡ opened (build_of ls g) workers []) where
+  fresh_build : new.build ≡ old.build → new.build ≡ build_of ls g
+  fresh_build same = same ∙ ap (λ (x : Seen). x.build) fresh
+
+  fresh_start : new.opening ≡ old.opening → new.opening ≡ run_opening workers
+  fresh_start same = same ∙ ap (λ (x : Seen). x.opening) fresh ∙ ap (λ store. record { workers = workers; store = store }) no_rows
+
+  fresh_state : old.state ≡ opening (build_of ls g) (run_opening workers)
+  fresh_state = ap (λ (x : Seen). x.state) fresh ∙ ap (λ store. opening (build_of ls g) (record { workers = workers; store = store })) no_rows
+
 -- where a run of a board that was just opened has ended
 pub finishes : (ls : List Local) (g : Numbered) (old new : Seen) → IsGraph g → old ≡ opened (build_of ls g) 1 [] → Goes old new
-    → (old.events ≡ [] → EndsInClaimOrder new.build new.opening new.events new.state)
-    → (HasNoCaches new.build → (v : ℕ) → v < length new.build.graph.vertices → StandsPlainly (slice_get new.state.statuses v) (outcome new.build v)) → IsFinished ls g new
-finishes ls g old new graph fresh goes ends plain =
-    let ended = subst (λ x. EndsInClaimOrder x run_opening new.events new.state) build (subst (λ o. EndsInClaimOrder new.build o new.events new.state) start (ends (ap (λ (x : Seen). x.events) fresh))) in
+    → (old.events ≡ [] → EndsInClaimOrder new.build new.opening new.events new.state) → IsPlain new.build new.state → IsConsistent new.build new.state
+    → IsFinished 1 ls g new
+finishes ls g old new graph fresh goes ends plain here =
+    let build = fresh_build ls g 1 old new fresh goes.build in
+    let start = fresh_start ls g 1 old new fresh goes.opening in
+    let ended = subst (λ x. EndsInClaimOrder x (run_opening 1) new.events new.state) build (subst (λ o. EndsInClaimOrder new.build o new.events new.state) start (ends (ap (λ (x : Seen). x.events) fresh))) in
     record {
       build = build;
       ended = record {
         events = new.events;
-        ends = ended;
-        only = λ es t other. one_end (build_of ls g) graph run_opening es new.events t new.state other ended;
-        plain = subst (λ (x : Build). HasNoCaches x → (v : ℕ) → v < length x.graph.vertices → StandsPlainly (slice_get new.state.statuses v) (outcome x v)) build plain;
+        replies = ended.replies;
+        leads = ended.leads;
+        complete = ended.complete;
+        plain = subst (λ (x : Build). IsPlain x new.state) build plain;
+        alone = λ _. record { ends = ended; only = λ es t other. one_end (build_of ls g) graph (run_opening 1) es new.events t new.state other ended };
       };
+      here = subst (λ (x : Build). IsConsistent x new.state) build here;
     }
-  where
-    build : new.build ≡ build_of ls g
-    build = goes.build ∙ ap (λ (x : Seen). x.build) fresh
 
-    start : new.opening ≡ run_opening
-    start = goes.opening ∙ ap (λ (x : Seen). x.opening) fresh ∙ ap (λ store. record { workers = 1; store = store }) no_rows
+-- and where one by several workers has
+pub finishes_by : (ls : List Local) (g : Numbered) (workers : ℕ) (old new : Seen) → (workers ≡ 1 → ⊥) → old ≡ opened (build_of ls g) workers [] → GoesOn old new
+    → is_complete new.build new.state ≡ true → IsPlain new.build new.state → IsConsistent new.build new.state → IsFinished workers ls g new
+finishes_by ls g workers old new several fresh goes complete plain here =
+    let build = fresh_build ls g workers old new fresh goes.build in
+    record {
+      build = build;
+      ended = record {
+        events = goes.more;
+        replies = goes.replies;
+        leads = subst (λ (s : State). run (build_of ls g) s goes.more ≡ Some (new.state, goes.replies)) (fresh_state ls g workers old new fresh)
+            (subst (λ (x : Build). run x old.state goes.more ≡ Some (new.state, goes.replies)) (ap (λ (x : Seen). x.build) fresh) goes.leads);
+        complete = subst (λ (x : Build). is_complete x new.state ≡ true) build complete;
+        plain = subst (λ (x : Build). IsPlain x new.state) build plain;
+        alone = λ one. absurd (several one);
+      };
+      here = subst (λ (x : Build). IsConsistent x new.state) build here;
+    }
 
 -- ---- where the result is no tree
 
@@ -125,10 +157,24 @@ module _ (b : Build) (graph : IsGraph b.graph) (s : State) (here : IsConsistent 
       undone_fails b.graph.result.vertex graph.result.lower
       (sym (edge_there b.graph (ending_at s.statuses) (done_count b graph s here) (length b.graph.vertices) (omega arith) b.graph.result graph.result) ∙ ap is_some none)
 
-pub result_fails : (b : Build) → IsGraph b.graph → (s : State) → IsEnd b s → output_in (ending_at s.statuses b.graph.result.vertex) b.graph.result.index ≡ None → FailsBy s b.graph.result.vertex
-result_fails b graph s end none = no_result_fails b graph s (ended_consistent b graph run_opening end.events s end.ends) end.ends.complete none
+pub result_fails : (b : Build) → IsGraph b.graph → (s : State) → IsConsistent b s → is_complete b s ≡ true
+    → output_in (ending_at s.statuses b.graph.result.vertex) b.graph.result.index ≡ None → FailsBy s b.graph.result.vertex
+result_fails b graph s here complete none = no_result_fails b graph s here complete none
 
 -- and where it is one no vertex has failed
-pub tree_fails_none : (b : Build) → IsGraph b.graph → (s : State) → IsEnd b s → (t : TreeMap) → output_in (ending_at s.statuses b.graph.result.vertex) b.graph.result.index ≡ Some t
-    → (v : ℕ) (f : VertexFault) → ending_at s.statuses v ≡ Some (Failed f) → ⊥
-tree_fails_none b graph s end = none_fails b s (ended_consistent b graph run_opening end.events s end.ends) graph
+pub tree_fails_none : (b : Build) → IsGraph b.graph → (s : State) → IsConsistent b s → (t : TreeMap)
+    → output_in (ending_at s.statuses b.graph.result.vertex) b.graph.result.index ≡ Some t → (v : ℕ) (f : VertexFault) → ending_at s.statuses v ≡ Some (Failed f) → ⊥
+tree_fails_none b graph s here = none_fails b s here graph
+
+-- an ending that stands is the plain one
+stands_plainly : (o : Option Status) (p : Option Outcome) (i : ℕ) (t : TreeMap) → StandsPlainly o p → output_in (ending_of o) i ≡ Some t → output_in (ending_in p) i ≡ Some t
+stands_plainly (Some (Settled e)) p i t stands is = ap (λ q. output_in (ending_in q) i) stands ∙ is
+stands_plainly (Some Waiting) p i t stands is = absurd cc
+stands_plainly (Some (Running w)) p i t stands is = absurd stands
+stands_plainly None p i t stands is = absurd stands
+
+-- so the result is that of the plain outcomes
+pub plain_tree : (b : Build) → IsGraph b.graph → (s : State) → IsPlain b s → (t : TreeMap)
+    → output_in (ending_at s.statuses b.graph.result.vertex) b.graph.result.index ≡ Some t → HasNoCaches b → plain_result b ≡ Some t
+plain_tree b graph s plain t is none =
+    stands_plainly (slice_get s.statuses b.graph.result.vertex) (outcome b b.graph.result.vertex) b.graph.result.index t (plain none b.graph.result.vertex graph.result.lower) is

@@ -15,8 +15,8 @@ use Rattle.llb_stepper.specs.Stepping.{Stepping}
 use Rattle.llb_session.specs.Conversation.{Converses}
 use Rattle.llb_session.specs.declared.fault.SessionFault.{SessionFault}
 use Rattle.llb_session.specs.declared.fault.SessionFault.TheVariants as session
-use Rattle.llbm.specs.Answer.{build_of, Lacks}
-use Rattle.llbm.specs.Running.{IsRefusal, IsUnopened, TellsRefusal}
+use Rattle.llbm.specs.Answer.{build_of, Lacks, IsUnopened}
+use Rattle.llbm.specs.Running.{IsRefusal, TellsRefusal}
 use Rattle.llbm.specs.Sources.{limit}
 use Rattle.llbm.specs.Stepping.{begun, session_fault, IsNotOpened, IsSession, IsBroken, StepsIn, Steps}
 use Rattle.llbm.specs.declared.fault.ProgramFault.{ProgramFault}
@@ -30,11 +30,6 @@ missing_in (opening.Memory g ls c) = false
 abbrev tells_missing : Result Seen OpenFault → Bool
 tells_missing (Ok b) = false
 tells_missing (Err e) = missing_in e
-
--- with one worker a board is not opened only where a local tree is missing
-pub lacks_alone : (locals : List Local) (g : Numbered) → IsUnopened locals g 1 → Lacks locals g
-lacks_alone locals g (inl lacks) = lacks
-lacks_alone locals g (inr none) = absurd cc
 
 -- a board is not opened for a local tree that is missing only where one is
 module _ (b : Build) (c : CachesValue) (workers : ℕ) (fault : OpenFault) (by_name : missing_in fault ≡ true) where

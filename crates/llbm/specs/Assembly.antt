@@ -75,4 +75,4 @@ Disassembles = Ends IsDisassembled IsUnread
 abbrev pub RunsAlike : List ℕ → List (List ℕ) → List ℕ → Type 0
 RunsAlike text entries bytes =
     StandsFor (kept text) entries → definition_of bytes ≡ Ok entries → (locals : List Local) (definition one other : List ℕ)
-    → IsAssembled text definition → Yields locals definition one → Yields locals bytes other → one ≡ other
+    → IsAssembled text definition → Yields 1 locals definition one → Yields 1 locals bytes other → one ≡ other

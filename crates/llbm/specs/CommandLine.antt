@@ -29,9 +29,6 @@ base_app = record {
 abbrev pub local_rule : Rule
 local_rule = record (new_rule (codes "local")) { action = Some Append }
 
-abbrev pub run_app : App
-run_app = with_rule (new_app (codes "run")) local_rule
-
 -- the file of the definition, which has to be there
 abbrev pub file_rule : Rule
 file_rule = record (new_rule (codes "file")) { action = Some Set; required = true }
@@ -43,6 +40,9 @@ workers_rule = record (new_rule (codes "workers")) {
   action = Some Set;
   parser = Some (Signed (pos 0) (pos 4294967295));
 }
+
+abbrev pub run_app : App
+run_app = with_rule (with_rule (new_app (codes "run")) workers_rule) local_rule
 
 -- the file stands before the local sources
 abbrev pub step_app : App
@@ -56,7 +56,7 @@ with_plain app name = with_subcommand app (new_app name).top
 abbrev pub graph_app : App
 graph_app = with_subcommand (with_plain (with_subcommand base_app run_app.top) (codes "show")) step_app.top
 
--- the commands: `run` takes local sources, `step` a file, workers and local sources, and the others no word
+-- the commands: `run` takes workers and local sources, `step` a file, workers and local sources, and the others no word
 abbrev pub llbm_app : App
 llbm_app = with_plain (with_plain graph_app (codes "asm")) (codes "dis")
 
@@ -110,9 +110,10 @@ given (Some p) = local_words p.1
 abbrev pub number_of : Text → Option ℕ
 number_of text = if is_unsigned_in 0 4294967295 text then Some (digits_value 10 (without_leading_plus text)) else None
 
--- The workers are as many as the word for them says, and 2 where there is none; no other command takes a number.
+-- The workers are as many as the word for them says; where there is none, 1 for a run and 2 for a session. No other command takes a number.
 -- `clap` reads the word without a hyphen before it, and takes one there only at 0.
 abbrev pub IsWorkers : Command → List Row → ℕ → Type 0
+IsWorkers Run rows n = n ≡ unwrap_or (option_and_then number_of (one_of (codes "workers") rows)) 1
 IsWorkers Step rows n = n ≡ unwrap_or (option_and_then number_of (one_of (codes "workers") rows)) 2
 IsWorkers _ rows n = n ≡ 1
 

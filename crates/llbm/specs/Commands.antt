@@ -18,7 +18,7 @@ StepsAt bytes (Some file) sources workers locals commands commands' out out' sta
 
 abbrev pub PerformsAs : {S : Type 0} → (S → List ℕ → Option (List ℕ)) → S → Command → Line → List Local → Option (List ℕ) → Option (List ℕ) → Option (List ℕ)
     → Option (List ℕ) → ℕ → Type 0
-PerformsAs bytes sources Run line locals input input' = Runs locals input
+PerformsAs bytes sources Run line locals input input' = Runs line.workers locals input
 PerformsAs bytes sources Show line locals input input' = Draws input
 PerformsAs bytes sources Step line locals input input' = StepsAt bytes line.file sources line.workers locals input input'
 PerformsAs bytes sources Assemble line locals input input' = Assembles input

@@ -9,8 +9,8 @@ use Rattle.llb_stepper.specs.Stepping.{Stepping}
 use Rattle.llb_session.specs.Conversation.{Converses}
 use Rattle.llb_session.specs.declared.fault.SessionFault.{SessionFault}
 use Rattle.llb_session.specs.declared.fault.SessionFault.TheVariants as session
-use Rattle.llbm.specs.Answer.{build_of, IsRefused}
-use Rattle.llbm.specs.Running.{IsUnopened, TellsRefusal}
+use Rattle.llbm.specs.Answer.{build_of, IsRefused, IsUnopened}
+use Rattle.llbm.specs.Running.{TellsRefusal}
 use Rattle.llbm.specs.Sources.{limit}
 use Rattle.llbm.specs.declared.fault.OutputFault.TheVariants as output
 use Rattle.llbm.specs.declared.fault.ProgramFault.{ProgramFault}

@@ -1,5 +1,5 @@
-//! The command line, which `clap` reads: no words or `run`, which takes local sources as NAME=FILE, `step`, which takes a file and the
-//! number of workers too, and `show`, `asm` and `dis`.
+//! The command line, which `clap` reads: no words or `run`, which takes the number of workers and local sources as NAME=FILE, `step`,
+//! which takes a file too, and `show`, `asm` and `dis`.
 
 ghost use Rattle.std.specs.Prelude.{◌≡◌, false, map, IfOk, IfErr};
 ghost use Rattle.clap.specs.Words.{app_of, kind_of, fault_of, found_of, rows_of, rule_of, subcommand_of};
@@ -41,13 +41,6 @@ fn local_arg<'a>(alloc: Global) -> Arg<'a>
     Arg::new(alloc, "local").action(ArgAction::Append)
 }
 
-fn run_command<'a>(alloc: Global) -> Result<clap::Command<'a>, AllocError>
-    ensures app { IfOk result (λ c. app_of c ≡ run_app) }
-    ensures plain { IfOk result (λ c. (fields_of c).has_globals ≡ false) }
-{
-    clap::Command::new(alloc, "run").arg(local_arg(alloc))
-}
-
 // The file of the definition, which has to be there.
 fn file_arg<'a>(alloc: Global) -> Arg<'a>
     ensures rule { rule_of result ≡ file_rule }
@@ -67,6 +60,15 @@ fn workers_arg<'a>(alloc: Global) -> Arg<'a>
         .long("workers")
         .action(ArgAction::Set)
         .value_parser(value_parser!(u32))
+}
+
+fn run_command<'a>(alloc: Global) -> Result<clap::Command<'a>, AllocError>
+    ensures app { IfOk result (λ c. app_of c ≡ run_app) }
+    ensures plain { IfOk result (λ c. (fields_of c).has_globals ≡ false) }
+{
+    clap::Command::new(alloc, "run")
+        .arg(workers_arg(alloc))?
+        .arg(local_arg(alloc))
 }
 
 fn step_command<'a>(alloc: Global) -> Result<clap::Command<'a>, AllocError>
@@ -149,6 +151,7 @@ fn workers_in(command: Command, matches: &ArgMatches<'_>) -> u32
     ensures { IsWorkers command (rows_of (found_of matches.now)) result }
 {
     match command {
+        Command::Run => matches.get_one("workers").unwrap_or(1),
         Command::Step => matches.get_one("workers").unwrap_or(2),
         _ => 1,
     }

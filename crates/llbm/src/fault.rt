@@ -54,7 +54,8 @@ pub enum ProgramFault {
     /// 123: memory was refused while the board was opened.
     #[error("123")]
     Opening,
-    /// 151: memory was refused in the run.
+    /// 151: memory was refused in the run; 153: a thread could not be started. 152 and 154 stand for a gate that stops and a board that is
+    /// another: no run of the program ends so.
     #[error("{0}")]
     Run(RunFault),
     /// 34 and 35: the result's text is not out.

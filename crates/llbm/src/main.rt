@@ -25,7 +25,7 @@ use crate::assembling::asm_over;
 use crate::command_line::command_of;
 use crate::disassembling::dis_over;
 use crate::fault::{ProgramFault, refusal};
-use crate::run::run_over;
+use crate::run::run_many_over;
 use crate::show::show_over;
 use crate::sources::{Sources, locals_of, source_refusal};
 use crate::stepping::step_over;
@@ -35,6 +35,8 @@ use std::alloc::Global;
 use std::fs::File;
 use std::io::{BufWriter, ErrorKind, Read, Write};
 use std::process::ExitCode;
+use std::sync::Wait;
+use std::thread::Threads;
 use std::{env, io};
 
 // The words behind the program's name, which have to be UTF-8.
@@ -90,7 +92,8 @@ fn step_in<S: Sources, R: Read, W: Write, E: Write>(
 }
 
 // Does what the line says.
-fn perform<S: Sources, R: Read, W: Write, E: Write>(
+fn perform<T: Threads + Wait + Sync, S: Sources, R: Read, W: Write, E: Write>(
+    rt: &T,
     alloc: Global,
     sources: &S,
     line: &Line<'_>,
@@ -102,7 +105,7 @@ fn perform<S: Sources, R: Read, W: Write, E: Write>(
     ensures { Performs S.bytes sources.now line.now locals (R.remaining input.old) (R.remaining input.new) (W.contents out.old) (W.contents out.new) result }
 {
     match line.command {
-        Command::Run => run_over(alloc, input, out, err, locals),
+        Command::Run => run_many_over(rt, alloc, input, out, err, locals, line.workers),
         Command::Show => show_over(alloc, input, out, err),
         Command::Step => step_in(alloc, sources, line, locals, input, out, err),
         Command::Assemble => asm_over(alloc, input, out, err),
@@ -129,5 +132,7 @@ fn main(rt: HostRuntime) -> ExitCode {
     let Ok(mut out) = BufWriter::new(alloc, io::writer(&rt)) else {
         return ExitCode::from(refusal(&ProgramFault::Memory, &mut err));
     };
-    ExitCode::from(perform(alloc, &rt, &line, locals, &mut input, &mut out, &mut err))
+    ExitCode::from(perform(
+        &rt, alloc, &rt, &line, locals, &mut input, &mut out, &mut err,
+    ))
 }

@@ -2,8 +2,8 @@
 
 ghost use Rattle.std.specs.Prelude.{◌≡◌, [], IfOk, IfErr};
 ghost use Rattle.llb_board.specs.Board.{opened};
-ghost use Rattle.llbm.specs.Answer.{build_of};
-ghost use Rattle.llbm.specs.Running.{IsRefusal, IsUnopened};
+ghost use Rattle.llbm.specs.Answer.{build_of, IsUnopened};
+ghost use Rattle.llbm.specs.Running.{IsRefusal};
 
 use crate::fault::ProgramFault;
 use llb_board::{Board, OpenFault};

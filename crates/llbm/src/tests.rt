@@ -4,6 +4,7 @@ mod assembling;
 mod definitions;
 mod devices;
 mod executions;
+mod many;
 mod reading;
 mod run;
 mod show;

@@ -34,7 +34,7 @@ pub struct Local<'a> {
 #[derive(Debug, Drop)]
 pub struct Line<'a> {
     pub command: Command,
-    /// 1 where the command takes no number, and 2 where it takes one and none is given.
+    /// Where none is given, 2 for a session, and 1 for every other command.
     pub workers: u32,
     /// The file of the definition, where the command takes one.
     pub file: Option<&'a str>,

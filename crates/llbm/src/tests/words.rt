@@ -76,6 +76,26 @@ fn words_behind_run_are_names_and_files(rt: HostRuntime) -> Result<(), Fail> {
     Ok(())
 }
 
+#[test]
+fn words_behind_run_name_the_workers_or_there_is_one(rt: HostRuntime) -> Result<(), Fail> {
+    let rows: [(&[&str], u32); 6] = [
+        (&["run"], 1),
+        (&["run", "a=b"], 1),
+        (&["run", "--workers", "2", "a=b"], 2),
+        (&["run", "a=b", "--workers=64"], 64),
+        (&["run", "--workers", "0"], 0),
+        (&["run", "--workers", "4294967295"], 4294967295),
+    ];
+    for (words, workers) in rows {
+        let found = match command_of(rt.alloc(), words) {
+            Ok(line) => line.command == Command::Run && line.workers == workers,
+            Err(_) => false,
+        };
+        assert!(rt; found, "{words:?}");
+    }
+    Ok(())
+}
+
 // The workers, the file and the local sources that the words give to the command `step`, in one line.
 fn step_of(alloc: Global, words: &[&str]) -> Result<String, Fail> {
     let mut text = String::new(alloc);
@@ -182,7 +202,7 @@ fn any_other_words_are_refused_without_a_word(rt: HostRuntime) -> Result<(), Fai
         &["help"],
         &["--help"],
         &["show", "--workers", "2"],
-        &["run", "--workers", "2"],
+        &["run", "--workers"],
         &["Step", "FILE"],
         &["run", "-x"],
         &["run", "nosuch", "-x=y"],

@@ -1,0 +1,104 @@
+-- What goes on from a board goes on from the board that it began from.
+use Rattle.std.proofs.Common.{◌≡◌, ℕ, zero, suc, ◌≤◌, List, [], ◌∷◌, ◌++◌, length, take, drop, Option, Some, None, refl, sym, ap, ◌∙◌, subst, arith, append_assoc}
+use Rattle.std.proofs.lemmas.List.{append-nil, length-append}
+use Rattle.std.specs.Prelude.{option_map}
+use Rattle.llb_model.specs.State.{State}
+use Rattle.llb_model.specs.Table.{Event, Reply}
+use Rattle.llb_model.specs.Run.{run}
+use Rattle.llb_model.proofs.Lists.{inside}
+use Rattle.llb_model.proofs.Runs.{run_one, run_on}
+use Rattle.llb_board.specs.Board.{Seen}
+use Rattle.llb_work.specs.Alone.{Takes}
+use Rattle.llb_work.specs.Crew.{GoesOn, IsAfter, state_in}
+
+-- ---- lists
+
+take_length : {X : Type 0} (xs ys : List X) → take (length xs) (xs ++ ys) ≡ xs
+take_length [] ys = refl
+take_length (x ∷ xs) ys = ap (λ l. x ∷ l) (take_length xs ys)
+
+drop_length : {X : Type 0} (xs ys : List X) → drop (length xs) (xs ++ ys) ≡ ys
+drop_length [] ys = refl
+drop_length (x ∷ xs) ys = drop_length xs ys
+
+both : {X : Type 0} (n : ℕ) (xs : List X) → take n xs ++ drop n xs ≡ xs
+both zero xs = refl
+both (suc n) [] = refl
+both (suc n) (x ∷ xs) = ap (λ l. x ∷ l) (both n xs)
+
+-- ---- going on
+
+-- nothing is done
+pub goes_nowhere : (b : Seen) → GoesOn b b
+unfolding run
+goes_nowhere b = record { build = refl; opening = refl; first = refl; more = []; replies = []; leads = refl; events = sym (append-nil b.events) }
+
+-- where a call changes nothing
+pub stays : (b c : Seen) → c ≡ b → GoesOn b c
+stays b c same = subst (λ x. GoesOn b x) (sym same) (goes_nowhere b)
+
+-- one event
+pub takes_one : (b c : Seen) (e : Event) → Takes b e c → GoesOn b c
+takes_one b c e takes = record {
+  build = takes.build;
+  opening = takes.opening;
+  first = takes.first;
+  more = e ∷ [];
+  replies = takes.reply ∷ [];
+  leads = run_one b.build b.state c.state e takes.reply takes.given;
+  events = takes.events;
+}
+
+-- a record that goes on is no shorter
+pub no_shorter : (b c : Seen) → GoesOn b c → length b.events ≤ length c.events
+no_shorter b c goes = omega (arith, ap length goes.events, length-append b.events goes.more)
+
+-- ---- by equations alone
+
+-- what is behind a front of the record
+abbrev behind_front : Seen → Seen → List Event
+behind_front s b = drop (length s.events) b.events
+
+-- a record is the older one, and what is behind it
+whole : (s b : Seen) → IsAfter s b → b.events ≡ s.events ++ behind_front s b
+whole s b is = sym (both (length s.events) b.events) ∙ ap (λ l. l ++ behind_front s b) is.front
+
+-- a state with its replies
+with_replies : (o : Option (State × List Reply)) (t : State) → option_map state_in o ≡ Some t → (rs : List Reply) × (o ≡ Some (t, rs))
+with_replies None t is = absurd cc
+with_replies (Some (s, rs)) t is = (rs, ap (λ (x : State). Some (x, rs)) (inside is))
+
+pub goes_from : (s b : Seen) → IsAfter s b → GoesOn s b
+goes_from s b is =
+    let led = with_replies (run s.build s.state (behind_front s b)) b.state is.leads in
+    record { build = is.build; opening = is.opening; first = is.first; more = behind_front s b; replies = led.0; leads = led.1; events = whole s b is }
+
+-- a record that goes on, by equations
+is_after : (s c : Seen) → GoesOn s c → IsAfter s c
+is_after s c goes = record {
+  build = goes.build;
+  opening = goes.opening;
+  first = goes.first;
+  front = ap (take (length s.events)) goes.events ∙ take_length s.events goes.more;
+  leads = ap (λ l. option_map state_in (run s.build s.state (drop (length s.events) l))) goes.events
+      ∙ ap (λ l. option_map state_in (run s.build s.state l)) (drop_length s.events goes.more) ∙ ap (option_map state_in) goes.leads;
+}
+
+pub after_itself : (s b : Seen) → s ≡ b → IsAfter s b
+after_itself s b same = is_after s b (stays s b (sym same))
+
+-- one run behind another
+pub goes_further : (a b c : Seen) → GoesOn a b → GoesOn b c → GoesOn a c
+goes_further a b c one two = record {
+  build = two.build ∙ one.build;
+  opening = two.opening ∙ one.opening;
+  first = two.first ∙ one.first;
+  more = one.more ++ two.more;
+  replies = one.replies ++ two.replies;
+  leads = run_on a.build a.state b.state c.state one.more two.more one.replies two.replies one.leads
+      (ap (λ x. run x b.state two.more) (sym one.build) ∙ two.leads);
+  events = two.events ∙ ap (λ es. es ++ two.more) one.events ∙ append_assoc a.events one.more two.more;
+}
+
+pub after_more : (s b c : Seen) → IsAfter s b → GoesOn b c → IsAfter s c
+after_more s b c is goes = is_after s c (goes_further s b c (goes_from s b is) goes)

@@ -1,0 +1,67 @@
+-- What lies under the lock may go to another thread, and a worker's tally too.
+use denote.Builtin.{u32}
+use denote.Hole.{as_row}
+use denote.Param.Send.{IsSend, IsSync, sendable}
+use denote.Param.SendFields.{as_row_send, declared_send}
+use denote.RattleType.{RattleType}
+use denote.Struct.Field.{row_field}
+use denote.Struct.Tuple.{TupleAt, type_at}
+use mathlib.Core.List.{[], ◌∷◌}
+use mir.Syntax.{Sym}
+use Rattle.std.proofs.Crossing.{crosses}
+use Rattle.std.proofs.sync.ledger.Book.TheSendSync as book_crosses
+use Rattle.std.proofs.sync.ledger.Share.TheSendSync as share_crosses
+use Rattle.std.specs.contracts.sync.ledger.Book as book
+use Rattle.std.specs.contracts.sync.ledger.Share as share
+use Rattle.std.specs.declared.sync.ledger.Ledger as ledger
+use Rattle.std.specs.contracts.sync.Mutex as mutex
+use Rattle.llb_board.proofs.Crossing.{board_crosses}
+use Rattle.llb_board.specs.contracts.board.Board as board
+use Rattle.llb_work.specs.declared.noted.Gated as gated
+use Rattle.llb_work.specs.contracts.noted.Tally as tally
+use Rattle.llb_work.specs.contracts.desk.Desk as desk
+
+pub number : IsSend u32
+number = search sendable
+
+board_send : IsSend (as_row board.the_field)
+board_send = as_row_send board.the_field board_crosses
+
+module _ (T : RattleType) (g : gated.Ghosts T.Denot) (g' : ledger.Ghosts T.Denot) where
+  pub desk_crosses : IsSend (desk.the_row T g g')
+  desk_crosses = declared_send (desk.the_type T g g') (
+    board_send,
+    (
+      board_send,
+      (
+        as_row_send (book.the_field T g') (book_crosses.the_send T g'),
+        (search (crosses, sendable) depth 20, tt),
+      ),
+    ),
+  )
+
+  pub tally_crosses : IsSend (tally.the_row T g g')
+  tally_crosses = declared_send (tally.the_type T g g') (search sendable, (as_row_send (share.the_field T g') (share_crosses.the_send T g'), tt))
+
+  pub lock_crosses : IsSync (mutex.the_row (desk.the_row T g g'))
+  lock_crosses = search (desk_crosses, crosses, sendable) depth 20
+
+-- what a closure takes with it, each of which may go
+pub six_cross : (ν : Sym) (A B C D E F : RattleType) → IsSend A → IsSend B → IsSend C → IsSend D → IsSend E → IsSend F → IsSend (TupleAt ν (A ∷ B ∷ C ∷ D ∷ E ∷ F ∷ []))
+six_cross ν A B C D E F a b c d e f =
+    declared_send (type_at ν (A ∷ B ∷ C ∷ D ∷ E ∷ F ∷ [])) (
+      as_row_send (row_field A) a,
+      (
+        as_row_send (row_field B) b,
+        (
+          as_row_send (row_field C) c,
+          (
+            as_row_send (row_field D) d,
+            (
+              as_row_send (row_field E) e,
+              (as_row_send (row_field F) f, tt),
+            ),
+          ),
+        ),
+      ),
+    )

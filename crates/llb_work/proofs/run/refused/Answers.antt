@@ -1,0 +1,5 @@
+use Rattle.llb_work.proofs.Crews.{leads_nowhere}
+use Rattle.llb_work.proofs.run.refused.Goals as goal
+
+pub returns-clause-leads : goal.returns-clause-leads
+returns-clause-leads c = leads_nowhere c.args.board

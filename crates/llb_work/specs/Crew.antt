@@ -1,0 +1,31 @@
+-- What workers round one lock do to a board.
+use Rattle.std.specs.Prelude.{◌≡◌, ℕ, ◌+◌, ◌++◌, List, length, take, drop, sum, Some, option_map}
+use Rattle.llb_model.specs.State.{State}
+use Rattle.llb_model.specs.Table.{Event, Reply}
+use Rattle.llb_model.specs.Run.{run}
+use Rattle.llb_board.specs.Board.{Seen}
+
+-- events that are granted one after another, at the end of the record
+pub record GoesOn (old new : Seen) : Type 0 where
+  pub build : new.build ≡ old.build
+  pub opening : new.opening ≡ old.opening
+  pub first : new.first ≡ old.first
+  pub more : List Event
+  pub replies : List Reply
+  pub leads : run old.build old.state more ≡ Some (new.state, replies)
+  pub events : new.events ≡ old.events ++ more
+
+abbrev pub state_in : State × List Reply → State
+state_in a = a.0
+
+-- the same by equations alone: the older record is a front of the record, and what is behind it leads to the state
+pub record IsAfter (start found : Seen) : Type 0 where
+  pub build : found.build ≡ start.build
+  pub opening : found.opening ≡ start.opening
+  pub first : found.first ≡ start.first
+  pub front : take (length start.events) found.events ≡ start.events
+  pub leads : option_map state_in (run start.build start.state (drop (length start.events) found.events)) ≡ Some found.state
+
+-- the sum of what was made is the number of events added
+abbrev pub Counts : List ℕ → Seen → Seen → Type 0
+Counts made old new = sum made + length old.events ≡ length new.events

@@ -1,0 +1,31 @@
+-- What a run gives back.
+use Rattle.std.specs.Prelude.{ℕ, List, Bool, true, false, Option, Some, None, IsTrue}
+use Rattle.llb_board.specs.Board.{Seen}
+use Rattle.llb_work.specs.Crew.{GoesOn, Counts}
+use Rattle.llb_work.specs.declared.end.RunFault.{RunFault}
+use Rattle.llb_work.specs.declared.end.RunFault.TheVariants.{Memory, Stopped, Thread, Foreign}
+use Rattle.llb_work.specs.declared.noted.Noted.{Noted}
+use Rattle.llb_work.specs.declared.noted.Noted.TheVariants as noted
+
+-- whether the board that was kept under the lock was found to be another one
+abbrev pub is_foreign : Option RunFault → Bool
+is_foreign None = false
+is_foreign (Some Memory) = false
+is_foreign (Some Stopped) = false
+is_foreign (Some Thread) = false
+is_foreign (Some (Foreign b)) = true
+
+-- the board that comes back goes on from the given one, and what was made adds up
+abbrev pub Leads : Seen → List ℕ → Seen → Type 0
+Leads given made found = GoesOn given found × Counts made given found
+
+-- a worker and a vertex at which a gate may stop
+abbrev pub StopsSomewhere : (ℕ → ℕ → Bool) → Type 0
+StopsSomewhere may_stop = (w : ℕ) × (v : ℕ) × IsTrue (may_stop w v)
+
+-- where a stop is noted, the gate may stop there
+abbrev pub may_be : (ℕ → ℕ → Bool) → Option Noted → Bool
+may_be may_stop None = true
+may_be may_stop (Some noted.Memory) = true
+may_be may_stop (Some noted.Thread) = true
+may_be may_stop (Some (noted.Stopped w v)) = may_stop w v

@@ -1,0 +1,40 @@
+//! The calls on a board that workers make. Each is granted or changes nothing: either way the record goes on by granted events.
+
+ghost use Rattle.std.specs.Prelude.{◌≤◌, length};
+ghost use Rattle.llb_work.specs.Crew.{GoesOn};
+
+use llb_board::{
+    Board, ClaimFault, Job, LandFault, Outcome, SettleFault, Settled, StepFault, Stepped,
+};
+
+/// A worker takes a vertex. 131 to 135, 141.
+pub(crate) fn claim(board: &mut Board, w: u32, v: u32) -> Result<Job, ClaimFault>
+    ensures goes { GoesOn board.old board.new }
+    ensures longer { length board.old.events ≤ length board.new.events }
+{
+    board.claim(w, v)
+}
+
+/// The next micro-step of what a worker runs. 131, 136, 137, 141.
+pub(crate) fn step(board: &mut Board, w: u32) -> Result<Stepped, StepFault>
+    ensures goes { GoesOn board.old board.new }
+    ensures longer { length board.old.events ≤ length board.new.events }
+{
+    board.step(w)
+}
+
+/// A worker leaves what it runs. 131, 136, 138.
+pub(crate) fn settle(board: &mut Board, w: u32) -> Result<Settled, SettleFault>
+    ensures goes { GoesOn board.old board.new }
+    ensures longer { length board.old.events ≤ length board.new.events }
+{
+    board.settle(w)
+}
+
+/// What a worker has worked out away from the board is done on it, up to the settle.
+pub(crate) fn land(board: &mut Board, w: u32, outcome: Outcome) -> Result<Settled, LandFault>
+    ensures goes { GoesOn board.old board.new }
+    ensures longer { length board.old.events ≤ length board.new.events }
+{
+    board.land(w, outcome)
+}

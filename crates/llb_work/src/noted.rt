@@ -1,0 +1,56 @@
+//! What a worker notes under the lock, and what it has made.
+
+ghost use Rattle.std.specs.Prelude.{◌≡◌, ◌+◌, ◌≤◌, ℕ, Bool, true};
+
+use std::marker::Brand;
+use std::sync::ledger::{Book, Ledger, Share};
+
+/// Why a run ends before its board is complete.
+#[derive(Clone, Copy, Debug, PartialEq, Eq)]
+pub(crate) enum Noted {
+    /// Memory was refused.
+    Memory,
+    /// The gate stopped that worker at that vertex.
+    Stopped(u32, u32),
+    /// A thread could not be started.
+    Thread,
+}
+
+/// The ledger of a run, which knows where the run's gate may stop.
+pub(crate) trait Gated: Ledger {
+    ghost may_stop: { ℕ → ℕ → Bool };
+}
+
+impl Gated for Brand {
+    ghost may_stop = { λ w v. true };
+}
+
+/// What a worker has made, with its share of the ledger.
+#[derive(Drop)]
+pub(crate) struct Tally<S: Gated> {
+    pub made: u64,
+    pub share: Share<S>,
+    pub ghost one_part: { share.parts ≡ 1 },
+    pub ghost counted: { share.amount ≡ made },
+}
+
+/// A tally of nothing.
+pub(crate) fn make_tally<S: Gated>(share: Share<S>) -> Tally<S>
+    requires part { share.parts ≡ 1 }
+    requires empty { share.amount ≡ 0 }
+{
+    Tally { made: 0, share }
+}
+
+/// Counts in the book and in a tally what a record has grown by, from one length to another.
+pub(crate) fn count<S: Gated>(calls: &mut Book<S>, mine: &mut Tally<S>, before: usize, after: usize)
+    requires counted { calls.old.total ≤ before }
+    requires grown { before ≤ after }
+    ensures { calls.new.total + before ≡ calls.old.total + after }
+{
+    let Tally { made, share } = mine;
+    let more = (after - before) as u64;
+    calls.audit(share);
+    calls.add(share, more);
+    *made += more;
+}

@@ -1,0 +1,48 @@
+//! What is left of a run behind the threads: the chosen events, on the caller's own thread.
+
+ghost use Rattle.std.specs.Prelude.{◌≡◌, ◌≤◌, ◌<◌, ◌+◌, ◌^◌, sum, length, true, Some};
+ghost use Rattle.std.specs.Bool.{OnTrue};
+ghost use Rattle.llb_model.specs.Run.{chosen, is_complete};
+ghost use Rattle.llb_board.specs.Views.{event_of};
+ghost use Rattle.llb_work.specs.Crew.{GoesOn};
+
+use crate::alone::{do_event, worker_of};
+use llb_board::laws::chosen_until_complete;
+use llb_board::{Board, Event};
+
+// The worker of the chosen event, which is one of the board's.
+fn chosen_worker(board: &Board, event: Event) -> u32
+    requires { Some (event_of event) ≡ chosen board.now.build board.now.state }
+    ensures { result < 64 }
+{
+    board.has_workers();
+    worker_of(event)
+}
+
+// One event more is a worker's.
+fn add_one(made: &mut [u64; 64], w: u32)
+    requires low { w < 64 }
+    requires room { sum made.old + 1 < 2 ^ 64 }
+    ensures { sum made.new ≡ sum made.old + 1 }
+{
+    made[w as usize] += 1;
+}
+
+/// Does the chosen events until the board is complete, each counted for its worker, and tells whether it is; else memory was refused.
+pub(crate) fn go_to_end(board: &mut Board, made: &mut [u64; 64]) -> bool
+    requires { sum made.old ≤ length board.old.events }
+    ensures goes { GoesOn board.old board.new }
+    ensures made { sum made.new + length board.old.events ≡ sum made.old + length board.new.events }
+    ensures ends { OnTrue result (is_complete board.new.build board.new.state ≡ true) }
+{
+    while let Some(event) = board.chosen() {
+        let w = chosen_worker(board, event);
+        if !do_event(board, event) {
+            return false;
+        }
+        let _ = board.events().len();
+        add_one(made, w);
+    }
+    chosen_until_complete(board);
+    true
+}

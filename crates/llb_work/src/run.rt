@@ -1,0 +1,126 @@
+//! A run in as many threads as the board has workers.
+
+ghost use Rattle.std.specs.Prelude.{◌≡◌, ◌≤◌, ◌+◌, ◌⊎◌, ℕ, Bool, sum, length, true, false, Some, None};
+ghost use Rattle.llb_model.specs.Run.{is_complete};
+ghost use Rattle.llb_board.specs.Board.{Seen};
+ghost use Rattle.llb_work.specs.Crew.{GoesOn, Counts};
+ghost use Rattle.llb_work.specs.RunEnds.{is_foreign, may_be, StopsSomewhere, Leads};
+
+use crate::crew::{Left, run_crew};
+use crate::end::{RunEnd, RunFault};
+use crate::noted::Noted;
+use crate::rest::go_to_end;
+use llb_board::{Board, Gate};
+use std::alloc::Global;
+use std::marker::Brand;
+use std::sync::Wait;
+use std::sync::ledger::Blank;
+use std::thread::Threads;
+
+/// Runs a board in as many threads as it has workers, round one lock. Each ends what its worker runs, then claims one vertex after
+/// another, the least first, and works on it away from the lock; where the vertex shows a shared cache, event by event under the lock,
+/// behind the gate. 151 where memory is refused, 152 where the gate stops a worker, 153 where a thread cannot be started: the first
+/// that is met. The worker that meets 151 or 152 leaves its vertex running; every other worker ends what it runs. 154 where the board
+/// that was kept under the lock from the beginning is found to be another one; it is in the fault. Else the board that comes back goes
+/// on from the given one by granted events, and `made` adds up to their number.
+pub fn run_workers<G: Gate + Sync, R: Threads + Wait + Sync>(
+    rt: &R,
+    alloc: Global,
+    board: Board,
+    gate: &G,
+) -> RunEnd
+    ensures leads { is_foreign result.fault ≡ false → Leads board result.made result.board }
+    ensures foreign { (b : Seen) → result.fault ≡ Some (RunFault.Foreign b) → ¬ (b ≡ board) }
+    ensures complete { result.fault ≡ None → is_complete result.board.build result.board.state ≡ true }
+    ensures stopped { result.fault ≡ Some RunFault.Stopped → StopsSomewhere G.may_stop }
+{
+    let Ok(start) = board.copy() else {
+        return refused(board);
+    };
+    let Ok(outside) = board.copy() else {
+        return refused(board);
+    };
+    let n = workers(&board);
+    let blank = Blank::new(u64::from(n));
+    let left = run_crew::<Brand, G, R>(rt, alloc, board, start, gate, blank, n);
+    let Left {
+        board,
+        start,
+        made,
+        noted,
+    } = left;
+    if !start.same(&outside) {
+        let fault = Some(RunFault::Foreign(start));
+        return RunEnd { board, made, fault };
+    }
+    ended(board, made, noted)
+}
+
+// How many workers there are.
+fn workers(board: &Board) -> u32
+    ensures few { result ≤ 64 }
+    ensures all { result ≡ length board.now.state.workers }
+{
+    board.has_workers();
+    for w in 0..64 {
+        if board.worker(w).is_none() {
+            return w;
+        }
+    }
+    64
+}
+
+// A run that did not begin.
+fn refused(board: Board) -> RunEnd
+    ensures leads { Leads board result.made result.board }
+    ensures fault { result.fault ≡ Some RunFault.Memory }
+{
+    RunEnd {
+        board,
+        made: [0; 64],
+        fault: Some(RunFault::Memory),
+    }
+}
+
+// How a run ends whose threads have left a board and what is noted. Where nothing is, the rest is done here.
+fn ended(board: Board, made: [u64; 64], noted: Option<Noted>) -> RunEnd
+    requires { sum made ≤ length board.events }
+    ensures goes { GoesOn board result.board }
+    ensures made { sum result.made + length board.events ≡ sum made + length result.board.events }
+    ensures own { is_foreign result.fault ≡ false }
+    ensures complete { result.fault ≡ None → is_complete result.board.build result.board.state ≡ true }
+    ensures stopped { (may_stop : ℕ → ℕ → Bool) → may_be may_stop noted ≡ true → result.fault ≡ Some RunFault.Stopped → StopsSomewhere may_stop }
+{
+    let Some(noted) = noted else {
+        return rest(board, made);
+    };
+    let fault = Some(fault_of(noted));
+    RunEnd { board, made, fault }
+}
+
+// What was noted, as a fault.
+fn fault_of(noted: Noted) -> RunFault
+    ensures own { is_foreign (Some result) ≡ false }
+    ensures stopped { (may_stop : ℕ → ℕ → Bool) → may_be may_stop (Some noted) ≡ true → result ≡ RunFault.Stopped → StopsSomewhere may_stop }
+{
+    match noted {
+        Noted::Memory => RunFault::Memory,
+        Noted::Stopped(_, _) => RunFault::Stopped,
+        Noted::Thread => RunFault::Thread,
+    }
+}
+
+// The rest of a run in which nothing is noted.
+fn rest(board: Board, made: [u64; 64]) -> RunEnd
+    requires { sum made ≤ length board.events }
+    ensures goes { GoesOn board result.board }
+    ensures made { sum result.made + length board.events ≡ sum made + length result.board.events }
+    ensures complete { result.fault ≡ None → is_complete result.board.build result.board.state ≡ true }
+    ensures fault { result.fault ≡ None ⊎ (result.fault ≡ Some RunFault.Memory) }
+{
+    let mut board = board;
+    let mut made = made;
+    let whole = go_to_end(&mut board, &mut made);
+    let fault = if whole { None } else { Some(RunFault::Memory) };
+    RunEnd { board, made, fault }
+}
