@@ -77,19 +77,25 @@ module _ (workers : ℕ) (ls : List Local) (left : Option (List ℕ)) (g : Numbe
     printed = refl;
   }
 
-  answers_text : (out out' : Option (List ℕ)) (t : TreeMap) → result_in b.state g ≡ Some t → Appends out out' (tree_text t) → IfSome left (YieldsAll workers ls out out')
-  answers_text out out' t is app = some_map (λ bytes. IsGraphIn bytes g) (YieldsAll workers ls out out') left (λ bytes loaded. (tree_text t, yields bytes loaded t is, app)) loads
+  answers_text : (out out' : Option (List ℕ)) (t : TreeMap) → result_in b.state g ≡ Some t → Appends out out' (tree_text t)
+      → IfSome left (YieldsAll workers ls out out')
+  answers_text out out' t is app = some_map (λ bytes. IsGraphIn bytes g) (YieldsAll workers ls out out') left (λ bytes loaded.
+      (tree_text t, yields bytes loaded t is, app)) loads
 
-  answers_part : (out out' : Option (List ℕ)) (t : TreeMap) → result_in b.state g ≡ Some t → PartOut out out' (tree_text t) → IfSome left (YieldsPart workers ls out out')
-  answers_part out out' t is part = some_map (λ bytes. IsGraphIn bytes g) (YieldsPart workers ls out out') left (λ bytes loaded. (tree_text t, yields bytes loaded t is, part)) loads
+  answers_part : (out out' : Option (List ℕ)) (t : TreeMap) → result_in b.state g ≡ Some t → PartOut out out' (tree_text t)
+      → IfSome left (YieldsPart workers ls out out')
+  answers_part out out' t is part = some_map (λ bytes. IsGraphIn bytes g) (YieldsPart workers ls out out') left (λ bytes loaded.
+      (tree_text t, yields bytes loaded t is, part)) loads
 
   answers_none : result_in b.state g ≡ None → IfSome left (YieldsNone workers ls)
   answers_none none =
       let fails = result_fails (build_of ls g) graph b.state fin.here fin.ended.complete none in
-      some_map (λ bytes. IsGraphIn bytes g) (YieldsNone workers ls) left (λ bytes loaded. record { graph = g; loaded = loaded; state = b.state; ended = fin.ended; result = none; fails = fails }) loads
+      some_map (λ bytes. IsGraphIn bytes g) (YieldsNone workers ls) left
+          (λ bytes loaded. record { graph = g; loaded = loaded; state = b.state; ended = fin.ended; result = none; fails = fails }) loads
 
   -- what is shown of the result is the answer
-  pub answers : {B : Type 0} (out out' : Option (List ℕ)) (r : Result (Option B) ProgramFault) → Shows out out' (result_in b.state g) r → Answers workers ls left out out' r
+  pub answers : {B : Type 0} (out out' : Option (List ℕ)) (r : Result (Option B) ProgramFault) → Shows out out' (result_in b.state g) r
+      → Answers workers ls left out out' r
   answers out out' (Ok None) s = answers_text out out' s.0 s.1 s.2
   answers out out' (Ok (Some x)) s = (s.1, answers_none s.0)
   answers out out' (Err e) s = inr (s.0, answers_part out out' s.1.0 s.1.1 s.1.2)
@@ -147,14 +153,18 @@ module _ (workers : ℕ) (ls : List Local) (left out out' last : Option (List �
   part_kept keeps bytes (text, yields, (front, rest, split, app)) = (text, yields, (front, rest, split, Appends-kept out out' last front app keeps))
 
   -- an answer and the status that is told for it are a run
-  pub run_told : {B : Type 0} (r : Result (Option B) ProgramFault) (status : ℕ) → Answers workers ls left out out' r → Tells out' last r status → Runs workers ls left out last status
-  run_told (Ok None) status done (keeps, inl zero) = inl (zero, some_map (YieldsAll workers ls out out') (YieldsAll workers ls out last) left (all_kept keeps) done)
-  run_told (Ok None) status done (keeps, inr three) = inr (inr (inr (three, inr (some_map (YieldsAll workers ls out out') (YieldsPart workers ls out last) left (all_part keeps) done))))
+  pub run_told : {B : Type 0} (r : Result (Option B) ProgramFault) (status : ℕ) → Answers workers ls left out out' r → Tells out' last r status
+      → Runs workers ls left out last status
+  run_told (Ok None) status done (keeps, inl zero) = inl (zero, some_map (YieldsAll workers ls out out') (YieldsAll workers ls out last) left
+      (all_kept keeps) done)
+  run_told (Ok None) status done (keeps, inr three) = inr (inr (inr (three, inr (some_map (YieldsAll workers ls out out')
+      (YieldsPart workers ls out last) left (all_part keeps) done))))
   run_told (Ok (Some b)) status (kept, lacks) (keeps, inl one) = inr (inl (one, Keeps-trans out out' last kept keeps, lacks))
   run_told (Ok (Some b)) status (kept, lacks) (keeps, inr three) = inr (inr (inr (three, inl (Keeps-trans out out' last kept keeps))))
   run_told (Err e) status (inl (kept, tells)) (keeps, inl three) = inr (inr (inr (three, inl (Keeps-trans out out' last kept keeps))))
   run_told (Err e) status (inl (kept, tells)) (keeps, inr (two, is)) = inr (inr (inl (two, Keeps-trans out out' last kept keeps, tells is)))
-  run_told (Err e) status (inr (none, part)) (keeps, inl three) = inr (inr (inr (three, inr (some_map (YieldsPart workers ls out out') (YieldsPart workers ls out last) left (part_kept keeps) part))))
+  run_told (Err e) status (inr (none, part)) (keeps, inl three) = inr (inr (inr (three, inr (some_map (YieldsPart workers ls out out')
+      (YieldsPart workers ls out last) left (part_kept keeps) part))))
   run_told (Err e) status (inr (none, part)) (keeps, inr (two, is)) = absurd (none is)
 
 -- ---- a show
@@ -168,10 +178,12 @@ drawn_unflushed left out out' last g loads whole keeps =
 -- ---- a definition that is not run
 
 -- what is refused is not run
-pub tells_not_run : (workers : ℕ) (ls : List Local) (left : Option (List ℕ)) (e : ProgramFault) → TellsRefusal IsRefused left e → TellsRefusal (IsNotRun workers ls) left e
+pub tells_not_run : (workers : ℕ) (ls : List Local) (left : Option (List ℕ)) (e : ProgramFault) → TellsRefusal IsRefused left e
+    → TellsRefusal (IsNotRun workers ls) left e
 tells_not_run workers ls left e tells h = some_map IsRefused (IsNotRun workers ls) left (λ bytes refused. inl refused) (tells h)
 
 -- nor is what has no board, or too many workers
 pub tells_unrun : (workers : ℕ) (ls : List Local) (left : Option (List ℕ)) (g : Numbered) (e : ProgramFault) → IfSome left (λ bytes. IsGraphIn bytes g)
     → (IsRefusal e → IsUnrun ls g workers) → TellsRefusal (IsNotRun workers ls) left e
-tells_unrun workers ls left g e loads unrun h = some_map (λ bytes. IsGraphIn bytes g) (IsNotRun workers ls) left (λ bytes loaded. inr (g, loaded, unrun h)) loads
+tells_unrun workers ls left g e loads unrun h = some_map (λ bytes. IsGraphIn bytes g) (IsNotRun workers ls) left (λ bytes loaded. inr
+    (g, loaded, unrun h)) loads

@@ -82,7 +82,8 @@ pub finishes : (ls : List Local) (g : Numbered) (old new : Seen) → IsGraph g �
 finishes ls g old new graph fresh goes ends plain here =
     let build = fresh_build ls g 1 old new fresh goes.build in
     let start = fresh_start ls g 1 old new fresh goes.opening in
-    let ended = subst (λ x. EndsInClaimOrder x (run_opening 1) new.events new.state) build (subst (λ o. EndsInClaimOrder new.build o new.events new.state) start (ends (ap (λ (x : Seen). x.events) fresh))) in
+    let ended = subst (λ x. EndsInClaimOrder x (run_opening 1) new.events new.state) build (subst
+        (λ o. EndsInClaimOrder new.build o new.events new.state) start (ends (ap (λ (x : Seen). x.events) fresh))) in
     record {
       build = build;
       ended = record {
@@ -163,11 +164,13 @@ result_fails b graph s here complete none = no_result_fails b graph s here compl
 
 -- and where it is one no vertex has failed
 pub tree_fails_none : (b : Build) → IsGraph b.graph → (s : State) → IsConsistent b s → (t : TreeMap)
-    → output_in (ending_at s.statuses b.graph.result.vertex) b.graph.result.index ≡ Some t → (v : ℕ) (f : VertexFault) → ending_at s.statuses v ≡ Some (Failed f) → ⊥
+    → output_in (ending_at s.statuses b.graph.result.vertex) b.graph.result.index ≡ Some t → (v : ℕ) (f : VertexFault) → ending_at s.statuses v ≡ Some
+        (Failed f) → ⊥
 tree_fails_none b graph s here = none_fails b s here graph
 
 -- an ending that stands is the plain one
-stands_plainly : (o : Option Status) (p : Option Outcome) (i : ℕ) (t : TreeMap) → StandsPlainly o p → output_in (ending_of o) i ≡ Some t → output_in (ending_in p) i ≡ Some t
+stands_plainly : (o : Option Status) (p : Option Outcome) (i : ℕ) (t : TreeMap) → StandsPlainly o p → output_in (ending_of o) i ≡ Some t
+    → output_in (ending_in p) i ≡ Some t
 stands_plainly (Some (Settled e)) p i t stands is = ap (λ q. output_in (ending_in q) i) stands ∙ is
 stands_plainly (Some Waiting) p i t stands is = absurd cc
 stands_plainly (Some (Running w)) p i t stands is = absurd stands
@@ -177,4 +180,5 @@ stands_plainly None p i t stands is = absurd stands
 pub plain_tree : (b : Build) → IsGraph b.graph → (s : State) → IsPlain b s → (t : TreeMap)
     → output_in (ending_at s.statuses b.graph.result.vertex) b.graph.result.index ≡ Some t → HasNoCaches b → plain_result b ≡ Some t
 plain_tree b graph s plain t is none =
-    stands_plainly (slice_get s.statuses b.graph.result.vertex) (outcome b b.graph.result.vertex) b.graph.result.index t (plain none b.graph.result.vertex graph.result.lower) is
+    stands_plainly (slice_get s.statuses b.graph.result.vertex) (outcome b b.graph.result.vertex) b.graph.result.index t
+        (plain none b.graph.result.vertex graph.result.lower) is
