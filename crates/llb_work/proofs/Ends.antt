@@ -34,5 +34,5 @@ chosen_is_workers b s e some is = by_next (next_of b 0 s.workers) refl
         omega (arith, next_worker b 0 s.workers e (at ∙ ap Some same))
     by_next None at =
         let zero_is : worker_of e ≡ 0 = claim_worker (least (is_ready b s.statuses) 0 (length b.graph.vertices)) e (ap (λ o. or_else o (next_claim b s))
-            (sym at) ∙ is) in
+        (sym at) ∙ is) in
         omega (arith, zero_is, some)

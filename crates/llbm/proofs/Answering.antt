@@ -91,7 +91,7 @@ module _ (workers : ℕ) (ls : List Local) (left : Option (List ℕ)) (g : Numbe
   answers_none none =
       let fails = result_fails (build_of ls g) graph b.state fin.here fin.ended.complete none in
       some_map (λ bytes. IsGraphIn bytes g) (YieldsNone workers ls) left
-          (λ bytes loaded. record { graph = g; loaded = loaded; state = b.state; ended = fin.ended; result = none; fails = fails }) loads
+      (λ bytes loaded. record { graph = g; loaded = loaded; state = b.state; ended = fin.ended; result = none; fails = fails }) loads
 
   -- what is shown of the result is the answer
   pub answers : {B : Type 0} (out out' : Option (List ℕ)) (r : Result (Option B) ProgramFault) → Shows out out' (result_in b.state g) r
@@ -155,16 +155,25 @@ module _ (workers : ℕ) (ls : List Local) (left out out' last : Option (List �
   -- an answer and the status that is told for it are a run
   pub run_told : {B : Type 0} (r : Result (Option B) ProgramFault) (status : ℕ) → Answers workers ls left out out' r → Tells out' last r status
       → Runs workers ls left out last status
-  run_told (Ok None) status done (keeps, inl zero) = inl (zero, some_map (YieldsAll workers ls out out') (YieldsAll workers ls out last) left
-      (all_kept keeps) done)
-  run_told (Ok None) status done (keeps, inr three) = inr (inr (inr (three, inr (some_map (YieldsAll workers ls out out')
-      (YieldsPart workers ls out last) left (all_part keeps) done))))
+  run_told (Ok None) status done (keeps, inl zero) = inl (
+    zero,
+    some_map (YieldsAll workers ls out out') (YieldsAll workers ls out last) left
+        (all_kept keeps) done,
+  )
+  run_told (Ok None) status done (keeps, inr three) = inr (inr (inr (
+    three,
+    inr (some_map (YieldsAll workers ls out out')
+        (YieldsPart workers ls out last) left (all_part keeps) done),
+  )))
   run_told (Ok (Some b)) status (kept, lacks) (keeps, inl one) = inr (inl (one, Keeps-trans out out' last kept keeps, lacks))
   run_told (Ok (Some b)) status (kept, lacks) (keeps, inr three) = inr (inr (inr (three, inl (Keeps-trans out out' last kept keeps))))
   run_told (Err e) status (inl (kept, tells)) (keeps, inl three) = inr (inr (inr (three, inl (Keeps-trans out out' last kept keeps))))
   run_told (Err e) status (inl (kept, tells)) (keeps, inr (two, is)) = inr (inr (inl (two, Keeps-trans out out' last kept keeps, tells is)))
-  run_told (Err e) status (inr (none, part)) (keeps, inl three) = inr (inr (inr (three, inr (some_map (YieldsPart workers ls out out')
-      (YieldsPart workers ls out last) left (part_kept keeps) part))))
+  run_told (Err e) status (inr (none, part)) (keeps, inl three) = inr (inr (inr (
+    three,
+    inr (some_map (YieldsPart workers ls out out')
+        (YieldsPart workers ls out last) left (part_kept keeps) part),
+  )))
   run_told (Err e) status (inr (none, part)) (keeps, inr (two, is)) = absurd (none is)
 
 -- ---- a show

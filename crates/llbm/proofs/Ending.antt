@@ -83,7 +83,7 @@ finishes ls g old new graph fresh goes ends plain here =
     let build = fresh_build ls g 1 old new fresh goes.build in
     let start = fresh_start ls g 1 old new fresh goes.opening in
     let ended = subst (λ x. EndsInClaimOrder x (run_opening 1) new.events new.state) build (subst
-        (λ o. EndsInClaimOrder new.build o new.events new.state) start (ends (ap (λ (x : Seen). x.events) fresh))) in
+    (λ o. EndsInClaimOrder new.build o new.events new.state) start (ends (ap (λ (x : Seen). x.events) fresh))) in
     record {
       build = build;
       ended = record {
@@ -165,7 +165,7 @@ result_fails b graph s here complete none = no_result_fails b graph s here compl
 -- and where it is one no vertex has failed
 pub tree_fails_none : (b : Build) → IsGraph b.graph → (s : State) → IsConsistent b s → (t : TreeMap)
     → output_in (ending_at s.statuses b.graph.result.vertex) b.graph.result.index ≡ Some t → (v : ℕ) (f : VertexFault) → ending_at s.statuses v ≡ Some
-        (Failed f) → ⊥
+    (Failed f) → ⊥
 tree_fails_none b graph s here = none_fails b s here graph
 
 -- an ending that stands is the plain one
@@ -181,4 +181,4 @@ pub plain_tree : (b : Build) → IsGraph b.graph → (s : State) → IsPlain b s
     → output_in (ending_at s.statuses b.graph.result.vertex) b.graph.result.index ≡ Some t → HasNoCaches b → plain_result b ≡ Some t
 plain_tree b graph s plain t is none =
     stands_plainly (slice_get s.statuses b.graph.result.vertex) (outcome b b.graph.result.vertex) b.graph.result.index t
-        (plain none b.graph.result.vertex graph.result.lower) is
+    (plain none b.graph.result.vertex graph.result.lower) is

@@ -14,14 +14,14 @@ returns g c =
     let last = g.W.Write.contents c.print_result.new.out in
     let b = c.in_ok-board.board in
     answers 1 c.args.locals
-        (g.R.Read.remaining c.args.input.now) c.in_ok-graph.graph c.is_graph.ensures b c.in_ok-board.ensures.board c.in_ok-graph.ensures out last
+    (g.R.Read.remaining c.args.input.now) c.in_ok-graph.graph c.is_graph.ensures b c.in_ok-board.ensures.board c.in_ok-graph.ensures out last
     c.print_result.result
     (subst (λ (e : Edge). Shows out last (output_in
-        (ending_at b.state.statuses e.vertex) e.index) c.print_result.result) c.result-edge.ensures c.print_result.ensures)
+    (ending_at b.state.statuses e.vertex) e.index) c.print_result.result) c.result-edge.ensures c.print_result.ensures)
 
 pub returns-in_err-board : goal.returns-in_err-board
 returns-in_err-board g c =
     let unrun = tells_unrun 1 c.args.locals
-        (g.R.Read.remaining c.args.input.now) c.in_ok-graph.graph c.in_err-board.field-0.0 c.in_ok-graph.ensures c.in_err-board.ensures.fault in
+    (g.R.Read.remaining c.args.input.now) c.in_ok-graph.graph c.in_err-board.field-0.0 c.in_ok-graph.ensures c.in_err-board.ensures.fault in
     let p = err_from_is_err_and c.from_residual-in_err-board.result c.from_residual-in_err-board.ensures.1 in
     rw (p.1, p.2) (inl (Keeps-refl (g.W.Write.contents c.args.out.now), unrun))
