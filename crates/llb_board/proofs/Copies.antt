@@ -9,6 +9,7 @@ use Rattle.llb_model.specs.Room.{most_events}
 use Rattle.llb_model.specs.State.{At, stopped}
 use Rattle.llb_model.specs.Table.{Event}
 use Rattle.llb_board.specs.Board.{Seen, Replays, opening_with}
+use Rattle.llb_board.specs.Links.{Linked, IsLinked, done_in}
 use Rattle.llb_board.specs.Room.{AreOver, IsTracked, seen, ready_made, needed}
 use Rattle.llb_board.specs.Views.{status_of, at_of, leased_by}
 use Rattle.llb_board.specs.declared.stand.Stand.{Stand}
@@ -24,6 +25,7 @@ pub record Parts : Type 0 where
   pub caches : CachesValue
   pub events : List Event
   pub marks : List Bool
+  pub links : Linked
 
 abbrev pub seen_in : Parts → Seen
 seen_in p = seen p.build p.first p.stands p.desks p.caches.rows p.events
@@ -39,6 +41,7 @@ pub record AreSame (p q : Parts) : Type 0 where
   pub caches : q.caches ≡ p.caches
   pub events : q.events ≡ p.events
   pub marks : q.marks ≡ p.marks
+  pub links : q.links ≡ p.links
 
 seen_same : (p q : Parts) → AreSame p q → seen_in q ≡ seen_in p
 seen_same p q same =
@@ -52,8 +55,9 @@ seen_same p q same =
       events = same.events i;
     }
 
-pub tracked_same : (p q : Parts) (room more n : ℕ) → AreSame p q → most_events q.build ≤ more → IsTracked (seen_in p) p.desks p.caches.out p.marks room n
-    → IsTracked (seen_in q) q.desks q.caches.out q.marks more n
+pub tracked_same : (p q : Parts) (room more n : ℕ) → AreSame p q → most_events q.build ≤ more
+    → IsTracked (seen_in p) p.desks p.caches.out p.marks p.links room n
+    → IsTracked (seen_in q) q.desks q.caches.out q.marks q.links more n
 tracked_same p q room more n same enough tracked =
     let is = sym (seen_same p q same) in
     record {
@@ -69,4 +73,6 @@ tracked_same p q room more n same enough tracked =
         stop_marks_are = same.marks ∙ tracked.kept.stop_marks_are ∙ ap (λ (s : Seen). stopped s.build s.state.statuses) is;
       };
       over = subst (λ (s : Seen). AreOver s.build s.state.statuses n) is tracked.over;
+      linked = subst (IsLinked q.build.graph.vertices (done_in (map status_of q.stands))) (sym same.links)
+          (subst (λ (s : Seen). IsLinked s.build.graph.vertices (done_in s.state.statuses) p.links) is tracked.linked);
     }

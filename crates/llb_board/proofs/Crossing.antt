@@ -7,7 +7,6 @@ use Rattle.std.specs.contracts.alloc.Global as heap
 use Rattle.std.specs.contracts.impls.GlobalAllocator.TheImpl.{ghosts}
 use Rattle.std.specs.contracts.vec.Vec as vec
 use Rattle.llb_wire.proofs.many.Many.TheSendSync as many_crosses
-use Rattle.llb_tree.proofs.node.Node.TheLaws.TheKnot as knot
 use Rattle.llb_tree.specs.contracts.tree.Tree as tree
 use Rattle.llb_execution.proofs.Crossing.{tree_send, trees_send, view_crosses}
 use Rattle.llb_execution.specs.contracts.view.View as view
@@ -27,6 +26,8 @@ use Rattle.llb_board.specs.contracts.stand.Desk as desk
 use Rattle.llb_board.specs.contracts.stand.Execution as execution
 use Rattle.llb_board.specs.contracts.stand.Stand as stand
 use Rattle.llb_board.specs.contracts.events.Events as events
+use Rattle.llb_board.specs.contracts.links.Links as links
+use Rattle.llb_board.proofs.links.Links.TheSendSync as links_crosses
 use Rattle.llb_board.specs.contracts.board.Board as board
 use Rattle.llb_board.specs.contracts.board.Board.TheInside as inside
 
@@ -96,6 +97,9 @@ desks_send = as_row_send (vec.the_field desk.the_row heap.the_row ghosts) (Vec-s
 events_send : IsSend events.the_row
 events_send = search (crosses, sendable) depth 60 fits 20000
 
+links_send : IsSend links.the_row
+links_send = links_crosses.the_send
+
 caches_field_send : IsSend (as_row caches.the_field)
 caches_field_send = as_row_send caches.the_field caches_send
 
@@ -115,8 +119,11 @@ inside_send = declared_send inside.the_type (
             (
               search (crosses, sendable) depth 20,
               (
-                search sendable,
-                (as_row_send events.the_field events_send, tt),
+                as_row_send links.the_field links_send,
+                (
+                  search sendable,
+                  (as_row_send events.the_field events_send, tt),
+                ),
               ),
             ),
           ),

@@ -1,7 +1,7 @@
 -- The trees of a vertex's inputs, one edge after another.
 use Rattle.std.proofs.Common.{◌≡◌, ℕ, ◌+◌, ◌<◌, ◌≤◌, List, [], ◌∷◌, ◌++◌, drop, length, get_or, refl, ap, sym, ◌∙◌, drop-cons, add-one, append_assoc}
 use Rattle.std.proofs.lemmas.List.{append-nil, drop_all}
-use Rattle.std.specs.Prelude.{Option, Some, None, option_map, is_some, true, false}
+use Rattle.std.specs.Prelude.{Option, Some, None, option_map}
 use Rattle.llb_loader.specs.declared.graph.Edge.{Edge}
 use Rattle.llb_tree.specs.Tree.{TreeMap}
 use Rattle.llb_model.specs.Outcome.{Ending, inputs_from, both, output_in}
@@ -22,27 +22,6 @@ inputs_next E es i low =
 inputs_done : (E : ℕ → Option Ending) (es : List Edge) (i : ℕ) → length es ≤ i → inputs_from E (drop i es) ≡ Some []
 unfolding inputs_from
 inputs_done E es i past = ap (inputs_from E) (drop_all i es past)
-
-both_there : {A : Type 0} (x : A) (o : Option (List A)) → is_some (both (Some x) o) ≡ is_some o
-both_there x None = refl
-both_there x (Some xs) = refl
-
--- whether the inputs are there, as far as a loop has come
-abbrev pub AsThere : (ℕ → Option Ending) → List Edge → ℕ → Type 0
-AsThere E es i = is_some (inputs_from E (drop i es)) ≡ is_some (inputs_from E es)
-
-pub there_missing : (E : ℕ → Option Ending) (es : List Edge) (i : ℕ) → AsThere E es i → i < length es → tree_at E es i ≡ None
-    → false ≡ is_some (inputs_from E es)
-there_missing E es i here low gone = ap (λ o. is_some (both o (inputs_from E (drop (i + 1) es)))) (sym gone) ∙ ap is_some (sym (inputs_next E es i low)) ∙ here
-
-pub there_next : (E : ℕ → Option Ending) (es : List Edge) (i : ℕ) (t : TreeMap) → AsThere E es i → i < length es → tree_at E es i ≡ Some t
-    → AsThere E es (i + 1)
-there_next E es i t here low there =
-    sym (both_there t (inputs_from E (drop (i + 1) es))) ∙ ap (λ o. is_some (both o (inputs_from E (drop (i + 1) es)))) (sym there)
-    ∙ ap is_some (sym (inputs_next E es i low)) ∙ here
-
-pub there_end : (E : ℕ → Option Ending) (es : List Edge) (i : ℕ) → AsThere E es i → length es ≤ i → true ≡ is_some (inputs_from E es)
-there_end E es i here past = ap is_some (sym (inputs_done E es i past)) ∙ here
 
 -- behind the trees gathered so far come those of the edges that are left
 pub record GatheredSoFar (E : ℕ → Option Ending) (es : List Edge) (i : ℕ) (trees : List TreeMap) (capacity : ℕ) : Type 0 where

@@ -22,7 +22,7 @@ use Rattle.llb_board.specs.declared.stand.Desk.TheVariants.{Idle}
 use Rattle.llb_board.proofs.Returned.{none_leased}
 use Rattle.llb_board.proofs.Marked.{unmarked}
 
-map_replicate : {A B : Type 0} (f : A → B) (n : ℕ) (x : A) → map f (replicate n x) ≡ replicate n (f x)
+pub map_replicate : {A B : Type 0} (f : A → B) (n : ℕ) (x : A) → map f (replicate n x) ≡ replicate n (f x)
 map_replicate f zero x = refl
 map_replicate f (suc n) x = ap (λ l. f x ∷ l) (map_replicate f n x)
 
@@ -59,7 +59,8 @@ pub few_work : (n : ℕ) → may_work n ≡ true → n ≤ 64
 few_work n is = leb-true n 64 (both (nat_le 1 n) (nat_le n 64) is).1
 
 -- no worker has a lease
-leased_open : (workers : ℕ) (ds : List Desk) (out : Leases) → ds ≡ replicate workers Idle → leases out ≡ 0 → AreLeased out (replicate workers model.Idle) (map leased_by ds)
+leased_open : (workers : ℕ) (ds : List Desk) (out : Leases) → ds ≡ replicate workers Idle → leases out ≡ 0
+    → AreLeased out (replicate workers model.Idle) (map leased_by ds)
 leased_open workers ds out d none =
     subst (AreLeased out (replicate workers model.Idle)) (sym (ap (map leased_by) d ∙ map_replicate leased_by workers Idle)) (none_leased out workers none)
 
@@ -70,7 +71,8 @@ pub record IsFresh (b : Build) (workers : ℕ) (ss : List Stand) (ds : List Desk
   pub marks : stop_marks ≡ replicate (length b.graph.vertices) false
   pub room : most_events b ≤ capacity
 
-pub kept_open : (b : Build) (first : List Row) (workers capacity : ℕ) (ss : List Stand) (ds : List Desk) (rows : List Row) (out : Leases) (es : List Event) (stop_marks : List Bool)
+pub kept_open : (b : Build) (first : List Row) (workers capacity : ℕ) (ss : List Stand) (ds : List Desk) (rows : List Row) (out : Leases) (es : List Event)
+    (stop_marks : List Bool)
     → IsFresh b workers ss ds es stop_marks capacity → first ≡ rows → leases out ≡ 0 → 0 < workers → workers ≤ 64
     → IsKept (seen b first ss ds rows es) ds out stop_marks capacity
 kept_open b first workers capacity ss ds rows out es stop_marks fresh f none one most =

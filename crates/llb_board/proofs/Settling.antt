@@ -19,9 +19,11 @@ use Rattle.llb_board.proofs.Lists.{length_map}
 use Rattle.llb_board.proofs.Lent.{leased_settled, lease_out}
 use Rattle.llb_board.proofs.Calls.{CanSettle, can_settle, settle_done}
 use Rattle.llb_board.proofs.Claiming.{data_of}
+use Rattle.llb_board.proofs.Sound.{consistent}
 use Rattle.llb_board.proofs.Kept.{Data, state_as, seen_as, Keeps, kept_after, settled, settle_does, settle_rows, leaves_running, supplies_settled, still_over}
 
-module _ (b : Build) (first : List Row) (ss : List Stand) (ds : List Desk) (c : CachesValue) (stop_marks : List Bool) (es : List Event) (capacity w v : ℕ) (l : Option ℕ) (s : Stand)
+module _ (b : Build) (first : List Row) (ss : List Stand) (ds : List Desk) (c : CachesValue) (stop_marks : List Bool) (es : List Event) (capacity w v : ℕ) (l
+    : Option ℕ) (s : Stand)
     (kept : Keeps b first (data_of ss ds c stop_marks) es capacity) (left : left_at b (slice_get (map at_of ds) w) ≡ Ok (v, status_of s))
     (leased : slice_get (map leased_by ds) w ≡ Some l) where
   -- the data behind it, with these marks
@@ -39,6 +41,11 @@ module _ (b : Build) (first : List Row) (ss : List Stand) (ds : List Desk) (c : 
 
   pub low : v < length ss
   low = omega (arith, slice_get_within (map status_of ss) v (Running w) running, length_map status_of ss)
+
+  pub low_graph : v < length b.graph.vertices
+  low_graph =
+      let count = (consistent (seen_as b first (data_of ss ds c stop_marks) es) kept.replays).count in
+      omega (arith, slice_get_within (map status_of ss) v (Running w) running, count)
 
   pub is_out : IsOutIf c.out l
   is_out = lease_out c.out (map at_of ds) (map leased_by ds) w l kept.leased leased

@@ -11,6 +11,7 @@ use Rattle.llb_model.specs.State.{Running, Idle, Runs, is_failed, ending_of, sto
 use Rattle.llb_model.specs.Table.{Event}
 use Rattle.llb_board.specs.Board.{Seen}
 use Rattle.llb_board.specs.Caches.{IsOutIf, given_back}
+use Rattle.llb_board.specs.Links.{Linked, IsLinked, done_in}
 use Rattle.llb_board.specs.Room.{AreOver, IsTracked, ready_made, needed}
 use Rattle.llb_board.specs.Undo.{Back, Unclaim, Unstep, Resume, Displaced, left_in, caches_in, front, statuses_before, workers_before, HasNoPlaces, CanUndo}
 use Rattle.llb_board.specs.Undoing.{desk_before, leases_before, caches_before, HasPlaceFor}
@@ -25,6 +26,7 @@ use Rattle.llb_board.proofs.Claiming.{data_of}
 use Rattle.llb_board.proofs.Kept.{Data, Keeps, seen_as, supplies_claimed, supplies_settled}
 use Rattle.llb_board.proofs.Lent.{leased_settled, lease_out}
 use Rattle.llb_board.proofs.Lists.{map_set, length_map}
+use Rattle.llb_board.proofs.Sound.{consistent}
 use Rattle.llb_board.proofs.Undone.{Leaves, undo_keeps, over_below, leased_so, leased_put, rows_put, places_put, runs_there, unclaimed_workers}
 use Rattle.llb_board.proofs.Undone.{unclaimed_marks, unstep_leaves, resumed_workers, resumed_there, resumed_leased, resumed_marks}
 
@@ -42,9 +44,14 @@ module _ (b : Build) (first : List Row) (ss : List Stand) (ds : List Desk) (c : 
   board = seen_as b first (data_of ss ds c stop_marks) es
 
   -- what the type keeps, from what is left of the data
-  pub tracked : (d' : Data) (u : Displaced) (r : ℕ) → CanUndo u board → Leaves b (data_of ss ds c stop_marks) d' u → AreOver b (map status_of d'.stands) r
-      → IsTracked (seen_as b first d' (front es)) d'.desks d'.out d'.stop_marks capacity r
-  tracked d' u r can leaves over = record { kept = undo_keeps b first (data_of ss ds c stop_marks) d' es capacity u kept can.replays leaves; over = over }
+  pub tracked : (d' : Data) (l : Linked) (u : Displaced) (r : ℕ) → CanUndo u board → Leaves b (data_of ss ds c stop_marks) d' u
+      → AreOver b (map status_of d'.stands) r
+      → IsLinked b.graph.vertices (done_in (map status_of d'.stands)) l → IsTracked (seen_as b first d' (front es)) d'.desks d'.out d'.stop_marks l capacity r
+  tracked d' l u r can leaves over linked = record {
+    kept = undo_keeps b first (data_of ss ds c stop_marks) d' es capacity u kept can.replays leaves;
+    over = over;
+    linked = linked;
+  }
 
   -- what stands at a vertex is written
   pub over_written : (v : ℕ) (s : Stand) (n r : ℕ) → r ≤ n → r ≤ v → AreOver b (map status_of ss) n → AreOver b (map status_of (slice_set ss v s)) r
@@ -142,6 +149,12 @@ module _ (b : Build) (first : List Row) (ss : List Stand) (ds : List Desk) (c : 
     low_vertex =
         let low = resumed_there (record { back = Resume w (left_in x); caches = caches_in o }) board w (left_in x) refl can.replays can.stands.idle in
         omega (arith, low, length_map status_of ss)
+
+    pub low_graph : x.vertex < length b.graph.vertices
+    low_graph =
+        let count = (consistent board kept.replays).count in
+        let low = resumed_there (record { back = Resume w (left_in x); caches = caches_in o }) board w (left_in x) refl can.replays can.stands.idle in
+        omega (arith, low, count)
 
     pub places_resumed : (ds1 : List Desk) → ds1 ≡ slice_set ds w (desk.Runs None x) → ForSome o (λ y. HasPlaceFor y.leases.items (map at_of ds1))
     places_resumed ds1 is =

@@ -8,6 +8,7 @@ pub mod Board
 pub mod Headline
 pub mod Rules
 pub mod Landing
+pub mod Links
 pub mod Room
 pub mod Begun
 pub mod Undo

@@ -18,6 +18,7 @@ use Rattle.llb_model.specs.Table.{Event}
 use Rattle.llb_model.specs.Room.{most_events}
 use Rattle.llb_board.specs.Board.{Seen, Replays, opening_with}
 use Rattle.llb_execution.specs.Parts.{kind_setting, mounts_in, shown_in}
+use Rattle.llb_board.specs.Links.{Linked, IsLinked, done_in}
 use Rattle.llb_board.specs.Views.{state_of, leased_by}
 use Rattle.llb_board.specs.declared.stand.Stand.{Stand}
 use Rattle.llb_board.specs.declared.stand.Desk.{Desk}
@@ -92,7 +93,8 @@ pub record IsKept (b : Seen) (desks : List Desk) (out : Leases) (stop_marks : Li
 abbrev pub AreOver : Build → List Status → ℕ → Type 0
 AreOver b statuses n = (v : ℕ) → v < n → (is_settled (slice_get statuses v) || is_blocked b statuses v) ≡ true
 
--- and from where on a Ready vertex is looked for
-pub record IsTracked (b : Seen) (desks : List Desk) (out : Leases) (stop_marks : List Bool) (capacity first_open : ℕ) : Type 0 where
+-- and from where on a Ready vertex is looked for, and how many inputs of each are open
+pub record IsTracked (b : Seen) (desks : List Desk) (out : Leases) (stop_marks : List Bool) (links : Linked) (capacity first_open : ℕ) : Type 0 where
   pub kept : IsKept b desks out stop_marks capacity
   pub over : AreOver b.build b.state.statuses first_open
+  pub linked : IsLinked b.build.graph.vertices (done_in b.state.statuses) links

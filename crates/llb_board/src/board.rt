@@ -10,6 +10,7 @@ ghost use Rattle.llb_model.specs.Run.{chosen, is_complete};
 ghost use Rattle.llb_model.specs.Laws.{IsReached};
 ghost use Rattle.llb_loader.specs.Graph.{IsGraph};
 ghost use Rattle.llb_board.specs.Board.{Seen, Replays};
+ghost use Rattle.llb_board.specs.Links.{users_of};
 ghost use Rattle.llb_wire.specs.Answer.{MemoryLast};
 ghost use Rattle.llb_cache.specs.Caches.{leases};
 ghost use Rattle.llb_model.specs.Kept.{store_of};
@@ -26,8 +27,9 @@ use crate::fault::{ClaimFault, OpenFault, SettleFault, StepFault};
 use crate::fresh::opening;
 use crate::instances::{give_all_back, give_back, lease_for};
 use crate::job::Job;
+use crate::links::Links;
 use crate::needs::wanted_by;
-use crate::ready::{is_marked, is_ready, mark_stopped, output_at, stand_at};
+use crate::ready::{is_marked, is_ready, output_at, stand_at};
 use crate::stand::{Desk, Stand};
 use crate::step::{Begun, begin, claimable, desk_at, is_finished, leave, step_at};
 use llb_cache::Caches;
@@ -47,6 +49,7 @@ pub struct Board {
     pub(crate) stands: Vec<Stand>,
     pub(crate) desks: Vec<Desk>,
     pub(crate) stop_marks: Vec<bool>,
+    pub(crate) links: Links,
     pub(crate) first_open: u32,
     pub(crate) events: Events,
 }
@@ -65,7 +68,7 @@ impl Model for Board {
     ghost view = { λ b. seen b.build b.start.rows b.stands.items b.desks.items b.caches.rows b.events.list };
 
     ghost invariant = { λ b. IsTracked (seen b.build b.start.rows b.stands.items b.desks.items b.caches.rows b.events.list) b.desks.items b.caches.out
-        b.stop_marks.items b.events.room b.first_open };
+        b.stop_marks.items b.links b.events.room b.first_open };
 }
 
 impl Board {
@@ -123,6 +126,7 @@ impl Board {
                 stands: fresh.stands,
                 desks: fresh.desks,
                 stop_marks: fresh.stop_marks,
+                links: fresh.links,
                 first_open: 0,
                 events: fresh.events,
             }),
@@ -141,7 +145,7 @@ impl Board {
         ensures last { IfErr result (λ e. claim_memory e ≡ true → claim_may_want (claim_of self.old w v) ≡ true) }
         ensures err { OnErr result (self.new ≡ self.old) }
     {
-        let vertex = claimable(&self.build, &self.stands, &self.desks, w, v)?;
+        let vertex = claimable(&self.build, &self.stands, &self.links, &self.desks, w, v)?;
         let wanted = wanted_by(self.alloc, &self.caches, vertex)?;
         let begun = begin(
             self.alloc,
@@ -189,16 +193,24 @@ impl Board {
         ensures gives { GivesSettle (λ r. (self.new, settle_reply r)) result (settle_of self.old w) }
         ensures err { OnErr result (self.new ≡ self.old) }
     {
-        let vertices = self.build.vertices();
+        let _ = self.build.vertices();
         let (v, stand, lease) = leave(&self.build, &mut self.desks, w)?;
         give_back(&mut self.caches, lease);
         let failed = stand.has_failed();
         self.stands[v as usize] = stand;
         self.events.push_reserved(Event::Settle(w));
         if failed {
-            mark_stopped(&mut self.stop_marks, &self.stands, vertices);
+            self.links.spread(&mut self.stop_marks, v);
+            self.first_open = first_open(
+                &self.build,
+                &self.stands,
+                &self.stop_marks,
+                self.first_open,
+            );
             return Ok(Settled::Failed(v));
         }
+        self.links.count_down(v);
+        self.first_open = first_open(&self.build, &self.stands, &self.stop_marks, self.first_open);
         Ok(Settled::Done(v))
     }
 
@@ -214,10 +226,8 @@ impl Board {
         ensures { result ≡ look_at self.now.build self.now.state v }
     {
         let stand = stand_at(&self.stands, v)?;
-        let ready = match self.build.vertices().get(v as usize) {
-            Some(vertex) => is_ready(&self.stands, v, vertex),
-            None => false,
-        };
+        let _ = self.build.vertices();
+        let ready = is_ready(&self.stands, &self.links, v);
         Some(look(stand, ready, is_marked(&self.stop_marks, v)))
     }
 
@@ -241,6 +251,14 @@ impl Board {
         output_at(&self.stands, v, i)
     }
 
+    /// The vertices that have an edge to one, ascending, each once; empty past the last vertex. No memory.
+    pub fn users(&self, v: u32) -> &[u32]
+        ensures { result.now ≡ users_of self.now.build.graph.vertices v }
+    {
+        let _ = self.build.vertices();
+        self.links.users(v)
+    }
+
     /// The record of events since the board was opened: at most one claim, one settle and its micro-steps for each vertex. It has room
     /// for a whole run, and so for all that is still to come. No memory.
     pub fn events(&self) -> &Events
@@ -258,7 +276,7 @@ impl Board {
         let _ = self.build.vertices();
         match next_event(&self.build, &self.desks) {
             Some(event) => Some(event),
-            None => next_claim(&self.build, &self.stands, self.first_open),
+            None => next_claim(&self.build, &self.stands, &self.links, self.first_open),
         }
     }
 

@@ -4,11 +4,13 @@
 ghost use Rattle.std.specs.Prelude.{◌≡◌, ◌<◌, ◌≤◌, ℕ, map, length, option_map, slice_get, false, unwrap_or, ◌||◌, ◌&&◌, []};
 ghost use Rattle.llb_model.specs.State.{stopped, is_waiting, is_blocked, is_ready};
 ghost use Rattle.llb_model.specs.Run.{next_of, next_claim, is_settled, is_complete};
+ghost use Rattle.llb_board.specs.Links.{TellsInputs};
 ghost use Rattle.llb_board.specs.Room.{AreOver};
 ghost use Rattle.llb_board.specs.Views.{at_of, event_of, state_of, status_of};
 
 use crate::build::Build;
 use crate::event::Event;
+use crate::links::Links;
 use crate::ready::{is_marked, is_ready, stand_at};
 use crate::stand::{Desk, Stand};
 use crate::step::is_finished;
@@ -33,13 +35,18 @@ pub(crate) fn next_event(build: &Build, desks: &[Desk]) -> Option<Event>
 }
 
 /// The claim of the least Ready vertex, by worker 0. None is Ready below the first open one.
-pub(crate) fn next_claim(build: &Build, stands: &[Stand], first_open: u32) -> Option<Event>
-    requires { (v : ℕ) → v < first_open → is_ready build.now (map status_of stands.now) v ≡ false }
+pub(crate) fn next_claim(
+    build: &Build,
+    stands: &[Stand],
+    links: &Links,
+    first_open: u32,
+) -> Option<Event>
+    requires tells { TellsInputs build.now (map status_of stands.now) links.now }
+    requires none { (v : ℕ) → v < first_open → is_ready build.now (map status_of stands.now) v ≡ false }
     ensures { option_map event_of result ≡ next_claim build.now (state_of stands.now [] []) }
 {
-    let vertices = build.vertices();
-    for v in first_open..vertices.len() as u32 {
-        if is_ready(stands, v, &vertices[v as usize]) {
+    for v in first_open..build.vertices().len() as u32 {
+        if is_ready(stands, links, v) {
             return Some(Event::Claim(0, v));
         }
     }

@@ -28,6 +28,7 @@ impl Board {
             stands: copied_stands(self.alloc, &self.stands)?,
             desks: copied_desks(self.alloc, &self.desks)?,
             stop_marks: Vec::from_slice(self.alloc, &self.stop_marks)?,
+            links: self.links.copy(self.alloc)?,
             first_open: self.first_open,
             events: self.events.with_same(self.alloc, room(&self.build))?,
         })

@@ -3,12 +3,14 @@
 
 ghost use Rattle.std.specs.Prelude.{◌≡◌, ◌≤◌, [], length, replicate, false, IfOk};
 ghost use Rattle.llb_model.specs.Room.{most_events};
+ghost use Rattle.llb_board.specs.Links.{IsLinked};
 ghost use Rattle.llb_board.specs.declared.stand.Desk.TheVariants as desk;
 ghost use Rattle.llb_board.specs.declared.stand.Stand.TheVariants as stand;
 
 use crate::build::Build;
 use crate::events::Events;
 use crate::fault::Memory;
+use crate::links::Links;
 use crate::stand::{Desk, Stand};
 use llb_cache::Caches;
 use std::alloc::{AllocError, Global};
@@ -19,6 +21,7 @@ pub(crate) struct Fresh {
     pub stands: Vec<Stand>,
     pub desks: Vec<Desk>,
     pub stop_marks: Vec<bool>,
+    pub links: Links,
     /// The caches as they were handed in.
     pub start: Caches,
     pub events: Events,
@@ -34,6 +37,7 @@ pub(crate) fn opening(
     ensures stands { IfOk result (λ f. f.stands.items ≡ replicate (length build.now.graph.vertices) stand.Waiting) }
     ensures desks { IfOk result (λ f. f.desks.items ≡ replicate workers desk.Idle) }
     ensures stop_marks { IfOk result (λ f. f.stop_marks.items ≡ replicate (length build.now.graph.vertices) false) }
+    ensures links { IfOk result (λ f. IsLinked build.now.graph.vertices (λ u. false) f.links) }
     ensures start { IfOk result (λ f. f.start ≡ caches.now) }
     ensures events { IfOk result (λ f. f.events.list ≡ []) }
     ensures room { IfOk result (λ f. most_events build.now ≤ f.events.room) }
@@ -43,6 +47,7 @@ pub(crate) fn opening(
         stands: waiting(alloc, count)?,
         desks: idle(alloc, workers)?,
         stop_marks: Vec::from_elem(alloc, false, count)?,
+        links: Links::new(alloc, build.vertices())?,
         start: caches.copy()?,
         events: Events::with_room(alloc, room(build))?,
     })

@@ -1,16 +1,18 @@
-//! Looks on what stands at the vertices: which inputs are there, which vertices are ready, and which are behind one that
+//! Looks on what stands at the vertices: which vertices are ready, and which are behind one that
 //! has failed.
 
-ghost use Rattle.std.specs.Prelude.{◌≡◌, [], map, length, option_map, is_some, slice_get, Some, None, false, unwrap_or};
+ghost use Rattle.std.specs.Prelude.{◌≡◌, [], map, length, option_map, slice_get, false, unwrap_or, ◌&&◌};
 ghost use Rattle.std.specs.List.{list_any};
 ghost use Rattle.llb_model.specs.ByNumber.{by_number};
 ghost use Rattle.llb_model.specs.Outcome.{inputs_from, output_in};
-ghost use Rattle.llb_model.specs.State.{ending_at, is_failed, next_stopped, start_from};
+ghost use Rattle.llb_model.specs.State.{ending_at, is_failed, is_waiting, next_stopped};
+ghost use Rattle.llb_board.specs.Links.{has_inputs};
 ghost use Rattle.llb_board.specs.Views.{status_of};
 ghost use Rattle.llb_board.specs.Rules.{GivesClaim, or_not_ready};
 ghost use Rattle.llb_loader.specs.declared.graph.Edge as edge;
 
 use crate::fault::ClaimFault;
+use crate::links::Links;
 use crate::stand::Stand;
 use llb_loader::{Edge, Vertex};
 use llb_tree::Tree;
@@ -34,25 +36,12 @@ pub(crate) fn output_at(stands: &[Stand], v: u32, i: u32) -> Option<&Tree>
     }
 }
 
-/// Whether each edge leads to an output that is there.
-pub(crate) fn are_there(stands: &[Stand], inputs: &[Edge]) -> bool
-    ensures { result ≡ is_some (inputs_from (ending_at (map status_of stands.now)) inputs.now) }
-{
-    for edge in inputs {
-        match output_at(stands, edge.vertex, edge.index) {
-            Some(_) => {}
-            None => return false,
-        }
-    }
-    true
-}
-
-/// Whether a vertex waits and all its inputs are there.
-pub(crate) fn is_ready(stands: &[Stand], v: u32, vertex: &Vertex) -> bool
-    ensures { result ≡ is_some (start_from (map status_of stands.now) (slice_get (map status_of stands.now) v) (Some vertex.now)) }
+/// Whether a vertex waits and no input of it is open.
+pub(crate) fn is_ready(stands: &[Stand], links: &Links, v: u32) -> bool
+    ensures { result ≡ (is_waiting (slice_get (map status_of stands.now) v) && has_inputs links.now v) }
 {
     match stand_at(stands, v) {
-        Some(Stand::Waiting) => are_there(stands, vertex.inputs.as_slice()),
+        Some(Stand::Waiting) => links.has_inputs(v),
         _ => false,
     }
 }

@@ -2,7 +2,7 @@
 //! until its end. Nothing here is seen from outside.
 
 ghost use Rattle.std.specs.Prelude.{◌≡◌, Some};
-ghost use Rattle.llb_model.specs.State.{ending_of, is_failed};
+ghost use Rattle.llb_model.specs.State.{ending_of, is_done, is_failed};
 ghost use Rattle.llb_board.specs.Views.{status_of};
 
 use llb_applet::Setting;
@@ -27,6 +27,15 @@ impl Stand {
     {
         match self {
             Stand::Failed(_) => true,
+            _ => false,
+        }
+    }
+
+    pub(crate) fn is_done(&self) -> bool
+        ensures { result ≡ is_done (ending_of (Some (status_of self.now))) }
+    {
+        match self {
+            Stand::Done(_) => true,
             _ => false,
         }
     }

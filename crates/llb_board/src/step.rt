@@ -8,6 +8,7 @@ ghost use Rattle.llb_model.specs.Table.{claim_start, step_grant};
 ghost use Rattle.llb_model.specs.Program.{needs_of, program_of};
 ghost use Rattle.llb_model.specs.Leases.{AreLeased, HasLease};
 ghost use Rattle.llb_board.specs.Caches.{need_of, rows_after};
+ghost use Rattle.llb_board.specs.Links.{TellsInputs};
 ghost use Rattle.llb_board.specs.Begun.{begun_as, outfit_as, outfit_of};
 ghost use Rattle.llb_board.specs.Views.{execution_of, at_of, leased_by, status_of, state_of, step_reply};
 ghost use Rattle.llb_loader.specs.Graph.{IsGraph, IsVertexOf};
@@ -22,6 +23,7 @@ use crate::event::Stepped;
 use crate::fault::{ClaimFault, SettleFault, StepFault};
 use crate::instances::{contents, write_back};
 use crate::job::Job;
+use crate::links::Links;
 use crate::micro_step::step;
 use crate::needs::{Wanted, mount_numbers, taking_for};
 use crate::ready::{gathered, is_ready};
@@ -46,10 +48,12 @@ pub(crate) fn desk_at(desks: &[Desk], w: u32) -> Option<&Desk>
 pub(crate) fn claimable<'a>(
     build: &'a Build,
     stands: &[Stand],
+    links: &Links,
     desks: &[Desk],
     w: u32,
     v: u32,
 ) -> Result<&'a Vertex, ClaimFault>
+    requires { IsGraph build.now.graph → TellsInputs build.now (map status_of stands.now) links.now }
     ensures there { IfOk result (λ x. slice_get build.now.graph.vertices v ≡ Some x.now) }
     ensures kind { IfOk result (λ x. IsVertexOf x.now x.now.op.kind) }
     ensures few { IfOk result (λ x. length (program_of x.now).steps < 2 ^ 32) }
@@ -66,7 +70,7 @@ pub(crate) fn claimable<'a>(
     let Some(vertex) = build.vertex(v) else {
         return Err(ClaimFault::NoVertex);
     };
-    if !is_ready(stands, v, vertex) {
+    if !is_ready(stands, links, v) {
         return Err(ClaimFault::NotReady);
     }
     Ok(vertex)

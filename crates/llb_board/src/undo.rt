@@ -1,7 +1,8 @@
 //! An event taken back: what it displaced is on the board again.
 
-ghost use Rattle.std.specs.Prelude.{◌≡◌, ◌<◌, [], Some, length, map, slice_get, slice_set};
+ghost use Rattle.std.specs.Prelude.{◌≡◌, ◌<◌, ◌+◌, ◌^◌, ℕ, get_or, [], Some, length, map, slice_get, slice_set};
 ghost use Rattle.std.specs.Bool.{OnTrue, OnFalse};
+ghost use Rattle.std.specs.List.{All};
 ghost use Rattle.std.specs.Option.{ForSome};
 ghost use Rattle.llb_model.specs.ByNumber.{by_number};
 ghost use Rattle.llb_model.specs.State.{next_stopped};
@@ -9,11 +10,13 @@ ghost use Rattle.llb_board.specs.declared.stand.Desk.TheVariants as desk;
 ghost use Rattle.llb_board.specs.Room.{ready_made};
 ghost use Rattle.llb_board.specs.Undo.{Unclaim, Unstep, Resume, left_in, caches_in, undone, CanUndo};
 ghost use Rattle.llb_board.specs.Undoing.{desk_before, desk_leased, leases_before, caches_before, HasPlaceFor};
+ghost use Rattle.llb_board.specs.Links.{AreRaised, users_at};
 ghost use Rattle.llb_board.specs.Views.{at_of, leased_by, status_of};
 
 use crate::board::Board;
 use crate::copying::lease_of;
 use crate::instances::give_back;
+use crate::links::Links;
 use crate::ready::mark_stopped;
 use crate::stand::{Desk, Execution, Stand};
 use llb_cache::{Caches, Lease};
@@ -113,6 +116,7 @@ impl Board {
             vertices,
             had.has_failed(),
         );
+        open_anew(&mut self.links, v, had.is_done());
         self.first_open = self.first_open.min(v);
         self.events.take_back();
     }
@@ -188,5 +192,19 @@ fn mark_anew(stop_marks: &mut Vec<bool>, stands: &[Stand], vertices: &[Vertex], 
 {
     if changed {
         mark_stopped(stop_marks, stands, vertices);
+    }
+}
+
+// Each vertex that has an edge to one has an open input more, where that one was done.
+fn open_anew(links: &mut Links, v: u32, was_done: bool)
+    requires low { v < length links.old.users }
+    requires below { All (λ x. x < length links.old.counts) (users_at links.old v) }
+    requires few { (x : ℕ) → get_or links.old.counts x 0 + length (users_at links.old v) < 2 ^ 32 }
+    ensures users { links.new.users ≡ links.old.users }
+    ensures raised { OnTrue was_done (AreRaised (users_at links.old v) links.old.counts links.new.counts) }
+    ensures same { OnFalse was_done (links.new ≡ links.old) }
+{
+    if was_done {
+        links.count_up(v);
     }
 }

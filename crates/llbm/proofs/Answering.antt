@@ -19,7 +19,7 @@ use Rattle.llbm.specs.declared.fault.ProgramFault.{ProgramFault}
 use Rattle.llbm.specs.declared.fault.ProgramFault.TheVariants.{Refused, Loading}
 use Rattle.llb_treetext.specs.TreeText.{tree_text}
 use Rattle.llbm.specs.GraphText.{graph_text}
-use Rattle.llbm.specs.Answer.{build_of, result_in, Yields, YieldsNone, YieldsAll, IsRefused, IsUnrun, IsNotRun, YieldsPart, DrawsPart}
+use Rattle.llbm.specs.Answer.{build_of, result_in, Yields, YieldsNone, YieldsAll, IsRefused, IsUnopened, IsNotRun, YieldsPart, DrawsPart}
 use Rattle.llbm.specs.Answer.{Runs}
 use Rattle.llbm.proofs.Ending.{result_fails, tree_fails_none, plain_tree}
 use Rattle.llbm.specs.Running.{passed_on, unread_as, IsRefusal, TellsRefusal, IsFinished, Shows, Answers, Tells}
@@ -193,6 +193,6 @@ tells_not_run workers ls left e tells h = some_map IsRefused (IsNotRun workers l
 
 -- nor is what has no board, or too many workers
 pub tells_unrun : (workers : ℕ) (ls : List Local) (left : Option (List ℕ)) (g : Numbered) (e : ProgramFault) → IfSome left (λ bytes. IsGraphIn bytes g)
-    → (IsRefusal e → IsUnrun ls g workers) → TellsRefusal (IsNotRun workers ls) left e
+    → (IsRefusal e → IsUnopened ls g workers) → TellsRefusal (IsNotRun workers ls) left e
 tells_unrun workers ls left g e loads unrun h = some_map (λ bytes. IsGraphIn bytes g) (IsNotRun workers ls) left (λ bytes loaded. inr
     (g, loaded, unrun h)) loads

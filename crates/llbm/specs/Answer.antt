@@ -92,13 +92,9 @@ Lacks locals g = (name : List ℕ) × (missing_local locals g.vertices ≡ Some 
 abbrev pub IsUnopened : List Local → Numbered → ℕ → Type 0
 IsUnopened locals g workers = Lacks locals g ⊎ (may_work workers ≡ false)
 
--- no run is begun on a graph: no board is opened, or there are more than two workers
-abbrev pub IsUnrun : List Local → Numbered → ℕ → Type 0
-IsUnrun locals g workers = IsUnopened locals g workers ⊎ (2 < workers)
-
 -- bytes that are no definition of a graph, or of one on which no run is begun
 abbrev pub IsNotRun : ℕ → List Local → List ℕ → Type 0
-IsNotRun workers locals bytes = IsRefused bytes ⊎ ((g : Numbered) × IsGraphIn bytes g × IsUnrun locals g workers)
+IsNotRun workers locals bytes = IsRefused bytes ⊎ ((g : Numbered) × IsGraphIn bytes g × IsUnopened locals g workers)
 
 -- a prefix of the text that the bytes yield is out, and no more
 abbrev pub YieldsPart : ℕ → List Local → Option (List ℕ) → Option (List ℕ) → List ℕ → Type 0

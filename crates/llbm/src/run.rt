@@ -3,8 +3,7 @@
 ghost use Rattle.std.specs.Prelude.{◌≡◌, [], IfOk, IfErr};
 ghost use Rattle.llb_model.specs.Outcome.{output_in};
 ghost use Rattle.llb_model.specs.State.{ending_at};
-ghost use Rattle.llb_board.specs.Board.{opened};
-ghost use Rattle.llbm.specs.Answer.{IsUnrun, Runs, build_of};
+ghost use Rattle.llbm.specs.Answer.{IsUnopened, Runs};
 ghost use Rattle.llbm.specs.Output.{PrintsOut};
 ghost use Rattle.llb_treetext.specs.TreeText.{tree_text};
 ghost use Rattle.llbm.specs.Running.{IsFinished, IsRefusal, Shows, Answers, Tells};
@@ -25,9 +24,6 @@ use std::io::{Read, Write};
 use std::sync::Wait;
 use std::thread::Threads;
 
-// The most workers that a run may have.
-const MOST_WORKERS: u32 = 2;
-
 // A gate that every worker passes.
 struct Open;
 
@@ -44,7 +40,7 @@ impl Gate for Open {
 // Runs the graph to its end with one worker.
 fn finished(alloc: Global, graph: Graph, locals: Locals) -> Result<Board, ProgramFault>
     ensures board { IfOk result (IsFinished 1 locals graph) }
-    ensures fault { IfErr result (λ e. IsRefusal e → IsUnrun locals graph 1) }
+    ensures fault { IfErr result (λ e. IsRefusal e → IsUnopened locals graph 1) }
 {
     graph.is_graph();
     let board = opened(alloc, graph, locals, 1)?;
@@ -56,23 +52,6 @@ fn finished(alloc: Global, graph: Graph, locals: Locals) -> Result<Board, Progra
     }
 }
 
-// A board for so many workers.
-fn opened_for(
-    alloc: Global,
-    graph: Graph,
-    locals: Locals,
-    workers: u32,
-) -> Result<Board, ProgramFault>
-    ensures board { IfOk result (λ b. b ≡ opened (build_of locals graph) workers []) }
-    ensures fault { IfErr result (λ e. IsRefusal e → IsUnrun locals graph workers) }
-{
-    let board = opened(alloc, graph, locals, workers)?;
-    if workers > MOST_WORKERS {
-        return Err(ProgramFault::Workers);
-    }
-    Ok(board)
-}
-
 // The same with several, each in a thread of its own.
 fn finished_by<R: Threads + Wait + Sync>(
     rt: &R,
@@ -82,13 +61,13 @@ fn finished_by<R: Threads + Wait + Sync>(
     workers: u32,
 ) -> Result<Board, ProgramFault>
     ensures board { IfOk result (IsFinished workers locals graph) }
-    ensures fault { IfErr result (λ e. IsRefusal e → IsUnrun locals graph workers) }
+    ensures fault { IfErr result (λ e. IsRefusal e → IsUnopened locals graph workers) }
 {
     if workers == 1 {
         return finished(alloc, graph, locals);
     }
     graph.is_graph();
-    let board = opened_for(alloc, graph, locals, workers)?;
+    let board = opened(alloc, graph, locals, workers)?;
     let RunEnd { board, fault, .. } = run_workers(rt, alloc, board, &Open);
     is_consistent(&board);
     complete_is_plain(&board);
@@ -212,7 +191,7 @@ pub fn run_over<R: Read, W: Write, E: Write>(
 }
 
 /// The same with so many workers, where they are several each in a thread of its own, which it waits for. Where no cache is mounted, the text is
-/// that of the plain outcomes, for any number of workers. 2 also where the number is 0, or more than 2 (`fault 122`); 3 also where a thread
+/// that of the plain outcomes, for any number of workers. 2 also where the number is 0, or more than 64 (`fault 122`); 3 also where a thread
 /// could not be started (`fault 153`).
 pub fn run_many_over<T: Threads + Wait + Sync, R: Read, W: Write, E: Write>(
     rt: &T,

@@ -57,7 +57,7 @@ fn a_number_of_workers_that_is_none_is_told_behind_the_definition(
 ) -> Result<(), Fail> {
     let alloc = rt.alloc();
     let bytes = hex::decode(alloc, FIRST_RUN)?;
-    for workers in [0, 3, 64, 65] {
+    for workers in [0, 65, 4_294_967_295] {
         assert!(rt; together(&rt, alloc, &bytes, workers).is(2, "", "fault 122\n"));
     }
     assert!(rt; together(&rt, alloc, b"", 0).is(2, "", "fault 83\n"));

@@ -8,6 +8,7 @@ use Rattle.llb_board.specs.Views.{status_of, at_of}
 use Rattle.llb_board.specs.Rules.{faulted, claim_fault}
 use Rattle.llb_board.specs.declared.fault.ClaimFault.TheVariants.{NotReady}
 use Rattle.llb_model.proofs.Vertices.{kind_at}
+use Rattle.llb_board.proofs.Behind.{ready_so}
 use Rattle.llb_board.proofs.step.claimable.Goals as goal
 
 not_ready : (o : Option Start) → is_some o ≡ false → faulted claim_fault (table.or_not_ready o) ≡ Err NotReady
@@ -41,7 +42,8 @@ returns-then-not-is_ready-clause-first c =
     let there : slice_get c.args.build.now.graph.vertices c.args.v ≡ Some c.in-Some.vertex.now
     = sym c.in-Some.ensures.there in
     (λ i. faulted claim_fault (claim_start (map status_of c.args.stands.now) c.args.v (idle i) (there i)))
-    ∙ not_ready _ (sym c.is_ready.ensures ∙ c.if-not-is_ready.true)
+    ∙ not_ready _ (ready_so c.args.build.now (map status_of c.args.stands.now) c.args.links.now c.args.v c.in-Some.vertex.now (c.requires
+    c.in-Some.ensures.graph) there ∙ sym c.is_ready.ensures ∙ c.if-not-is_ready.true)
 
 pub returns-clause-there : goal.returns-clause-there
 returns-clause-there c =
@@ -55,7 +57,8 @@ returns-clause-first c =
     let there : slice_get c.args.build.now.graph.vertices c.args.v ≡ Some c.in-Some.vertex.now
     = sym c.in-Some.ensures.there in
     (λ i. is_ok (claim_start (map status_of c.args.stands.now) c.args.v (idle i) (there i)))
-    ∙ is_there _ (sym c.is_ready.ensures ∙ c.if-not-is_ready.false)
+    ∙ is_there _ (ready_so c.args.build.now (map status_of c.args.stands.now) c.args.links.now c.args.v c.in-Some.vertex.now (c.requires
+    c.in-Some.ensures.graph) there ∙ sym c.is_ready.ensures ∙ c.if-not-is_ready.false)
 
 pub returns-clause-kind : goal.returns-clause-kind
 returns-clause-kind c = kind_at c.args.build.now.graph c.args.v c.in-Some.vertex.now c.in-Some.ensures.graph (sym c.in-Some.ensures.there)

@@ -2,7 +2,7 @@ use Rattle.std.proofs.Common.{◌≡◌, ◌∙◌, map, length, refl, sym, ap, 
 use Rattle.std.specs.Prelude.{Ok, Err, true, false}
 use Rattle.llb_model.specs.Outcome.{inputs_from}
 use Rattle.llb_model.specs.Program.{needs_of}
-use Rattle.llb_model.specs.State.{ending_at}
+use Rattle.llb_model.specs.State.{Waiting, ending_at}
 use Rattle.llb_model.specs.Table.{Claim}
 use Rattle.llb_model.proofs.Lists.{length_set}
 use Rattle.llb_board.specs.Begun.{begun_as}
@@ -12,7 +12,9 @@ use Rattle.llb_board.specs.Board.{Seen}
 use Rattle.llb_board.specs.Rules.{begun, claim_fault, claim_of, claim_memory, claim_may_want}
 use Rattle.llb_board.specs.Room.{seen}
 use Rattle.llb_board.specs.declared.stand.Desk.TheVariants as desk
+use Rattle.llb_board.specs.declared.stand.Stand.TheVariants as stand
 use Rattle.llb_board.proofs.Wanting.{graph_edges}
+use Rattle.llb_board.proofs.Behind.{linked_set, tells}
 use Rattle.llb_board.proofs.Calls.{CanClaim, can_claim, claim_held, claim_wants, claim_done}
 use Rattle.llb_board.proofs.Claiming.{MayClaim, Did, data_of, same_held, few_out, differ, did}
 use Rattle.llb_board.proofs.Kept.{Data, has_room, claimed, recorded_as, still_over}
@@ -38,6 +40,12 @@ wants c =
     ap (λ (n : Seen). claim_may_want (claim_of n c.args.w c.args.v)) (sym c.self.view_is)
     ∙ claim_wants (seen b.build b.start.rows b.stands.items b.desks.items b.caches.rows b.events.list) c.args.w c.args.v c.in_ok-vertex.vertex.now b.caches
     (can c) same
+
+pub claimable-requires : goal.claimable-requires
+claimable-requires c =
+    let b = c.self.inside in
+    let n = seen b.build b.start.rows b.stands.items b.desks.items b.caches.rows b.events.list in
+    rw c.deref.ensures.value (λ graph. tells n b.links graph c.self.invariant.kept.replays c.self.invariant.linked)
 
 pub wanted_by-requires-clause-seeds : goal.wanted_by-requires-clause-seeds
 wanted_by-requires-clause-seeds c = graph_edges c.self.inside.build.graph c.args.v c.in_ok-vertex.vertex.now c.in_ok-vertex.ensures.graph
@@ -78,7 +86,8 @@ returns-in_err-lease-clause-last c =
 
 abbrev May : After-is_exclusive → Type 0
 May c = let b = c.self.inside in
-    MayClaim b.build b.start.rows b.stands.items b.desks.items b.caches b.stop_marks.items b.events.list b.events.room c.args.w c.args.v c.in_ok-vertex.vertex.now
+    MayClaim b.build b.start.rows b.stands.items b.desks.items b.caches b.stop_marks.items b.events.list b.events.room c.args.w c.args.v
+    c.in_ok-vertex.vertex.now
 
 may : (c : After-is_exclusive) → CanClaim c.self.inside.build (state_of c.self.inside.stands.items c.self.inside.desks.items c.self.inside.caches.rows)
     c.args.w c.args.v
@@ -124,7 +133,8 @@ did_so : (c : In_ok-lease) (g : Granted c) → Did c.self.inside.build c.self.in
     c.in_ok-lease.lease c.in_ok-begun.begun.execution (claim_reply c.in_ok-begun.begun.job) c.lease_for.new.caches
 did_so c g =
     let b = c.self.inside in
-    did b.build b.start.rows b.stands.items b.desks.items b.caches b.stop_marks.items b.events.list b.events.room c.args.w c.args.v c.in_ok-vertex.vertex.now g.may
+    did b.build b.start.rows b.stands.items b.desks.items b.caches b.stop_marks.items b.events.list b.events.room c.args.w c.args.v c.in_ok-vertex.vertex.now
+    g.may
     (begun_as c.in_ok-begun.begun) g.begins
     c.in_ok-lease.lease c.in_ok-begun.begun.execution c.lease_for.new.caches _ c.in_ok-wanted.ensures.gives refl c.in_ok-lease.ensures.gives
     c.in_ok-begun.ensures.supplies
@@ -171,6 +181,7 @@ invariant_of-self-2 c =
           (claim_reply c.in_ok-begun.begun.job) c.in_ok-vertex.ensures.graph c.self.invariant.kept
           (claim_done b.build (state_of b.stands.items b.desks.items b.caches.rows) c.args.w c.args.v _ d.grants)
           (rw c.deref-4.ensures.value at c.first_open-self-inside.ensures.over);
+      linked = linked_set b.build b.stands.items c.args.v (stand.Running c.args.w) Waiting b.links (can path.In_ok-vertex).waits refl c.self.invariant.linked;
     }
 
 pub returns-clause-gives : goal.returns-clause-gives
@@ -181,7 +192,8 @@ returns-clause-gives c =
     let new = after path.In_ok-lease in
     let r = claim_reply c.in_ok-begun.begun.job in
     ap (λ (n : Seen). claim_of n c.args.w c.args.v) (sym c.self.view_is)
-    ∙ recorded_as b.build b.start.rows (data_of b.stands.items b.desks.items b.caches b.stop_marks.items) new b.events.list (Claim c.args.w c.args.v) claim_fault
+    ∙ recorded_as b.build b.start.rows (data_of b.stands.items b.desks.items b.caches b.stop_marks.items) new b.events.list (Claim c.args.w c.args.v)
+    claim_fault
     _ r d.grants
     (length_set b.desks.items c.args.w (desk.Runs c.in_ok-lease.lease c.in_ok-begun.begun.execution)) d.rows
     ∙ (λ i. Ok (seen b.build b.start.rows new.stands new.desks new.rows (sym c.push_reserved.ensures.list i), r))

@@ -17,6 +17,7 @@ invariant_of-result c =
       caches = b.caches;
       events = b.events.list;
       marks = b.stop_marks.items;
+      links = b.links;
     } in
     let q : Parts = record {
       build = c.in_ok-copy.field-0;
@@ -26,6 +27,7 @@ invariant_of-result c =
       caches = c.in_ok-copy-2.field-0;
       events = c.in_ok-with_same.field-0.list;
       marks = c.in_ok-from_slice.field-0.items;
+      links = c.in_ok-copy-4.field-0;
     } in
     let desks = c.deref-2.ensures.value in
     let room = c.in_ok-with_same.ensures.room in
@@ -42,6 +44,7 @@ invariant_of-result c =
       caches = c.in_ok-copy-2.ensures;
       events = c.in_ok-with_same.ensures.list;
       marks = c.in_ok-from_slice.ensures.items ∙ c.deref-3.ensures.value;
+      links = c.in_ok-copy-4.ensures;
     })
     (subst (λ (x : Build). most_events x ≤ c.in_ok-with_same.field-0.room) (sym c.in_ok-copy.ensures) enough)
     c.self.invariant

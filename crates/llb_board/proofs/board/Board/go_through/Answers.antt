@@ -73,6 +73,7 @@ invariant_of-self c =
           c.is_exclusive.ensures.apart c.is_exclusive.ensures.there
           c.vertices.ensures.graph k.run c.outcome.invariant));
       over = c.self.invariant.over;
+      linked = c.self.invariant.linked;
     }
 
 pub returns : goal.returns

@@ -1,11 +1,15 @@
-use Rattle.std.proofs.Common.{◌≡◌, ◌∙◌, true, ap, sym, arith}
+use Rattle.std.proofs.Common.{◌≡◌, ◌∙◌, true, ap, sym, subst, map, length, arith}
 use Rattle.std.specs.Prelude.{Bool, Ok, Err, Result, if◌then◌else◌}
 use Rattle.llb_cache.specs.Caches.{CachesValue}
 use Rattle.llb_board.specs.Board.{Seen, opened}
 use Rattle.llb_board.specs.Rules.{may_work}
 use Rattle.llb_board.specs.declared.fault.OpenFault.{OpenFault}
 use Rattle.llb_board.specs.declared.fault.OpenFault.TheVariants.{Workers}
-use Rattle.llb_board.proofs.Opened.{kept_open, seen_open, some_work, few_work}
+use Rattle.llb_board.specs.Links.{IsLinked, done_in}
+use Rattle.llb_board.specs.Views.{status_of}
+use Rattle.llb_board.specs.declared.stand.Stand.TheVariants.{Waiting}
+use Rattle.llb_board.proofs.Behind.{linked_open}
+use Rattle.llb_board.proofs.Opened.{map_replicate, kept_open, seen_open, some_work, few_work}
 use Rattle.llb_board.proofs.board.Board.open_with.Goals as goal
 
 pub invariant_of-result : goal.invariant_of-result
@@ -17,6 +21,9 @@ invariant_of-result c =
           (record { stands = e.stands; desks = e.desks; events = e.events; marks = e.stop_marks; room = e.room })
           (ap (λ (c : CachesValue). c.rows) e.start) c.requires (some_work c.args.workers may) (few_work c.args.workers may);
       over = λ v low. absurd (omega (arith, low));
+      linked = subst (λ S. IsLinked c.args.build.graph.vertices (done_in S) c.in-Ok.fresh.links) (sym (ap (map status_of) e.stands
+          ∙ map_replicate status_of (length c.args.build.graph.vertices) Waiting))
+          (linked_open c.args.build.graph.vertices c.in-Ok.fresh.links e.links);
     }
 
 pub returns-in-Ok-clause-gives : goal.returns-in-Ok-clause-gives
@@ -26,4 +33,5 @@ returns-in-Ok-clause-gives c =
     let open_is : (b : Bool) → Result Seen OpenFault
     = λ b. if b then Ok (opened c.args.build c.args.workers c.args.caches.rows) else Err (Workers c.args.build.graph c.args.build.locals c.args.caches) in
     ap open_is may
-    ∙ ap (λ (s : Seen). Ok s) (sym (seen_open c.args.build _ c.args.workers _ _ c.args.caches.rows _ e.stands e.desks e.events (ap (λ (c : CachesValue). c.rows) e.start)))
+    ∙ ap (λ (s : Seen). Ok s) (sym (seen_open c.args.build _ c.args.workers _ _ c.args.caches.rows _ e.stands e.desks e.events (ap (λ (c : CachesValue).
+    c.rows) e.start)))

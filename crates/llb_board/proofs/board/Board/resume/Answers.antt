@@ -1,5 +1,5 @@
 use Rattle.std.proofs.Common.{◌≡◌, ◌∙◌, List, [], length, map, refl, sym, ap, subst, arith, rules, vec_len}
-use Rattle.std.specs.Prelude.{Some, None, true, false, slice_get, slice_set}
+use Rattle.std.specs.Prelude.{◌<◌, Some, None, true, false, slice_get, slice_set}
 use Rattle.std.proofs.Math.Nat.{min-le_left, min-le_right}
 use Rattle.std.proofs.lemmas.Option.{slice_get-get_or}
 use Rattle.llb_model.specs.ByNumber.{by_number}
@@ -13,8 +13,11 @@ use Rattle.llb_board.specs.declared.stand.Stand.TheVariants as stand
 use Rattle.llb_board.specs.declared.stand.Desk.TheVariants as desk
 use Rattle.llb_board.proofs.Claiming.{data_of}
 use Rattle.llb_board.proofs.Undone.{on_true, on_false, undone_is}
-use Rattle.llb_board.proofs.Undos.{tracked, over_written, low_vertex, places_resumed, resume_leaves}
+use Rattle.llb_board.specs.Links.{done_in}
+use Rattle.llb_board.proofs.Behind.{low_user, users_counted, counts_fit, linked_resumed}
+use Rattle.llb_board.proofs.Undos.{tracked, over_written, low_vertex, low_graph, places_resumed, resume_leaves}
 use Rattle.llb_board.proofs.board.Board.resume.Goals as goal
+use Rattle.llb_board.proofs.board.Board.resume.Goals.{After-put_caches}
 
 pub put_caches-requires : goal.put_caches-requires
 put_caches-requires c =
@@ -37,6 +40,31 @@ pub mark_anew-requires : goal.mark_anew-requires
 mark_anew-requires c =
     let b = c.self.inside in
     ap length c.self.invariant.kept.stop_marks_are ∙ stopped_length b.build (map status_of b.stands.items) ∙ ap length (sym c.vertices-vertices.ensures.all)
+
+low_in_graph : (c : After-put_caches) → c.args.execution.vertex < length c.self.inside.build.graph.vertices
+low_in_graph c =
+    let b = c.self.inside in
+    low_graph b.build b.start.rows b.stands.items b.desks.items b.caches b.stop_marks.items b.events.list b.events.room c.self.invariant.kept c.args.w
+    c.args.execution c.args.before
+    (subst (CanUndo (record { back = Resume c.args.w (left_in c.args.execution); caches = caches_in c.args.before })) (sym c.self.view_is) c.requires)
+
+pub open_anew-requires-clause-low : goal.open_anew-requires-clause-low
+open_anew-requires-clause-low c =
+    let b = c.self.inside in
+    low_user b.build.graph.vertices (done_in (map status_of b.stands.items)) b.links c.self.invariant.linked c.args.execution.vertex
+    (low_in_graph (goal.at.open_anew-requires-clause-low c).After-put_caches)
+
+pub open_anew-requires-clause-below : goal.open_anew-requires-clause-below
+open_anew-requires-clause-below c =
+    let b = c.self.inside in
+    users_counted b.build.graph.vertices (done_in (map status_of b.stands.items)) b.links c.self.invariant.linked c.args.execution.vertex
+    (low_in_graph (goal.at.open_anew-requires-clause-below c).After-put_caches)
+
+pub open_anew-requires-clause-few : goal.open_anew-requires-clause-few
+open_anew-requires-clause-few c =
+    let b = c.self.inside in
+    counts_fit b.build.graph.vertices (done_in (map status_of b.stands.items)) b.links c.self.invariant.linked c.args.execution.vertex
+    (low_in_graph (goal.at.open_anew-requires-clause-few c).After-put_caches) c.vertices-vertices.ensures.graph.few
 
 pub invariant_of-self : goal.invariant_of-self
 invariant_of-self c =
@@ -73,13 +101,17 @@ invariant_of-self c =
     rw (c.take_back.ensures.list, c.take_back.ensures.room)
     (subst (λ (l : List Stand). IsTracked (seen b.build b.start.rows l c.put_caches.new.desks.items c.put_caches.new.caches.rows (front b.events.list))
     c.put_caches.new.desks.items
-    c.put_caches.new.caches.out marks b.events.room c.min-self-inside.result) (sym is)
+    c.put_caches.new.caches.out marks c.open_anew.new.links b.events.room c.min-self-inside.result) (sym is)
     (tracked b.build b.start.rows ss b.desks.items b.caches b.stop_marks.items b.events.list b.events.room c.self.invariant.kept
-    (data_of new c.put_caches.new.desks.items c.put_caches.new.caches marks) u c.min-self-inside.result can leaves
+    (data_of new c.put_caches.new.desks.items c.put_caches.new.caches marks) c.open_anew.new.links u c.min-self-inside.result can leaves
     (over_written b.build b.start.rows ss b.desks.items b.caches b.stop_marks.items b.events.list b.events.room c.self.invariant.kept x.vertex
     (stand.Running c.args.w) b.first_open
     c.min-self-inside.result
-    (omega (arith, least, min-le_left b.first_open x.vertex)) (omega (arith, least, min-le_right b.first_open x.vertex)) c.self.invariant.over)))
+    (omega (arith, least, min-le_left b.first_open x.vertex)) (omega (arith, least, min-le_right b.first_open x.vertex)) c.self.invariant.over)
+    (linked_resumed b.build ss x.vertex c.args.w c.replace-had.result c.is_done.result b.links c.open_anew.new.links at (low_in_graph
+    (goal.at.invariant_of-self c).After-put_caches) c.is_done.ensures
+    c.open_anew.ensures.users (on_true c.is_done.result _ c.open_anew.ensures.raised) (on_false c.is_done.result _ c.open_anew.ensures.same)
+    c.self.invariant.linked)))
 
 pub returns : goal.returns
 returns c =

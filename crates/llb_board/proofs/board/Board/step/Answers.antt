@@ -10,9 +10,11 @@ use Rattle.llb_board.proofs.board.Board.step.Goals as goal
 pub push_reserved-requires : goal.push_reserved-requires
 push_reserved-requires c =
     let b = c.self.inside in
-    let does = step_does b.build b.stands.items b.desks.items c.step_at.new.desks b.caches.rows c.step_at.new.caches.rows c.args.w (step_reply c.in_ok-stepped.stepped)
+    let does = step_does b.build b.stands.items b.desks.items c.step_at.new.desks b.caches.rows c.step_at.new.caches.rows c.args.w (step_reply
+    c.in_ok-stepped.stepped)
     (rw c.deref_mut.ensures.value at c.in_ok-stepped.ensures.gives) in
-    has_room (seen b.build b.start.rows b.stands.items b.desks.items b.caches.rows b.events.list) b.desks.items b.caches.out b.stop_marks.items b.events.room (Step c.args.w) _
+    has_room (seen b.build b.start.rows b.stands.items b.desks.items b.caches.rows b.events.list) b.desks.items b.caches.out b.stop_marks.items b.events.room
+    (Step c.args.w) _
     c.self.invariant.kept (step_done _ _ c.args.w _ does)
 
 pub invariant_of-self-2 : goal.invariant_of-self-2
@@ -39,7 +41,9 @@ invariant_of-self-2 c =
     let written : take b.desks.len (new ++ drop (length new) ds) ≡ new = whole_written b.desks.len new ds same (search rules) in
     record {
       kept = rw (c.push_reserved.ensures.list, c.push_reserved.ensures.room)
-          (subst (λ (l : List Desk). IsKept (seen b.build b.start.rows b.stands.items l rows (b.events.list ++ Step c.args.w ∷ [])) l c.step_at.new.caches.out b.stop_marks.items b.events.room)
+          (subst (λ (l : List Desk). IsKept (seen b.build b.start.rows b.stands.items l rows (b.events.list ++ Step c.args.w ∷ [])) l
+          c.step_at.new.caches.out b.stop_marks.items b.events.room)
           (sym written) kept);
       over = c.self.invariant.over;
+      linked = c.self.invariant.linked;
     }

@@ -1,9 +1,11 @@
-use Rattle.std.proofs.Common.{◌≡◌, ◌∙◌, length, sym, ap, subst, arith, rules, vec_len}
+use Rattle.std.proofs.Common.{◌≡◌, ◌∙◌, length, refl, sym, ap, subst, arith, rules, vec_len}
 use Rattle.std.specs.Prelude.{slice_set}
 use Rattle.std.proofs.Math.Nat.{min-le_left, min-le_right}
+use Rattle.llb_model.specs.State.{Running}
 use Rattle.llb_board.specs.Undo.{Unclaim, Displaced, caches_in, undone, CanUndo}
 use Rattle.llb_board.specs.Room.{seen}
 use Rattle.llb_board.specs.declared.stand.Stand.TheVariants as stand
+use Rattle.llb_board.proofs.Behind.{linked_set}
 use Rattle.llb_board.proofs.Claiming.{data_of}
 use Rattle.llb_board.proofs.Undone.{undone_is}
 use Rattle.llb_board.proofs.Undos.{tracked, over_written, low_w, low_v, lease_is_out, places_unclaimed, unclaim_leaves}
@@ -61,11 +63,12 @@ invariant_of-self c =
     let least = c.min-self-inside.ensures in
     rw (c.take_back.ensures.list, c.take_back.ensures.room)
     (tracked b.build b.start.rows b.stands.items b.desks.items b.caches b.stop_marks.items b.events.list b.events.room c.self.invariant.kept
-    (data_of (slice_set b.stands.items c.args.v stand.Waiting) c.put_caches.new.desks.items c.put_caches.new.caches b.stop_marks.items) u
+    (data_of (slice_set b.stands.items c.args.v stand.Waiting) c.put_caches.new.desks.items c.put_caches.new.caches b.stop_marks.items) b.links u
     c.min-self-inside.result can leaves
     (over_written b.build b.start.rows b.stands.items b.desks.items b.caches b.stop_marks.items b.events.list b.events.room c.self.invariant.kept c.args.v
     stand.Waiting b.first_open c.min-self-inside.result
-    (omega (arith, least, min-le_left b.first_open c.args.v)) (omega (arith, least, min-le_right b.first_open c.args.v)) c.self.invariant.over))
+    (omega (arith, least, min-le_left b.first_open c.args.v)) (omega (arith, least, min-le_right b.first_open c.args.v)) c.self.invariant.over)
+    (linked_set b.build b.stands.items c.args.v stand.Waiting (Running c.args.w) b.links can.stands.runs refl c.self.invariant.linked))
 
 pub returns : goal.returns
 returns c =

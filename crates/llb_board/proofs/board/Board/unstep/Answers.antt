@@ -31,7 +31,8 @@ invariant_of-self c =
     }) in
     rw (c.take_back.ensures.list, c.take_back.ensures.room)
     (tracked b.build b.start.rows b.stands.items b.desks.items b.caches b.stop_marks.items b.events.list b.events.room c.self.invariant.kept
-    (data_of b.stands.items c.put_caches.new.desks.items c.put_caches.new.caches b.stop_marks.items) u b.first_open can leaves c.self.invariant.over)
+    (data_of b.stands.items c.put_caches.new.desks.items c.put_caches.new.caches b.stop_marks.items) b.links u b.first_open can leaves c.self.invariant.over
+    c.self.invariant.linked)
 
 pub returns : goal.returns
 returns c =
