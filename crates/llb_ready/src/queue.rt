@@ -40,6 +40,7 @@ impl ReadyQueue {
     {
         let (queue, whole) = RuledArrayQueue::ruled(alloc, n as usize)?;
         let mut pass = whole;
+        // The pass comes to know of the room, which the rule is to bound what is present by.
         for _i in 0..n {
             drop(queue.another::<Widens>(&mut pass));
         }
@@ -78,7 +79,7 @@ impl ReadyQueue {
         ensures ok { OnOk result (hand_of pass.new ≡ with_put (hand_of pass.old) v) }
         ensures full { IfErr result (λ e. (e.0 ≡ v) × (hand_of pass.new ≡ hand_of pass.old)) }
 
-        // Alone, the whole pass meets a full queue just where it has put as many more than it took.
+        // To the whole pass the queue is full just where it has put as many numbers more than it took as there is room for.
         ensures whole { let before = hand_of pass.old in IsWhole pass.old → MatchResult result (λ _. HasRoom before) (λ _. HasNoRoom before) }
     {
         let ReadyPass { pass } = pass;
@@ -95,20 +96,21 @@ impl ReadyQueue {
         ensures some { IfSome result (λ v. hand_of pass.new ≡ with_taken (hand_of pass.old) v) }
         ensures none { IfNone result (hand_of pass.new ≡ hand_of pass.old) }
 
-        // Alone, the whole pass meets an empty queue just where it took all that it put.
+        // To the whole pass the queue is empty just where it took all that it put; else it gets one that was put more often than taken.
         ensures whole { let before = hand_of pass.old in IsWhole pass.old → MatchOption result (HasTakenAll before) (HasLeft before) }
     {
         let ReadyPass { pass } = pass;
         self.queue.pop_as::<Takes, R>(rt, pass)
     }
 
-    /// Takes the whole pass back, and drops what is left.
+    /// Takes the whole pass, and drops the queue with what is present in it. Each number was put as often as it was taken and is
+    /// present.
     pub fn close(self, pass: ReadyPass)
         requires pass { IsReadyPassOf self pass }
         requires whole { IsWhole pass }
         ensures conserved { (present : List ℕ) × IsConserved (hand_of pass) present × (length present ≤ capacity_of self) }
         ensures taken { (x : ℕ) → times x (hand_of pass).taken ≤ times x (hand_of pass).put }
-        ensures within { (length (hand_of pass).taken ≤ length (hand_of pass).put) × (length (hand_of pass).put ≤ length (hand_of pass).taken + capacity_of self) }
+        ensures within { let v = hand_of pass in (length v.taken ≤ length v.put) × (length v.put ≤ length v.taken + capacity_of self) }
     {
         let ReadyPass { pass } = pass;
         let mut whole = pass;
