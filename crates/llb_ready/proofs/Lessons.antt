@@ -4,7 +4,7 @@ use Rattle.std.specs.Prelude.{Option, Some, None, MatchOption}
 use Rattle.crossbeam_queue.specs.Fifo.{Held}
 use Rattle.llb_ready.specs.declared.hand.Hand.{Hand}
 use Rattle.llb_ready.specs.Hands.{HasAll}
-use Rattle.llb_ready.specs.Conserved.{Knows, Takes, HasTakenAll, HasLeft, times}
+use Rattle.llb_ready.specs.Conserved.{Knows, GainsTaken, HasTakenAll, HasLeft, times}
 
 no_items : (items : List ℕ) → length items ≡ 0 → items ≡ []
 no_items [] e = refl
@@ -19,7 +19,7 @@ taken_all v all (items, len, knows) =
     )
 
 -- what a take tells the whole pass
-pub took : (v w : Hand) (r : Option ℕ) → MatchOption r ((w ≡ v) × Held 0 (Knows v)) (λ x. Takes v x w) → HasAll v
+pub took : (v w : Hand) (r : Option ℕ) → MatchOption r ((w ≡ v) × Held 0 (Knows v)) (λ x. GainsTaken v x w) → HasAll v
     → MatchOption r (HasTakenAll v) (HasLeft v)
 took v w None tells all = taken_all v all tells.1
 took v w (Some x) tells all = tells.1 all

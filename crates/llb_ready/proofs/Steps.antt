@@ -9,7 +9,7 @@ use lib.ListN.{get_elem?}
 use Rattle.crossbeam_queue.specs.Fifo.{Pushes, Pops, Learns}
 use Rattle.llb_ready.specs.declared.hand.Hand.{Hand}
 use Rattle.llb_ready.specs.Hands.{HasAll, first_hand, with_put, with_taken}
-use Rattle.llb_ready.specs.Conserved.{Knows, IsConserved, Puts, Takes, HasLeft}
+use Rattle.llb_ready.specs.Conserved.{Knows, IsConserved, GainsPut, GainsTaken, HasLeft}
 use Rattle.llb_ready.specs.Balance.{IsPart, IsBalanced}
 use Rattle.llb_ready.proofs.Sums.{sum_at, sum_only, sum_ones}
 use Rattle.llb_ready.proofs.Weights.{others_none}
@@ -72,7 +72,7 @@ learns place v items views b at all =
     )
 
 -- a number is put
-pub puts : (n place : ℕ) (v : Hand) (x : ℕ) → 0 < v.num → v.room ≡ n → Pushes IsBalanced n place v x (Puts v x)
+pub puts : (n place : ℕ) (v : Hand) (x : ℕ) → 0 < v.num → v.room ≡ n → Pushes IsBalanced n place v x (GainsPut v x)
 puts n place v x some_part room items views short b at =
     let w : Hand = with_put v x in
     let mine = b.parts place v at in
@@ -109,7 +109,7 @@ left v x items known =
     omega (arith, known.each x, sum_by-cons one x items, here)
 
 -- a number is taken
-pub takes : (place : ℕ) (v : Hand) → 0 < v.num → Pops IsBalanced place v (Takes v)
+pub takes : (place : ℕ) (v : Hand) → 0 < v.num → Pops IsBalanced place v (GainsTaken v)
 takes place v some_part x items views b at =
     let w : Hand = with_taken v x in
     let mine = b.parts place v at in (

@@ -33,9 +33,9 @@ abbrev pub HasLeft : Hand → ℕ → Type 0
 HasLeft v x = times x v.taken < times x v.put
 
 -- What a put tells: the pass gains the number; the whole pass had room for it.
-abbrev pub Puts : Hand → ℕ → Hand → Type 0
-Puts v x w = (w ≡ with_put v x) × (HasAll v → HasRoom v)
+abbrev pub GainsPut : Hand → ℕ → Hand → Type 0
+GainsPut v x w = (w ≡ with_put v x) × (HasAll v → HasRoom v)
 
 -- What a take tells: the pass gains the number; the whole pass had it left.
-abbrev pub Takes : Hand → ℕ → Hand → Type 0
-Takes v x w = (w ≡ with_taken v x) × (HasAll v → HasLeft v x)
+abbrev pub GainsTaken : Hand → ℕ → Hand → Type 0
+GainsTaken v x w = (w ≡ with_taken v x) × (HasAll v → HasLeft v x)

@@ -14,6 +14,10 @@ HasPart v = (0 < v.num) × (0 < v.den)
 abbrev pub HasAll : Hand → Type 0
 HasAll v = v.num ≡ v.den
 
+-- A pass that puts and takes has the same part afterwards.
+abbrev pub SamePart : Hand → Hand → Type 0
+SamePart old new = (new.num ≡ old.num) × (new.den ≡ old.den)
+
 -- A queue begins with one pass, which is whole, and has put and taken nothing.
 abbrev pub first_hand : ℕ → Hand
 first_hand room = hand 1 1 room [] []

@@ -2,8 +2,8 @@
 
 use std::collections::LinkedList;
 
-/// A part `num`/`den` of the whole, the room of the queue, a count of numbers, and the numbers that the pass put and took, each
-/// in their order. No value of it is made.
+/// A part `num`/`den` of the whole; `room`, how many numbers the queue has room for; and the numbers that the pass put and took,
+/// each in their order. No value of it is made.
 pub struct Hand {
     pub num: u64,
     pub den: u64,

@@ -3,7 +3,7 @@
 
 ghost use Rattle.std.specs.Prelude.{◌≡◌, ◌≤◌, ◌+◌, ℕ, List, length, IfOk, IfErr, IfSome, IfNone, OnOk, MatchResult, MatchOption};
 ghost use Rattle.crossbeam_queue.specs.Passes.{view};
-ghost use Rattle.llb_ready.specs.Hands.{HasPart, first_hand, with_put, with_taken, halved, other_half, together};
+ghost use Rattle.llb_ready.specs.Hands.{HasPart, SamePart, first_hand, with_put, with_taken, halved, other_half, together};
 ghost use Rattle.llb_ready.specs.Conserved.{times, IsConserved, HasRoom, HasNoRoom, HasTakenAll, HasLeft};
 
 use crate::fault::{Full, ReadyFault};
@@ -40,7 +40,7 @@ impl ReadyQueue {
     {
         let (queue, whole) = RuledArrayQueue::ruled(alloc, n as usize)?;
         let mut pass = whole;
-        // The pass comes to know of the room, which the rule is to bound what is present by.
+        // The rule comes to know the room, by one number at a time. This changes nothing in the queue.
         for _i in 0..n {
             drop(queue.another::<Widens>(&mut pass));
         }
@@ -76,6 +76,7 @@ impl ReadyQueue {
     pub fn put<R: Wait>(&self, rt: &R, pass: &mut ReadyPass, v: u32) -> Result<(), Full>
         requires { IsReadyPassOf self.now pass.old }
         ensures pass { IsReadyPassOf self.now pass.new }
+        ensures part { SamePart (hand_of pass.old) (hand_of pass.new) }
         ensures ok { OnOk result (hand_of pass.new ≡ with_put (hand_of pass.old) v) }
         ensures full { IfErr result (λ e. (e.0 ≡ v) × (hand_of pass.new ≡ hand_of pass.old)) }
 
@@ -93,6 +94,7 @@ impl ReadyQueue {
     pub fn take<R: Wait>(&self, rt: &R, pass: &mut ReadyPass) -> Option<u32>
         requires { IsReadyPassOf self.now pass.old }
         ensures pass { IsReadyPassOf self.now pass.new }
+        ensures part { SamePart (hand_of pass.old) (hand_of pass.new) }
         ensures some { IfSome result (λ v. hand_of pass.new ≡ with_taken (hand_of pass.old) v) }
         ensures none { IfNone result (hand_of pass.new ≡ hand_of pass.old) }
 

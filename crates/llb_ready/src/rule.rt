@@ -52,18 +52,18 @@ impl Join<Hand> for Joins {
 pub(crate) struct Puts;
 
 impl Outcome<u32, Hand> for Puts {
-    ghost use Rattle.llb_ready.specs.Conserved.{Puts};
+    ghost use Rattle.llb_ready.specs.Conserved.{GainsPut};
 
-    ghost then = { Puts };
+    ghost then = { GainsPut };
 }
 
 /// A number is taken.
 pub(crate) struct Takes;
 
 impl Outcome<u32, Hand> for Takes {
-    ghost use Rattle.llb_ready.specs.Conserved.{Takes};
+    ghost use Rattle.llb_ready.specs.Conserved.{GainsTaken};
 
-    ghost then = { Takes };
+    ghost then = { GainsTaken };
 }
 
 impl Lesson<u32, Hand> for Puts {
