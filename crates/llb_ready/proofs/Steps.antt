@@ -105,7 +105,7 @@ puts n place v x some_part room items views short b at =
 left : (v : Hand) (x : ℕ) (items : List ℕ) → IsConserved v (x ∷ items) → HasLeft v x
 left v x items known =
     let one : ℕ → ℕ = λ y. cond (y == x) 1 0 in
-    let here : one x ≡ 1 = ap (λ (b : Bool). cond b 1 (zero)) (eq-eqb x x refl) in
+    let here : one x ≡ 1 = ap {B = ℕ} (λ (b : Bool). cond b 1 0) (eq-eqb x x refl) in
     omega (arith, known.each x, sum_by-cons one x items, here)
 
 -- a number is taken
