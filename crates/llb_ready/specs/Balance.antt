@@ -1,0 +1,25 @@
+-- The rule of the queue. It speaks of what the queue holds, oldest first, and of what each pass knows.
+use Rattle.std.specs.Prelude.{◌≡◌, ℕ, ◌+◌, ◌*◌, ◌<◌, ◌≤◌, List, [], length, slice_index, sum, sum_by}
+use mathlib.Core.Option.{some}
+use lib.ListN.{get_elem?}
+use Rattle.llb_ready.specs.declared.hand.Hand.{Hand}
+
+-- A pass has this weight of the unit as its part. With no part it has put and taken nothing; with some it knows the room.
+pub record IsPart (unit room weight : ℕ) (v : Hand) : Type 0 where
+  pub whole : 0 < v.den
+  pub is : weight * v.den ≡ v.num * unit
+  pub idle : v.num ≡ 0 → (v.put ≡ []) × (v.taken ≡ [])
+  pub same_room : 0 < v.num → v.room ≡ room
+
+-- The passes' parts add up to the whole. However numbers are weighed, what was put is what was taken and what the queue holds, which is no
+-- more than there is room for.
+pub record IsBalanced (items : List ℕ) (views : List Hand) : Type 0 where
+  pub unit : ℕ
+  pub room : ℕ
+  pub weights : List ℕ
+  pub some_unit : 0 < unit
+  pub whole : sum weights ≡ unit
+  pub as_many : length weights ≡ length views
+  pub parts : (place : ℕ) (v : Hand) → get_elem? views place ≡ some v → IsPart unit room (slice_index weights place) v
+  pub balance : (h : ℕ → ℕ) → sum_by (λ v. sum_by h v.put) views ≡ sum_by (λ v. sum_by h v.taken) views + sum_by h items
+  pub fits : length items ≤ room

@@ -1,0 +1,51 @@
+-- What a pass knows, and what each call makes of that.
+use Rattle.std.specs.Prelude.{◌≡◌, ℕ, ◌+◌, ◌*◌, ◌<◌, List, [], ◌∷◌, ◌++◌}
+use Rattle.llb_ready.specs.declared.hand.Hand.{Hand}
+
+-- A pass has a part num/den of the whole, knows the queue's room, and has put and taken these numbers.
+abbrev pub hand : ℕ → ℕ → ℕ → List ℕ → List ℕ → Hand
+hand num den room put taken = record { num = num; den = den; room = room; put = put; taken = taken }
+
+-- A pass that may put and take has a part above zero.
+abbrev pub HasPart : Hand → Type 0
+HasPart v = (0 < v.num) × (0 < v.den)
+
+-- A pass is whole if it has all parts.
+abbrev pub HasAll : Hand → Type 0
+HasAll v = v.num ≡ v.den
+
+-- A pass that puts and takes has the same part afterwards.
+abbrev pub SamePart : Hand → Hand → Type 0
+SamePart old new = (new.num ≡ old.num) × (new.den ≡ old.den)
+
+-- A queue begins with one pass, which is whole, and has put and taken nothing.
+abbrev pub first_hand : ℕ → Hand
+first_hand room = hand 1 1 room [] []
+
+-- While a queue is made, its pass comes to know of room for one number more.
+abbrev pub widened : Hand → Hand
+widened v = hand v.num v.den (v.room + 1) v.put v.taken
+
+-- A number that a pass puts stands behind those that it put before.
+abbrev pub with_put : Hand → ℕ → Hand
+with_put v x = hand v.num v.den v.room (v.put ++ x ∷ []) v.taken
+
+-- A number that a pass takes stands behind those that it took before.
+abbrev pub with_taken : Hand → ℕ → Hand
+with_taken v x = hand v.num v.den v.room v.put (v.taken ++ x ∷ [])
+
+-- A pass that is cut in two keeps half of its part, and its lists.
+abbrev pub halved : Hand → Hand
+halved v = hand v.num (2 * v.den) v.room v.put v.taken
+
+-- The pass that is cut off gets the other half, and has put and taken nothing.
+abbrev pub other_half : Hand → Hand
+other_half v = hand v.num (2 * v.den) v.room [] []
+
+-- Two passes that are joined have both parts, and what the first put and took is followed by what the other did.
+abbrev pub together : Hand → Hand → Hand
+together v w = hand (v.num * w.den + w.num * v.den) (v.den * w.den) v.room (v.put ++ w.put) (v.taken ++ w.taken)
+
+-- A pass that was joined to another one has no part any more.
+abbrev pub spent : Hand
+spent = hand 0 1 0 [] []

@@ -1,0 +1,123 @@
+//! The queue and its passes. A queue begins with one pass, the whole; a thread's part is cut from it, and comes back to it before
+//! the queue is closed.
+
+ghost use Rattle.std.specs.Prelude.{◌≡◌, ◌≤◌, ◌+◌, ℕ, List, length, IfOk, IfErr, IfSome, IfNone, OnOk, MatchResult, MatchOption};
+ghost use Rattle.crossbeam_queue.specs.Passes.{view};
+ghost use Rattle.llb_ready.specs.Hands.{HasPart, SamePart, first_hand, with_put, with_taken, halved, other_half, together};
+ghost use Rattle.llb_ready.specs.Conserved.{times, IsConserved, HasRoom, HasNoRoom, HasTakenAll, HasLeft};
+
+use crate::fault::{Full, ReadyFault};
+use crate::hand::Hand;
+use crate::rule::{Fair, Halves, Joins, Learns, Puts, Takes, Widens};
+use crossbeam_queue::{Pass, RuledArrayQueue};
+use std::alloc::Global;
+use std::sync::Wait;
+
+/// A queue of numbers that threads share by `&`, with room for 1 to 65,536 numbers.
+#[derive(Drop)]
+pub struct ReadyQueue {
+    queue: RuledArrayQueue<u32, Hand, Fair>,
+}
+
+/// The right of one thread to put and take. It has no bytes, and in clauses it knows its part of the whole, and what was put and
+/// taken by it.
+#[derive(Drop)]
+pub struct ReadyPass {
+    pass: Pass<u32, Hand>,
+    ghost part: { HasPart (view pass) },
+}
+
+impl ReadyQueue {
+    ghost use Rattle.llb_ready.specs.Passes.{hand_of, IsReadyPassOf, capacity_of, IsWhole};
+
+    /// A queue with room for `n` numbers, 1 to 65,536, and its whole pass: part 1/1, nothing put, nothing taken. 145: memory was
+    /// refused.
+    pub fn new(alloc: Global, n: u32) -> Result<(ReadyQueue, ReadyPass), ReadyFault>
+        requires { (1 ≤ n) × (n ≤ 65536) }
+        ensures capacity { IfOk result (λ r. capacity_of r.0 ≡ n) }
+        ensures pass { IfOk result (λ r. IsReadyPassOf r.0 r.1) }
+        ensures hand { IfOk result (λ r. hand_of r.1 ≡ first_hand n) }
+    {
+        let (queue, whole) = RuledArrayQueue::ruled(alloc, n as usize)?;
+        let mut pass = whole;
+        // The rule comes to know the room, by one number at a time. This changes nothing in the queue.
+        for _i in 0..n {
+            drop(queue.another::<Widens>(&mut pass));
+        }
+        Ok((ReadyQueue { queue }, ReadyPass { pass }))
+    }
+
+    /// Cuts a pass's part in two. The first keeps its lists; the second is new, with nothing put and nothing taken.
+    pub fn split(&self, pass: ReadyPass) -> (ReadyPass, ReadyPass)
+        requires { IsReadyPassOf self.now pass }
+        ensures passes { IsReadyPassOf self.now result.0 × IsReadyPassOf self.now result.1 }
+        ensures hands { (hand_of result.0 ≡ halved (hand_of pass)) × (hand_of result.1 ≡ other_half (hand_of pass)) }
+    {
+        let ReadyPass { pass } = pass;
+        let mut first = pass;
+        let second = self.queue.another::<Halves>(&mut first);
+        (ReadyPass { pass: first }, ReadyPass { pass: second })
+    }
+
+    /// Joins two passes: their parts are added, and behind what the first put and took comes what the other one did.
+    pub fn join(&self, pass: ReadyPass, other: ReadyPass) -> ReadyPass
+        requires { IsReadyPassOf self.now pass × IsReadyPassOf self.now other }
+        ensures pass { IsReadyPassOf self.now result }
+        ensures hand { hand_of result ≡ together (hand_of pass) (hand_of other) }
+    {
+        let ReadyPass { pass } = pass;
+        let ReadyPass { pass: other } = other;
+        let mut first = pass;
+        self.queue.absorb::<Joins>(&mut first, other);
+        ReadyPass { pass: first }
+    }
+
+    /// Puts a number at the back. 146 with the number: at one moment of the call the queue was full; nothing was put.
+    pub fn put<R: Wait>(&self, rt: &R, pass: &mut ReadyPass, v: u32) -> Result<(), Full>
+        requires { IsReadyPassOf self.now pass.old }
+        ensures pass { IsReadyPassOf self.now pass.new }
+        ensures part { SamePart (hand_of pass.old) (hand_of pass.new) }
+        ensures ok { OnOk result (hand_of pass.new ≡ with_put (hand_of pass.old) v) }
+        ensures full { IfErr result (λ e. (e.0 ≡ v) × (hand_of pass.new ≡ hand_of pass.old)) }
+
+        // To the whole pass the queue is full just where it has put as many numbers more than it took as there is room for.
+        ensures whole { let before = hand_of pass.old in IsWhole pass.old → MatchResult result (λ _. HasRoom before) (λ _. HasNoRoom before) }
+    {
+        let ReadyPass { pass } = pass;
+        match self.queue.push_as::<Puts, R>(rt, pass, v) {
+            Ok(()) => Ok(()),
+            Err(x) => Err(Full(x)),
+        }
+    }
+
+    /// Takes the number at the front. `None`: at one moment of the call the queue was empty.
+    pub fn take<R: Wait>(&self, rt: &R, pass: &mut ReadyPass) -> Option<u32>
+        requires { IsReadyPassOf self.now pass.old }
+        ensures pass { IsReadyPassOf self.now pass.new }
+        ensures part { SamePart (hand_of pass.old) (hand_of pass.new) }
+        ensures some { IfSome result (λ v. hand_of pass.new ≡ with_taken (hand_of pass.old) v) }
+        ensures none { IfNone result (hand_of pass.new ≡ hand_of pass.old) }
+
+        // To the whole pass the queue is empty just where it took all that it put; else it gets one that was put more often than taken.
+        ensures whole { let before = hand_of pass.old in IsWhole pass.old → MatchOption result (HasTakenAll before) (HasLeft before) }
+    {
+        let ReadyPass { pass } = pass;
+        self.queue.pop_as::<Takes, R>(rt, pass)
+    }
+
+    /// Takes the whole pass, and drops the queue with what is present in it. Each number was put as often as it was taken and is
+    /// present.
+    pub fn close(self, pass: ReadyPass)
+        requires pass { IsReadyPassOf self pass }
+        requires whole { IsWhole pass }
+        ensures conserved { (present : List ℕ) × IsConserved (hand_of pass) present × (length present ≤ capacity_of self) }
+        ensures taken { (x : ℕ) → times x (hand_of pass).taken ≤ times x (hand_of pass).put }
+        ensures within { let v = hand_of pass in (length v.taken ≤ length v.put) × (length v.put ≤ length v.taken + capacity_of self) }
+    {
+        let ReadyPass { pass } = pass;
+        let mut whole = pass;
+        self.queue.learn_as::<Learns>(&mut whole);
+        drop(whole);
+        drop(self);
+    }
+}

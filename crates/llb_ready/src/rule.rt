@@ -1,0 +1,88 @@
+//! The rule of the queue, and what each kind of step does to a pass and tells of the queue. Nothing here runs.
+
+use crate::hand::Hand;
+use crossbeam_queue::protocol::{Join, Lesson, Outcome, Protocol, Split};
+
+/// The rule: what was put is what was taken and what is present, and the passes are parts of one whole.
+pub(crate) struct Fair;
+
+impl Protocol<u32, Hand> for Fair {
+    ghost use Rattle.llb_ready.specs.Hands.{first_hand};
+    ghost use Rattle.llb_ready.specs.Balance.{IsBalanced};
+
+    ghost holds = { IsBalanced };
+
+    ghost first = { first_hand 0 };
+}
+
+/// The whole pass comes to know of room for one number more.
+pub(crate) struct Widens;
+
+impl Split<Hand> for Widens {
+    ghost use Rattle.llb_ready.specs.Hands.{widened, spent};
+
+    ghost left = { widened };
+
+    ghost right = { λ _. spent };
+}
+
+/// A pass is cut in two.
+pub(crate) struct Halves;
+
+impl Split<Hand> for Halves {
+    ghost use Rattle.llb_ready.specs.Hands.{halved, other_half};
+
+    ghost left = { halved };
+
+    ghost right = { other_half };
+}
+
+/// Two passes become one.
+pub(crate) struct Joins;
+
+impl Join<Hand> for Joins {
+    ghost use Rattle.llb_ready.specs.Hands.{together, spent};
+
+    ghost both = { together };
+
+    ghost spent = { spent };
+}
+
+/// A number is put.
+pub(crate) struct Puts;
+
+impl Outcome<u32, Hand> for Puts {
+    ghost use Rattle.llb_ready.specs.Conserved.{GainsPut};
+
+    ghost then = { GainsPut };
+}
+
+/// A number is taken.
+pub(crate) struct Takes;
+
+impl Outcome<u32, Hand> for Takes {
+    ghost use Rattle.llb_ready.specs.Conserved.{GainsTaken};
+
+    ghost then = { GainsTaken };
+}
+
+impl Lesson<u32, Hand> for Puts {
+    ghost use Rattle.llb_ready.specs.Conserved.{Knows};
+
+    ghost fact = { Knows };
+}
+
+impl Lesson<u32, Hand> for Takes {
+    ghost use Rattle.llb_ready.specs.Conserved.{Knows};
+
+    ghost fact = { Knows };
+}
+
+/// The whole pass learns what is present.
+pub(crate) struct Learns;
+
+impl Lesson<u32, Hand> for Learns {
+    ghost use Rattle.llb_ready.specs.Conserved.{Knows};
+
+    ghost fact = { Knows };
+}
