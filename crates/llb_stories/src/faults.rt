@@ -1,7 +1,10 @@
-//! What faults of calls on a board print: what stands behind the word `fault` in a refusal.
+//! What faults of calls on a board print: what stands behind the word `fault` in a refusal, and those of an opening.
 
-use llb_board::{ClaimFault, SettleFault, StepFault};
-use llb_cache::{Key, Mode};
+use super::runs::IN_A_ROW;
+use super::written::{graph_from, key_of};
+use llb_board::{ClaimFault, OpenFault, SettleFault, StepFault};
+use llb_cache::{Caches, Mode};
+use llb_loader::{Graph, Locals};
 use llb_wire::Text;
 use std::alloc::{AllocError, Global};
 use std::fmt::Display;
@@ -24,14 +27,11 @@ fn print<T: Display>(alloc: Global, faults: &[T], wanted: &str) -> bool {
     }
 }
 
-fn held(alloc: Global, id: &str) -> Option<ClaimFault> {
-    let id = Text::from_str(alloc, id).ok()?;
-    let key = Key {
-        id,
-        seed: None,
-        mode: Mode::Locked,
-    };
-    Some(ClaimFault::Held(key))
+fn held(alloc: Global, id: &'static str) -> Option<ClaimFault> {
+    match key_of(alloc, &(id, Mode::Locked, None)) {
+        Ok(key) => Some(ClaimFault::Held(key)),
+        Err(_) => None,
+    }
 }
 
 #[test]
@@ -67,4 +67,42 @@ fn faults_of_calls_on_a_board(rt: HostRuntime) {
         SettleFault::NotFinished,
     ];
     assert!(rt; print(alloc, &settles, "131\n136\n138\n"));
+}
+
+// Which of the faults of an opening.
+#[derive(Clone, Copy)]
+enum Refusal {
+    MissingLocal(&'static str),
+    Workers,
+    Memory,
+}
+
+fn fault_of(alloc: Global, refusal: Refusal, graph: Graph) -> Option<OpenFault> {
+    let (locals, caches) = (Locals::new(alloc), Caches::new(alloc));
+    match refusal {
+        Refusal::Workers => Some(OpenFault::Workers(graph, locals, caches)),
+        Refusal::Memory => Some(OpenFault::Memory(graph, locals, caches)),
+        Refusal::MissingLocal(name) => match Text::from_str(alloc, name) {
+            Ok(name) => Some(OpenFault::MissingLocal(name, graph, locals, caches)),
+            Err(_) => None,
+        },
+    }
+}
+
+fn is_printed(alloc: Global, refusal: Refusal, wanted: &str) -> bool {
+    match graph_from(alloc, IN_A_ROW) {
+        Some(graph) => match fault_of(alloc, refusal, graph) {
+            Some(fault) => print(alloc, &[fault], wanted),
+            None => false,
+        },
+        None => false,
+    }
+}
+
+#[test]
+fn a_refused_opening_prints_its_number(rt: HostRuntime) {
+    let alloc = rt.alloc();
+    assert!(rt; is_printed(alloc, Refusal::Workers, "122\n"));
+    assert!(rt; is_printed(alloc, Refusal::Memory, "123\n"));
+    assert!(rt; is_printed(alloc, Refusal::MissingLocal("src"), "121 src\n"));
 }
