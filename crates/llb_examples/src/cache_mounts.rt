@@ -131,20 +131,6 @@ fn caches_are_taken_one_key_once_and_judged_in_order(rt: HostRuntime) {
     }
 }
 
-// The shared cache `a` at `/c`, and at `/d` with its number written, which the assembler leaves out.
-const SHARED_WRITTEN: &str = "raw 1262\
-    0a060a0474727565\
-    120e08ffffffffffffffffff011a012f\
-    122208ffffffffffffffffff011a022f6320ffffffffffffffffff013003a201030a0161\
-    122408ffffffffffffffffff011a022f6420ffffffffffffffffff013003a201050a01611000";
-
-#[test]
-fn a_number_that_is_written_makes_no_other_key(rt: HostRuntime) {
-    let alloc = rt.alloc();
-    let told = linked(alloc, &[("A", SHARED_WRITTEN), ("T", NAMES_A)]);
-    assert!(rt; is_told(alloc, told, "89 0 CacheTwice"));
-}
-
 #[test]
 fn that_words_are_a_script_comes_behind_the_caches(rt: HostRuntime) {
     let alloc = rt.alloc();

@@ -1,6 +1,6 @@
 //! Executions in graphs: what they give, and by which feature or rule others are refused. They are told as graphs are.
 
-use super::graphs::{MAKES_A, NAMES_A, linked, said_of};
+use super::graphs::{MAKES_A, linked, said_of};
 use super::told::is_told;
 use llb_loader::LoadFault;
 use std::alloc::{AllocError, Global};
@@ -123,9 +123,6 @@ const CASES: &[Case] = &[
     (NO_SUCH, "", &[ROOT], "", "89 0 Script 71 nosuch"),
 ];
 
-// An empty cwd that is written, which the assembler leaves out.
-const EMPTY_CWD: &str = "raw 121a0a080a04747275651a00120e08ffffffffffffffffff011a012f";
-
 #[test]
 fn an_exec_is_taken_or_refused_by_its_feature_or_its_rule(rt: HostRuntime) {
     let alloc = rt.alloc();
@@ -135,8 +132,6 @@ fn an_exec_is_taken_or_refused_by_its_feature_or_its_rule(rt: HostRuntime) {
             "{case:?}"
         );
     }
-    let told = linked(alloc, &[("A", EMPTY_CWD), ("T", NAMES_A)]);
-    assert!(rt; is_told(alloc, told, RUNS_TRUE));
 }
 
 // The mounts of `true`.

@@ -21,7 +21,11 @@ mod glob;
 #[cfg(test)]
 mod graphs;
 #[cfg(test)]
+mod keys;
+#[cfg(test)]
 mod loader;
+#[cfg(test)]
+mod loader_ops;
 #[cfg(test)]
 mod locals;
 #[cfg(test)]
@@ -46,6 +50,8 @@ mod plain_ops;
 mod scripts;
 #[cfg(test)]
 mod sharing;
+#[cfg(test)]
+mod spelled;
 #[cfg(test)]
 mod told;
 #[cfg(test)]
