@@ -5,11 +5,15 @@
 #[cfg(test)]
 mod applet;
 #[cfg(test)]
+mod applet_views;
+#[cfg(test)]
 mod asm;
 #[cfg(test)]
 mod cache;
 #[cfg(test)]
 mod cache_mounts;
+#[cfg(test)]
+mod deeds;
 #[cfg(test)]
 mod execs;
 #[cfg(test)]

@@ -66,15 +66,19 @@ const OPS: &[(&str, &str)] = &[
     ),
 ];
 
+// The number of the first row that is answered otherwise; past the end where there is none.
+fn first_other_op(alloc: Global, rows: &[(&str, &str)]) -> usize {
+    for (at, (inside, wanted)) in rows.iter().enumerate() {
+        if !is_told(alloc, said_of(alloc, inside), wanted) {
+            return at;
+        }
+    }
+    rows.len()
+}
+
 #[test]
 fn an_op_is_taken_or_refused_by_its_feature_or_its_rule(rt: HostRuntime) {
-    let alloc = rt.alloc();
-    for (inside, wanted) in OPS {
-        assert!(rt;
-            is_told(alloc, said_of(alloc, inside), wanted),
-            "{wanted}: {inside:?}"
-        );
-    }
+    assert_eq!(rt; first_other_op(rt.alloc(), OPS), OPS.len());
 }
 
 // The fields of a copy from the empty tree to the empty tree, and what is said of it.
@@ -101,13 +105,17 @@ fn said_of_copy(alloc: Global, fields: &str) -> Result<String, LoadFault> {
     said_of(alloc, op.as_str())
 }
 
+// The number of the first row that is answered otherwise; past the end where there is none.
+fn first_other_copy(alloc: Global, rows: &[(&str, &str)]) -> usize {
+    for (at, (fields, wanted)) in rows.iter().enumerate() {
+        if !is_told(alloc, said_of_copy(alloc, fields), wanted) {
+            return at;
+        }
+    }
+    rows.len()
+}
+
 #[test]
 fn a_copy_is_taken_without_what_is_refused_of_it(rt: HostRuntime) {
-    let alloc = rt.alloc();
-    for (fields, wanted) in COPIES {
-        assert!(rt;
-            is_told(alloc, said_of_copy(alloc, fields), wanted),
-            "{wanted}: {fields:?}"
-        );
-    }
+    assert_eq!(rt; first_other_copy(rt.alloc(), COPIES), COPIES.len());
 }
