@@ -43,7 +43,25 @@ fn on_one_file(alloc: Global) -> Option<Stepper> {
     }
 }
 
-// How a conversation within bounds ends on one file, where it prints this.
+// How a conversation within bounds ends, where it prints this.
+fn ended_on(
+    alloc: Global,
+    stepper: &mut Stepper,
+    commands: &str,
+    bounds: (usize, u64),
+    wanted: &str,
+) -> Option<Result<(), SessionFault>> {
+    let mut lines = commands.as_bytes();
+    let mut out: Vec<u8> = Vec::new(alloc);
+    let end = converse(alloc, stepper, &mut lines, &mut out, bounds.0, bounds.1);
+    if out.as_slice() == wanted.as_bytes() {
+        Some(end)
+    } else {
+        None
+    }
+}
+
+// The same on one file.
 fn ended(
     alloc: Global,
     commands: &str,
@@ -51,16 +69,9 @@ fn ended(
     reads: u64,
     wanted: &str,
 ) -> Option<Result<(), SessionFault>> {
-    let Some(mut stepper) = on_one_file(alloc) else {
-        return None;
-    };
-    let mut lines = commands.as_bytes();
-    let mut out: Vec<u8> = Vec::new(alloc);
-    let end = converse(alloc, &mut stepper, &mut lines, &mut out, limit, reads);
-    if out.as_slice() == wanted.as_bytes() {
-        Some(end)
-    } else {
-        None
+    match on_one_file(alloc) {
+        Some(mut stepper) => ended_on(alloc, &mut stepper, commands, (limit, reads), wanted),
+        None => None,
     }
 }
 
@@ -160,10 +171,7 @@ impl Write for Counts<'_> {
 }
 
 // Whether each line is answered before the next is waited for.
-fn is_conversation(alloc: Global, commands: &str, wanted: &str) -> bool {
-    let Some(mut stepper) = on_one_file(alloc) else {
-        return false;
-    };
+fn is_conversation(alloc: Global, stepper: &mut Stepper, commands: &str, wanted: &str) -> bool {
     let answered = Cell::new(0);
     let mut lines = Waits {
         bytes: commands.as_bytes(),
@@ -174,14 +182,19 @@ fn is_conversation(alloc: Global, commands: &str, wanted: &str) -> bool {
         text: Vec::new(alloc),
         answered: &answered,
     };
-    match converse(alloc, &mut stepper, &mut lines, &mut out, LIMIT, READS) {
-        Ok(()) => out.text.as_slice() == wanted.as_bytes(),
-        Err(_) => false,
+    let end = converse(alloc, stepper, &mut lines, &mut out, LIMIT, READS);
+    end.is_ok() && out.text.as_slice() == wanted.as_bytes()
+}
+
+fn is_held(alloc: Global, commands: &str, wanted: &str) -> bool {
+    match on_one_file(alloc) {
+        Some(mut stepper) => is_conversation(alloc, &mut stepper, commands, wanted),
+        None => false,
     }
 }
 
 #[test]
 fn each_line_is_answered_before_the_next_is_waited_for(rt: HostRuntime) {
     let wanted = "1 claim 0 0 -> file 1\n2 step 0 -> acted 0\nback 1\n";
-    assert!(rt; is_conversation(rt.alloc(), "next\nbreak fail\nnext\nback\n", wanted));
+    assert!(rt; is_held(rt.alloc(), "next\nbreak fail\nnext\nback\n", wanted));
 }

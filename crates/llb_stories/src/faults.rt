@@ -9,7 +9,7 @@ use llb_wire::Text;
 use std::alloc::Global;
 use std::fmt::Display;
 
-fn prints<T: Display>(alloc: Global, fault: &T, wanted: &str) -> bool {
+pub fn prints<T: Display>(alloc: Global, fault: &T, wanted: &str) -> bool {
     match fault.to_string(alloc) {
         Ok(text) => text.as_str() == wanted,
         Err(_) => false,

@@ -3,6 +3,7 @@
 use super::cached::{LOCKED_A_AND_TRUE, LOCKED_B, LOCKED_TRUE, PRIVATE_A, PRIVATE_B, SHARED_TRUE};
 use super::definitions::{MERGES_0_1, RESULT_2};
 use super::executions::{MERGES, OLD_AND_F};
+use super::faults::prints;
 use super::instances::{HAS_A, K_LOCKED, K_SHARED};
 use super::runs::D_ON_SECOND;
 use super::told::{Call, answered, are_done};
@@ -10,7 +11,6 @@ use super::written::{CacheRow, Definition, Local, board_of, graph_from, locals_o
 use llb_board::{Board, Event, OpenFault};
 use llb_cache::{Caches, Many};
 use llb_loader::Graph;
-use llb_wire::Text;
 use std::alloc::Global;
 
 // Numbers of workers, and how many vertices the graph has that comes back, where the number is refused.
@@ -56,23 +56,21 @@ const P: Local = ("p", "d 0755 0 0 /\n");
 
 const Q: Local = ("q", "d 0755 0 0 /\n");
 
-// Local trees, and the name of the one that is missing, before the number of workers is looked at, which is 0.
-const MISSING: &[(&[Local], &str)] = &[(&[], "p"), (&[Q], "p"), (&[P, P], "q"), (&[Q, P], "none")];
-
-fn missing(alloc: Global, given: &[Local]) -> Option<Text> {
-    match graph_from(alloc, MERGES) {
-        Some(graph) => match opened(alloc, graph, given, 0) {
-            Err(OpenFault::MissingLocal(name, _, _, _)) => Some(name),
-            _ => None,
-        },
-        None => None,
-    }
-}
+// Local trees, and why a board of no worker is not opened: the one that is missing comes before the number of workers.
+const MISSING: &[(&[Local], &str)] = &[
+    (&[], "121 p"),
+    (&[Q], "121 p"),
+    (&[P, P], "121 q"),
+    (&[Q, P], "122"),
+];
 
 fn is_missing(alloc: Global, given: &[Local], wanted: &str) -> bool {
-    match missing(alloc, given) {
-        Some(name) => name.as_str() == wanted,
-        None => wanted == "none",
+    match graph_from(alloc, MERGES) {
+        Some(graph) => match opened(alloc, graph, given, 0) {
+            Err(fault) => prints(alloc, &fault, wanted),
+            Ok(_) => false,
+        },
+        None => false,
     }
 }
 
