@@ -17,6 +17,8 @@ mod definitions;
 #[cfg(test)]
 mod executions;
 #[cfg(test)]
+mod farm;
+#[cfg(test)]
 mod faults;
 #[cfg(test)]
 mod instances;
@@ -24,6 +26,8 @@ mod instances;
 mod landings;
 #[cfg(test)]
 mod openings;
+#[cfg(test)]
+mod queue;
 #[cfg(test)]
 mod runs;
 #[cfg(test)]

@@ -72,6 +72,19 @@ pub fn graph_from(alloc: Global, entries: &[&str]) -> Option<Graph> {
     }
 }
 
+// A board over the definition that a text is assembled to, without local trees.
+pub fn board_from(alloc: Global, text: &str, workers: u32) -> Option<Board> {
+    let graph = graph_in(alloc, text)?;
+    Board::open(
+        alloc,
+        graph,
+        Locals::new(alloc),
+        Caches::new(alloc),
+        workers,
+    )
+    .ok()
+}
+
 // Adds a local tree; one whose text is refused is missing.
 fn give(alloc: Global, locals: &mut Locals, local: &Local) -> Option<()> {
     let tree = read_tree(alloc, local.1.as_bytes()).ok()?;
