@@ -1,4 +1,4 @@
--- What lies under the lock may go to another thread, and a worker's tally too.
+-- What lies under the lock may go to another thread, and what a worker has of its own too.
 use denote.Builtin.{u32}
 use denote.Hole.{as_row}
 use denote.Param.Send.{IsSend, IsSync, sendable}
@@ -16,10 +16,18 @@ use Rattle.std.specs.contracts.sync.ledger.Share as share
 use Rattle.std.specs.declared.sync.ledger.Ledger as ledger
 use Rattle.std.specs.contracts.sync.Mutex as mutex
 use Rattle.llb_board.proofs.Crossing.{board_crosses}
+use Rattle.llb_ready.proofs.queue.ReadyPass.TheSendSync as pass_crosses
+use Rattle.llb_ready.proofs.queue.ReadyQueue.TheSendSync as queue_crosses
+use Rattle.llb_ready.specs.contracts.queue.ReadyPass as pass
+use Rattle.llb_ready.specs.contracts.queue.ReadyQueue as queue
 use Rattle.llb_board.specs.contracts.board.Board as board
 use Rattle.llb_work.specs.declared.noted.Gated as gated
 use Rattle.llb_work.specs.contracts.noted.Tally as tally
 use Rattle.llb_work.specs.contracts.desk.Desk as desk
+use Rattle.llb_work.specs.contracts.worker.Kit as kit
+
+pub queue_shared : IsSync queue.the_row
+queue_shared = queue_crosses.the_sync
 
 pub number : IsSend u32
 number = search sendable
@@ -27,8 +35,18 @@ number = search sendable
 board_send : IsSend (as_row board.the_field)
 board_send = as_row_send board.the_field board_crosses
 
+module _ (T : RattleType) (g' : ledger.Ghosts T.Denot) where
+  tally_crosses : IsSend (tally.the_row T g')
+  tally_crosses = declared_send (tally.the_type T g') (search sendable, (as_row_send (share.the_field T g') (share_crosses.the_send T g'), tt))
+
+  pub kit_crosses : IsSend (kit.the_row T g')
+  kit_crosses = declared_send (kit.the_type T g') (
+    tally_crosses,
+    (pass_crosses.the_send, (search (crosses, sendable) depth 20, tt)),
+  )
+
 module _ (T : RattleType) (g : gated.Ghosts T.Denot) (g' : ledger.Ghosts T.Denot) where
-  pub desk_crosses : IsSend (desk.the_row T g g')
+  desk_crosses : IsSend (desk.the_row T g g')
   desk_crosses = declared_send (desk.the_type T g g') (
     board_send,
     (
@@ -40,17 +58,14 @@ module _ (T : RattleType) (g : gated.Ghosts T.Denot) (g' : ledger.Ghosts T.Denot
     ),
   )
 
-  pub tally_crosses : IsSend (tally.the_row T g g')
-  tally_crosses = declared_send (tally.the_type T g g') (search sendable, (as_row_send (share.the_field T g') (share_crosses.the_send T g'), tt))
-
   pub lock_crosses : IsSync (mutex.the_row (desk.the_row T g g'))
   lock_crosses = search (desk_crosses, crosses, sendable) depth 20
 
 -- what a closure takes with it, each of which may go
-pub six_cross : (ν : Sym) (A B C D E F : RattleType) → IsSend A → IsSend B → IsSend C → IsSend D → IsSend E → IsSend F
-    → IsSend (TupleAt ν (A ∷ B ∷ C ∷ D ∷ E ∷ F ∷ []))
-six_cross ν A B C D E F a b c d e f =
-    declared_send (type_at ν (A ∷ B ∷ C ∷ D ∷ E ∷ F ∷ [])) (
+pub seven_cross : (ν : Sym) (A B C D E F G : RattleType) → IsSend A → IsSend B → IsSend C → IsSend D → IsSend E → IsSend F → IsSend G
+    → IsSend (TupleAt ν (A ∷ B ∷ C ∷ D ∷ E ∷ F ∷ G ∷ []))
+seven_cross ν A B C D E F G a b c d e f g =
+    declared_send (type_at ν (A ∷ B ∷ C ∷ D ∷ E ∷ F ∷ G ∷ [])) (
       as_row_send (row_field A) a,
       (
         as_row_send (row_field B) b,
@@ -60,7 +75,10 @@ six_cross ν A B C D E F a b c d e f =
             as_row_send (row_field D) d,
             (
               as_row_send (row_field E) e,
-              (as_row_send (row_field F) f, tt),
+              (
+                as_row_send (row_field F) f,
+                (as_row_send (row_field G) g, tt),
+              ),
             ),
           ),
         ),

@@ -4,5 +4,7 @@ pub mod Ending
 pub mod Afters
 pub mod Workers
 pub mod Gathers
+pub mod Fractions
+pub mod Keeping
 pub mod Ends
 pub mod Crews

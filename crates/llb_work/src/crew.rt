@@ -1,124 +1,59 @@
-//! One thread for each worker round one lock: how they are started, joined, and what they made is gathered.
+//! One thread for each worker round one lock, in a scope of their own.
 
-ghost use Rattle.std.specs.Prelude.{◌≡◌, ◌≤◌, ℕ, sum, length, vec_len, vec_capacity, true, IsTrue};
+ghost use Rattle.std.specs.Prelude.{◌≡◌, ◌≤◌, ℕ, sum, length, vec_len, vec_capacity, true, Some, IsTrue};
+ghost use Rattle.llb_ready.specs.Passes.{IsReadyPassOf, IsWhole};
 ghost use Rattle.llb_work.specs.Crew.{IsAfter, Counts};
+ghost use Rattle.llb_work.specs.Passes.{IsUncut};
 ghost use Rattle.llb_work.specs.RunEnds.{may_be};
 
 use crate::desk::{Desk, make_desk};
-use crate::noted::{Gated, Noted, Tally, make_tally};
-use crate::worker::serve;
+use crate::hand_out::all_serve;
+use crate::noted::{Gated, Noted};
+use crate::post::Post;
+use crate::supply::{Supply, make_supply, put_ready};
 use llb_board::{Board, Gate};
+use llb_ready::{ReadyPass, ReadyQueue};
 use std::alloc::Global;
 use std::sync::ledger::{Blank, Share};
 use std::sync::{Mutex, Wait};
 use std::thread;
-use std::thread::{JoinHandle, Scope, Threads};
+use std::thread::Threads;
 
-/// A worker's part: in a thread of its own, or done where none could be started.
-#[derive(Drop)]
-pub(crate) enum Part<S: Gated> {
-    Thread(JoinHandle<Tally<S>>),
-    Here(Tally<S>),
-}
-
-impl<S: Gated> Part<S> {
-    fn join<R: Threads>(self, rt: &R) -> Tally<S> {
-        match self {
-            Part::Thread(handle) => handle.join(rt),
-            Part::Here(mine) => mine,
-        }
-    }
-}
-
-// Starts a thread for each worker, joins them all, and gathers what they made. Where a thread can't be started, that is noted, and the
-// worker's part is done here.
-fn all_serve<'s, E, S: Gated + Send + Sync, G: Gate + Sync, R: Threads + Wait + Sync>(
-    rt: &'s R,
-    alloc: Global,
-    scope: &Scope<'s, E>,
-    desk: &'s Mutex<Desk<S>>,
-    gate: &'s G,
-    n: u32,
-    all: Share<S>,
-    running: Vec<Part<S>>,
-) -> (Share<S>, [u64; 64])
-    requires stop { (w v : ℕ) → IsTrue (G.may_stop w v) → S.may_stop w v ≡ true }
-    requires parts { all.parts ≡ n }
-    requires amount { all.amount ≡ 0 }
-    requires few { n ≤ 64 }
-    requires room { (vec_len running ≡ 0) × (n ≤ vec_capacity running) }
-    ensures parts { result.0.parts ≡ n }
-    ensures amount { result.0.amount ≡ sum result.1 }
-{
-    let mut all = all;
-    let mut running = running;
-    for w in 0..n {
-        let mine = make_tally(all.split_off(1, 0));
-        let started = scope.spawn(
-            move || -> Tally<S>
-                requires { (w v : ℕ) → IsTrue (G.may_stop w v) → S.may_stop w v ≡ true }
-            { serve(rt, alloc, desk, gate, w, mine) },
-        );
-        match started {
-            Ok(handle) => running.push_reserved(Part::Thread(handle)),
-            Err(refused) => {
-                desk.lock(rt).note(Noted::Thread);
-                running.push_reserved(Part::Here((refused.value)()));
-            }
-        }
-    }
-    gathered(rt, all, running)
-}
-
-// Joins the parts in their order.
-fn gathered<S: Gated, R: Threads>(
-    rt: &R,
-    all: Share<S>,
-    running: Vec<Part<S>>,
-) -> (Share<S>, [u64; 64])
-    requires empty { (all.parts ≡ 0) × (all.amount ≡ 0) }
-    requires few { vec_len running ≤ 64 }
-    ensures parts { result.0.parts ≡ vec_len running }
-    ensures amount { result.0.amount ≡ sum result.1 }
-{
-    let mut all = all;
-    let mut made = [0u64; 64];
-    let mut at = 0usize;
-    for part in running {
-        let Tally { made: some, share } = part.join(rt);
-        all.merge(share);
-        made[at] = some;
-        at += 1;
-    }
-    (all, made)
-}
-
-// The same, in a scope of its own.
+// All workers, in a scope of their own.
 fn in_scope<'x, S: Gated + Send + Sync, G: Gate + Sync, R: Threads + Wait + Sync>(
     rt: &'x R,
     alloc: Global,
     desk: &'x Mutex<Desk<S>>,
+    queue: &'x ReadyQueue,
     gate: &'x G,
     n: u32,
     all: Share<S>,
-    running: Vec<Part<S>>,
-) -> (Share<S>, [u64; 64])
+    pass: ReadyPass,
+    lists: Vec<Vec<u32>>,
+    posts: Vec<Post<S>>,
+) -> (Share<S>, [u64; 64], ReadyPass)
     requires stop { (w v : ℕ) → IsTrue (G.may_stop w v) → S.may_stop w v ≡ true }
-    requires parts { all.parts ≡ n }
-    requires amount { all.amount ≡ 0 }
-    requires few { n ≤ 64 }
-    requires room { (vec_len running ≡ 0) × (n ≤ vec_capacity running) }
-    ensures parts { result.0.parts ≡ n }
-    ensures amount { result.0.amount ≡ sum result.1 }
+    requires parts { (all.parts ≡ n) × (all.amount ≡ 0) × (n ≤ 64) }
+    requires room { (vec_len lists ≡ n) × (vec_len posts ≡ 0) × (n ≤ vec_capacity posts) }
+    requires pass { IsUncut queue.now pass }
+    ensures parts { (result.0.parts ≡ n) × (result.0.amount ≡ sum result.1) }
+    ensures pass { IsReadyPassOf queue.now result.2 × IsWhole result.2 }
 {
     thread::scope(
         thread::scope_env(),
         rt,
-        move |scope| -> (Share<S>, [u64; 64])
+        move |scope| -> (Share<S>, [u64; 64], ReadyPass)
             requires stop { (w v : ℕ) → IsTrue (G.may_stop w v) → S.may_stop w v ≡ true }
-            requires all { (all.parts ≡ n) × (all.amount ≡ 0) × (n ≤ 64) × (vec_len running ≡ 0) × (n ≤ vec_capacity running) }
-            ensures { (result.0.parts ≡ n) × (result.0.amount ≡ sum result.1) }
-        { all_serve(rt, alloc, scope, desk, gate, n, all, running) },
+            requires parts { (all.parts ≡ n) × (all.amount ≡ 0) × (n ≤ 64) }
+            requires room { (vec_len lists ≡ n) × (vec_len posts ≡ 0) × (n ≤ vec_capacity posts) }
+            requires pass { IsUncut queue.now pass }
+            ensures parts { (result.0.parts ≡ n) × (result.0.amount ≡ sum result.1) }
+            ensures pass { IsReadyPassOf queue.entry.now result.2 × IsWhole result.2 }
+        {
+            all_serve(
+                rt, alloc, scope, desk, queue, gate, n, all, pass, lists, posts,
+            )
+        },
     )
 }
 
@@ -132,7 +67,7 @@ pub(crate) struct Left {
     pub noted: Option<Noted>,
 }
 
-/// Runs a board beside a copy of it, one thread for each of n workers. Where memory is refused for the threads' list, that is noted and
+/// Runs a board beside a copy of it, one thread for each of n workers. Where memory is refused for what they need, that is noted and
 /// nothing is done.
 pub(crate) fn run_crew<S: Gated + Send + Sync, G: Gate + Sync, R: Threads + Wait + Sync>(
     rt: &R,
@@ -152,13 +87,20 @@ pub(crate) fn run_crew<S: Gated + Send + Sync, G: Gate + Sync, R: Threads + Wait
     ensures made { Counts result.made result.start result.board }
     ensures stops { may_be S.may_stop result.noted ≡ true }
 {
-    let running = match Vec::with_capacity(alloc, n as usize) {
-        Ok(running) => running,
-        Err(_) => return undone(board, start),
+    let Some(supply) = make_supply::<S>(alloc, &board, n) else {
+        return undone(board, start);
     };
+    let Supply {
+        queue,
+        pass,
+        lists,
+        posts,
+    } = supply;
+    let pass = put_ready(rt, &queue, &board, pass);
     let (calls, all) = blank.open::<S>();
     let desk = Mutex::new(make_desk(board, start, calls));
-    let (all, made) = in_scope(rt, alloc, &desk, gate, n, all, running);
+    let (all, made, pass) = in_scope(rt, alloc, &desk, &queue, gate, n, all, pass, lists, posts);
+    queue.close(pass);
     let mut all = all;
     let Desk {
         board,

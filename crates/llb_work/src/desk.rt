@@ -10,7 +10,10 @@ ghost use Rattle.llb_work.specs.RunEnds.{may_be};
 
 use crate::granted;
 use crate::noted::{Gated, Noted, Tally, count};
-use llb_board::{At, Board, ClaimFault, Job, Outcome, StepFault, Stepped};
+use llb_board::{
+    At, Board, ClaimFault, Job, LandFault, Outcome, SettleFault, Settled, Status, StepFault,
+    Stepped,
+};
 use llb_execution::mounts_of;
 use llb_loader::{Vertex, cache_in};
 use std::sync::ledger::Book;
@@ -27,6 +30,16 @@ pub(crate) struct Desk<S: Gated> {
     pub ghost stops: { may_be S.may_stop noted ≡ true },
 }
 
+/// What a worker comes to the lock with.
+#[derive(Drop)]
+pub(crate) enum Brought {
+    Nothing,
+    /// The number of a vertex, from the queue.
+    Number(u32),
+    /// What a job has come to.
+    Outcome(Outcome),
+}
+
 /// What a worker is to do next.
 #[derive(Drop)]
 pub(crate) enum Turn {
@@ -36,7 +49,9 @@ pub(crate) enum Turn {
     Pass(u32),
     /// To come again.
     Again,
-    /// To come again later: there is nothing that it can do now.
+    /// To come again with a number, where the queue has one: it runs nothing.
+    Next,
+    /// To do so later: there is nothing that it can do now.
     Wait,
     /// To end.
     End,
@@ -79,8 +94,13 @@ impl<S: Gated> Desk<S> {
         claimed
     }
 
-    /// What a worker has worked out is done on the board, which counts for it; where that is refused, it is dropped.
-    pub(crate) fn land(&mut self, w: u32, outcome: Outcome, mine: &mut Tally<S>) {
+    // What a worker has worked out is done on the board, which counts for it.
+    fn land(
+        &mut self,
+        w: u32,
+        outcome: Outcome,
+        mine: &mut Tally<S>,
+    ) -> Result<Settled, LandFault> {
         let Desk {
             board,
             start: _,
@@ -88,8 +108,9 @@ impl<S: Gated> Desk<S> {
             noted: _,
         } = self;
         let before = board.events().len();
-        let _ = granted::land(board, w, outcome);
+        let landed = granted::land(board, w, outcome);
         count(calls, mine, before, board.events().len());
+        landed
     }
 
     // The next micro-step of what a worker runs, which counts for it.
@@ -107,7 +128,7 @@ impl<S: Gated> Desk<S> {
     }
 
     // The end of what a worker runs, which counts for it.
-    fn settle(&mut self, w: u32, mine: &mut Tally<S>) {
+    fn settle(&mut self, w: u32, mine: &mut Tally<S>) -> Result<Settled, SettleFault> {
         let Desk {
             board,
             start: _,
@@ -115,47 +136,87 @@ impl<S: Gated> Desk<S> {
             noted: _,
         } = self;
         let before = board.events().len();
-        let _ = granted::settle(board, w);
+        let settled = granted::settle(board, w);
         count(calls, mine, before, board.events().len());
+        settled
     }
 
-    /// What a worker does in one hold: one event of what it runs; where it runs nothing, and the run goes on, the claim of the
-    /// least vertex whose claim is granted.
-    pub(crate) fn turn(&mut self, w: u32, mine: &mut Tally<S>) -> Turn {
+    /// What a worker does in one hold, by what it comes with. `news` gets the numbers that it is then to put into the queue: those
+    /// that a vertex left to it has made ready, the greatest first, and a number whose claim was held.
+    pub(crate) fn turn(
+        &mut self,
+        w: u32,
+        brought: Brought,
+        mine: &mut Tally<S>,
+        news: &mut Vec<u32>,
+    ) -> Turn {
+        match brought {
+            Brought::Nothing => self.go_on(w, mine, news),
+            Brought::Number(v) => self.take(w, v, mine, news),
+            Brought::Outcome(outcome) => {
+                let landed = self.land(w, outcome, mine);
+                self.left(landed.ok(), news)
+            }
+        }
+    }
+
+    // One event of what a worker runs. Where it runs nothing, it ends with the run.
+    fn go_on(&mut self, w: u32, mine: &mut Tally<S>, news: &mut Vec<u32>) -> Turn {
         match self.board.worker(w) {
             None => Turn::End,
             Some(At::Runs(_, _, true)) => {
-                self.settle(w, mine);
-                Turn::Again
+                let settled = self.settle(w, mine);
+                self.left(settled.ok(), news)
             }
             Some(At::Runs(_, _, false)) => match self.step(w, mine) {
                 Err(StepFault::Memory) => self.stop(),
                 _ => Turn::Again,
             },
-            Some(At::Idle) => self.take(w, mine),
+            Some(At::Idle) if self.is_over() => Turn::End,
+            Some(At::Idle) => Turn::Wait,
         }
+    }
+
+    // The claim of a vertex, while the run goes on. Its number is dropped where the vertex is not ready: another worker has it.
+    fn take(&mut self, w: u32, v: u32, mine: &mut Tally<S>, news: &mut Vec<u32>) -> Turn {
+        if self.is_over() {
+            return Turn::End;
+        }
+        match self.claim(w, v, mine) {
+            Ok(job) => self.begun(v, job),
+            Err(ClaimFault::Held(_)) => match news.push(v) {
+                Ok(()) => Turn::Wait,
+                Err(_) => self.stop(),
+            },
+            Err(ClaimFault::NotReady | ClaimFault::NoVertex) => Turn::Next,
+            Err(ClaimFault::Memory) => self.stop(),
+            Err(_) => Turn::Again,
+        }
+    }
+
+    // A worker has left a vertex, or what it came with was refused.
+    fn left(&mut self, settled: Option<Settled>, news: &mut Vec<u32>) -> Turn {
+        match settled {
+            None => Turn::Again,
+            Some(Settled::Done(v) | Settled::Failed(v)) => {
+                if note_ready(&self.board, v, news) {
+                    Turn::Next
+                } else {
+                    self.stop()
+                }
+            }
+        }
+    }
+
+    // Whether no vertex is claimed any more.
+    fn is_over(&self) -> bool {
+        self.noted.is_some() || self.board.is_complete()
     }
 
     // Memory was refused.
     fn stop(&mut self) -> Turn {
         self.note(Noted::Memory);
         Turn::End
-    }
-
-    // The claim of the least vertex whose claim is granted.
-    fn take(&mut self, w: u32, mine: &mut Tally<S>) -> Turn {
-        if self.noted.is_some() || self.board.is_complete() {
-            return Turn::End;
-        }
-        for v in 0..u32::MAX {
-            match self.claim(w, v, mine) {
-                Ok(job) => return self.begun(v, job),
-                Err(ClaimFault::NotReady | ClaimFault::Held(_)) => {}
-                Err(ClaimFault::Memory) => return self.stop(),
-                Err(_) => return Turn::Wait,
-            }
-        }
-        Turn::Wait
     }
 
     // What is done of a vertex that was taken: under the lock where it shows a shared cache, else away from it.
@@ -165,6 +226,22 @@ impl<S: Gated> Desk<S> {
             _ => Turn::Work(job),
         }
     }
+}
+
+// Notes the vertices with an edge to one that are ready, the greatest first. False where memory is refused.
+fn note_ready(board: &Board, v: u32, news: &mut Vec<u32>) -> bool {
+    for u in users_of(board, v).iter().rev() {
+        if matches!(board.status(*u), Some(Status::Ready)) && news.push(*u).is_err() {
+            return false;
+        }
+    }
+    true
+}
+
+// The vertices with an edge to one, in ascending order.
+fn users_of(_board: &Board, _v: u32) -> &[u32] {
+    // stands in for board.users(v)
+    &[]
 }
 
 // Whether a vertex shows a cache that several workers may have at once.

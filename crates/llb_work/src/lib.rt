@@ -7,9 +7,12 @@ mod crew;
 mod desk;
 mod end;
 mod granted;
+mod hand_out;
 mod noted;
+mod post;
 mod rest;
 mod run;
+mod supply;
 mod worker;
 
 pub use alone::run_alone;

@@ -27,7 +27,7 @@ impl Gated for Brand {
 
 /// What a worker has made, with its share of the ledger.
 #[derive(Drop)]
-pub(crate) struct Tally<S: Gated> {
+pub(crate) struct Tally<S: Ledger> {
     pub made: u64,
     pub share: Share<S>,
     pub ghost one_part: { share.parts ≡ 1 },
@@ -35,7 +35,7 @@ pub(crate) struct Tally<S: Gated> {
 }
 
 /// A tally of nothing.
-pub(crate) fn make_tally<S: Gated>(share: Share<S>) -> Tally<S>
+pub(crate) fn make_tally<S: Ledger>(share: Share<S>) -> Tally<S>
     requires part { share.parts ≡ 1 }
     requires empty { share.amount ≡ 0 }
 {
@@ -43,7 +43,12 @@ pub(crate) fn make_tally<S: Gated>(share: Share<S>) -> Tally<S>
 }
 
 /// Counts in the book and in a tally what a record has grown by, from one length to another.
-pub(crate) fn count<S: Gated>(calls: &mut Book<S>, mine: &mut Tally<S>, before: usize, after: usize)
+pub(crate) fn count<S: Ledger>(
+    calls: &mut Book<S>,
+    mine: &mut Tally<S>,
+    before: usize,
+    after: usize,
+)
     requires counted { calls.old.total ≤ before }
     requires grown { before ≤ after }
     ensures { calls.new.total + before ≡ calls.old.total + after }

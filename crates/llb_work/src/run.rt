@@ -17,12 +17,17 @@ use std::sync::Wait;
 use std::sync::ledger::Blank;
 use std::thread::Threads;
 
-/// Runs a board in as many threads as it has workers, round one lock. Each ends what its worker runs, then claims one vertex after
-/// another, the least first, and works on it away from the lock; where the vertex shows a shared cache, event by event under the lock,
-/// behind the gate. 151 where memory is refused, 152 where the gate stops a worker, 153 where a thread cannot be started: the first
-/// that is met. The worker that meets 151 or 152 leaves its vertex running; every other worker ends what it runs. 154 where the board
-/// that was kept under the lock from the beginning is found to be another one; it is in the fault. Else the board that comes back goes
-/// on from the given one by granted events, and `made` adds up to their number.
+/// Runs a board in as many threads as it has workers, 1 to 64, round one lock and one queue of numbers. The queue is given the number of
+/// every ready vertex first, the least first. Each worker ends what it runs, then takes one number after another, claims that vertex, and
+/// works on it away from the lock; where the vertex shows a shared cache, event by event under the lock, behind the gate. When it has
+/// left a vertex, it puts the numbers of those with an edge to it that are ready now. It puts a number back whose vertex wants a locked
+/// cache that another worker has.
+///
+/// 151 where memory is refused, 152 where the gate stops a worker, 153 where a thread cannot be started: the first that is met. Where
+/// memory is refused for the copies of the board, the queue or the workers' lists, no thread starts, and the board comes back as it was
+/// given. The worker that meets 151 or 152 leaves its vertex running; every other worker ends what it runs. 154 where the board that was
+/// kept under the lock from the beginning is found to be another one; it is in the fault. Else the board that comes back goes on from the
+/// given one by granted events, and `made` adds up to their number.
 pub fn run_workers<G: Gate + Sync, R: Threads + Wait + Sync>(
     rt: &R,
     alloc: Global,

@@ -1,75 +1,160 @@
-//! What a worker does, turn by turn: under the lock, or on a job that it has taken away from it.
+//! What a worker does, hold by hold: under the lock, then away from it. It puts into the queue what it has noted, and takes numbers from it.
 
-ghost use Rattle.std.specs.Prelude.{◌≡◌, ℕ, Some, None, true, IsTrue, IfErr};
-ghost use Rattle.llb_work.specs.RunEnds.{may_be};
+ghost use Rattle.std.specs.Prelude.{◌≡◌, ℕ, true, IsTrue};
+ghost use Rattle.llb_work.specs.Passes.{IsPassFor};
 
-use crate::desk::{Desk, Turn};
+use crate::desk::{Brought, Desk, Turn};
 use crate::noted::{Gated, Noted, Tally};
 use crossbeam_utils::Backoff;
-use llb_board::{Gate, Job, Outcome, WorkFault, work};
+use llb_board::{Gate, Job, WorkFault, work};
+use llb_ready::{ReadyPass, ReadyQueue};
 use std::alloc::Global;
+use std::sync::ledger::Ledger;
 use std::sync::{Mutex, Wait};
 
-/// Ends what its worker runs, then takes one vertex after another, until the board is complete or a fault is noted. A worker that
-/// meets a fault itself notes it and ends at once.
+/// What a worker has of its own, and gives back: what it made, its pass, and the numbers that it has still to put, the last one first.
+#[derive(Drop)]
+pub(crate) struct Kit<S: Ledger> {
+    pub tally: Tally<S>,
+    pub pass: ReadyPass,
+    pub news: Vec<u32>,
+}
+
+/// Ends what its worker runs, then takes one number after another from the queue and works on the vertex, until the board is complete
+/// or a fault is noted. A worker that meets a fault itself notes it and ends at once.
 pub(crate) fn serve<S: Gated, G: Gate, R: Wait>(
     rt: &R,
     alloc: Global,
     desk: &Mutex<Desk<S>>,
+    queue: &ReadyQueue,
     gate: &G,
     w: u32,
-    mine: Tally<S>,
-) -> Tally<S>
-    requires { (w v : ℕ) → IsTrue (G.may_stop w v) → S.may_stop w v ≡ true }
+    kit: Kit<S>,
+) -> Kit<S>
+    requires stop { (w v : ℕ) → IsTrue (G.may_stop w v) → S.may_stop w v ≡ true }
+    requires pass { IsPassFor queue.now w kit.pass }
+    ensures { IsPassFor queue.now w result.pass }
 {
-    let mut mine = mine;
+    let Kit { tally, pass, news } = kit;
+    let mut tally = tally;
+    let mut pass = pass;
+    let mut news = news;
+    let mut brought = Brought::Nothing;
     let backoff = Backoff::new();
     for _i in rt.forever() {
-        let turn = desk.lock(rt).turn(w, &mut mine);
-        match turn {
-            Turn::End => break,
-            Turn::Wait => backoff.snooze(),
-            Turn::Again => backoff.reset(),
-            Turn::Pass(v) => {
-                backoff.reset();
-                if let Err(noted) = passed(gate, w, v) {
-                    desk.lock(rt).note(noted);
-                    break;
-                }
-            }
-            Turn::Work(job) => {
-                backoff.reset();
-                match worked(alloc, job, gate) {
-                    Ok(outcome) => desk.lock(rt).land(w, outcome, &mut mine),
-                    Err(noted) => {
-                        desk.lock(rt).note(noted);
-                        break;
-                    }
-                }
-            }
+        let turn = desk.lock(rt).turn(w, brought, &mut tally, &mut news);
+        put_all(rt, queue, &mut pass, w, &mut news);
+        match away(
+            rt, alloc, desk, queue, gate, w, &mut pass, &mut news, &backoff, turn,
+        ) {
+            Some(more) => brought = more,
+            None => break,
         }
     }
-    mine
+    Kit { tally, pass, news }
 }
 
-// Passes the gate, or tells that it was stopped there.
-fn passed<G: Gate>(gate: &G, w: u32, v: u32) -> Result<(), Noted>
-    ensures { IfErr result (λ n. may_be G.may_stop (Some n) ≡ true) }
+// What a worker does away from the lock, and what it comes back with; none where it ends.
+fn away<S: Gated, G: Gate, R: Wait>(
+    rt: &R,
+    alloc: Global,
+    desk: &Mutex<Desk<S>>,
+    queue: &ReadyQueue,
+    gate: &G,
+    w: u32,
+    pass: &mut ReadyPass,
+    news: &mut Vec<u32>,
+    backoff: &Backoff,
+    turn: Turn,
+) -> Option<Brought>
+    requires stop { (w v : ℕ) → IsTrue (G.may_stop w v) → S.may_stop w v ≡ true }
+    requires pass { IsPassFor queue.now w pass.old }
+    ensures { IsPassFor queue.now w pass.new }
+{
+    if matches!(turn, Turn::Wait) {
+        backoff.snooze();
+    } else {
+        backoff.reset();
+    }
+    match turn {
+        Turn::End => None,
+        Turn::Again => Some(Brought::Nothing),
+        Turn::Next | Turn::Wait => Some(taken(rt, queue, pass, w, news)),
+        Turn::Pass(v) => passed(rt, desk, gate, w, v),
+        Turn::Work(job) => worked(rt, alloc, desk, gate, job),
+    }
+}
+
+// Takes a number, then puts those that have met a full queue again.
+fn taken<R: Wait>(
+    rt: &R,
+    queue: &ReadyQueue,
+    pass: &mut ReadyPass,
+    w: u32,
+    news: &mut Vec<u32>,
+) -> Brought
+    requires { IsPassFor queue.now w pass.old }
+    ensures { IsPassFor queue.now w pass.new }
+{
+    let next = queue.take(rt, pass);
+    put_all(rt, queue, pass, w, news);
+    match next {
+        Some(v) => Brought::Number(v),
+        None => Brought::Nothing,
+    }
+}
+
+// Puts numbers, the last one first, until one meets a full queue. Those that are not put are kept.
+fn put_all<R: Wait>(rt: &R, queue: &ReadyQueue, pass: &mut ReadyPass, w: u32, news: &mut Vec<u32>)
+    requires { IsPassFor queue.now w pass.old }
+    ensures { IsPassFor queue.now w pass.new }
+{
+    for _i in 0..news.len() {
+        let Some(v) = news.last() else {
+            break;
+        };
+        if queue.put(rt, pass, *v).is_err() {
+            break;
+        }
+        let _ = news.pop();
+    }
+}
+
+// Passes the gate, or notes that it was stopped there.
+fn passed<S: Gated, G: Gate, R: Wait>(
+    rt: &R,
+    desk: &Mutex<Desk<S>>,
+    gate: &G,
+    w: u32,
+    v: u32,
+) -> Option<Brought>
+    requires { (w v : ℕ) → IsTrue (G.may_stop w v) → S.may_stop w v ≡ true }
 {
     match gate.pass(w, v) {
-        Ok(()) => Ok(()),
-        Err(_) => Err(Noted::Stopped(w, v)),
+        Ok(()) => Some(Brought::Nothing),
+        Err(_) => {
+            desk.lock(rt).note(Noted::Stopped(w, v));
+            None
+        }
     }
 }
 
-// What a job comes to, or what is to be noted.
-fn worked<G: Gate>(alloc: Global, job: Job, gate: &G) -> Result<Outcome, Noted>
-    ensures { IfErr result (λ n. may_be G.may_stop (Some n) ≡ true) }
+// What a job comes to, or notes why it comes to nothing.
+fn worked<S: Gated, G: Gate, R: Wait>(
+    rt: &R,
+    alloc: Global,
+    desk: &Mutex<Desk<S>>,
+    gate: &G,
+    job: Job,
+) -> Option<Brought>
+    requires { (w v : ℕ) → IsTrue (G.may_stop w v) → S.may_stop w v ≡ true }
 {
     let (w, v) = (job.worker(), job.vertex());
-    match work(alloc, job, gate) {
-        Ok(outcome) => Ok(outcome),
-        Err(WorkFault::Stopped) => Err(Noted::Stopped(w, v)),
-        Err(WorkFault::Memory) => Err(Noted::Memory),
-    }
+    let noted = match work(alloc, job, gate) {
+        Ok(outcome) => return Some(Brought::Outcome(outcome)),
+        Err(WorkFault::Stopped) => Noted::Stopped(w, v),
+        Err(WorkFault::Memory) => Noted::Memory,
+    };
+    desk.lock(rt).note(noted);
+    None
 }

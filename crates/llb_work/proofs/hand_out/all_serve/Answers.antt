@@ -1,0 +1,22 @@
+use Rattle.std.proofs.Common.{◌≡◌, ◌+◌, ◌^◌, length, arith, rules, ap, ◌∙◌}
+use Rattle.std.proofs.lemmas.Grind.{common_steps}
+use Rattle.llb_work.proofs.Keeping.{keeps_pushed}
+use Rattle.llb_work.proofs.Fractions.{twice}
+use Rattle.llb_work.proofs.hand_out.all_serve.Goals as goal
+
+pub loop-news-preserved : goal.loop-news-preserved
+loop-news-preserved g c =
+    let was = c.loop-news.invariant in
+    let w = c.loop-news.w in
+    let len : length c.loop-news.posts.items ≡ w = search rules in
+    record {
+      place = grind (arith, common_steps);
+      parts = search rules;
+      amount = search rules;
+      len = search rules;
+      room = search rules;
+      of = c.split-kept.ensures.passes.0;
+      num = ap (λ v. v.num) c.split-kept.ensures.hands.0 ∙ was.num;
+      den = omega (arith, twice w, ap (λ v. v.den) c.split-kept.ensures.hands.0, was.den);
+      posts = keeps_pushed c.args.queue.now w c.push_reserved.new.self.items c.loop-news.posts.items c.start.result c.push_reserved.ensures.items len was.posts c.start.ensures;
+    }

@@ -1,0 +1,77 @@
+//! What the workers are supplied with before any thread starts: the queue with every ready vertex in it, a list for each, and room for
+//! their places.
+
+ghost use Rattle.std.specs.Prelude.{◌≡◌, ◌≤◌, ℕ, vec_len, vec_capacity, IfOk, IfSome};
+ghost use Rattle.llb_work.specs.Passes.{IsUncut};
+ghost use Rattle.llb_work.specs.Supplies.{IsSupplyFor};
+
+use crate::post::Post;
+use llb_board::{Board, Status};
+use llb_ready::{ReadyPass, ReadyQueue};
+use std::alloc::{AllocError, Global};
+use std::sync::Wait;
+use std::sync::ledger::Ledger;
+
+/// A queue with room for as many numbers as there are vertices, its whole pass, a list with as much room for each worker, and room for
+/// the workers' places.
+#[derive(Drop)]
+pub(crate) struct Supply<S: Ledger> {
+    pub queue: ReadyQueue,
+    pub pass: ReadyPass,
+    pub lists: Vec<Vec<u32>>,
+    pub posts: Vec<Post<S>>,
+}
+
+/// The supply for n workers; none where memory is refused.
+pub(crate) fn make_supply<S: Ledger>(alloc: Global, board: &Board, n: u32) -> Option<Supply<S>>
+    ensures { IfSome result (IsSupplyFor n) }
+{
+    let room = vertices(board);
+    let (queue, pass) = ReadyQueue::new(alloc, room).ok()?;
+    let lists = make_lists(alloc, n, room).ok()?;
+    let posts = Vec::with_capacity(alloc, n as usize).ok()?;
+    Some(Supply {
+        queue,
+        pass,
+        lists,
+        posts,
+    })
+}
+
+// How many vertices there are.
+fn vertices(board: &Board) -> u32
+    ensures some { 1 ≤ result }
+    ensures few { result ≤ 65536 }
+{
+    board.graph().vertices().len() as u32
+}
+
+// A list for each of n workers, each with this room.
+fn make_lists(alloc: Global, n: u32, room: u32) -> Result<Vec<Vec<u32>>, AllocError>
+    ensures { IfOk result (λ lists. vec_len lists ≡ n) }
+{
+    let mut lists = Vec::with_capacity(alloc, n as usize)?;
+    for _w in 0..n {
+        lists.push_reserved(Vec::with_capacity(alloc, room as usize)?);
+    }
+    Ok(lists)
+}
+
+/// Puts every ready vertex, the least first.
+pub(crate) fn put_ready<R: Wait>(
+    rt: &R,
+    queue: &ReadyQueue,
+    board: &Board,
+    pass: ReadyPass,
+) -> ReadyPass
+    requires { IsUncut queue.now pass }
+    ensures { IsUncut queue.now result }
+{
+    let mut pass = pass;
+    for v in 0..vertices(board) {
+        if matches!(board.status(v), Some(Status::Ready)) {
+            let _ = queue.put(rt, &mut pass, v);
+        }
+    }
+    pass
+}
