@@ -230,18 +230,12 @@ impl<S: Gated> Desk<S> {
 
 // Notes the vertices with an edge to one that are ready, the greatest first. False where memory is refused.
 fn note_ready(board: &Board, v: u32, news: &mut Vec<u32>) -> bool {
-    for u in users_of(board, v).iter().rev() {
+    for u in board.users(v).iter().rev() {
         if matches!(board.status(*u), Some(Status::Ready)) && news.push(*u).is_err() {
             return false;
         }
     }
     true
-}
-
-// The vertices with an edge to one, in ascending order.
-fn users_of(_board: &Board, _v: u32) -> &[u32] {
-    // stands in for board.users(v)
-    &[]
 }
 
 // Whether a vertex shows a cache that several workers may have at once.
