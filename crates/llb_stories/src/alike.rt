@@ -36,20 +36,31 @@ const PAIRS: &[(Side, Side, bool)] = &[
     ),
 ];
 
-fn board_at(alloc: Global, side: &Side) -> Option<Board> {
-    let (definition, workers, events) = *side;
-    let mut board = board_of(alloc, definition, &[], workers)?;
-    if are_done(&mut board, events) {
-        Some(board)
+// Whether two boards are the same once the events of both were done; none where one is refused.
+fn compared(
+    one: &mut Board,
+    events: &[Event],
+    other: &mut Board,
+    others: &[Event],
+) -> Option<bool> {
+    if are_done(one, events) && are_done(other, others) {
+        Some(one.same(other))
     } else {
         None
     }
 }
 
+fn is_same_as(alloc: Global, board: &mut Board, events: &[Event], other: &Side) -> Option<bool> {
+    match board_of(alloc, other.0, &[], other.1) {
+        Some(mut second) => compared(board, events, &mut second, other.2),
+        None => None,
+    }
+}
+
 fn are_same(alloc: Global, one: &Side, other: &Side) -> Option<bool> {
-    match (board_at(alloc, one), board_at(alloc, other)) {
-        (Some(one), Some(other)) => Some(one.same(&other)),
-        _ => None,
+    match board_of(alloc, one.0, &[], one.1) {
+        Some(mut board) => is_same_as(alloc, &mut board, one.2, other),
+        None => None,
     }
 }
 
@@ -81,25 +92,41 @@ const COPIED: &[(Side, &[Event])] = &[
 
 // Whether a copy is the board, then whether it still is once some events were done on the board alone, and whether it is then as a board
 // on which they were not done.
-fn copied(board: &mut Board, untouched: &Board, events: &[Event]) -> Option<[bool; 3]> {
+fn copied(board: &mut Board, untouched: &Board, events: &[Event]) -> [bool; 3] {
     match board.copy() {
         Ok(copy) => {
             let before = board.same(&copy);
             let done = are_done(board, events);
-            Some([
+            [
                 before,
                 done && board.same(&copy),
                 done && copy.same(untouched),
-            ])
+            ]
         }
-        Err(_) => None,
+        Err(_) => [false; 3],
+    }
+}
+
+fn copied_beside(
+    alloc: Global,
+    board: &mut Board,
+    side: &Side,
+    events: &[Event],
+) -> Option<[bool; 3]> {
+    match board_of(alloc, side.0, &[], side.1) {
+        Some(mut untouched) => {
+            let begun = are_done(board, side.2) && are_done(&mut untouched, side.2);
+            let told = copied(board, &untouched, events);
+            if begun { Some(told) } else { None }
+        }
+        None => None,
     }
 }
 
 fn copied_from(alloc: Global, side: &Side, events: &[Event]) -> Option<[bool; 3]> {
-    match (board_at(alloc, side), board_at(alloc, side)) {
-        (Some(mut board), Some(untouched)) => copied(&mut board, &untouched, events),
-        _ => None,
+    match board_of(alloc, side.0, &[], side.1) {
+        Some(mut board) => copied_beside(alloc, &mut board, side, events),
+        None => None,
     }
 }
 

@@ -143,25 +143,33 @@ fn landed(board: &mut Board, w: u32, outcome: Outcome) -> u32 {
     }
 }
 
-fn brought(alloc: Global, row: &Landing, outcome: Outcome) -> Option<u32> {
-    let (_, on, events, w, _) = *row;
-    match board_of(alloc, on, &[], 2) {
-        Some(mut board) => {
-            let done = are_done(&mut board, events);
-            let fault = landed(&mut board, w, outcome);
-            if done { Some(fault) } else { None }
-        }
+// What a row's outcome is answered on a board.
+fn brought_to(alloc: Global, row: &Landing, board: &mut Board) -> Option<u32> {
+    match outcome_from(alloc, row.0, 0, &Passes) {
+        Ok(outcome) => Some(landed(board, row.3, outcome)),
+        Err(_) => None,
+    }
+}
+
+// The same behind the row's events.
+fn brought_behind(alloc: Global, row: &Landing, board: &mut Board) -> Option<u32> {
+    if are_done(board, row.2) {
+        brought_to(alloc, row, board)
+    } else {
+        None
+    }
+}
+
+fn brought(alloc: Global, row: &Landing) -> Option<u32> {
+    match board_of(alloc, row.1, &[], 2) {
+        Some(mut board) => brought_behind(alloc, row, &mut board),
         None => None,
     }
 }
 
 fn first_wrong(alloc: Global, rows: &[Landing]) -> usize {
     for (at, row) in rows.iter().enumerate() {
-        let told = match outcome_from(alloc, row.0, 0, &Passes) {
-            Ok(outcome) => brought(alloc, row, outcome),
-            Err(_) => None,
-        };
-        if told != Some(row.4) {
+        if brought(alloc, row) != Some(row.4) {
             return at;
         }
     }
@@ -193,13 +201,20 @@ fn is_late(board: &mut Board, outcome: Outcome) -> [bool; 3] {
 }
 
 // What is told of a board's own outcome of vertex 0, which is brought at once or late.
+fn own_on(alloc: Global, board: &mut Board, late: bool) -> Option<[bool; 3]> {
+    match worked(alloc, board, 0, &Passes) {
+        Ok(outcome) => Some(if late {
+            is_late(board, outcome)
+        } else {
+            is_a_block(board, outcome)
+        }),
+        Err(_) => None,
+    }
+}
+
 fn own(alloc: Global, late: bool) -> Option<[bool; 3]> {
     match board_of(alloc, TWO_FILES, &[], 2) {
-        Some(mut board) => match worked(alloc, &mut board, 0, &Passes) {
-            Ok(outcome) if late => Some(is_late(&mut board, outcome)),
-            Ok(outcome) => Some(is_a_block(&mut board, outcome)),
-            Err(_) => None,
-        },
+        Some(mut board) => own_on(alloc, &mut board, late),
         None => None,
     }
 }

@@ -28,11 +28,19 @@ fn opened(alloc: Global, graph: Graph, given: &[Local], workers: u32) -> Result<
     Board::open(alloc, graph, locals, Caches::new(alloc), workers)
 }
 
+// How many vertices the graph has that comes back with a refused number of workers.
+fn vertices_back(fault: &OpenFault) -> Option<usize> {
+    match fault {
+        OpenFault::Workers(back, _, _) => Some(back.vertices().len()),
+        _ => None,
+    }
+}
+
 fn given_back(alloc: Global, workers: u32) -> Option<usize> {
     match graph_from(alloc, D_ON_SECOND) {
         Some(graph) => match opened(alloc, graph, &[], workers) {
-            Err(OpenFault::Workers(back, _, _)) => Some(back.vertices().len()),
-            _ => None,
+            Err(fault) => vertices_back(&fault),
+            Ok(_) => None,
         },
         None => None,
     }
@@ -148,12 +156,20 @@ fn in_order(alloc: Global, rows: &[CacheRow]) -> Option<Caches> {
     Some(caches)
 }
 
+// Whether caches are the same as those with an empty instance of each key.
+fn are_those(alloc: Global, caches: &Caches, rows: &[CacheRow]) -> Option<bool> {
+    match in_order(alloc, rows) {
+        Some(wanted) => Some(caches.same(&wanted)),
+        None => None,
+    }
+}
+
 fn are_in_order(alloc: Global, rows: &[CacheRow]) -> Option<bool> {
     let claims = [Event::Claim(0, 1), Event::Claim(1, 0)];
     let definition: Definition = &[LOCKED_TRUE, SHARED_TRUE, MERGES_0_1, RESULT_2];
-    match (left(alloc, definition, &claims), in_order(alloc, rows)) {
-        (Some(caches), Some(wanted)) => Some(caches.same(&wanted)),
-        _ => None,
+    match left(alloc, definition, &claims) {
+        Some(caches) => are_those(alloc, &caches, rows),
+        None => None,
     }
 }
 
@@ -175,19 +191,29 @@ const BEHIND: &[(Call, &str)] = &[
     (Call::Begin(0, 0), "135 k"),
 ];
 
+fn opened_with(
+    alloc: Global,
+    definition: Definition,
+    caches: Caches,
+    workers: u32,
+) -> Result<Board, Option<OpenFault>> {
+    match graph_from(alloc, definition) {
+        Some(graph) => match Board::open(alloc, graph, locals_of(alloc, &[]), caches, workers) {
+            Ok(board) => Ok(board),
+            Err(fault) => Err(Some(fault)),
+        },
+        None => Err(None),
+    }
+}
+
 // How many of the calls are answered so on another board with the caches of one that is left behind some events.
 fn answered_behind(alloc: Global, definition: Definition, events: &[Event]) -> Option<usize> {
-    match (
-        left(alloc, definition, events),
-        graph_from(alloc, definition),
-    ) {
-        (Some(caches), Some(graph)) => {
-            match Board::open(alloc, graph, locals_of(alloc, &[]), caches, 2) {
-                Ok(mut board) => Some(answered(alloc, &mut board, BEHIND)),
-                Err(_) => None,
-            }
-        }
-        _ => None,
+    match left(alloc, definition, events) {
+        Some(caches) => match opened_with(alloc, definition, caches, 2) {
+            Ok(mut board) => Some(answered(alloc, &mut board, BEHIND)),
+            Err(_) => None,
+        },
+        None => None,
     }
 }
 
@@ -201,13 +227,25 @@ fn a_board_that_is_left_in_the_middle_gives_its_caches_to_the_next(rt: HostRunti
     );
 }
 
+// Whether these caches come back with a refused number of workers.
+fn has_caches(fault: &Option<OpenFault>, caches: &Caches) -> Option<bool> {
+    match fault {
+        Some(OpenFault::Workers(_, _, back)) => Some(back.same(caches)),
+        _ => None,
+    }
+}
+
 // Whether caches come back where a board is to have no worker.
-fn come_back(alloc: Global, graph: Graph, caches: Caches) -> Option<bool> {
+fn come_back(alloc: Global, definition: Definition, caches: Caches, copy: &Caches) -> Option<bool> {
+    match opened_with(alloc, definition, caches, 0) {
+        Ok(_) => None,
+        Err(fault) => has_caches(&fault, copy),
+    }
+}
+
+fn copy_comes_back(alloc: Global, definition: Definition, caches: &Caches) -> Option<bool> {
     match caches.copy() {
-        Ok(copy) => match Board::open(alloc, graph, locals_of(alloc, &[]), caches, 0) {
-            Err(OpenFault::Workers(_, _, back)) => Some(back.same(&copy)),
-            _ => None,
-        },
+        Ok(copy) => come_back(alloc, definition, copy, caches),
         Err(_) => None,
     }
 }
@@ -215,12 +253,9 @@ fn come_back(alloc: Global, graph: Graph, caches: Caches) -> Option<bool> {
 fn caches_come_back(alloc: Global) -> Option<bool> {
     let definition: Definition = &[PRIVATE_A, PRIVATE_B, MERGES_0_1, RESULT_2];
     let events = [Event::Claim(0, 0), Event::Step(0)];
-    match (
-        left(alloc, definition, &events),
-        graph_from(alloc, definition),
-    ) {
-        (Some(caches), Some(graph)) => come_back(alloc, graph, caches),
-        _ => None,
+    match left(alloc, definition, &events) {
+        Some(caches) => copy_comes_back(alloc, definition, &caches),
+        None => None,
     }
 }
 

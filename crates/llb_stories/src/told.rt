@@ -3,7 +3,7 @@
 
 use super::written::{CacheRow, Definition, Local, board_of, key_of};
 use llb_board::laws::headline;
-use llb_board::{At, Board, Event};
+use llb_board::{At, Board, Event, Job};
 use llb_tree::Tree;
 use llb_treetext::print_tree;
 use llb_wire::Over;
@@ -81,13 +81,15 @@ fn push_instances(text: &mut String, instances: &[u32], trees: &[Tree]) -> Resul
     Ok(())
 }
 
+fn push_job(text: &mut String, job: &Job) -> Result<(), AllocError> {
+    let (worker, vertex, done) = (job.worker(), job.vertex(), job.done());
+    write!(text, "{worker} at {vertex}, {done} done\n")?;
+    push_instances(text, job.instances(), job.trees())
+}
+
 fn push_begun(text: &mut String, board: &mut Board, w: u32, v: u32) -> Result<(), AllocError> {
     match board.claim(w, v) {
-        Ok(job) => {
-            let (worker, vertex, done) = (job.worker(), job.vertex(), job.done());
-            write!(text, "{worker} at {vertex}, {done} done\n")?;
-            push_instances(text, job.instances(), job.trees())
-        }
+        Ok(job) => push_job(text, &job),
         Err(fault) => write!(text, "{fault}"),
     }
 }
