@@ -5,15 +5,11 @@
 #[cfg(test)]
 mod applet;
 #[cfg(test)]
-mod applet_views;
-#[cfg(test)]
 mod asm;
 #[cfg(test)]
 mod cache;
 #[cfg(test)]
 mod cache_mounts;
-#[cfg(test)]
-mod deeds;
 #[cfg(test)]
 mod execs;
 #[cfg(test)]
@@ -25,11 +21,7 @@ mod glob;
 #[cfg(test)]
 mod graphs;
 #[cfg(test)]
-mod keys;
-#[cfg(test)]
 mod loader;
-#[cfg(test)]
-mod loader_ops;
 #[cfg(test)]
 mod locals;
 #[cfg(test)]
@@ -54,8 +46,6 @@ mod plain_ops;
 mod scripts;
 #[cfg(test)]
 mod sharing;
-#[cfg(test)]
-mod spelled;
 #[cfg(test)]
 mod told;
 #[cfg(test)]
