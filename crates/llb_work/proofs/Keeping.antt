@@ -1,4 +1,4 @@
--- Places in a row.
+-- Places in a row: what is known of each is known of the first and of the rest, and of one more at the end.
 use Rattle.std.proofs.Common.{◌≡◌, ℕ, zero, suc, ◌+◌, ◌<◌, ◌≤◌, List, [], ◌∷◌, ◌++◌, length, get_or, refl, sym, ap, ◌∙◌, subst, arith}
 use Rattle.llb_ready.specs.declared.queue.ReadyQueue.{ReadyQueue}
 use Rattle.llb_work.specs.declared.post.Post.{Post}
@@ -11,7 +11,8 @@ module _ {L : Type 0} where
       let e : from + suc k ≡ suc from + k = omega arith in
       subst P e (h (suc k) d (omega arith))
 
-  pub keeps_more : (q : ReadyQueue) (from : ℕ) (posts : List (Post L)) (p : Post L) → AllKeep q from posts → PostKeeps q (from + length posts) p → AllKeep q from (posts ++ p ∷ [])
+  pub keeps_more : (q : ReadyQueue) (from : ℕ) (posts : List (Post L)) (p : Post L) → AllKeep q from posts → PostKeeps q (from + length posts) p
+      → AllKeep q from (posts ++ p ∷ [])
   keeps_more q from [] p h mine zero d low = mine
   keeps_more q from [] p h mine (suc k) d low = absurd (omega arith)
   keeps_more q from (x ∷ xs) p h mine zero d low = h zero d (omega arith)
@@ -31,7 +32,8 @@ module _ {L : Type 0} where
   pub keeps_same : (q : ReadyQueue) (from : ℕ) (xs ys : List (Post L)) → xs ≡ ys → AllKeep q from ys → AllKeep q from xs
   keeps_same q from xs ys e h = let P : List (Post L) → Type 0 = AllKeep q from in subst P (sym e) h
 
-  pub keeps_next : (q : ReadyQueue) (from : ℕ) (p : Post L) (xs rest : List (Post L)) → xs ≡ p ∷ rest → AllKeep q from xs → PostKeeps q from p × AllKeep q (from + 1) rest
+  pub keeps_next : (q : ReadyQueue) (from : ℕ) (p : Post L) (xs rest : List (Post L)) → xs ≡ p ∷ rest → AllKeep q from xs
+      → PostKeeps q from p × AllKeep q (from + 1) rest
   keeps_next q from p xs rest e h =
       let P : List (Post L) → Type 0 = AllKeep q from in
       let Q : ℕ → Type 0 = λ n. AllKeep q n rest in
@@ -39,7 +41,9 @@ module _ {L : Type 0} where
       let e' : suc from ≡ from + 1 = omega arith in
       (keeps_first q from p rest all, subst Q e' (keeps_rest q from p rest all))
 
-  pub keeps_pushed : (q : ReadyQueue) (n : ℕ) (xs posts : List (Post L)) (p : Post L) → xs ≡ posts ++ p ∷ [] → length posts ≡ n → AllKeep q 0 posts → PostKeeps q n p → AllKeep q 0 xs
+  pub keeps_pushed : (q : ReadyQueue) (n : ℕ) (xs posts : List (Post L)) (p : Post L) → xs ≡ posts ++ p ∷ [] → length posts ≡ n → AllKeep q 0 posts
+      → PostKeeps q n p
+      → AllKeep q 0 xs
   keeps_pushed q n xs posts p e len h mine =
       let P : ℕ → Type 0 = λ k. PostKeeps q k p in
       let e' : n ≡ 0 + length posts = omega (arith, len) in

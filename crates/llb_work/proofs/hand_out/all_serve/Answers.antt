@@ -8,7 +8,9 @@ pub loop-news-preserved : goal.loop-news-preserved
 loop-news-preserved g c =
     let was = c.loop-news.invariant in
     let w = c.loop-news.w in
-    let len : length c.loop-news.posts.items ≡ w = search rules in
+    let posts = c.loop-news.posts.items in
+    let more = c.push_reserved.new.self.items in
+    let len : length posts ≡ w = search rules in
     record {
       place = grind (arith, common_steps);
       parts = search rules;
@@ -18,5 +20,5 @@ loop-news-preserved g c =
       of = c.split-kept.ensures.passes.0;
       num = ap (λ v. v.num) c.split-kept.ensures.hands.0 ∙ was.num;
       den = omega (arith, twice w, ap (λ v. v.den) c.split-kept.ensures.hands.0, was.den);
-      posts = keeps_pushed c.args.queue.now w c.push_reserved.new.self.items c.loop-news.posts.items c.start.result c.push_reserved.ensures.items len was.posts c.start.ensures;
+      posts = keeps_pushed c.args.queue.now w more posts c.start.result c.push_reserved.ensures.items len was.posts c.start.ensures;
     }

@@ -24,13 +24,20 @@ loop-post-init g c = record {
 
 pub join-tally-requires : goal.join-tally-requires
 join-tally-requires g c =
-    (keeps_next c.args.queue.now c.loop-post.at c.in-Some.post (into_iter_items c.loop-post.post-iterator) (into_iter_items c.next.new.self) c.in-Some.ensures.steps.0 c.loop-post.invariant.posts).0
+    let ahead = into_iter_items c.loop-post.post-iterator in
+    let behind = into_iter_items c.next.new.self in
+    (keeps_next c.args.queue.now c.loop-post.at c.in-Some.post ahead behind c.in-Some.ensures.steps.0 c.loop-post.invariant.posts).0
 
 pub loop-post-preserved : goal.loop-post-preserved
 loop-post-preserved g c =
     let was = c.loop-post.invariant in
     let made = c.loop-post.made in
     let at = c.loop-post.at in
+    let before = hand_of c.loop-post.rest in
+    let part = hand_of c.join-tally.result.pass in
+    let after = hand_of c.join-rest.result in
+    let ahead = into_iter_items c.loop-post.post-iterator in
+    let behind = into_iter_items c.next.new.self in
     let low : at < length made = grind (arith, common_steps) in
     record {
       place = grind (arith, common_steps);
@@ -39,9 +46,9 @@ loop-post-preserved g c =
       len = length-set made at _ ∙ was.len;
       none = rest_more made at c.join-tally.result.tally.made was.none;
       of = c.join-rest.ensures.pass;
-      some = den_more at (hand_of c.loop-post.rest) (hand_of c.join-tally.result.pass) (hand_of c.join-rest.result) c.join-rest.ensures.hand c.join-tally.ensures.2 was.some;
-      joined = joined_more c.args.n at (hand_of c.loop-post.rest) (hand_of c.join-tally.result.pass) (hand_of c.join-rest.result) c.join-rest.ensures.hand c.join-tally.ensures.1 c.join-tally.ensures.2 was.joined;
-      posts = (keeps_next c.args.queue.now at c.in-Some.post (into_iter_items c.loop-post.post-iterator) (into_iter_items c.next.new.self) c.in-Some.ensures.steps.0 was.posts).1;
+      some = den_more at before part after c.join-rest.ensures.hand c.join-tally.ensures.2 was.some;
+      joined = joined_more c.args.n at before part after c.join-rest.ensures.hand c.join-tally.ensures.1 c.join-tally.ensures.2 was.joined;
+      posts = (keeps_next c.args.queue.now at c.in-Some.post ahead behind c.in-Some.ensures.steps.0 was.posts).1;
     }
 
 pub returns-clause-pass : goal.returns-clause-pass
