@@ -5,31 +5,21 @@
 #[cfg(test)]
 mod alike;
 #[cfg(test)]
-mod cached;
+mod board;
 #[cfg(test)]
-mod caches;
-#[cfg(test)]
-mod conversations;
+mod board_caches;
 #[cfg(test)]
 mod crew;
-#[cfg(test)]
-mod definitions;
-#[cfg(test)]
-mod executions;
 #[cfg(test)]
 mod farm;
 #[cfg(test)]
 mod faults;
 #[cfg(test)]
-mod instances;
-#[cfg(test)]
 mod landings;
 #[cfg(test)]
-mod openings;
+mod outcomes;
 #[cfg(test)]
 mod queue;
-#[cfg(test)]
-mod runs;
 #[cfg(test)]
 mod sessions;
 #[cfg(test)]
