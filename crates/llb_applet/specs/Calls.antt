@@ -1,5 +1,6 @@
 -- Which words make which command: an applet's name, and words in one of the applet's forms.
-use Rattle.std.specs.Prelude.{◌≡◌, ℕ, true, false, if◌then◌else◌, List, [], ◌∷◌, length, drop, Option, Some, None, option_map, option_and_then, Result, Err, codes, slice_index_or}
+use Rattle.std.specs.Prelude.{◌≡◌, ℕ, true, false, if◌then◌else◌, List, [], ◌∷◌, length, drop, Option, Some, None, option_map}
+use Rattle.std.specs.Prelude.{option_and_then, Result, Err, codes, slice_index_or}
 use Rattle.std.specs.Option.{ok_or, option_or}
 use Rattle.llb_applet.specs.declared.fault.ScriptFault.{ScriptFault}
 use Rattle.llb_applet.specs.declared.fault.ScriptFault.TheVariants.{NoApplet, Usage}
@@ -55,7 +56,8 @@ concat_of (out ∷ a ∷ ws) = Some (command.Concat out (a ∷ ws))
 abbrev pub form : Applet → List Word → Option Command
 form True ws = no_words ws command.True
 form False ws = no_words ws command.False
-form Mkdir ws = option_or (one_word ws (λ path. command.Mkdir false path)) (two_words ws (λ option path. if spells (codes "-p") option then Some (command.Mkdir true path) else None))
+form Mkdir ws = option_or (one_word ws (λ path. command.Mkdir false path))
+    (two_words ws (λ option path. if spells (codes "-p") option then Some (command.Mkdir true path) else None))
 form Rm ws = one_word ws (λ path. command.Rm path)
 form Write ws = two_words ws (λ path word. Some (command.Write path word))
 form Append ws = two_words ws (λ path word. Some (command.Append path word))

@@ -1,6 +1,7 @@
 -- What a command leaves of a view, by cases on the applet: the view after it, with status 0, or nothing, and then the status is 1 and the
 -- view stays as it was.
-use Rattle.std.specs.Prelude.{ℕ, Bool, true, false, if◌then◌else◌, List, [], ◌∷◌, ◌++◌, length, ◌-◌, slice_get, Option, Some, None, is_some, option_map, option_and_then, unwrap_or, codes}
+use Rattle.std.specs.Prelude.{ℕ, Bool, true, false, if◌then◌else◌, List, [], ◌∷◌, ◌++◌, length, ◌-◌, slice_get, Option, Some, None, is_some}
+use Rattle.std.specs.Prelude.{option_map, option_and_then, unwrap_or, codes}
 use Rattle.std.specs.List.{flat_map}
 use Rattle.std.specs.Result.{result_ok}
 use Rattle.std.specs.FinMap as finite

@@ -59,7 +59,8 @@ pub record Refuses (e : ScriptFault) (rule : Result (Unit {0}) ScriptFault) : Ty
 
 -- a step changes nothing of what is wrong, or its refusal is that
 abbrev pub Judges : Result (Unit {0}) ScriptFault → List ℕ → List (List ℕ) → Begun → Begun → Type 0
-Judges (Ok _) part call old new = (next : List (List ℕ)) × IsBegun next new × ((rest : List (List ℕ)) → judged old.number call (some_word part ++ rest) ≡ judged new.number next rest)
+Judges (Ok _) part call old new = (next : List (List ℕ)) × IsBegun next new
+    × ((rest : List (List ℕ)) → judged old.number call (some_word part ++ rest) ≡ judged new.number next rest)
 Judges (Err e) part call old new = (rest : List (List ℕ)) → Refuses e (judged old.number call (some_word part ++ rest))
 
 -- the call at hand is judged

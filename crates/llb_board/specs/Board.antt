@@ -1,5 +1,6 @@
 -- A board as contracts see it: what it was opened with, the machine's state, and the record of events; and what a call did.
-use Rattle.std.specs.Prelude.{◌≡◌, ◌≢◌, ℕ, List, [], ◌∷◌, ◌++◌, fold, option_map, slice_get, Option, Some, None, Result, Ok, Err, Bool, true, is_some, ◌||◌, ◌&&◌}
+use Rattle.std.specs.Prelude.{◌≡◌, ◌≢◌, ℕ, List, [], ◌∷◌, ◌++◌, fold, option_map, slice_get, Option, Some, None, Result, Ok, Err, Bool}
+use Rattle.std.specs.Prelude.{true, is_some, ◌||◌, ◌&&◌}
 use Rattle.std.specs.List.{list_any, list_all}
 use Rattle.llb_loader.specs.declared.graph.Edge.{Edge}
 use Rattle.llb_loader.specs.declared.graph.Vertex.{Vertex}
@@ -65,7 +66,8 @@ ChosenIsGranted b = (e : Event) → chosen b.build b.state ≡ Some e → is_som
 
 -- an event that is granted leaves what the workers other than its own do as it is
 abbrev pub OthersKeep : Seen → Type 0
-OthersKeep b = (e : Event) (a : State × Reply) → table b.build b.state e ≡ Some a → (u : ℕ) → u ≢ worker_of e → slice_get a.0.workers u ≡ slice_get b.state.workers u
+OthersKeep b = (e : Event) (a : State × Reply) → table b.build b.state e ≡ Some a → (u : ℕ) → u ≢ worker_of e
+    → slice_get a.0.workers u ≡ slice_get b.state.workers u
 
 -- no two workers run one vertex
 abbrev pub OneWorkerEach : Seen → Type 0

@@ -15,7 +15,8 @@ ghost use Rattle.llb_wire.specs.Answer.{MemoryLast};
 ghost use Rattle.llb_cache.specs.Caches.{leases};
 ghost use Rattle.llb_model.specs.Kept.{store_of};
 ghost use Rattle.llb_model.specs.Leases.{HoldsAs};
-ghost use Rattle.llb_board.specs.Rules.{may_work, open_memory, claim_memory, step_memory, claim_may_want, GivesOpen, open_of, open_with, returned, may_want_memory};
+ghost use Rattle.llb_board.specs.Rules.{may_work, open_memory, claim_memory, step_memory, claim_may_want, GivesOpen, open_of, open_with};
+ghost use Rattle.llb_board.specs.Rules.{returned, may_want_memory};
 ghost use Rattle.llb_board.specs.Rules.{GivesClaim, claim_of, GivesStep, step_of, GivesSettle, settle_of};
 ghost use Rattle.llb_board.specs.Views.{event_of, claim_reply, step_reply, settle_reply, status_of, look, look_at, worker_look};
 

@@ -49,7 +49,8 @@ pub(crate) fn wanted_by(
     requires seeds { HasEdges vertex.now }
     requires few { length (kind_mounts vertex.now.op.kind) < 2 ^ 32 }
     ensures gives { GivesClaim (λ ws. map need_of ws.items) result (unless_shut (needs_of vertex.now) (shut_key caches.now.out (needs_of vertex.now))) }
-    ensures last { IfErr result (λ e. claim_memory e ≡ true → claim_may_want (unless_shut (needs_of vertex.now) (shut_key caches.now.out (needs_of vertex.now))) ≡ true) }
+    ensures last { IfErr result (λ e. claim_memory e ≡ true
+        → claim_may_want (unless_shut (needs_of vertex.now) (shut_key caches.now.out (needs_of vertex.now))) ≡ true) }
 {
     match first_shut(caches, vertex) {
         Some(key) => Err(ClaimFault::Held(key.to_key(alloc)?)),
@@ -156,7 +157,8 @@ pub(crate) fn taking_for(
     inputs: &[Tree],
     wanted: Vec<Wanted>,
 ) -> Result<Taking, ClaimFault>
-    ensures { GivesClaim (λ t. (t.places.items, t.instances.items, t.trees.items, t.needs.items)) result (Ok (taken_with caches.now inputs.now (map need_of wanted.items))) }
+    ensures { GivesClaim (λ t. (t.places.items, t.instances.items, t.trees.items, t.needs.items)) result
+        (Ok (taken_with caches.now inputs.now (map need_of wanted.items))) }
 {
     let places = places_taken(alloc, caches, &wanted)?;
     let instances = instance_numbers(alloc, &places)?;

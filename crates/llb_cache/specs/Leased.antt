@@ -1,5 +1,7 @@
 -- Which leases have an instance, and who has what behind a lease and behind its end.
-use Rattle.std.proofs.Common.{slice_get, ◌≡◌, ℕ, zero, suc, ◌+◌, ◌<◌, ◌≤◌, Bool, true, false, cond, ◌&&◌, ◌||◌, List, [], ◌∷◌, ◌++◌, length, Option, Some, None, is_some, slice_set, get_or, take, unwrap_or, nat_lt, refl, sym, ap, ◌∙◌, arith, inl, inr, ◌⊎◌, length-append}
+use Rattle.std.proofs.Common.{slice_get, ◌≡◌, ℕ, zero, suc, ◌+◌, ◌<◌, ◌≤◌, Bool, true, false, cond, ◌&&◌, ◌||◌, List, [], ◌∷◌, ◌++◌, length}
+use Rattle.std.proofs.Common.{Option, Some, None, is_some, slice_set, get_or, take, unwrap_or, nat_lt, refl, sym, ap, ◌∙◌, arith, inl, inr}
+use Rattle.std.proofs.Common.{◌⊎◌, length-append}
 use Rattle.std.specs.List.{list_any}
 use Rattle.std.proofs.lemmas.Bool.{eqb-true, eq-eqb, ltb-false, ltb-true}
 use Rattle.std.proofs.lemmas.List.{length-set, take_more}
@@ -111,16 +113,19 @@ all_out (Some ps ∷ out) h =
     omega (arith, rest, one)
 
 -- who has what behind a lease
-pub lease_cases : (out : Leases) (ps : List Place) (a : ℕ) (qs : List Place) → Has (with_lease out (free_lease out) ps) a qs → ((a ≡ free_lease out) × (ps ≡ qs)) ⊎ Has out a qs
+pub lease_cases : (out : Leases) (ps : List Place) (a : ℕ) (qs : List Place) → Has (with_lease out (free_lease out) ps) a qs
+    → ((a ≡ free_lease out) × (ps ≡ qs)) ⊎ Has out a qs
 lease_cases out ps a qs = go (nat_lt (free_lease out) (length out)) refl
   where
-    go : (b : Bool) → nat_lt (free_lease out) (length out) ≡ b → Has (cond b (slice_set out (free_lease out) (Some ps)) (out ++ Some ps ∷ [])) a qs → ((a ≡ free_lease out) × (ps ≡ qs)) ⊎ Has out a qs
+    go : (b : Bool) → nat_lt (free_lease out) (length out) ≡ b
+        → Has (cond b (slice_set out (free_lease out) (Some ps)) (out ++ Some ps ∷ [])) a qs → ((a ≡ free_lease out) × (ps ≡ qs)) ⊎ Has out a qs
     go true is at = elim (set_cases out (free_lease out) (Some ps) a qs at) [
       | inl h ↦ inl (h.0, some_same ps qs h.1)
       | inr h ↦ inr h
     ]
     go false is at = elim (push_cases out (Some ps) a qs at) [
-      | inl h ↦ let past = ltb-false (free_lease out) (length out) is in let within = free_within out in let n = h.0 in inl (omega (arith, n, past, within), some_same ps qs h.1)
+      | inl h ↦ let past = ltb-false (free_lease out) (length out) is in let within = free_within out in let n =
+          h.0 in inl (omega (arith, n, past, within), some_same ps qs h.1)
       | inr h ↦ inr h
     ]
 
@@ -191,13 +196,15 @@ unfolding trimmed
 trimmed_nothing = refl
 
 -- one number more, of a lease that is out, and of one that is not
-pub trimmed_at_some : (out : Leases) (i : ℕ) (o : Option (List Place)) → i < length out → o ≡ get_or out i o → is_some o ≡ true → trimmed (take (i + 1) out) ≡ take (i + 1) out
+pub trimmed_at_some : (out : Leases) (i : ℕ) (o : Option (List Place)) → i < length out → o ≡ get_or out i o → is_some o ≡ true
+    → trimmed (take (i + 1) out) ≡ take (i + 1) out
 trimmed_at_some out i None below read is = absurd cc
 trimmed_at_some out i (Some ps) below read is =
     let more : take (i + 1) out ≡ take i out ++ Some ps ∷ [] = take_more out i (Some ps) below ∙ ap (λ o. take i out ++ o ∷ []) (sym read) in
     ap trimmed more ∙ trimmed_some (take i out) ps ∙ sym more
 
-pub trimmed_at_none : (out : Leases) (i : ℕ) (o : Option (List Place)) → i < length out → o ≡ get_or out i o → is_some o ≡ false → trimmed (take (i + 1) out) ≡ trimmed (take i out)
+pub trimmed_at_none : (out : Leases) (i : ℕ) (o : Option (List Place)) → i < length out → o ≡ get_or out i o → is_some o ≡ false
+    → trimmed (take (i + 1) out) ≡ trimmed (take i out)
 trimmed_at_none out i (Some ps) below read is = absurd cc
 trimmed_at_none out i None below read is =
     let more : take (i + 1) out ≡ take i out ++ None ∷ [] = take_more out i None below ∙ ap (λ o. take i out ++ o ∷ []) (sym read) in
@@ -216,7 +223,8 @@ push_here (o ∷ out) x = push_here out x
 pub lease_has : (out : Leases) (ps : List Place) → Has (with_lease out (free_lease out) ps) (free_lease out) ps
 lease_has out ps = go (nat_lt (free_lease out) (length out)) refl
   where
-    go : (b : Bool) → nat_lt (free_lease out) (length out) ≡ b → Has (cond b (slice_set out (free_lease out) (Some ps)) (out ++ Some ps ∷ [])) (free_lease out) ps
+    go : (b : Bool) → nat_lt (free_lease out) (length out) ≡ b
+        → Has (cond b (slice_set out (free_lease out) (Some ps)) (out ++ Some ps ∷ [])) (free_lease out) ps
     go true is = set_here out (free_lease out) (Some ps) (ltb-true (free_lease out) (length out) is)
     go false is =
         let past = ltb-false (free_lease out) (length out) is in

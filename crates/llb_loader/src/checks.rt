@@ -130,7 +130,8 @@ pub(crate) fn check_indexes(
     requires asked { (k : ℕ) → k < length ops.now → asked_of ops.now seen.now terminal k ≤ length (inputs (lists links.now) k) }
     requires there { (k : ℕ) → k < length ops.now → asked_of ops.now seen.now terminal k ≤ length (op_at ops.now k).inputs }
     requires range { InRange (lists links.now) (length ops.now) }
-    ensures fit { OnOk result ((k : ℕ) → k < length ops.now → FitsAll counts.now (inputs (lists links.now) k) (op_at ops.now k) (asked_of ops.now seen.now terminal k)) }
+    ensures fit { OnOk result ((k : ℕ) → k < length ops.now → FitsAll counts.now (inputs (lists links.now) k) (op_at ops.now k)
+        (asked_of ops.now seen.now terminal k)) }
     ensures refused { IfErr result (RefusesIndex ops.now (lists links.now) counts.now seen.now terminal) }
 {
     for k in 0..ops.len() {

@@ -1,5 +1,6 @@
 -- Whole runs: the fold of the table over events; the event that a driver chooses; when all is done.
-use Rattle.std.specs.Prelude.{◌≡◌, ℕ, zero, suc, ◌+◌, ◌<◌, ◌==◌, Bool, true, false, ◌||◌, ◌&&◌, List, [], ◌∷◌, length, count_by, Option, Some, None, option_map, slice_get, if◌then◌else◌}
+use Rattle.std.specs.Prelude.{◌≡◌, ℕ, zero, suc, ◌+◌, ◌<◌, ◌==◌, Bool, true, false, ◌||◌, ◌&&◌, List, [], ◌∷◌, length, count_by, Option}
+use Rattle.std.specs.Prelude.{Some, None, option_map, slice_get, if◌then◌else◌}
 use Rattle.llb_model.specs.Program.{Build}
 use Rattle.llb_model.specs.Outcome.{Outcome, Ended, Blocked}
 use Rattle.llb_model.specs.State.{Status, Waiting, Running, Settled, At, Idle, Runs, State, is_ready, is_blocked, is_finished, program_in}

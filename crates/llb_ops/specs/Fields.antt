@@ -89,9 +89,11 @@ AreFields m last set (extra more) = AreUnnamed m more
 AreFields m last set (number row v rest) =
     IsNext m last set row × IsNumberOf row.1.kind v × (not (v == 0) || may_be_empty row.1 ≡ true) × AreFields m row.1.number (set || row.1.member) rest
 AreFields m last set (bytes row held rest) =
-    IsNext m last set row × IsBytesOf row.1.kind held × (not (length held == 0) || may_be_empty row.1 ≡ true) × AreFields m row.1.number (set || row.1.member) rest
+    IsNext m last set row × IsBytesOf row.1.kind held × (not (length held == 0) || may_be_empty row.1 ≡ true)
+    × AreFields m row.1.number (set || row.1.member) rest
 AreFields m last set (message row inner rest) =
-    IsNext m last set row × ((sub : MessageName) × (row.1.kind ≡ Message sub) × AreFields sub 0 false inner) × AreFields m row.1.number (set || row.1.member) rest
+    IsNext m last set row × ((sub : MessageName) × (row.1.kind ≡ Message sub) × AreFields sub 0 false inner)
+    × AreFields m row.1.number (set || row.1.member) rest
 
 -- ---- entries of a map
 

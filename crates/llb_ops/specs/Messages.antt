@@ -34,7 +34,8 @@ use Rattle.llb_ops.specs.declared.source.AttributeEntry.{AttributeEntry}
 use Rattle.llb_ops.specs.Table.{shape_of, members_of, repeated_of}
 use Rattle.llb_ops.specs.Limits.{entry_limit}
 use Rattle.llb_ops.specs.Attributes.{settled}
-use Rattle.llb_ops.specs.Records.{Shape, message_of, all, payload, payloads, number, flag, uint32, int32, int64, joined, one, each, one_of, within_limits, unnamed}
+use Rattle.llb_ops.specs.Records.{Shape, message_of, all, payload, payloads, number, flag, uint32, int32, int64, joined, one, each, one_of}
+use Rattle.llb_ops.specs.Records.{within_limits, unnamed}
 
 abbrev pub input_shape : Shape
 input_shape = shape_of message.Input

@@ -5,7 +5,8 @@ ghost use Rattle.llb_wire.specs.Records.{Record as Read};
 ghost use Rattle.llb_ops.specs.declared.fault.OpFault.{OpFault};
 ghost use Rattle.llb_ops.specs.Faults.{Gives};
 ghost use Rattle.llb_ops.specs.Table.{shape_of};
-ghost use Rattle.llb_ops.specs.Records.{Shape, views, all, texts_fit, message_of, joined as joined_of, one as one_rule, each as each_rule, one_of as one_of_rule};
+ghost use Rattle.llb_ops.specs.Records.{Shape, views, all, texts_fit, message_of, joined as joined_of, one as one_rule, each as each_rule};
+ghost use Rattle.llb_ops.specs.Records.{one_of as one_of_rule};
 
 use crate::fault::OpFault;
 use crate::records::{Record, chosen, count, joined, lone_payload, parts, room_for, since};

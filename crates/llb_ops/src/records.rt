@@ -8,7 +8,11 @@ ghost use Rattle.llb_ops.specs.Faults.{Gives};
 ghost use Rattle.llb_ops.specs.declared.shape.Form.TheVariants as form;
 ghost use Rattle.llb_ops.specs.Table.{shape_of};
 ghost use Rattle.llb_ops.specs.Fields.{are_unnamed};
-ghost use Rattle.llb_ops.specs.Records.{view, views, form_of, wire_fits, records_from, Starts, texts_fit, text_fits, parts as parts_of, all as all_of, last_of, number as number_of, payload as payload_of, payloads, uint32, int32, int64, flag, joined as joined_of, unnamed as unnamed_of, chosen as chosen_of, since as since_of, is_member as is_member_of, is_other as is_other_of, member as member_of, within_limits as within_limits_of};
+ghost use Rattle.llb_ops.specs.Records.{view, views, form_of, wire_fits, records_from, Starts, texts_fit, text_fits, parts as parts_of};
+ghost use Rattle.llb_ops.specs.Records.{all as all_of, last_of, number as number_of, payload as payload_of, payloads, uint32, int32, int64};
+ghost use Rattle.llb_ops.specs.Records.{flag, joined as joined_of, unnamed as unnamed_of, chosen as chosen_of, since as since_of};
+ghost use Rattle.llb_ops.specs.Records.{is_member as is_member_of, is_other as is_other_of, member as member_of};
+ghost use Rattle.llb_ops.specs.Records.{within_limits as within_limits_of};
 
 use crate::fault::OpFault;
 use crate::shape::{FIELD_LIMIT, Form};

@@ -1,5 +1,6 @@
 -- The steps of a walk: down to a child, up from a directory, and behind what is below the present entry.
-use Rattle.std.proofs.Common.{◌≡◌, ℕ, ◌+◌, ◌-◌, ◌<◌, ◌≤◌, Bool, true, false, not, ◌&&◌, nat_eq, cond, List, [], ◌∷◌, ◌++◌, length, take, map, T, refl, sym, ap, subst, ◌∙◌, true≢false, arith, append_assoc, length-append}
+use Rattle.std.proofs.Common.{◌≡◌, ℕ, ◌+◌, ◌-◌, ◌<◌, ◌≤◌, Bool, true, false, not, ◌&&◌, nat_eq, cond, List, [], ◌∷◌, ◌++◌, length, take}
+use Rattle.std.proofs.Common.{map, T, refl, sym, ap, subst, ◌∙◌, true≢false, arith, append_assoc, length-append}
 use Rattle.std.proofs.lemmas.List.{map-append, append-nil, take_at, drop_at}
 use Rattle.std.proofs.lemmas.List.Elements.{All-cons, All-drop, filter-append}
 use Rattle.std.specs.declared.cmp.Ordering.TheVariants.{Less}

@@ -1,5 +1,6 @@
 -- What a line is taken apart into: its fields, each as it is written. Only this file and the proofs know how.
-use Rattle.std.specs.Prelude.{ℕ, ◌+◌, ◌-◌, ◌*◌, ◌%◌, ◌^◌, ◌==◌, ◌&&◌, ◌||◌, not, nat_lt, nat_le, nat_eq, Bool, false, if◌then◌else◌, List, [], ◌∷◌, length, codes, Option, Some, None}
+use Rattle.std.specs.Prelude.{ℕ, ◌+◌, ◌-◌, ◌*◌, ◌%◌, ◌^◌, ◌==◌, ◌&&◌, ◌||◌, not, nat_lt, nat_le, nat_eq, Bool, false, if◌then◌else◌, List}
+use Rattle.std.specs.Prelude.{[], ◌∷◌, length, codes, Option, Some, None}
 use Rattle.std.specs.List.{list_all, position_or_len, before_first, after_first}
 use Rattle.std.specs.Option.{option_map}
 use Rattle.std.specs.Fmt.{decimal}
@@ -21,7 +22,8 @@ on (Some x) f = f x
 
 -- the bytes up to the first one of a kind, and those behind it
 abbrev pub cut_at : ℕ → List ℕ → Option (List ℕ × List ℕ)
-cut_at c text = if nat_lt (position_or_len (λ b. nat_eq b c) text) (length text) then Some (before_first (λ b. nat_eq b c) text, after_first (λ b. nat_eq b c) text) else None
+cut_at c text = if nat_lt (position_or_len (λ b. nat_eq b c) text) (length text) then
+    Some (before_first (λ b. nat_eq b c) text, after_first (λ b. nat_eq b c) text) else None
 
 -- four octal digits
 abbrev pub mode_in : List ℕ → Option ℕ

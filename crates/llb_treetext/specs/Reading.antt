@@ -40,7 +40,8 @@ Begins text row = IsRow row × ((later : List ℕ) × (text ≡ line_of row ++ l
 abbrev pub IsFault : List (List (List ℕ) × Entry) → List ℕ → TextFault → Type 0
 IsFault rows rest (BadLine n) = (n ≡ length rows + 1) × ((row : List (List ℕ) × Entry) → ¬ Begins rest row)
 IsFault rows rest (Order n) = (n ≡ length rows + 1) × ((row : List (List ℕ) × Entry) × Begins rest row × (comes_next rows row.0 ≡ false))
-IsFault rows rest (NoParent n) = (n ≡ length rows + 1) × ((row : List (List ℕ) × Entry) × Begins rest row × (comes_next rows row.0 ≡ true) × (walk (λ q. finite.find path_cmp q rows) row.0 ≢ Ok tt))
+IsFault rows rest (NoParent n) = (n ≡ length rows + 1)
+    × ((row : List (List ℕ) × Entry) × Begins rest row × (comes_next rows row.0 ≡ true) × (walk (λ q. finite.find path_cmp q rows) row.0 ≢ Ok tt))
 IsFault rows rest Memory = ⊥
 
 -- the text begins with the rows of a tree, or with none, and the line behind them is faulty; no line at all is one with no rows

@@ -22,7 +22,13 @@ record_of bytes f = record { number = f.number; wire = f.wire; value = f.value; 
 
 -- the record that stands at a place of the bytes
 abbrev pub record_at : List ℕ → ℕ → Field → Record
-record_at bytes at f = record { number = f.number; wire = f.wire; value = f.value; payload = drop f.start (take f.«end» bytes); text = drop at (take f.«end» bytes) }
+record_at bytes at f = record {
+  number = f.number;
+  wire = f.wire;
+  value = f.value;
+  payload = drop f.start (take f.«end» bytes);
+  text = drop at (take f.«end» bytes);
+}
 
 -- where a record lies whose bytes begin at a place
 abbrev pub placed : ℕ → Record → Field
@@ -71,10 +77,17 @@ own_text Len value payload = payload
 own_text I32 value payload = to_le_bytes w32 value
 
 abbrev pub written_record : ℕ → Wire → ℕ → List ℕ → Record
-written_record number wire value payload = record { number = number; wire = wire; value = value_text wire value payload; payload = own_text wire value payload; text = record_text number wire value payload }
+written_record number wire value payload = record {
+  number = number;
+  wire = wire;
+  value = value_text wire value payload;
+  payload = own_text wire value payload;
+  text = record_text number wire value payload;
+}
 
 -- a record's bytes, than which no bytes that spell that number, wire type and value are fewer
 pub record IsShortestRecord (r : Record) : Type 0 where
   pub is_one : IsRecord r
   pub bytes : AreBytes r.text
-  pub least : (other : Record) → AreBytes other.text → IsRecord other → other.number ≡ r.number → other.wire ≡ r.wire → other.value ≡ r.value → length r.text ≤ length other.text
+  pub least : (other : Record) → AreBytes other.text → IsRecord other → other.number ≡ r.number → other.wire ≡ r.wire
+      → other.value ≡ r.value → length r.text ≤ length other.text

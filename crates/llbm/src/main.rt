@@ -72,7 +72,8 @@ fn step_in<S: Sources, R: Read, W: Write, E: Write>(
     out: &mut W,
     err: &mut E,
 ) -> u8
-    ensures { StepsAt S.bytes line.now.file sources.now line.now.workers locals (R.remaining input.old) (R.remaining input.new) (W.contents out.old) (W.contents out.new) result }
+    ensures { StepsAt S.bytes line.now.file sources.now line.now.workers locals (R.remaining input.old) (R.remaining input.new)
+        (W.contents out.old) (W.contents out.new) result }
 {
     let Some(file) = line.file else {
         return words_refusal(&WordsFault::Words(None), err);
