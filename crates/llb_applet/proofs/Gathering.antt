@@ -175,7 +175,7 @@ or_right : (a b : Bool) → b ≡ true → (a || b) ≡ true
 or_right true b is = refl
 or_right false b is = is
 
--- a refusal of what is wrong is one of the text, and its want of memory comes last
+-- a refusal of what is wrong is one of the text, and its *out of memory* comes last
 pub refuses_last : (e : ScriptFault) (rule : Result (Unit {0}) ScriptFault) → Refuses e rule → is_memory e ≡ true → (is_ok rule || names_word rule) ≡ true
 refuses_last e rule refuses m = or_right (is_ok rule) (names_word rule) (refuses.last m)
 

@@ -9,7 +9,7 @@ use Rattle.llb_applet.specs.Words.{Word, placed, is_word, is_word_byte, is_and, 
 pub at_drop : {A : Type 0} (xs : List A) (i : ℕ) (x : A) → i < length xs → x ≡ get_or xs i x → drop i xs ≡ x ∷ drop (i + 1) xs
 at_drop xs i x inside is = rw add-one (drop-cons xs i x inside ∙ ap (λ y. y ∷ drop (suc i) xs) (sym is))
 
--- how many bytes parts have, with one more behind each
+-- how many bytes parts have, with one more after each
 
 abbrev pub spread : List (List ℕ) → ℕ
 spread [] = 0

@@ -52,7 +52,7 @@ concat_of [] = None
 concat_of (out ∷ []) = None
 concat_of (out ∷ a ∷ ws) = Some (command.Concat out (a ∷ ws))
 
--- the command of an applet and the words behind its name, where they are one of its forms
+-- the command of an applet and the words after its name, where they are one of its forms
 abbrev pub form : Applet → List Word → Option Command
 form True ws = no_words ws command.True
 form False ws = no_words ws command.False
@@ -69,7 +69,7 @@ form Listing ws = two_words ws (λ path out. Some (command.Listing path out))
 form Envfile ws = one_word ws (λ out. command.Envfile out)
 form Sha256 ws = two_words ws (λ path out. Some (command.Sha256 path out))
 
--- a list has so many words, and this one first, where it has any
+-- a list has that many words, and this one first, where it has any
 pub record IsFront (words : List Word) (count : ℕ) (word : Word) : Type 0 where
   pub counted : count ≡ length words
   pub first : word ≡ slice_index_or words 0 []

@@ -171,7 +171,7 @@ places_alike c workers inputs needs l = sym (taken_places c.out inputs needs) �
 abbrev pub LeasedNew : Leases → Option ℕ → List Place → Leases → Type 0
 LeasedNew out l ps new = ((l ≡ Some (free_lease out)) × (new ≡ with_lease out (free_lease out) ps)) ⊎ ((l ≡ None) × (ps ≡ []) × (new ≡ out))
 
--- the lease of what a vertex needs, and the caches behind it
+-- the lease of what a vertex needs, and the caches after it
 pub record Granted (c : CachesValue) (x : Vertex) (trees : List TreeMap) (l : Option ℕ) (new : CachesValue) : Type 0 where
   pub rows : new.rows ≡ made_all c.rows (taken c.out (asked trees (needs_of x)))
   pub leased : LeasedNew c.out l (places_taken c.out (needs_of x)) new.out

@@ -71,7 +71,7 @@ pub record Stays (b : Build) (w : ℕ) (d d' : Data) : Type 0 where
   pub supplies : map ready_made d'.desks ≡ map (needed b) (map at_of d'.desks)
   pub marks : d'.stop_marks ≡ stopped b (map status_of d'.stands)
 
--- the lists of instances behind one event more
+-- the lists of instances after one event more
 pub kept_more : (b : Build) (s : State) (first rows : List Row) (t u : State) (es : List Event) (e : Event) (r : Reply)
     → kept_along b s first es ≡ Some (t, rows)
     → table b t e ≡ Some (u, r) → kept_along b s first (es ++ e ∷ []) ≡ Some (u, rows_after rows u (worker_of e))
@@ -321,7 +321,7 @@ pub marks_kept : (b : Build) (ss : List Stand) (v : ℕ) (s : Stand) (old : Stat
     → stopped b (map status_of (slice_set ss v s)) ≡ stopped b (map status_of ss)
 marks_kept b ss v s old at was is = ap (stopped b) (map_set status_of ss v s) ∙ marks_stay b.graph.vertices (map status_of ss) v old (status_of s) at was is
 
--- what is over stays so behind an event that is granted
+-- what is over stays so after an event that is granted
 pub still_over : (b : Build) (first : List Row) (d d' : Data) (es : List Event) (capacity n : ℕ) (e : Event) (r : Reply) → IsGraph b.graph
     → Keeps b first d es capacity
     → table b (state_as d) e ≡ Some (state_as d', r) → AreOver b (map status_of d.stands) n → AreOver b (map status_of d'.stands) n

@@ -74,7 +74,7 @@ lease_out out workers ls w (Some l) leased at =
 
 -- ---- workers that were sent away one after another
 
--- the first so many are idle
+-- the first that many are idle
 abbrev pub idled : ℕ → List Desk → List Desk
 idled zero ds = ds
 idled (suc n) [] = []

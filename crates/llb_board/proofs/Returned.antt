@@ -1,4 +1,4 @@
--- How many leases are out: none of a machine that nothing has happened on, one less behind a lease that is given back, and no
+-- How many leases are out: none of a machine that nothing has happened on, one less after a lease that is given back, and no
 -- more than workers.
 use Rattle.std.proofs.Common.{◌≡◌, ◌≢◌, ℕ, zero, suc, ◌+◌, ◌<◌, ◌≤◌, List, [], ◌∷◌, length, Option, Some, None, is_some, inl, inr, refl, sym, ◌∙◌, cond, arith}
 use Rattle.std.specs.Prelude.{slice_get, slice_set, replicate}

@@ -1,4 +1,4 @@
--- The lists of instances behind an event: what is written there is what a step puts, and what a claim makes.
+-- The lists of instances after an event: what is written there is what a step puts, and what a claim makes.
 use Rattle.std.proofs.Common.{◌≡◌, ℕ, zero, suc, ◌<◌, ◌≤◌, Bool, true, false, List, [], ◌∷◌, ◌++◌, length, map, Some, unwrap_or, inl, inr}
 use Rattle.std.proofs.Common.{refl, sym, ap, subst, ◌∙◌, cond, arith, lt-ltb}
 use Rattle.std.specs.Prelude.{slice_get, slice_set, nat_lt}

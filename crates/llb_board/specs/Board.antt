@@ -23,7 +23,7 @@ pub record Seen : Type 0 where
   pub rows : List Row
   pub events : List Event
 
--- so many workers, and the caches that are handed in
+-- that many workers, and the caches that are handed in
 abbrev pub opening_with : ℕ → List Row → Opening
 opening_with workers rows = record { workers = workers; store = store_of rows }
 
@@ -32,12 +32,12 @@ abbrev pub opened : Build → ℕ → List Row → Seen
 opened b workers rows =
     record { build = b; opening = opening_with workers rows; first = rows; state = opening b (opening_with workers rows); rows = rows; events = [] }
 
--- behind an event that is granted: the state, and the lists of instances
+-- after an event that is granted: the state, and the lists of instances
 abbrev pub kept_next : Build → Option (State × List Row) → Event → Option (State × List Row)
 kept_next b None e = None
 kept_next b (Some (s, rows)) e = option_map (λ (a : State × Reply). (a.0, rows_after rows a.0 (worker_of e))) (table b s e)
 
--- and behind events, each of which is granted
+-- and after events, each of which is granted
 abbrev pub kept_along : Build → State → List Row → List Event → Option (State × List Row)
 kept_along b s rows es = fold (kept_next b) (Some (s, rows)) es
 

@@ -150,7 +150,7 @@ pub(crate) fn mount_numbers(alloc: Global, wanted: &[Wanted]) -> Result<Vec<u32>
     Ok(numbers)
 }
 
-/// What a claim of these caches takes, with the trees of the inputs. Want of memory alone refuses it.
+/// What a claim of these caches takes, with the trees of the inputs. Out of memory alone refuses it.
 pub(crate) fn taking_for(
     alloc: Global,
     caches: &Caches,

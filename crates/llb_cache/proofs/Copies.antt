@@ -8,7 +8,7 @@ use Rattle.indexmap.proofs.MapLemmas.{absent_before, absent_from_lookup, insert_
 use Rattle.llb_cache.specs.Key.{same_key, key_equiv}
 use Rattle.llb_cache.specs.Caches.{Row}
 
--- a row, and those before and behind it
+-- a row, and those before and after it
 record Split (es : List Row) (i : ℕ) : Type 0 where
   row : Row
   at : slice_get es i ≡ Some row

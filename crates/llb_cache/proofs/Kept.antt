@@ -1,4 +1,4 @@
--- What holds of caches holds behind each call.
+-- What holds of caches holds after each call.
 use Rattle.std.proofs.Common.{◌≡◌, ◌≢◌, ℕ, ◌<◌, ◌≤◌, Bool, true, false, cond, List, [], ◌∷◌, length, map, get_or, Some, None, refl, sym, ap}
 use Rattle.std.proofs.Common.{◌∙◌, subst, arith, inl, inr, true≢false, find}
 use Rattle.std.specs.List.{All, AllPairs, AllByRecursion, Contains}

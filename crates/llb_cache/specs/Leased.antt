@@ -1,4 +1,4 @@
--- Which leases have an instance, and who has what behind a lease and behind its end.
+-- Which leases have an instance, and who has what after a lease and after its end.
 use Rattle.std.proofs.Common.{slice_get, ◌≡◌, ℕ, zero, suc, ◌+◌, ◌<◌, ◌≤◌, Bool, true, false, cond, ◌&&◌, ◌||◌, List, [], ◌∷◌, ◌++◌, length}
 use Rattle.std.proofs.Common.{Option, Some, None, is_some, slice_set, get_or, take, unwrap_or, nat_lt, refl, sym, ap, ◌∙◌, arith, inl, inr}
 use Rattle.std.proofs.Common.{◌⊎◌, length-append}
@@ -102,7 +102,7 @@ some_same ps qs e = ap (λ o. unwrap_or o ps) e
 pub free_within : (out : Leases) → free_lease out ≤ length out
 free_within out = prefix_len-le-length _ out
 
--- where all numbers are taken, so many leases are out
+-- where all numbers are taken, that many leases are out
 all_out : (out : Leases) → length out ≤ free_lease out → leases out ≡ length out
 all_out [] h = refl
 all_out (None ∷ out) h = absurd (omega (arith, h))
@@ -112,7 +112,7 @@ all_out (Some ps ∷ out) h =
     let rest = all_out out (omega (arith, h, first)) in
     omega (arith, rest, one)
 
--- who has what behind a lease
+-- who has what after a lease
 pub lease_cases : (out : Leases) (ps : List Place) (a : ℕ) (qs : List Place) → Has (with_lease out (free_lease out) ps) a qs
     → ((a ≡ free_lease out) × (ps ≡ qs)) ⊎ Has out a qs
 lease_cases out ps a qs = go (nat_lt (free_lease out) (length out)) refl
@@ -164,7 +164,7 @@ trimmed_short [] = omega arith
 trimmed_short (Some ps ∷ out) = let rest = trimmed_short out in omega (arith, rest)
 trimmed_short (None ∷ out) = let rest = trimmed_short out in let one = before_short (trimmed out) in omega (arith, rest, one)
 
--- who has what behind the end of a lease
+-- who has what after the end of a lease
 pub back_cases : (out : Leases) (n : ℕ) (a : ℕ) (qs : List Place) → Has (trimmed (slice_set out n None)) a qs → Has out a qs
 back_cases out n a qs at = elim (set_cases out n None a qs (trimmed_has (slice_set out n None) a qs at)) [
   | inl h ↦ absurd (let e = h.1 in cc)
@@ -174,7 +174,7 @@ back_cases out n a qs at = elim (set_cases out n None a qs (trimmed_has (slice_s
 pub back_short : (out : Leases) (n : ℕ) → length (trimmed (slice_set out n None)) ≤ length out
 back_short out n = let less = trimmed_short (slice_set out n None) in let same = length-set out n None in omega (arith, less, same)
 
--- behind the last lease that is out
+-- after the last lease that is out
 pub trimmed_some : (out : Leases) (ps : List Place) → trimmed (out ++ Some ps ∷ []) ≡ out ++ Some ps ∷ []
 unfolding trimmed
 trimmed_some [] ps = refl
@@ -210,7 +210,7 @@ trimmed_at_none out i None below read is =
     let more : take (i + 1) out ≡ take i out ++ None ∷ [] = take_more out i None below ∙ ap (λ o. take i out ++ o ∷ []) (sym read) in
     ap trimmed more ∙ trimmed_none (take i out)
 
--- what a lease has behind its grant
+-- what a lease has after its grant
 set_here : (out : Leases) (n : ℕ) (x : Option (List Place)) → n < length out → slice_get (slice_set out n x) n ≡ Some x
 set_here [] n x below = absurd (omega (arith, below))
 set_here (o ∷ out) zero x below = refl

@@ -25,7 +25,7 @@ holds_in P [] y all h = absurd h
 holds_in P (x ∷ xs) y all (inl is) = subst P (sym is) all.0
 holds_in P (x ∷ xs) y all (inr h) = holds_in P xs y all.1 h
 
--- each of a list is apart from those behind it
+-- each of a list is apart from those after it
 pub pairs_head : {A : Type 0} (R : A → A → Type 0) (x : A) (xs : List A) → AllPairs R (x ∷ xs) → (y : A) → In xs y → R x y
 pairs_head R x xs all y h =
     let at = contained_in xs y h in

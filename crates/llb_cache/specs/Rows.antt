@@ -1,4 +1,4 @@
--- The trees of a key, behind a write of a key's trees, and behind the making of instances.
+-- The trees of a key, after a write of a key's trees, and after the making of instances.
 use Rattle.std.proofs.Common.{◌≡◌, ℕ, zero, suc, ◌+◌, ◌<◌, ◌≤◌, Bool, true, false, cond, List, [], ◌∷◌, ◌++◌, length, Some, None, position}
 use Rattle.std.proofs.Common.{slice_get, slice_set, unwrap_or, nat_lt, refl, sym, ap, ◌∙◌, arith, inl, inr, ◌⊎◌, length-append, le-ltb}
 use Rattle.std.proofs.Common.{lt-ltb}
@@ -57,7 +57,7 @@ tree_put es p tree i old w place at is =
     trees_written es p.key i w place
     ∙ ap (with_trees es p.key) (is ∙ ap (λ ts. slice_set ts p.number tree) (sym (trees_there es p.key i old place at)))
 
--- ---- look-ups behind a write
+-- ---- look-ups after a write
 
 found_again : (rows : List Row) (k : Key) (ts : List TreeMap) → lookup (same_key k) (insert_entry same_key rows k ts) ≡ Some ts
 found_again [] k ts = ap (λ b. cond b (Some ts) None) (key_itself k)
@@ -86,7 +86,7 @@ same_trees rows k ts = ap (λ o. unwrap_or o []) (found_again rows k ts)
 pub other_trees : (rows : List Row) (k l : Key) (ts : List TreeMap) → same_key l k ≡ false → trees_of (with_trees rows k ts) l ≡ trees_of rows l
 other_trees rows k l ts apart = ap (λ o. unwrap_or o []) (found_before rows k l ts apart)
 
--- how many a key has behind a write of a key
+-- how many a key has after a write of a key
 abbrev pub Counts : List Row → List Row → Key → ℕ → Key → Type 0
 Counts rows new k n l = ((l ≡ k) × (length (trees_of new l) ≡ n)) ⊎ (length (trees_of new l) ≡ length (trees_of rows l))
 
@@ -106,7 +106,7 @@ put_counts rows p tree l = elim (counted rows p.key (slice_set (trees_of rows p.
 
 -- ---- what is made
 
--- how many a key has behind the making of an instance
+-- how many a key has after the making of an instance
 pub record Makes (rows : List Row) (p : Place) (new : List Row) : Type 0 where
   pub grows : (k : Key) → length (trees_of rows k) ≤ length (trees_of new k)
   pub there : p.number ≤ length (trees_of rows p.key) → p.number < length (trees_of new p.key)

@@ -159,7 +159,7 @@ pub(crate) fn set_at(rows: &mut IndexMap<Key, Trees>, place: &Place, tree: Tree)
     }
 }
 
-// Drops what is behind the last lease that is out.
+// Drops what is after the last lease that is out.
 fn trim(out: &mut Vec<Option<Many<Place>>>)
     ensures { out.new.items ≡ trimmed out.old.items }
 {

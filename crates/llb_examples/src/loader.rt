@@ -308,7 +308,7 @@ const OPS: &[(&str, &str)] = &[
     ("exec {\n}\n", "89 0 NoMeta"),
     ("source {\n}\n", "88 0 Source"),
     ("file {\nactions {\ncopy {\n}\n}\n}\n", "89 0 ActionInput"),
-    // A removal behind an action without a member.
+    // A removal after an action without a member.
     (
         "file {\nactions {\n}\nactions {\nrm {\n}\n}\n}\n",
         "88 0 Action",
@@ -399,8 +399,8 @@ fn said_of_copy(alloc: Global, fields: &str) -> Result<String, LoadFault> {
     said_of(alloc, op.as_str())
 }
 
-// Copies whose fields stand in another order than that of their numbers: a pattern behind a field that has no name, and an unpacking
-// behind a pattern.
+// Copies whose fields stand in another order than that of their numbers: a pattern after a field that has no name, and an unpacking
+// after a pattern.
 const OTHER_ORDERS: &[(&str, &str)] = &[
     (
         "raw 221f121d08ffffffffffffffffff0110ffffffffffffffffff0122057001620161",

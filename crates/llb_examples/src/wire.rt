@@ -127,7 +127,7 @@ fn a_record_has_its_first_fault(rt: HostRuntime) {
     }
 }
 
-// A number, and behind it four records.
+// A number, and after it four records.
 fn spelled(alloc: Global) -> Result<Vec<u8>, Memory> {
     let mut out = Vec::new(alloc);
     write_varint(300, &mut out)?;
@@ -195,7 +195,7 @@ fn texts_byte_strings_and_lists_own_what_they_were_given(rt: HostRuntime) -> Res
     Ok(())
 }
 
-// A writer that takes one byte a write, and fails after so many.
+// A writer that takes one byte a write, and fails after that many.
 #[derive(Drop)]
 struct Narrow {
     room: usize,

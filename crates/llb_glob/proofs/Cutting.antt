@@ -43,7 +43,7 @@ is_none_from (Some x) false e = refl
 
 -- ---- a part
 
--- what characters spell, behind a `\` or not
+-- what characters spell, after a `\` or not
 abbrev pub items_from : Bool → List ℕ → Result (List Item) PatternFault
 items_from quoted letters = if quoted then items_of (92 ∷ letters) else items_of letters
 

@@ -27,7 +27,7 @@ broken_behind inputs kind [] more broken met rest = rest
 broken_behind inputs kind (r ∷ rs) more broken met rest = broken_after inputs kind r (rs ++ more) broken met.0
     (broken_behind inputs kind rs more broken met.1 rest)
 
--- rules that are met, and more that are met behind them
+-- rules that are met, and more that are met after them
 pub met_both : (inputs : List Input) (kind : Option Kind) (rs more : List Rule) → MeetsAll inputs kind rs → MeetsAll inputs kind more
     → MeetsAll inputs kind (rs ++ more)
 met_both inputs kind rs more met rest = broken_behind inputs kind rs more None met rest
@@ -49,7 +49,7 @@ broken_among : (inputs : List Input) (kind : Option Kind) (rs more : List Rule) 
 broken_among inputs kind rs more None h met = broken_behind inputs kind rs more None h met
 broken_among inputs kind rs more (Some b) h met = broken_before inputs kind rs more b h
 
--- rules of which those before and behind the ones that were checked are met
+-- rules of which those before and after the ones that were checked are met
 placed : (inputs : List Input) (kind : Option Kind) (before own behind : List Rule) (broken : Option Rule)
     → MeetsAll inputs kind before → IsFirstBroken inputs kind own broken → MeetsAll inputs kind behind
     → IsFirstBroken inputs kind (before ++ (own ++ behind)) broken

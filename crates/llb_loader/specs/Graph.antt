@@ -59,7 +59,7 @@ pub record IsVertex (v : Vertex) : Type 0 where
 
 -- ---- a vertex by its kind
 
--- a source is local, and there is a name behind `local://`
+-- a source is local, and there is a name after `local://`
 pub record IsSourceVertex (v : Vertex) (s : SourceOp) : Type 0 where
   pub name : List ℕ
   pub local : source_name s ≡ Some name

@@ -220,7 +220,7 @@ module _ (b : Build) (graph : IsGraph b.graph) where
       subst (λ (t : Answer). Keeps s t.0) (sym c.gives) (written s c.x.vertex (Running w) (Settled end) own refl unover refl
       (after_settle s w c.x.vertex end).workers s.store)
 
-  -- what is over stays so behind an event
+  -- what is over stays so after an event
   pub over_after : (s t : State) (e : Event) (r : Reply) → IsConsistent b s → table b s e ≡ Some (t, r) → (k : ℕ) → is_over b s k ≡ true → is_over b t k ≡ true
   over_after s t e r here given k over = over_stays s t (kept s e (t, r) here given) k over
 

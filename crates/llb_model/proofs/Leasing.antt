@@ -1,4 +1,4 @@
--- The leases of workers, behind a claim, a step and a settle.
+-- The leases of workers, after a claim, a step and a settle.
 use Rattle.std.proofs.Common.{◌≡◌, ◌≢◌, ℕ, zero, suc, ◌+◌, ◌<◌, Bool, true, false, List, [], ◌∷◌, ◌++◌, length, Option, Some, None, inl}
 use Rattle.std.proofs.Common.{inr, refl, sym, ap, subst, ◌∙◌, cond, arith}
 use Rattle.std.specs.Prelude.{slice_get, slice_set, nat_lt}
@@ -73,7 +73,7 @@ trim_stays (Some ps ∷ out) (suc a) qs at = trim_stays out a qs at
 trim_stays (None ∷ out) zero qs at = absurd cc
 trim_stays (None ∷ out) (suc a) qs at = before_stays (trimmed out) a qs (trim_stays out a qs at)
 
--- who has what behind a lease that is given back
+-- who has what after a lease that is given back
 back_is : (out : Leases) (l a : ℕ) (qs : List Place) → cache.Has (trimmed (slice_set out l None)) a qs → (a ≢ l) × cache.Has out a qs
 back_is out l a qs at = elim (got_set out l None a (Some qs) (trim_is (slice_set out l None) a qs at)) [
   | inl h ↦ absurd (cc (h.1))

@@ -16,7 +16,7 @@ use Rattle.llb_model.proofs.Views.{parts_count}
 
 -- ---- past the end, or a fault
 
--- so many micro-steps are all that are done
+-- that many micro-steps are all that are done
 abbrev pub is_over_at : List MicroStep → Left → ℕ → Bool
 is_over_at steps left k = is_some left.fault || nat_le (length steps) k
 

@@ -84,7 +84,7 @@ run_room b s t (e ∷ es) rs given =
     let r = run_first b s e es t rs given in
     omega (arith, event_room b s e r.a r.given, run_room b r.a.0 t es r.rest r.goes_on)
 
--- a run from an opening state, with what is still to come, has at most so many events
+-- a run from an opening state, with what is still to come, has at most that many events
 pub run_has_few : (b : Build) (o : Opening) (t : State) (es : List Event) (rs : List Reply) → run b (opening b o) es ≡ Some (t, rs)
     → still_to_come b t + length es ≤ most_events b
 run_has_few b o t es rs given = omega (arith, opening_room b o, run_room b (opening b o) t es rs given)

@@ -12,7 +12,7 @@ Ran = Option (State × List Reply)
 
 -- ---- a run, and another from where it ended
 
--- replies in front
+-- replies first
 abbrev pub behind : List Reply → Ran → Ran
 behind rs o = option_map {U = State × List Reply} (λ (t : State × List Reply). (t.0, rs ++ t.1)) o
 

@@ -34,7 +34,7 @@ at_work own trees = record { own = own; trees = trees }
 abbrev left_at : View → List TreeMap → Option VertexFault → Left
 left_at own trees fault = record { work = at_work own trees; fault = fault }
 
--- what a worker runs: so much of its program on what the order began it with, on its instances as they are now
+-- what a worker runs: that much of its program on what the order began it with, on its instances as they are now
 pub record IsWorking (b : Build) (s : State) (o : Order) (w : ℕ) (x : Execution) : Type 0 where
   pub vertex : Vertex
   pub there : slice_get b.graph.vertices x.vertex ≡ Some vertex

@@ -113,7 +113,7 @@ seed_as s = record { digest = s.digest; index = index_of s.index }
 abbrev pub key_as : CacheKey → Key
 key_as k = record { id = k.id; seed = option_map seed_as k.seed; mode = mode_of k.mode }
 
--- of a mount that shows a cache, in front of the later ones
+-- of a mount that shows a cache, before the later ones
 abbrev pub with_need : ℕ → Mount → Option CacheKey → List Need → List Need
 with_need i m (Some k) needs = record { mount = i; key = key_as k; input = m.input } ∷ needs
 with_need i m None needs = needs

@@ -25,11 +25,11 @@ pub record IsBest (mounts : List Shown) (path : List (List ℕ)) (i number dropp
   pub names : length (mount_at mounts number).dest ≡ dropped
   pub most : (k : ℕ) → k < i → is_within (mount_at mounts k).dest path ≡ true → length (mount_at mounts k).dest ≤ dropped
 
--- what is known behind the first mounts
+-- what is known after the first mounts
 abbrev pub SoFar : List Shown → List (List ℕ) → ℕ → ℕ → ℕ → Type 0
 SoFar mounts path i number dropped = HasNone mounts path i dropped ⊎ IsBest mounts path i number dropped
 
--- behind all mounts there is one, since one dest is the root
+-- after all mounts there is one, since one dest is the root
 pub found : (mounts : List Shown) (path : List (List ℕ)) (number dropped : ℕ) → IsView mounts → SoFar mounts path (length mounts) number dropped
     → IsRoute mounts path (number, dropped)
 found mounts path number dropped view (inl w) =

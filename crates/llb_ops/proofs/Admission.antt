@@ -77,7 +77,7 @@ fits bytes n small e few =
 
 -- ---- what was admitted
 
--- the faults of records are no want of memory
+-- the faults of records are not *out of memory*
 first_named : (shape : Shape) (bytes : List ℕ) (r : Result Field WireFault) (e : OpFault)
     → (from_wire r >>= λ f. cond (wire_fits (form_of shape f.number) f.wire) (Ok f) (Err WrongWireType)) ≡ Err e → is_memory e ≡ false
 first_named shape bytes (Err d) e h = let is : Wire d ≡ e = cc in ap is_memory (sym is)

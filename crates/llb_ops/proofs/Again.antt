@@ -19,7 +19,7 @@ number_part n v = record { number = n; wire = wire.Varint; value = v; payload = 
 abbrev pub bytes_part : ℕ → List ℕ → Record
 bytes_part n bytes = record { number = n; wire = wire.Len; value = length bytes; payload = bytes; text = record_text n wire.Len 0 bytes }
 
--- the bytes of records, one behind the other
+-- the bytes of records, one after the other
 abbrev pub spelled : List Record → List ℕ
 spelled rs = flat_map (λ r. r.text) rs
 
@@ -44,7 +44,7 @@ front shape (b ∷ bytes) f long e fits some =
     let pred : drop f.«end» (b ∷ bytes) ≡ drop (f.«end» - 1) bytes = drop_pred f.«end» b bytes some in
     rw (e, fits, pred, ← parts_skip shape (f.«end» - 1) bytes) refl
 
--- records that are spelled one behind the other are read as these records
+-- records that are spelled one after the other are read as these records
 pub parts_again : (shape : Shape) (rs : List Record) → AllByRecursion (FitsShape shape) rs → records_from shape 0 (spelled rs) ≡ Ok rs
 unfolding records_from
 parts_again shape [] fits = refl

@@ -18,7 +18,7 @@ pub in_err : (bytes : List ℕ) (f : OpFault) → records_from definition_shape 
 unfolding entries_in
 in_err bytes f e = rw e refl
 
--- an entry in front of others, where the record is one
+-- an entry before others, where the record is one
 abbrev pub in_front : Record → List (List ℕ) → List (List ℕ)
 in_front r es = cond (eqb r.number 1) (r.payload ∷ es) es
 
@@ -96,7 +96,7 @@ tally_done t bytes total none so_far =
 
 -- ---- gathering
 
--- the entries that are left behind those that were gathered
+-- the entries that are left after those that were gathered
 abbrev pub behind : List (List ℕ) → Result (List (List ℕ)) OpFault → Result (List (List ℕ)) OpFault
 behind front read = read >>= λ es. Ok (front ++ es)
 

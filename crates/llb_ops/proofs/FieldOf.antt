@@ -31,7 +31,7 @@ IsShort r = length r.text < 2 ^ 64
 abbrev pub IsWritten : Shape → Record → Type 0
 IsWritten shape r = IsShort r → IsGood shape r
 
--- a field of a message M, or several, of the numbers `ns`; `run` goes on with what is read, and `bytes` puts it behind others
+-- a field of a message M, or several, of the numbers `ns`; `run` goes on with what is read, and `bytes` puts it after others
 pub record FieldOf (shape : Shape) (M A : Type 0) : Type 0 where
   pub ns : List ℕ
   pub read : List Record → Result A OpFault
@@ -201,7 +201,7 @@ texts_good : (shape : Shape) (rs : List Record) → AllByRecursion (IsGood shape
 texts_good shape [] h = refl
 texts_good shape (r ∷ rs) h = and_true (text_fits shape r) (texts_fit shape rs) h.0.text (texts_good shape rs h.1)
 
--- good records that are spelled one behind the other are read as these
+-- good records that are spelled one after the other are read as these
 pub good_again : (shape : Shape) (rs : List Record) → AllByRecursion (IsGood shape) rs → parts shape (spelled rs) ≡ Ok rs
 unfolding parts
 good_again shape rs h =
@@ -255,7 +255,7 @@ fields_again {shape} f make rs a named good e w small =
     ap (λ (x : Result (List Record) OpFault). x >>= message_read f make) (good_again shape (ws ++ xs) all)
     ∙ message_again f make (ws ++ xs) a (unnamed shape rs) read within (ap spelled kept)
 
--- the rest of a message behind its records: its fields one after the other, and the limits
+-- the rest of a message after its records: its fields one after the other, and the limits
 abbrev pub message_run : {shape : Shape} {A M : Type 0} → FieldOf shape M A → (A → List ℕ → M) → List Record → Result M OpFault
 message_run {shape} f make rs = f.run rs (λ a. if f.within rs then Ok (make a (unnamed shape rs)) else Err OverLimit)
 

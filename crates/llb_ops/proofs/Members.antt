@@ -1,4 +1,4 @@
--- The last record of a oneof, and the records behind the last of another member.
+-- The last record of a oneof, and the records after the last of another member.
 use Rattle.std.proofs.Common.{◌≡◌, ℕ, zero, suc, ◌+◌, ◌-◌, ◌≤◌, ◌<◌, Bool, true, false, cond, eqb, List, [], ◌∷◌, ◌++◌, length, take, drop}
 use Rattle.std.proofs.Common.{get_or, Some, refl, sym, ap, ◌∙◌, arith}
 use Rattle.std.specs.Prelude.{filter, slice_get, option_map, fold}
@@ -38,7 +38,7 @@ since_push p rs r b e = fold_push (kept p) [] rs r ∙ rw e refl
 pub views_more : (rs : List Held) (i : ℕ) (d : Held) → i < length rs → views (take (i + 1) rs) ≡ views (take i rs) ++ view (get_or rs i d) ∷ []
 views_more rs i d lt = ap views (take_more rs i d lt) ∙ map_push view (take i rs) (get_or rs i d)
 
--- nothing is left behind the end
+-- nothing is left after the end
 pub drop_views : (rs : List Held) (start n : ℕ) → n ≤ start → drop start (views (take n rs)) ≡ []
 drop_views rs start n le = drop_all start (views (take n rs)) (omega (arith, length-map (take n rs) view, length-take n rs, le))
 

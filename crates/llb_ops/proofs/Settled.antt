@@ -43,7 +43,7 @@ pub settled_apart : (es : List AttributeEntry) → Apart (settled es)
 unfolding settled
 settled_apart es = apart_fold [] es tt
 
--- a new key stands behind all others
+-- a new key stands after all others
 insert_behind : (es : List Held) (k : List ℕ) (v : Attribute) → AllByRecursion (λ q. same k q.0 ≡ false) es → insert_entry same es k v ≡ es ++ (k, v) ∷ []
 insert_behind [] k v h = refl
 insert_behind (e ∷ es) k v h = let s = h.0 in rw s (ap (λ xs. e ∷ xs) (insert_behind es k v h.1))

@@ -16,7 +16,7 @@ use Rattle.llb_ops.proofs.Kept.{wire_ok, ok_list, guard_ended}
 
 -- ---- bytes, and the records that they spell
 
--- a record at the front holds less than the bytes up to its end
+-- a record at the start holds less than the bytes up to its end
 front_size : (bytes : List ℕ) (f : Field) → field_at bytes 0 ≡ Ok f → (length (record_of bytes f).payload + 1 ≤ f.«end») × (f.«end» ≤ length bytes)
 front_size bytes f e =
     let h = field_local bytes f e in

@@ -28,7 +28,7 @@ parts_skip shape zero bytes = refl
 parts_skip shape (suc skip) [] = refl
 parts_skip shape (suc skip) (b ∷ bytes) = parts_skip shape skip bytes
 
--- what is read at the front of some bytes, as the next record
+-- what is read at the start of some bytes, as the next record
 abbrev next_is : Result Field WireFault → Result (Option Field) WireFault
 next_is (Ok f) = Ok (Some f)
 next_is (Err e) = Err e
@@ -86,7 +86,7 @@ parts_more shape (b ∷ bytes) f e fits some =
     let one : drop f.«end» (b ∷ bytes) ≡ drop (f.«end» - 1) bytes = drop_pred f.«end» b bytes some in
     rw (h, fits, one, ← parts_skip shape (f.«end» - 1) bytes) refl
 
--- the record that was taken is in front of the others
+-- the record that was taken is before the others
 pub is_front : (shape : Shape) (bytes : List ℕ) (f : Field) (front : Front) → Ok (Some f) ≡ next_field bytes 0
     → wire_fits (form_of shape f.number) f.wire ≡ true → IsWithin bytes 0 f
     → view front.record ≡ record_of bytes f → front.after.now ≡ drop f.«end» bytes → IsFront shape bytes front

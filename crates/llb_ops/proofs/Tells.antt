@@ -1,4 +1,4 @@
--- Bytes that are fields by the table when fields stand behind them: for one field of each sort, and one behind the other.
+-- Bytes that are fields by the table when fields stand after them: for one field of each sort, and one after the other.
 use Rattle.std.proofs.Common.{◌≡◌, ℕ, ◌≤◌, Bool, true, false, List, [], ◌∷◌, ◌++◌, length, refl, sym, ap, subst, ◌∙◌, append_assoc, arith}
 use Rattle.std.specs.Prelude.{nat_lt, not, ◌&&◌, ◌||◌, ◌==◌}
 use Rattle.llb_ops.specs.declared.table.MessageName.{MessageName}
@@ -8,7 +8,7 @@ use Rattle.llb_ops.specs.Writing.{set_number, set_bytes}
 use Rattle.llb_ops.specs.Fields.{Fields, extra, number, bytes, message, bytes_of, IsNext, may_be_empty, IsNumberOf, IsBytesOf, AreFields, without_empty}
 use Rattle.llb_ops.proofs.Few.{NoneOften, numbers_of, AreInnerFew}
 
--- bytes that are fields behind the field `last`, with these numbers; without empty keys and values of entries they are the bytes `spare`
+-- bytes that are fields after the field `last`, with these numbers; without empty keys and values of entries they are the bytes `spare`
 pub record From (m : MessageName) (last : ℕ) (set : Bool) (ns full spare : List ℕ) : Type 0 where
   pub fields : Fields
   pub are : AreFields m last set fields
@@ -73,7 +73,7 @@ left_most : (s b : Bool) → s || (s || b) ≡ s || b
 left_most true b = refl
 left_most false b = refl
 
--- ---- nothing, one field, and one behind the other
+-- ---- nothing, one field, and one after the other
 
 -- a field that is left out
 pub tells_nothing : (m : MessageName) (last next : ℕ) (set then_set : Bool) → last ≤ next → AtMost set then_set → Tells m last set next then_set [] [] []

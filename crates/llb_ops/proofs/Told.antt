@@ -57,7 +57,7 @@ abbrev pub next_is : {m : MessageName} {last : ℕ} {set : Bool} {row : Row} →
     → may_follow last set row.1 ≡ true → IsNext m last set row
 next_is known follows = record { known = known; follows = follows }
 
--- ---- none, and one behind the other
+-- ---- none, and one after the other
 
 pub tells_up_to_here : (m : MessageName) (last : ℕ) (set : Bool) → Tells m last set last set [] [] []
 tells_up_to_here m last true = tells_nothing m last last true true (omega arith) refl
@@ -213,7 +213,7 @@ told_key m last set row holds next of may range fits empty = record {
 
 -- ---- fields that are repeated
 
--- a row that stands behind others, and again behind itself
+-- a row that stands after others, and again after itself
 pub record IsRepeated (m : MessageName) (last : ℕ) (set : Bool) (row : Row) : Type 0 where
   pub first : IsNext m last set row
   pub again : IsNext m row.1.number set row
@@ -316,7 +316,7 @@ told_messages m sub {W} last set row read write returns has h kind range named =
       ((messages {shape = shape_of m} {W = W} row.1.number read write returns range named).limit rs a good e w);
 }
 
--- ---- the member of a oneof, with nothing but extra bytes behind it
+-- ---- the member of a oneof, with nothing but extra bytes after it
 
 up_to : {m : MessageName} {a b c : ℕ} {s t : Bool} {ns full spare : List ℕ} → b ≤ c → AtMost t t → Tells m a s b t ns full spare → Tells m a s c t ns full spare
 up_to {m} {a} {b} {c} {s} {t} {ns} {full} {spare} le few h = record {

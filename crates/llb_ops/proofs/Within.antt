@@ -1,4 +1,4 @@
--- What is read is within the limits: each message by what it is of its records.
+-- What is read is within the limits: each message by what it is from its records.
 use Rattle.std.proofs.Common.{◌≡◌, ℕ, ◌≤◌, Bool, true, false, cond, ltb, List, [], ◌∷◌, Option, Some, None, Result, Ok, Err, length, refl, ap, subst, arith}
 use Rattle.std.specs.Prelude.{nat_le, IfOk}
 use Rattle.std.specs.List.{AllByRecursion}

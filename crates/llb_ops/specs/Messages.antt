@@ -1,4 +1,4 @@
--- What each message is of its records, with its fields of the table (`ops.proto` of BuildKit). The order of the lines is the
+-- What each message is from its records, with its fields of the table (`ops.proto` of BuildKit). The order of the lines is the
 -- order of the faults: the records, the message fields by their numbers, the limits.
 use Rattle.std.specs.Prelude.{ℕ, List, [], ◌∷◌, length, Option, Result, Ok, Err, nat_lt, ◌==◌, if◌then◌else◌}
 use Rattle.llb_wire.specs.Answer.{◌>>=◌}
@@ -114,7 +114,7 @@ mk_dir_of = message_of mk_dir_shape mk_dir_in
 abbrev pub copy_file_shape : Shape
 copy_file_shape = shape_of message.FileActionCopy
 
--- what a copy is of its records, but for the owner
+-- what a copy is from its records, but for the owner
 unfoldable pub copy_file_with : List Record → Option ChownOpt → CopyFile
 copy_file_with rs owner = record {
   src = payload (all 1 rs);

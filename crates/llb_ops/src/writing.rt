@@ -1,4 +1,4 @@
-//! Fields in their canonical bytes, one behind the other.
+//! Fields in their canonical bytes, one after the other.
 
 ghost use Rattle.std.specs.Prelude.{◌≡◌, ◌<◌, ◌++◌, ◌≤◌, OnOk};
 ghost use Rattle.llb_ops.specs.Writing.{set_number, set_bytes, number_field, bytes_field, signed_field, flag_field, message_field};

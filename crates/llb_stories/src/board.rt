@@ -41,7 +41,7 @@ const IN_ORDER_OF_NUMBERS: &[u8] = b"\x0A\x03\x0A\x01P\x0A\x03\x0A\x01Q\x12;\
     \x12\x0B\x08\x01\x1A\x03/in \x01(\x01\
     \x12\x0E\x08\xFF\xFF\xFF\xFF\xFF\xFF\xFF\xFF\xFF\x01\x1A\x01/";
 
-// A command on P that is done, one that ends with status 1, and one behind it.
+// A command on P that is done, one that ends with status 1, and one after it.
 const FAILS_AT_1: &[u8] = b"\x0A\x03\x0A\x01P\x0A\x03\x0A\x01Q\x12:\
     \x0A3\x0A\x07/bin/sh\x0A\x02-c\x0A!write /x k && false && write /y k\x1A\x01/\
     \x12\x03\x1A\x01/";

@@ -289,7 +289,7 @@ fn one_id_in_two_modes_is_two_caches(rt: HostRuntime) {
     assert!(rt; is_told(rt.alloc(), in_two_modes(rt.alloc()), &story));
 }
 
-// The caches of a board that is left behind a story.
+// The caches of a board that is left after a story.
 fn left(alloc: Global, graph: Option<Graph>, story: &[(Call, &str)]) -> Option<Caches> {
     let mut board = opened(alloc, graph)?;
     if answered(alloc, &mut board, story) < story.len() {
@@ -333,7 +333,7 @@ fn keys_stand_in_the_order_of_the_first_claims(rt: HostRuntime) {
     assert!(rt; !are_in_order(alloc, &caches, &[K_LOCKED, K_SHARED]));
 }
 
-// Another board with the parts of one that is left behind a story, where no lease is out.
+// Another board with the parts of one that is left after a story, where no lease is out.
 fn opened_again(alloc: Global, graph: Option<Graph>, story: &[(Call, &str)]) -> Option<Board> {
     let mut board = opened(alloc, graph)?;
     if answered(alloc, &mut board, story) < story.len() {

@@ -1,4 +1,4 @@
-//! What faults of calls on a board print: what stands behind the word `fault` in a refusal.
+//! What faults of calls on a board print: what stands after the word `fault` in a refusal.
 
 use llb_board::{ClaimFault, SettleFault, StepFault};
 use llb_cache::{Key, Mode};

@@ -14,7 +14,7 @@ fn opened(alloc: Global, graph: Option<Graph>) -> Option<Board> {
     Board::open(alloc, graph?, Locals::new(alloc), Caches::new(alloc), 2).ok()
 }
 
-// Walks the chosen events, at most so many, and takes them back: whether the board was complete in between.
+// Walks the chosen events, at most that many, and takes them back: whether the board was complete in between.
 fn there_and_back(board: &mut Board, most: u32) -> bool
     ensures { board.new ≡ board.old }
 {

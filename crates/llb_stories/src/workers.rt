@@ -91,7 +91,7 @@ fn taken(turns: &mut Vec<Turn>, turn: usize, count: usize) -> Result<usize, Fail
     }
 }
 
-// The board at the end of a schedule; turns that it lacks are put behind it.
+// The board at the end of a schedule; turns that it lacks are put after it.
 fn played(alloc: Global, turns: &mut Vec<Turn>) -> Result<Option<Board>, Fail> {
     let Some(board) = for_two(alloc) else {
         return Ok(None);
@@ -110,7 +110,7 @@ fn played(alloc: Global, turns: &mut Vec<Turn>) -> Result<Option<Board>, Fail> {
     Ok(None)
 }
 
-// The next schedule: the last turn with a further event takes that, and no turn is behind it. Tells whether there is one.
+// The next schedule: the last turn with a further event takes that, and no turn is after it. Tells whether there is one.
 fn advance(turns: &mut Vec<Turn>) -> Result<bool, Fail> {
     for _i in 0..20 {
         match turns.pop() {

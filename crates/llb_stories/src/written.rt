@@ -72,7 +72,7 @@ pub fn graph_of(alloc: Global, given: &[(&str, &[u8])]) -> Option<Graph> {
     }
 }
 
-// Puts bytes behind a tag and their length.
+// Puts bytes after a tag and their length.
 fn put_under(out: &mut Vec<u8>, tag: u8, bytes: &[u8]) -> Result<(), Memory> {
     out.push(tag)?;
     write_varint(bytes.len() as u64, out)?;
@@ -106,7 +106,7 @@ fn exec_of(alloc: Global, script: &str, mounts: &[Shown<'_>]) -> Result<Vec<u8>,
     Ok(exec)
 }
 
-// The entry that runs a script on some mounts, behind the bytes of its inputs.
+// The entry that runs a script on some mounts, after the bytes of its inputs.
 pub fn script_on(
     alloc: Global,
     inputs: &[u8],

@@ -10,7 +10,7 @@ use Rattle.llb_tree.specs.Shared.{shared}
 
 -- ---- where a part leads
 
--- to the front of a path, or to one name more
+-- to the start of a path, or to one name more
 abbrev Leads : List (List ℕ) → List ℕ → List (List ℕ) → Type 0
 Leads path part after = (after ≡ take (length after) path) ⊎ (after ≡ path ++ part ∷ [])
 

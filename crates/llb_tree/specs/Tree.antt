@@ -113,7 +113,7 @@ remove t p = not_root p >>= λ _. found (finite.get t p) >>= λ _. Ok (without t
 abbrev pub dir_there : TreeMap → List (List ℕ) → Result (Unit {0}) TreeFault
 dir_there t p = all_dirs (finite.get t p ∷ [])
 
--- an entry with other names in front of its path in place of so many
+-- an entry with other names before its path in place of that many
 abbrev pub moved : ℕ → List (List ℕ) → List (List ℕ) × Entry → List (List ℕ) × Entry
 moved n front e = (front ++ drop n e.0, e.1)
 

@@ -39,7 +39,7 @@ cond_some false o y is = absurd cc
 some_is : {A : Type 0} (x y : A) → ◌≡◌ {A = Option A} (Some x) (Some y) → x ≡ y
 some_is x y is = cc
 
--- ---- the text up to a byte, and behind it
+-- ---- the text up to a byte, and after it
 
 pub cut_gives : (c : ℕ) (text a b : List ℕ) → cut_at c text ≡ Some (a, b) → text ≡ a ++ c ∷ b
 cut_gives c text a b is =

@@ -1,4 +1,4 @@
--- Decimal digits behind a number, one at a time; and the digits that are written for a number give it back.
+-- Decimal digits after a number, one at a time; and the digits that are written for a number give it back.
 use Rattle.std.proofs.Common.{◌≡◌, ℕ, zero, suc, ◌+◌, ◌-◌, ◌*◌, ◌/◌, ◌%◌, ◌^◌, ◌<◌, ◌≤◌, nat_lt, nat_eq, Bool, true, false, cond, List, []}
 use Rattle.std.proofs.Common.{◌∷◌, ◌++◌, length, get_or, drop, Some, None, refl, sym, ap, ◌∙◌, arith, add-one, ◌==◌, inl, inr}
 use Rattle.std.proofs.Common.{length-append}

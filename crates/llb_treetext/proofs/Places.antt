@@ -90,13 +90,13 @@ module _ (t : TreeMap) (tree : IsTree t) (place : Place) (last : IsLast t place)
   comes : (p : List (List ℕ)) → comes_next (finite.entries t) p ≡ is_lt (path_cmp last.row.0 p)
   comes p = ap (λ es. comes_next es p) last.entries ∙ comes_last last.front last.row p
 
-  -- whether a path is behind all others
+  -- whether a path is after all others
   pub order_is : (p : List (List ℕ)) (names : List ℕ) → IsPath p → names ≡ names_text p
       → is_lt (trail_cmp place.names.now names) ≡ comes_next (finite.entries t) p
   order_is p names path same =
       (λ i. is_lt (trail_cmp (last.names i) (same i))) ∙ ap is_lt (trail_order last.row.0 p last_row.stands.path.named path.named) ∙ sym (comes p)
 
-  -- what is there is not behind all others
+  -- what is there is not after all others
   not_behind : (d : List (List ℕ)) (e : Entry) → finite.get t d ≡ Some e → comes_next (finite.entries t) d ≡ false
   not_behind d e is = go (comes_next (finite.entries t) d) refl (finite.entries t) refl
     where

@@ -1,4 +1,4 @@
--- A row behind all rows of a tree goes to the end of it, where its directories are there; and each row of a tree's text does.
+-- A row after all rows of a tree goes to the end of it, where its directories are there; and each row of a tree's text does.
 use Rattle.std.proofs.Common.{◌≡◌, ◌≢◌, ℕ, zero, suc, ◌+◌, ◌<◌, ◌≤◌, ◌==◌, Bool, true, false, cond, ◌&&◌, List, [], ◌∷◌, ◌++◌, length, map}
 use Rattle.std.proofs.Common.{Option, Some, None, IsSome, Result, Ok, Err, T, refl, sym, ap, subst, ◌∙◌, true≢false, arith, append_assoc}
 use Rattle.std.proofs.Common.{length-append, inl, inr}
@@ -27,7 +27,7 @@ use Rattle.llb_treetext.specs.declared.fault.TextFault.TheVariants.{BadLine, Ord
 use Rattle.llb_treetext.proofs.Rows.{Pair}
 use Rattle.llb_treetext.proofs.Unique.{one_answer}
 
--- ---- behind all rows
+-- ---- after all rows
 
 is_less : (o : Ordering) → T (is_lt o) → o ≡ Less
 is_less Less h = refl

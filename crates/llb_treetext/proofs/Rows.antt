@@ -25,7 +25,7 @@ file_is_row p m content path meta bytes named = record { stands = record { path 
 
 -- ---- the first line
 
--- a line and what is behind it
+-- a line and what is after it
 abbrev grouped_line : (row : Pair) (later : List ℕ) → line_of row ++ later ≡ row_text row ++ 10 ∷ later
 grouped_line row later = append_assoc (row_text row) (10 ∷ []) later
 

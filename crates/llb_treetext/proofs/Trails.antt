@@ -1,4 +1,4 @@
--- Names with a slash before each: their order as bytes is path order, and what is before the last slash, or in front of
+-- Names with a slash before each: their order as bytes is path order, and what is before the last slash, or before
 -- both of two, are names again.
 use Rattle.std.proofs.Common.{◌≡◌, ◌≢◌, ℕ, zero, suc, ◌<◌, ◌≤◌, ◌==◌, nat_lt, Bool, true, false, cond, List, [], ◌∷◌, ◌++◌, length, take}
 use Rattle.std.proofs.Common.{drop, nat_eq, Some, None, take-append-drop, refl, sym, ap, subst, ◌∙◌, true≢false, arith, append_assoc}
@@ -76,7 +76,7 @@ last_slash [] (c ∷ b) x y nx ny same = absurd (none_inside b y x nx cc)
 last_slash (c ∷ a) [] x y nx ny same = let rest : y ≡ a ++ 47 ∷ x = cc in absurd (none_inside a x y ny rest)
 last_slash (c ∷ a) (d ∷ b) x y nx ny same = let one : c ≡ d = cc in let rest = last_slash a b x y nx ny cc in λ i. one i ∷ rest i
 
--- ---- names in front of names
+-- ---- names before names
 
 head_not : (b : ℕ) (m s t : List ℕ) → NoSlash (b ∷ m) → IsTail s → s ≡ b ∷ t → ⊥
 head_not b m s t none (inl nil) same = let e : ◌≡◌ {A = List ℕ} [] (b ∷ t) = sym nil ∙ same in absurd cc
@@ -182,7 +182,7 @@ pub no_bytes : (rest back : List ℕ) → length rest ≡ 0 → rest ++ back ≡
 no_bytes [] back is = refl
 no_bytes (x ∷ rest) back is = absurd (omega (arith, is))
 
--- ---- what is behind a front
+-- ---- what is after a prefix
 
 pub stripped : (names dir later : List ℕ) → pointwise nat_eq (take (length dir) names) dir ≡ true → later ≡ drop (length dir) names → names ≡ dir ++ later
 stripped names dir later same rest = sym (take-append-drop (length dir) names) ∙ (λ i. (bytes_decides (take (length dir) names) dir).0 same i ++ sym rest i)

@@ -1,4 +1,4 @@
--- Two accounts of one text agree: of two lists of rows at its front one goes on where the other ends, and a row of a tree
+-- Two accounts of one text agree: of two lists of rows at its start one goes on where the other ends, and a row of a tree
 -- is no faulty one.
 use Rattle.std.proofs.Common.{◌≡◌, ◌≢◌, ℕ, zero, suc, Bool, true, false, cond, ◌&&◌, List, [], ◌∷◌, ◌++◌, length, map, Option, Some, None}
 use Rattle.std.proofs.Common.{is_some, Ok, Err, T, refl, sym, ap, subst, ◌∙◌, true≢false, arith, append_assoc, length-append, ◌⊎◌, inl, inr}
@@ -81,7 +81,7 @@ unfolding AllRows
 before_rows rows (inl none) = subst AllRows (sym none) tt
 before_rows rows (inr (t, tree, same)) = subst AllRows (sym same) (tree_rows t tree)
 
--- ---- two lists of rows at the front of one text
+-- ---- two lists of rows at the start of one text
 
 -- one goes on where the other ends
 record Longer (xs ys : List Pair) (a b : List ℕ) : Type 0 where
@@ -189,7 +189,7 @@ module _ (t : TreeMap) (tree : IsTree t) (rows : List Pair) (row : Pair) (more :
       out (ap (λ (x : Pair). walk (λ q. finite.find path_cmp q rows) x.0) one.0 ∙ walks)
   no_fault rest later Memory is text fault = fault
 
--- where rows of a text go on, what is behind the shorter ones is not faulty
+-- where rows of a text go on, what is after the shorter ones is not faulty
 no_fault_before : (xs ys : List Pair) (a b : List ℕ) (e : TextFault) → AreBefore ys → Longer xs ys a b → ¬ IsFault xs a e
 no_fault_before xs ys a b e (inl none) l fault = let long = ap length (sym none ∙ l.rows) in absurd (omega (arith, length-append xs (l.row ∷ l.more), long))
 no_fault_before xs ys a b e (inr (t, tree, same)) l fault = no_fault t tree xs l.row l.more (sym same ∙ l.rows) a (lines_of l.more ++ b) e l.is_row l.text fault

@@ -140,7 +140,7 @@ pub when_true : (b : Bool) (P : Type 0) → OnTrue b P → b ≡ true → P
 when_true true P h is = h
 when_true false P h is = absurd cc
 
--- a front of a longer record
+-- a prefix of a longer record
 pub goes_longer : (a b : Seen) → Goes a b → length a.events ≤ length b.events
 goes_longer a b goes = omega (arith, ap length goes.events, length-append a.events goes.more)
 
@@ -161,7 +161,7 @@ count_seen w (e ∷ es) =
     sum_by-cons (λ x. cond (worker_of x == w) 1 0) (event_of e) (map event_of es)
     ∙ ap (λ n. cond (of_worker w e) 1 0 + n) (count_seen w es) ∙ sym (sum_by-cons (λ x. cond (of_worker w x) 1 0) e es)
 
--- the counts of so many events
+-- the counts of that many events
 abbrev pub Counts : List ℕ → List event.Event → ℕ → Type 0
 Counts made es i = (length made ≡ 64) × ((w : ℕ) → w < 64 → slice_index made w ≡ count_by (of_worker w) (take i es))
 

@@ -141,7 +141,7 @@ stopped_fails b graph s (suc n) k lt stop =
     ]
 
 module _ (b : Build) (graph : IsGraph b.graph) (s : State) (here : IsConsistent b s) (complete : is_complete b s ≡ true) where
-  -- on a complete board what is not done has failed, or is behind a vertex that has
+  -- on a complete board what is not done has failed, or is after a vertex that has
   undone_fails : (k : ℕ) → k < length b.graph.vertices → is_done (ending_at s.statuses k) ≡ false → FailsBy s k
   undone_fails k lt undone = by_status (slice_get s.statuses k) refl
     where

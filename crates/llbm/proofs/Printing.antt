@@ -56,18 +56,18 @@ module _ {A : Type 0} where
   all_taken (x ∷ es) zero le = absurd (omega arith)
   all_taken (x ∷ es) (suc at) le = ap (λ ys. x ∷ ys) (all_taken es at (omega arith))
 
--- a front is out, and a part of what comes next
+-- a prefix is out, and a part of what comes next
 pub stops_inside : {F : Type 0} (is_memory : F → Bool) (a b c : Option (List ℕ)) (failed : Bool) (front line rest : List ℕ) (e : F)
     → Appends a b front → Writes is_memory b c failed line (Err e) → Writes is_memory a c failed (front ++ (line ++ rest)) (Err e)
 stops_inside is_memory a b c failed front line rest e before part = (part.0, part_after a b c front (line ++ rest) before (part_then b c line rest part.1))
 
--- a text is out, and then the next, or a front of it
+-- a text is out, and then the next, or a prefix of it
 pub writes_after : {F : Type 0} (is_memory : F → Bool) (a b c : Option (List ℕ)) (failed : Bool) (text more : List ℕ)
     (r : Result (Unit {0}) F) → Appends a b text → Writes is_memory b c failed more r → Writes is_memory a c failed (text ++ more) r
 writes_after is_memory a b c failed text more (Ok u) whole next = Appends-trans a b c text more whole next
 writes_after is_memory a b c failed text more (Err e) whole next = (next.0, part_after a b c text more whole next.1)
 
--- what is a front of a text is one of a longer text
+-- what is a prefix of a text is one of a longer text
 pub writes_part : {F : Type 0} (is_memory : F → Bool) (a b : Option (List ℕ)) (failed : Bool) (text more : List ℕ) (e : F)
     → Writes is_memory a b failed text (Err e) → Writes is_memory a b failed (text ++ more) (Err e)
 writes_part is_memory a b failed text more e part = (part.0, part_then a b text more part.1)

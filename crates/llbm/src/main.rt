@@ -39,7 +39,7 @@ use std::sync::Wait;
 use std::thread::Threads;
 use std::{env, io};
 
-// The words behind the program's name, which have to be UTF-8.
+// The words after the program's name, which have to be UTF-8.
 fn words_given(rt: &HostRuntime) -> Result<Vec<String>, WordsFault<'static>> {
     let words = match env::args(rt) {
         Ok(words) => words,

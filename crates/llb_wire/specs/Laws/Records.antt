@@ -62,7 +62,7 @@ fixed_read w before spelling rest n at e h =
     let front : take (byte_len w) (spelling ++ rest) ≡ spelling = take_at spelling rest (byte_len w) h.size in
     rw (there, enough, front, sym h.value, sym h.size) refl
 
--- what is read behind the tag
+-- what is read after the tag
 abbrev payload_field : ℕ → Wire → ℕ → ℕ → List ℕ → List ℕ → Field
 payload_field number w value at behind own = record {
   number = number;
@@ -318,7 +318,7 @@ record_found_at bytes at f are le e =
     let w = bind_ok (wire_of (t.0.0 % 8)) (λ wire. payload_at n.0 wire bytes t.0.1) f n.2 in
     found_by_parts bytes at f t.0 n.0 w.0 are le t.1 n.1 w.1 w.2
 
--- what is read at the front is a record by the grammar
+-- what is read at the start is a record by the grammar
 pub record_found : (bytes : List ℕ) (f : Field) → AreBytes bytes → field_at bytes 0 ≡ Ok f → FoundRecord bytes 0 f
 record_found bytes f are e = record_found_at bytes 0 f are (omega arith) e
 
@@ -354,7 +354,7 @@ one_list bytes rs others a b = same_lists rs others (sym a.whole ∙ b.whole) a.
 pub spelled_none : SpellRecords [] []
 spelled_none = record { whole = refl; each = tt }
 
--- the record at the front, and then those of the bytes behind it
+-- the record at the start, and then those of the bytes after it
 pub spelled_next : (bytes : List ℕ) (f : Field) (rs : List Record) → AreBytes bytes → field_at bytes 0 ≡ Ok f
     → SpellRecords (drop f.«end» bytes) rs → SpellRecords bytes (record_of bytes f ∷ rs)
 spelled_next bytes f rs are e h =

@@ -117,7 +117,7 @@ spells_read (suc more) (b ∷ c ∷ xs) rest v h short small =
     let value : b - 128 + 128 * h.1 ≡ v = omega (arith, h.2, h.0) in
     rw (no, deep, value) refl
 
--- a spelling that stands behind other bytes
+-- a spelling that stands after other bytes
 pub varint_read : (before spelling rest : List ℕ) (n at : ℕ) → at ≡ length before → IsVarint spelling n
     → varint_at (before ++ (spelling ++ rest)) at ≡ Ok (n, at + length spelling)
 varint_read before spelling rest n at e h =

@@ -1,4 +1,4 @@
--- A part is taken from the front of those that are left.
+-- A part is taken from the start of those that are left.
 use Rattle.std.proofs.Common.{◌+◌, length, drop, sym, ap, ◌∙◌, lit<, arith}
 use Rattle.std.proofs.lemmas.Iterator.Splits.{YieldsList-from_str_split}
 use Rattle.std.proofs.lemmas.Iterator.Consumers.{YieldsList-turn, YieldsList-end}

@@ -13,7 +13,7 @@ use Rattle.llb_cache.proofs.caches.Caches.lease.Goals.{After-take_lease-number}
 abbrev before : After-take_lease-number → CachesValue
 before c = record { rows = c.self.inside.rows.entries; out = c.self.inside.out.items }
 
--- and behind it
+-- and after it
 abbrev behind : After-take_lease-number → CachesValue
 behind c = record { rows = c.make_all.new.rows.entries; out = c.take_lease-number.new.out.items }
 
