@@ -146,7 +146,7 @@ impl Tree {
         way.is_way();
         let depth = self.depth.max(upper.depth);
         let alloc = self.alloc;
-        let mut root = self.root;
+        let mut root = self.into_root();
         lay_node(&mut root, alloc, way, &upper.root)?;
         Ok(Tree { root, depth, alloc })
     }

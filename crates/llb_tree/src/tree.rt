@@ -19,11 +19,21 @@ use std::alloc::Global;
 use std::marker::Model;
 
 /// A map from paths to entries. The root is a directory, and so is each proper prefix of a path that is there.
-#[derive(Drop)]
 pub struct Tree {
     pub(crate) root: Node,
     pub(crate) depth: usize,
     pub(crate) alloc: Global,
+}
+
+// Written out, so that the crates above drop a tree by this one function.
+impl Drop for Tree {
+    fn drop(self) {
+        let Tree {
+            root: _,
+            depth: _,
+            alloc: _,
+        } = self;
+    }
 }
 
 impl Model for Tree {
@@ -84,6 +94,20 @@ pub(crate) fn dir_at<'a>(root: &'a Node, names: &[Name]) -> Result<&'a Node, Tre
             Entry::File(..) => Err(TreeFault::NotDir),
             Entry::Dir(_) => Ok(node),
         },
+    }
+}
+
+impl Tree {
+    // The root node.
+    pub(crate) fn into_root(self) -> Node
+        ensures { result ≡ self }
+    {
+        let Tree {
+            root,
+            depth: _,
+            alloc: _,
+        } = self;
+        root
     }
 }
 
