@@ -18,9 +18,15 @@ use std::marker::Model;
 use std::mem;
 
 /// A script: commands that are run one after another. Contracts see the list of them.
-#[derive(Drop)]
 pub struct Script {
     commands: Vec<Command>,
+}
+
+// Written out, so that the crates above drop one by this one function.
+impl Drop for Script {
+    fn drop(self) {
+        let Script { commands: _ } = self;
+    }
 }
 
 impl Model for Script {

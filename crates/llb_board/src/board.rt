@@ -41,7 +41,6 @@ use std::alloc::Global;
 use std::marker::Model;
 
 /// A graph that is worked on with its local trees and caches, and the record of what was done.
-#[derive(Drop)]
 pub struct Board {
     pub(crate) alloc: Global,
     pub(crate) build: Build,
@@ -53,6 +52,24 @@ pub struct Board {
     pub(crate) links: Links,
     pub(crate) first_open: u32,
     pub(crate) events: Events,
+}
+
+// Written out, so that the crates above drop one by this one function.
+impl Drop for Board {
+    fn drop(self) {
+        let Board {
+            alloc: _,
+            build: _,
+            caches: _,
+            start: _,
+            stands: _,
+            desks: _,
+            stop_marks: _,
+            links: _,
+            first_open: _,
+            events: _,
+        } = self;
+    }
 }
 
 impl Model for Board {
@@ -306,9 +323,20 @@ impl Board {
         ensures contents { store_of result.2.rows ≡ self.state.store }
         ensures free { leases result.2.out ≡ 0 }
     {
-        let mut caches = self.caches;
-        give_all_back(&mut caches, &self.desks);
-        let (graph, locals) = self.build.into_parts();
+        let Board {
+            alloc: _,
+            build,
+            mut caches,
+            start: _,
+            stands: _,
+            desks,
+            stop_marks: _,
+            links: _,
+            first_open: _,
+            events: _,
+        } = self;
+        give_all_back(&mut caches, &desks);
+        let (graph, locals) = build.into_parts();
         (graph, locals, caches)
     }
 

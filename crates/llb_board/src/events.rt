@@ -10,9 +10,15 @@ use std::alloc::{AllocError, Global};
 use std::marker::Model;
 
 /// Events in their order. Contracts see the list of them, and how many there is room for.
-#[derive(Drop)]
 pub struct Events {
     items: Vec<Event>,
+}
+
+// Written out, so that the crates above drop one by this one function.
+impl Drop for Events {
+    fn drop(self) {
+        let Events { items: _ } = self;
+    }
 }
 
 impl Model for Events {

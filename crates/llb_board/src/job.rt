@@ -9,7 +9,6 @@ use llb_wire::Many;
 use std::marker::Model;
 
 /// A job: everything that is needed for it, and by whom. Contracts see it as the machine's.
-#[derive(Drop)]
 pub struct Job {
     pub(crate) worker: u32,
     pub(crate) vertex: u32,
@@ -18,6 +17,21 @@ pub struct Job {
     pub(crate) view: View,
     pub(crate) trees: Many<Tree>,
     pub(crate) instances: Many<u32>,
+}
+
+// Written out, so that the crates above drop one by this one function.
+impl Drop for Job {
+    fn drop(self) {
+        let Job {
+            worker: _,
+            vertex: _,
+            program: _,
+            done: _,
+            view: _,
+            trees: _,
+            instances: _,
+        } = self;
+    }
 }
 
 impl Model for Job {

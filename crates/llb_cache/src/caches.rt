@@ -49,10 +49,16 @@ impl Lease {
 }
 
 /// Caches, and the leases of them that are out. Contracts see both as lists.
-#[derive(Drop)]
 pub struct Caches {
     rows: IndexMap<Key, Trees>,
     out: Vec<Option<Many<Place>>>,
+}
+
+// Written out, so that the crates above drop one by this one function.
+impl Drop for Caches {
+    fn drop(self) {
+        let Caches { rows: _, out: _ } = self;
+    }
 }
 
 impl Model for Caches {

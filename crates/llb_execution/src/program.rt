@@ -19,11 +19,21 @@ use std::marker::Model;
 
 /// The micro-steps of a vertex: one read of a source, the actions of a file op, the inputs of a merge, or the commands of an
 /// exec; and the outputs that they give.
-#[derive(Drop)]
 pub struct Program {
     pub(crate) steps: Steps,
     pub(crate) outputs: u32,
     pub(crate) given: Vec<i64>,
+}
+
+// Written out, so that the crates above drop one by this one function.
+impl Drop for Program {
+    fn drop(self) {
+        let Program {
+            steps: _,
+            outputs: _,
+            given: _,
+        } = self;
+    }
 }
 
 #[derive(Drop)]

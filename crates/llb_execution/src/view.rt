@@ -33,9 +33,15 @@ use std::marker::Model;
 
 /// What a program works on: of a source its local tree, of a file op the trees of its inputs and the results so far, of a
 /// merge the trees of its inputs and what is laid so far, of an exec its mounts, of which those that show caches are empty.
-#[derive(Drop)]
 pub struct View {
     pub(crate) own: Own,
+}
+
+// Written out, so that the crates above drop one by this one function.
+impl Drop for View {
+    fn drop(self) {
+        let View { own: _ } = self;
+    }
 }
 
 #[derive(Drop)]
@@ -114,7 +120,8 @@ impl View {
         requires { outputs.items ≡ replicate vertex.now.outputs empty_tree }
         ensures { result.items ≡ outputs_of (program_of vertex.now) self }
     {
-        outputs_of(self.own, outputs, vertex)
+        let View { own } = self;
+        outputs_of(own, outputs, vertex)
     }
 
     // Does micro-step k.

@@ -20,7 +20,6 @@ pub struct Edge {
 }
 
 /// A row of the graph under its number.
-#[derive(Drop)]
 pub struct Vertex {
     /// `sha256:` and 64 hexadecimal digits, where the row came with the entry's own digest.
     pub digest: Text,
@@ -33,6 +32,20 @@ pub struct Vertex {
     pub steps: u32,
     /// The number of outputs.
     pub outputs: u32,
+}
+
+// Written out, so that the crates above drop one by this one function.
+impl Drop for Vertex {
+    fn drop(self) {
+        let Vertex {
+            digest: _,
+            op: _,
+            script: _,
+            inputs: _,
+            steps: _,
+            outputs: _,
+        } = self;
+    }
 }
 
 impl Vertex {
@@ -49,10 +62,19 @@ impl Vertex {
 
 /// The vertices at or before the result, each above its inputs; copies share them. Contracts see the list of the vertices and the
 /// result.
-#[derive(Drop)]
 pub struct Graph {
     shared: Arc<Vec<Vertex>>,
     result: Edge,
+}
+
+// Written out, so that the crates above drop one by this one function.
+impl Drop for Graph {
+    fn drop(self) {
+        let Graph {
+            shared: _,
+            result: _,
+        } = self;
+    }
 }
 
 impl Model for Graph {

@@ -12,9 +12,15 @@ use std::alloc::Global;
 use std::marker::Model;
 
 /// The trees that local sources read, by name. Contracts see the list of names and trees.
-#[derive(Drop)]
 pub struct Locals {
     trees: IndexMap<String, Tree>,
+}
+
+// Written out, so that the crates above drop one by this one function.
+impl Drop for Locals {
+    fn drop(self) {
+        let Locals { trees: _ } = self;
+    }
 }
 
 impl Model for Locals {

@@ -13,9 +13,15 @@ use std::marker::Model;
 use std::mem;
 
 /// Mounts under dests of which one is the root and no two are the same. Contracts see the list of the mounts.
-#[derive(Drop)]
 pub struct View {
     mounts: Vec<Shown>,
+}
+
+// Written out, so that the crates above drop one by this one function.
+impl Drop for View {
+    fn drop(self) {
+        let View { mounts: _ } = self;
+    }
 }
 
 impl Model for View {
@@ -178,7 +184,8 @@ impl View {
         ensures all { result ≡ self }
         ensures view { IsView result }
     {
-        Many::new(self.mounts)
+        let View { mounts } = self;
+        Many::new(mounts)
     }
 
     /// An equal second owner; 62 `Memory`.

@@ -21,13 +21,23 @@ use llb_wire::{Boxed, Bytes, Many, Memory, Text};
 use std::alloc::Global;
 
 /// A vertex of the build graph as its entry tells it.
-#[derive(Drop)]
 pub struct Op {
     pub inputs: Many<Input>,
     /// The member that is set, if any.
     pub kind: Option<Kind>,
     /// The records of fields that the message doesn't name, as they stand.
     pub extra: Bytes,
+}
+
+// Written out, so that the crates above drop one by this one function.
+impl Drop for Op {
+    fn drop(self) {
+        let Op {
+            inputs: _,
+            kind: _,
+            extra: _,
+        } = self;
+    }
 }
 
 /// What an op does. Builds and diffs are kept as their joined payloads; the two large messages have places of their own, so that an op of

@@ -21,12 +21,23 @@ use std::marker::Model;
 
 /// A board, what undoes each event that was done on it here, and breakpoints. Contracts see the board, the boards before these events,
 /// the last first, and the breakpoints.
-#[derive(Drop)]
 pub struct Stepper {
     alloc: Global,
     board: Board,
     walked: Vec<Walked>,
     breaks: Vec<Break>,
+}
+
+// Written out, so that the crates above drop one by this one function.
+impl Drop for Stepper {
+    fn drop(self) {
+        let Stepper {
+            alloc: _,
+            board: _,
+            walked: _,
+            breaks: _,
+        } = self;
+    }
 }
 
 impl Model for Stepper {
