@@ -6,7 +6,8 @@ use Rattle.llb_model.specs.Program.{View, program_at, outputs_of}
 use Rattle.llb_board.proofs.ending.outputs.Goals as goal
 
 -- where there is no vertex, there are no outputs
-none_of : (o : Option Vertex) (view : View) (trees : List TreeMap) → o ≡ None → trees ≡ replicate (program_at o).outputs empty_tree → trees ≡ outputs_of (program_at o) view
+none_of : (o : Option Vertex) (view : View) (trees : List TreeMap) → o ≡ None → trees ≡ replicate (program_at o).outputs empty_tree
+    → trees ≡ outputs_of (program_at o) view
 unfolding outputs_of
 none_of o view trees none is =
     is ∙ ap (λ p. replicate (program_at p).outputs empty_tree) none ∙ ap (λ p. outputs_of (program_at p) view) (sym none)
