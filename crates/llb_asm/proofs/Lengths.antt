@@ -39,11 +39,13 @@ length_positive (suc more) n = go (length_positive more (n / 128)) (nat_lt n 128
 
 -- ---- records
 
+-- a record with a payload has the length that its number and the payload's length say
 pub length_record : (n : ℕ) (b : List ℕ) → length (set_bytes n b) ≡ record_length n (length b)
 unfolding set_bytes
 length_record n b =
     length-append (tag_text n wire.Len) (varint_text (length b) ++ b) ∙ ap (λ k. length (tag_text n wire.Len) + k) (length-append (varint_text (length b)) b)
 
+-- one entry more makes a definition longer by the length of its record
 pub length_with : (es : List (List ℕ)) (e : List ℕ) → length (definition_bytes (es ++ e ∷ [])) ≡ length (definition_bytes es) + record_length 1 (length e)
 unfolding each_field
 length_with [] e = length-append (set_bytes 1 e) [] ∙ (let h = length_record 1 e in omega (arith, h))
@@ -66,6 +68,7 @@ no_room earlier [] size lt = go (nat_le size entry_limit) refl
 no_room earlier (f ∷ below) size lt = no_room earlier below (length f.bytes + record_length f.number size) (let h = at_least f.number size in omega
     (arith, lt, h))
 
+-- the spelling of 128 or more is one byte longer than that of the number divided by 128
 pub length_further : (more n k : ℕ) → ¬ (more ≡ 0) → 128 ≤ n → k ≡ length (shortest (more - 1) (n / 128)) → 1 + k ≡ length (shortest more n)
 length_further zero n k some large e = absurd (some refl)
 length_further (suc more) n k some large e =

@@ -7,10 +7,12 @@ pub number_spelled : (n v : ℕ) → set_number n v ≡ varint_text (8 * n + 0) 
 unfolding set_number
 number_spelled n v = refl
 
+-- bytes in a field are its tag with wire type 2, their length, and the bytes
 pub bytes_spelled : (n : ℕ) (b : List ℕ) → set_bytes n b ≡ varint_text (8 * n + 2) ++ (varint_text (length b) ++ b)
 unfolding set_bytes
 bytes_spelled n b = refl
 
+-- the tag, the length and the bytes, each written after what was there, are the field after it
 pub with_record : (out one two three : List ℕ) (n : ℕ) (b : List ℕ) → one ≡ out ++ varint_text (8 * n + 2) → two ≡ one ++ varint_text (length b)
     → three ≡ two ++ b
     → three ≡ out ++ set_bytes n b
