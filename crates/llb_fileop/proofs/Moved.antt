@@ -86,7 +86,7 @@ get-with_tree t other p q =
     ∙ find_over q (map (moved 0 p) (finite.entries other)) (finite.entries (without t p))
     ∙ ap (or_else (finite.find path_cmp q (map (moved 0 p) (finite.entries other)))) (sym (finite.get-entries (without t p) q))
 
--- where another tree is put at a path, what stands below the path is what the other has
+-- where another tree is put at a path, what stands at it and below is what the other has
 pub get_inside : (t other : TreeMap) (p q : List (List ℕ)) → finite.get (with_tree t p other) (p ++ q) ≡ finite.get other q
 get_inside t other p q =
     get-with_tree t other p (p ++ q)

@@ -82,7 +82,7 @@ walk_end (f ∷ es) is = absurd cc
 abbrev pub beside : List (List ℕ) → List Pair → List Pair
 beside k es = where_key path_cmp (λ q. not (is_within k q)) es
 
--- what is past the first entry are the later ones that are not below its path
+-- past the first entry come the later ones that are not below its path
 pub past_is : (es : List Pair) (k : List (List ℕ)) (e : Entry) → slice_get es 0 ≡ Some (k, e) → past es ≡ beside k (drop 1 es)
 past_is [] k e is = absurd cc
 past_is (f ∷ es) k e is = let same : f ≡ (k, e) = cc in ap (λ x. beside x.0 es) same

@@ -19,7 +19,7 @@ use Rattle.llb_tree.proofs.Orders.{is_less, and_first, and_second, and_both, bel
 abbrev Pair : Type 0
 Pair = List (List ℕ) × Entry
 
--- a list of length zero has no element
+-- a list of length zero is the empty one
 pub nothing : {A : Type 0} (es : List A) → length es ≡ 0 → es ≡ []
 nothing [] none = refl
 nothing (e ∷ es) none = absurd (omega arith)

@@ -51,7 +51,7 @@ pub record IsLone (f : Look) : Type 0 where
   pub at : (m : MetaValue) × (b : List ℕ) × (f [] ≡ Some (File m b))
   pub below : (n : List ℕ) (q : List (List ℕ)) → f (n ∷ q) ≡ None
 
--- a file alone over any tree leaves that file alone, in the mode and the owner that are given
+-- all that is left of a lone file over any tree is the file, in the mode and the owner that are given
 pub over_file : (w : WayValue) (f g : Look) (q : List (List ℕ)) → IsLone g → over_at w f g q ≡ option_map (over w None) (g q)
 over_file w f g [] lone = let at = lone.at in ap (λ o. laid_over w (f []) o false) at.2 ∙ go (f []) at.0 at.1 ∙ ap (option_map (over w None)) (sym at.2)
   where
@@ -65,7 +65,7 @@ over_file w f g (n ∷ q) lone =
     ∙ ap (λ o. laid_over w (f (n ∷ q)) None (is_file o || below_file (λ r. g (n ∷ r)) q)) at.2
     ∙ ap (option_map (over w None)) (sym (lone.below n q))
 
--- a tree over a file alone hides it, and is left in the mode and the owner that are given
+-- all that is left of a tree over a lone file is the tree, in the mode and the owner that are given
 pub under_file : (w : WayValue) (f g : Look) (q : List (List ℕ)) (e : Entry) → IsLone f → g [] ≡ Some e → over_at w f g q ≡ option_map (over w None) (g q)
 under_file w f g [] e lone is = (λ i. laid_over w (lone.at.2 i) (is i) false) ∙ go lone.at.0 lone.at.1 e ∙ ap (option_map (over w None)) (sym is)
   where

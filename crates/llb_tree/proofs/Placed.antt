@@ -62,7 +62,7 @@ pub record IsGap (p : List ℕ) (rows : List Child) (i : ℕ) : Type 0 where
   pub none : AreSorted rows → finite.find name_cmp p (map pair_of rows) ≡ None
   pub written : (r : Child) → (name_of r) ≡ p → map pair_of (insert rows i r) ≡ finite.put name_cmp p (r.node) (map pair_of rows)
 
--- where a name has none, no child has the name, and a child inserted at the place is put under the name
+-- where a name would only go to a place, no child in order has it, and a child inserted there is put under the name
 pub is_gap : (p : List ℕ) (rows : List Child) (i : ℕ) → place p rows ≡ Err i → IsGap p rows i
 is_gap p [] i e =
     let at : 0 ≡ i = cc in
