@@ -15,6 +15,7 @@ front_kept b line e = rw e refl
 turned : (line : List ℕ) (b : ℕ) → reverse (line ++ b ∷ []) ≡ b ∷ reverse line
 turned line b = reverse-append line (b ∷ [])
 
+-- a blank at the end of a line goes, and then the others before it
 pub end_blank : (line : List ℕ) (b : ℕ) → is_blank b ≡ true → without_end (line ++ b ∷ []) ≡ without_end line
 end_blank line b e = ap (λ x. reverse (without_front x)) (turned line b) ∙ ap reverse (front_blank b (reverse line) e)
 

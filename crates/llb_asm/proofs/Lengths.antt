@@ -15,10 +15,12 @@ use Rattle.llb_asm.specs.Running.{room_in}
 
 -- ---- varints
 
+-- where no byte more may come, a spelling is one byte
 pub length_last : (n : ℕ) → length (shortest 0 n) ≡ 1
 unfolding shortest
 length_last n = refl
 
+-- a number below 128 is spelled as one byte, however many may come
 pub length_small : (more n : ℕ) → n < 128 → length (shortest more n) ≡ 1
 unfolding shortest
 length_small zero n lt = refl
@@ -28,6 +30,7 @@ pub length_large : (more n : ℕ) → nat_lt n 128 ≡ false → length (shortes
 unfolding shortest
 length_large more n e = rw e (omega arith)
 
+-- a spelling is at most one byte longer than the count of those that may still come
 pub length_positive : (more n : ℕ) → length (shortest more n) ≤ 1 + more
 unfolding shortest
 length_positive zero n = omega arith
@@ -59,6 +62,7 @@ at_least n size = omega arith
 
 -- ---- room
 
+-- more bytes than an entry may have find no room, in whichever message they are
 pub no_room : (earlier : List (List ℕ)) (below : List Frame) (size : ℕ) → entry_limit < size → room_in (is_within earlier) below size ≡ false
 no_room earlier [] size lt = go (nat_le size entry_limit) refl
   where
@@ -76,5 +80,6 @@ length_further (suc more) n k some large e =
     let same : k ≡ length (shortest more (n / 128)) = e ∙ ap (λ m. length (shortest m (n / 128))) less in
     ap (λ x. 1 + x) same ∙ sym (length_large more n (le-ltb n 128 large))
 
+-- turned round, a list of open messages begins with its last one
 pub turned_below : (below : List Frame) (f : Frame) → reverse (below ++ f ∷ []) ≡ f ∷ reverse below
 turned_below below f = reverse-append below (f ∷ [])

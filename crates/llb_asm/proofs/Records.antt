@@ -3,6 +3,7 @@ use Rattle.std.proofs.Common.{◌≡◌, ℕ, ◌*◌, ◌+◌, List, ◌++◌, 
 use Rattle.llb_wire.specs.Spelling.{varint_text}
 use Rattle.llb_ops.specs.Writing.{set_number, set_bytes}
 
+-- a number in a field is its tag with wire type 0, and then its varint
 pub number_spelled : (n v : ℕ) → set_number n v ≡ varint_text (8 * n + 0) ++ varint_text v
 unfolding set_number
 number_spelled n v = refl

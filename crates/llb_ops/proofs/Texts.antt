@@ -12,9 +12,11 @@ use Rattle.llb_ops.specs.declared.shape.Form.TheVariants as form
 use Rattle.llb_ops.specs.declared.records.Record.{Record as Held}
 use Rattle.llb_ops.specs.Records.{Shape, view, views, form_of, text_ok, text_fits, texts_fit, all, last_of, payload}
 
+-- bytes that are UTF-8 pass the test for it
 pub utf8_true : (bytes : List ℕ) → IsUtf8 bytes → is_utf8 bytes ≡ true
 utf8_true bytes h = is_utf8-from_IsUtf8 bytes h
 
+-- bytes that are not UTF-8 fail the test for it
 pub utf8_false : (bytes : List ℕ) → ¬ (IsUtf8 bytes) → is_utf8 bytes ≡ false
 utf8_false bytes h = go (is_utf8 bytes) refl where
   go : (b : Bool) → is_utf8 bytes ≡ b → is_utf8 bytes ≡ false
