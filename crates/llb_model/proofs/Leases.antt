@@ -86,7 +86,7 @@ module _ (out : Leases) (workers : List At) (same : HoldsAs out workers) where
   place_same : AreApart out → (k : Key) → cache.place_for out k ≡ place k (number_for (held workers) k k.mode)
   place_same apart k = ap (place k) (number_same apart k k.mode)
 
--- the first need that shuts out a lease has the locked key for which a claim is refused
+-- a lease is refused for the same locked key as a claim: the first among the needs whose instance is held
 pub refuses_alike : (out : Leases) (workers : List At) → RefusesAlike out workers
 refuses_alike out workers inputs [] same = refl
 refuses_alike out workers inputs (n ∷ needs) same = go (is_shut (held workers) n.key n.key.mode)

@@ -116,7 +116,7 @@ module _ (out : Leases) (workers : List At) (ls : List (Option ℕ)) (are : AreL
       let r = are.runs u (free_lease out) at in
       free_apart out (free_lease out) r.0.places (leased_at u (free_lease out) r.0 at r.1) refl
 
--- an instance is held by a lease exactly where a running worker has it
+-- where each running worker has its own lease, an instance is held by a lease exactly where a running worker has it
 pub leased_holds_as : LeasedHoldsAs
 leased_holds_as out workers ls are = record {
   leased = λ p h.

@@ -128,7 +128,7 @@ step_keeps k (Some (Act action)) work = own_keeps work (act_on k action work.own
 step_keeps k (Some (LayInput i)) work = refl
 step_keeps k (Some (Run setting command)) work = command_keeps k setting command work work.own
 
--- so it is where a fault before lets nothing be done
+-- and as many trees stay where a fault before it lets nothing be done
 pub go_keeps : (steps : List MicroStep) (k : ℕ) (left : Left) → length (go_on steps k left).work.trees ≡ length left.work.trees
 go_keeps steps k left = by_fault left.fault
   where
