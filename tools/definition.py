@@ -1,4 +1,4 @@
-"""What a definition says, as far as the tools of this folder tell of it: its entries, their ops, and the numbered graph.
+"""What a definition says, as far as the tools of this folder tell of it: its entries, their ops, the numbered graph.
 
 The wire, the messages and the numbering are those of docs/FORMATS.md. Only the fields that are told are read; the
 others are passed over, and nothing is looked for that the program would refuse besides.
@@ -11,7 +11,8 @@ import shlex
 from collections.abc import Iterator
 from typing import NamedTuple
 
-MOST_BYTES = 67_108_864
+from common import MOST_BYTES
+
 MOST_FIELDS = 536_870_911
 MOST_OF_A_NUMBER = 1 << 64
 
@@ -311,13 +312,3 @@ def texts_of(op: dict) -> list[str]:
     if kind == "exec":
         return [script_of(op)]
     return []
-
-
-def printable(text: str) -> str:
-    """A text for a person to read: what cannot be printed is escaped."""
-    return "".join(c if c.isprintable() else c.encode("unicode_escape").decode() for c in text)
-
-
-def shortened(text: str, most: int) -> str:
-    """A text of at most that many characters; dots stand for what is left out."""
-    return text if len(text) <= most else text[: most - 3] + "..."

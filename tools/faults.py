@@ -1,4 +1,4 @@
-"""What docs/FAULTS.md says of a line of the program, `fault ..` or `failed ..`, and what a definition says of it besides.
+"""What docs/FAULTS.md says of a line of the program, `fault ..` or `failed ..`, and what a definition says besides.
 
 The page's tables are taken as they stand: that of all faults, those of names after a number, and that of failures.
 """
@@ -8,6 +8,7 @@ import re
 from typing import NamedTuple
 
 import definition
+from common import printable
 
 PAGE = pathlib.Path(__file__).resolve().parent.parent / "docs" / "FAULTS.md"
 
@@ -182,7 +183,7 @@ class Reader:
             return [f"{argument} = {self.number(argument)}"], []
         if argument == OPTIONAL and not self.words:
             return [], []
-        text = definition.printable(" ".join(self.words))
+        text = printable(" ".join(self.words))
         self.words.clear()
         return [f"{argument.strip('[]')} = {text}"], []
 
@@ -293,7 +294,7 @@ class Told:
             op = definition.read("Op", self.entries[row])
         except definition.Unreadable as fault:
             return [f"{front}, no op: {fault}"]
-        return [f"{front}, {op.get('kind', 'no kind')}", *map(definition.printable, done_by(op, place))]
+        return [f"{front}, {op.get('kind', 'no kind')}", *map(printable, done_by(op, place))]
 
 
 class Explainer:
