@@ -37,10 +37,10 @@ def say(text: str) -> None:
         os.write(sys.stderr.fileno(), f"{text}\n".encode("utf-8", "backslashreplace"))
 
 
-def check_open(*streams: object) -> None:
-    """Whether the standard streams that are needed are there."""
-    if None in streams:
-        raise OSError(None, "standard input or standard output is closed")
+def check_open(stream: object, name: str) -> None:
+    """Whether a standard stream is there."""
+    if stream is None:
+        raise OSError(None, f"{name} is closed")
 
 
 def give_up_output() -> None:
