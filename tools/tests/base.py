@@ -169,8 +169,9 @@ def rm(path):
 
 
 def exec_op(*args, on=()):
-    """An exec of these words on these inputs, with one mount at the root."""
-    return inputs(*on) + part(2, part(1, b"".join(part(1, arg) for arg in args)) + part(2, part(3, "/")))
+    """An exec of these words on these inputs, with an empty tree at the root."""
+    meta = part(1, b"".join(part(1, arg) for arg in args))
+    return inputs(*on) + part(2, meta + part(2, number(1, -1) + part(3, "/")))
 
 
 def merge(*on):

@@ -93,7 +93,9 @@ class Definitions(unittest.TestCase):
         for _ in range(200):
             count = chance.randint(1, 12)
             made = [base.source(f"local://{place}") for place in range(count)]
-            above = {place: chance.choices(range(place), k=chance.randint(0, 3)) if place else [] for place in range(count)}
+            above = {0: []}
+            for place in range(1, count):
+                above[place] = chance.choices(range(place), k=chance.randint(0, 3))
             for place, named in above.items():
                 made[place] += base.inputs(*(made[one] for one in named))
             order = chance.sample(range(count), count)
@@ -164,9 +166,9 @@ class Explain(Folder):
     def test_arguments_are_shown_by_their_letters(self):
         for line, front in [
             ("fault 83", "83: "), ("fault 82 3 12", "82 (k = 3): "), ("fault 86 3 1", "86 (k = 3, i = 1): "),
-            ("fault 161 9 Order", "161 (N = 9, RULE = Order): "), ("fault 183", "183: "), ("fault 183 a", "183 (WORD = a): "),
+            ("fault 161 9 Order", "161 (N = 9, RULE = Order): "), ("fault 111 a\tb", r"111 (ID = a\tb): "),
+            ("fault 183", "183: "), ("fault 183 a", "183 (WORD = a): "),
             ("fault 121 my  src", "121 (NAME = my  src): "), ("fault 121 ", "121 (NAME = ): "),
-            ("fault 111 a\tb", r"111 (ID = a\tb): "),
         ]:
             self.assertTrue(self.told(line)[0].startswith(front), line)
 
@@ -194,7 +196,8 @@ class Explain(Folder):
             ("fault", "a number is missing"), ("fault 7", "there is no fault 7"), ("fault x", "'x' is no number"),
             ("fault 01", "'01' is no number"), ("fault 82 3", "a number is missing"), ("fault 83 1", "'1' is too much"),
             ("fault 89 0", "a name is missing after 89"), ("fault 89 0 DiffOp", "'DiffOp' is no name after 89"),
-            ("failed 1 action 0 fault 7", "there is no fault 7"), ("fault" + " 51" * 9, "no fault has so many inside it"),
+            ("failed 1 action 0 fault 7", "there is no fault 7"),
+            ("fault" + " 51" * 9, "no fault has so many inside it"),
         ]:
             done = run("explain", *line.split(" "))
             self.answers(done, 2, b"", cause.encode() + b"\n")
