@@ -50,17 +50,18 @@ MESSAGES = {
     "SourceOp": {1: Field("identifier", "text")},
     "FileOp": {2: Field("actions", "FileAction", repeated=True)},
     "FileAction": {
-        4: Field("copy", "Copy", member=True),
-        5: Field("mkfile", "Made", member=True),
-        6: Field("mkdir", "Made", member=True),
-        7: Field("rm", "Made", member=True),
+        4: Field("copy", "FileActionCopy", member=True),
+        5: Field("mkfile", "FileActionMkFile", member=True),
+        6: Field("mkdir", "FileActionMkDir", member=True),
+        7: Field("rm", "FileActionRm", member=True),
     },
-    "Copy": {1: Field("src", "text"), 2: Field("dest", "text")},
-    "Made": {1: Field("path", "text")},
+    "FileActionCopy": {1: Field("src", "text"), 2: Field("dest", "text")},
+    "FileActionMkFile": {1: Field("path", "text")},
+    "FileActionMkDir": {1: Field("path", "text")},
+    "FileActionRm": {1: Field("path", "text")},
     "ExecOp": {1: Field("meta", "Meta")},
     "Meta": {1: Field("args", "text", repeated=True)},
-    "MergeOp": {1: Field("inputs", "MergeInput", repeated=True)},
-    "MergeInput": {},
+    "MergeOp": {},
 }
 
 
@@ -264,6 +265,11 @@ def graph_of(entries: list[bytes]) -> Graph:
         indexes = [told.get("index", 0) for told in rows.ops[row].get("inputs", [])]
         inputs.append([(numbers[named], output) for named, output in zip(links[row], indexes)])
     return Graph(order, inputs, (numbers[start], index))
+
+
+def inputs_of(op: dict) -> list[str]:
+    """The inputs of an op by digest and output."""
+    return [f"{told.get('digest', '')}, output {told.get('index', 0)}" for told in op.get("inputs", [])]
 
 
 def action_text(action: dict) -> str:

@@ -43,6 +43,14 @@ class Cause(NamedTuple):
     advice: str
 
 
+class Name(NamedTuple):
+    """A row of a table of names after a number."""
+
+    arguments: tuple[str, ...]
+    sentence: str
+    advice: str
+
+
 class Failure(NamedTuple):
     """A row of the table of failures."""
 
@@ -53,9 +61,10 @@ class Failure(NamedTuple):
 
 
 class Place(NamedTuple):
-    """Where in a definition a line leads: to a row, or to a vertex and there to an action or a command."""
+    """Where in a definition a line leads: a row and an input of it, or a vertex and an action or a command of it."""
 
     row: int | None = None
+    input: int | None = None
     vertex: int | None = None
     action: int | None = None
     command: int | None = None
@@ -87,12 +96,17 @@ def bare(cell: str) -> str:
     return cell.strip("`")
 
 
+def words_of(cell: str) -> tuple[str, ...]:
+    """The words of a cell, none for a dash."""
+    return () if cell == "-" else tuple(bare(cell).split(" "))
+
+
 class Page:
     """The tables of the page."""
 
     def __init__(self, text: str) -> None:
         self.causes: dict[int, list[Cause]] = {}
-        self.names: dict[int, dict[str, tuple[str, str]]] = {}
+        self.names: dict[int, dict[str, Name]] = {}
         self.failures: list[Failure] = []
         for head, rows in tables_in(text):
             self.take(head[0], rows)
@@ -103,13 +117,14 @@ class Page:
         """A table is taken by the first cell of its head; one with another head is passed over."""
         after = re.fullmatch(r"Name after ([0-9]+)", head)
         if after:
-            self.names[int(after[1])] = {bare(name): (sentence, advice) for name, sentence, advice in rows}
+            for words, *rest in rows:
+                name, *arguments = words_of(words)
+                self.names.setdefault(int(after[1]), {})[name] = Name(tuple(arguments), *rest)
         elif head == "Failure":
             self.failures += [Failure(bare(line), bare(name), *rest) for line, name, *rest in rows]
         elif head == "Fault":
             for number, name, arguments, *rest in rows:
-                named = () if arguments == "-" else tuple(bare(arguments).split(" "))
-                self.causes.setdefault(int(number), []).append(Cause(bare(name), named, *rest))
+                self.causes.setdefault(int(number), []).append(Cause(bare(name), words_of(arguments), *rest))
 
     def causes_of(self, number: int) -> list[Cause]:
         """What a number means: its rows that the program prints, or else all of them, no sentence twice."""
@@ -121,12 +136,12 @@ class Page:
             said.setdefault(row.sentence, row)
         return list(said.values())
 
-    def failure(self, front: str) -> Failure:
+    def failure(self, prefix: str) -> Failure:
         """The failure whose line begins so."""
         for row in self.failures:
-            if row.line.startswith(front):
+            if row.line.startswith(prefix):
                 return row
-        raise NoPage(f"the page has no line {front}")
+        raise NoPage(f"the page has no line {prefix}")
 
 
 def read_page() -> Page:
@@ -152,25 +167,30 @@ class Reader:
     def __init__(self, page: Page, words: list[str]) -> None:
         self.page = page
         self.words = words
-        self.row: int | None = None
+        self.place = Place()
         self.count = 0
 
     def fault(self) -> list[str]:
         """What a fault means, and after it what the names and the faults in its arguments mean."""
         self.count += 1
         if self.count > MOST_FAULTS:
-            raise NoLine("no fault has so many inside it")
+            raise NoLine("no fault has that many inside it")
         number = int(decimal(self.words))
         first, *others = self.page.causes_of(number)
+        given, inside = self.arguments(number, first.arguments)
+        prefix = f"{number} ({', '.join(given)})" if given else f"{number}"
+        texts = [f"{prefix}: {first.sentence} {first.advice}"]
+        texts += [f"or {number}: {other.sentence} {other.advice}" for other in others]
+        return texts + inside
+
+    def arguments(self, number: int, arguments: tuple[str, ...]) -> tuple[list[str], list[str]]:
+        """How the arguments after a number are shown, and what they mean."""
         given, inside = [], []
-        for argument in first.arguments:
+        for argument in arguments:
             shown, texts = self.argument(number, argument)
             given += shown
             inside += texts
-        front = f"{number} ({', '.join(given)})" if given else f"{number}"
-        texts = [f"{front}: {first.sentence} {first.advice}"]
-        texts += [f"or {number}: {other.sentence} {other.advice}" for other in others]
-        return texts + inside
+        return given, inside
 
     def argument(self, number: int, argument: str) -> tuple[list[str], list[str]]:
         """How an argument is shown, none for a fault, and what it means itself, none for a number or a text."""
@@ -188,22 +208,24 @@ class Reader:
         return [f"{argument.strip('[]')} = {text}"], []
 
     def number(self, argument: str) -> str:
-        """The number that stands first; that of a row is kept."""
+        """The number that stands first; those of a row and of an input are kept."""
         value = decimal(self.words)
         if argument == "k":
-            self.row = int(value)
+            self.place = self.place._replace(row=int(value))
+        elif argument == "i":
+            self.place = self.place._replace(input=int(value))
         return value
 
     def name(self, number: int) -> tuple[str, list[str]]:
-        """A name that stands after a number, and what it means; what follows it is a fault."""
+        """A name that stands after a number, and what it and its arguments mean."""
         known = self.page.names.get(number, {})
         if not self.words:
             raise NoLine(f"a name is missing after {number}")
         name = self.words.pop(0)
         if name not in known:
             raise NoLine(f"{name!r} is no name after {number}")
-        texts = [f"{name}: {' '.join(known[name])}"]
-        return name, texts + self.fault() if self.words else texts
+        _, inside = self.arguments(number, known[name].arguments)
+        return name, [f"{name}: {known[name].sentence} {known[name].advice}", *inside]
 
 
 def answer_to_action(page: Page, vertex: str, action: str, number: str) -> Answer:
@@ -234,7 +256,7 @@ def answer_to(page: Page, line: str) -> Answer:
     texts = reader.fault()
     if words:
         raise NoLine(f"{' '.join(words)!r} is too much")
-    return Answer(texts, Place(row=reader.row))
+    return Answer(texts, reader.place)
 
 
 def one(word: str, texts: list[str], number: int) -> list[str]:
@@ -247,6 +269,12 @@ def first_actions(texts: list[str]) -> list[str]:
     lines = [f"action {number}: {text}" for number, text in enumerate(texts[:MOST_ACTIONS])]
     left = len(texts) - MOST_ACTIONS
     return [*lines, f"and {left} more"] if left > 0 else lines
+
+
+def told_by(op: dict, place: Place) -> list[str]:
+    """The input that the place has, and what the op does."""
+    inputs = [] if place.input is None else one("input", definition.inputs_of(op), place.input)
+    return [*inputs, *done_by(op, place)]
 
 
 def done_by(op: dict, place: Place) -> list[str]:
@@ -285,16 +313,16 @@ class Told:
             return self.entry(f"vertex {place.vertex}, row {row}", row, place)
         return [] if place.row is None else self.entry(f"row {place.row}", place.row, place)
 
-    def entry(self, front: str, row: int, place: Place) -> list[str]:
-        """An entry's digest, its kind, and what it does."""
+    def entry(self, prefix: str, row: int, place: Place) -> list[str]:
+        """An entry's digest, its kind, and what it tells of the place."""
         if row >= len(self.entries):
             raise definition.Unreadable(f"it has no row {row}")
-        front = f"{front}: {definition.digest_of(self.entries[row])}"
+        prefix = f"{prefix}: {definition.digest_of(self.entries[row])}"
         try:
             op = definition.read("Op", self.entries[row])
         except definition.Unreadable as fault:
-            return [f"{front}, no op: {fault}"]
-        return [f"{front}, {op.get('kind', 'no kind')}", *map(printable, done_by(op, place))]
+            return [f"{prefix}, no op: {fault}"]
+        return [f"{prefix}, {op.get('kind', 'no kind')}", *map(printable, told_by(op, place))]
 
 
 class Explainer:

@@ -108,8 +108,8 @@ class Build(Folder):
         told = run("explain", "--definition", self.place(b"definition"), "failed", "1", "action", "0", "fault", "21")
         meaning = [f"  {line}" for line in told.stdout.decode().splitlines()]
         self.assertEqual(meaning[-1], "  action 0: copy /none -> /b")
-        front = ["running definition", "failed 1 action 0 fault 21"]
-        self.ends(done, 1, *front, *meaning, "something else", "nothing is written")
+        prefix = ["running definition", "failed 1 action 0 fault 21"]
+        self.ends(done, 1, *prefix, *meaning, "something else", "nothing is written")
 
     def test_the_status_of_the_program(self):
         for status in [2, 3, 77]:

@@ -157,20 +157,21 @@ class Explain(Folder):
             self.assertEqual(told[place + 2 : place + 2 + len(others)], [f"  or {number}: {text}" for text in others])
 
     def test_each_name_has_its_sentence(self):
-        for number, front in [(88, "fault 88 0 "), (89, "fault 89 0 "), (161, "fault 161 3 ")]:
-            lines = [front + name for name in self.page.names[number]]
+        for number, prefix in [(88, "fault 88 0 "), (89, "fault 89 0 "), (161, "fault 161 3 ")]:
+            rows = self.page.names[number].items()
+            lines = [prefix + name + " 71 apk" * len(row.arguments) for name, row in rows]
             told = run("explain", text="\n".join(lines).encode()).stdout.decode().splitlines()
-            for line, (name, texts) in zip(lines, self.page.names[number].items()):
-                self.assertEqual(told[told.index(line) + 2], f"  {name}: {' '.join(texts)}")
+            for line, (name, row) in zip(lines, rows):
+                self.assertEqual(told[told.index(line) + 2], f"  {name}: {row.sentence} {row.advice}")
 
     def test_arguments_are_shown_by_their_letters(self):
-        for line, front in [
+        for line, prefix in [
             ("fault 83", "83: "), ("fault 82 3 12", "82 (k = 3): "), ("fault 86 3 1", "86 (k = 3, i = 1): "),
             ("fault 161 9 Order", "161 (N = 9, RULE = Order): "), ("fault 111 a\tb", r"111 (ID = a\tb): "),
             ("fault 183", "183: "), ("fault 183 a", "183 (WORD = a): "),
             ("fault 121 my  src", "121 (NAME = my  src): "), ("fault 121 ", "121 (NAME = ): "),
         ]:
-            self.assertTrue(self.told(line)[0].startswith(front), line)
+            self.assertTrue(self.told(line)[0].startswith(prefix), line)
 
     def test_faults_inside_one_another_come_after_one_another(self):
         for line, numbers in [
@@ -196,8 +197,9 @@ class Explain(Folder):
             ("fault", "a number is missing"), ("fault 7", "there is no fault 7"), ("fault x", "'x' is no number"),
             ("fault 01", "'01' is no number"), ("fault 82 3", "a number is missing"), ("fault 83 1", "'1' is too much"),
             ("fault 89 0", "a name is missing after 89"), ("fault 89 0 DiffOp", "'DiffOp' is no name after 89"),
+            ("fault 89 0 NoRoot 71 x", "'71 x' is too much"), ("fault 89 0 Script", "a number is missing"),
             ("failed 1 action 0 fault 7", "there is no fault 7"),
-            ("fault" + " 51" * 9, "no fault has so many inside it"),
+            ("fault" + " 51" * 9, "no fault has that many inside it"),
         ]:
             done = run("explain", *line.split(" "))
             self.answers(done, 2, b"", cause.encode() + b"\n")
@@ -265,8 +267,10 @@ class ExplainWithDefinition(Folder):
         origin = [f"row 3: {base.digest(self.origin)}, source", "identifier: local://src"]
         self.assertEqual(self.told("fault 88 3 Source"), origin)
         actions = ["action 0: copy /a -> /b/", "action 1: mkfile /c"]
-        self.assertEqual(self.told("fault 90 2 0"), [f"row 2: {base.digest(self.files)}, file", *actions])
-        self.assertEqual(self.told("fault 86 4 0"), [f"row 4: {base.digest(self.entries[4])}, no kind"])
+        self.assertEqual(self.told("fault 89 2 ActionInput"), [f"row 2: {base.digest(self.files)}, file", *actions])
+        given = f"input 0: {base.digest(self.words)}, output 0"
+        self.assertEqual(self.told("fault 86 4 0"), [f"row 4: {base.digest(self.entries[4])}, no kind", given])
+        self.assertEqual(self.told("fault 90 4 1"), [f"row 4: {base.digest(self.entries[4])}, no kind"])
         self.assertEqual(self.told("fault 83"), [])
 
     def test_vertices_are_numbered_by_the_rule(self):

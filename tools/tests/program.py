@@ -105,7 +105,7 @@ class WithProgram(Folder):
 
     def test_refusals_are_explained(self):
         nameless = base.ending(base.file_op())
-        for given, words, front in [
+        for given, words, line in [
             (b"\x0a", [], "fault 81 1"), (b"", [], "fault 83"), (nameless, [], "fault 89 0 NoActions"),
             (base.ending(base.source("local://src")), [], "fault 121 src"),
             (base.ending(base.source("docker-image://a")), [], "fault 88 0 Source"),
@@ -114,9 +114,9 @@ class WithProgram(Folder):
         ]:
             done = self.build(given, *words)
             self.assertEqual(done.returncode, 2)
-            told = run("explain", "--definition", self.place(b"definition"), *front.split(" "))
-            meaning = [f"  {line}" for line in told.stdout.decode().splitlines()]
-            self.assertEqual(done.stderr.decode().splitlines()[1:], [front, *meaning, "nothing is written"])
+            told = run("explain", "--definition", self.place(b"definition"), *line.split(" "))
+            meaning = [f"  {text}" for text in told.stdout.decode().splitlines()]
+            self.assertEqual(done.stderr.decode().splitlines()[1:], [line, *meaning, "nothing is written"])
 
     def test_a_text_that_is_too_long(self):
         self.make(b"a", b"")

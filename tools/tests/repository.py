@@ -132,7 +132,7 @@ class Page(unittest.TestCase):
         for number, crate, owner in [(88, loader, "Feature"), (89, loader, "Rule"), (161, "llb_asm", "Rule")]:
             declared = [one for one in self.said if (one.crate, one.owner) == (crate, owner)]
             wanted = [(one.name.split("::")[1], one.sentence) for one in declared]
-            self.assertEqual([(name, texts[0]) for name, texts in self.page.names[number].items()], wanted)
+            self.assertEqual([(name, row.sentence) for name, row in self.page.names[number].items()], wanted)
 
     def test_failures_are_those_of_the_code(self):
         forms = {one.name: one.forms[0] for one in self.said if one.owner == "VertexFault"}

@@ -138,8 +138,8 @@ class TreeOfDirectory(Folder):
             self.answers(self.read(name), 2, b"", self.place(name) + b": " + told + b"\n")
 
     def test_a_text_that_the_program_refuses_is_warned_of(self):
-        front, end = len(b"d 0755 1 2 /\nf 0644 1 2 "), len(b" /a\n")
-        most = (67_108_864 - front - end) // 2
+        prefix, end = len(b"d 0755 1 2 /\nf 0644 1 2 "), len(b" /a\n")
+        most = (67_108_864 - prefix - end) // 2
         self.make(b"a", b"")
         for size in [most, most + 1]:
             os.truncate(self.place(b"in", b"a"), size)
