@@ -32,9 +32,9 @@ def shortened(text: str, most: int) -> str:
 
 
 def say(text: str) -> None:
-    """One line on standard error, where it takes one."""
+    """One line on standard error, where it takes one; what cannot be printed is escaped."""
     with contextlib.suppress(OSError, AttributeError):
-        os.write(sys.stderr.fileno(), f"{text}\n".encode("utf-8", "backslashreplace"))
+        os.write(sys.stderr.fileno(), f"{printable(text)}\n".encode("utf-8"))
 
 
 def check_open(stream: object, name: str) -> None:

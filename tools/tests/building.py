@@ -144,9 +144,7 @@ class Build(Folder):
         for name, cause in [("none", "No such file or directory"), ("in/a", "Not a directory")]:
             lines = [f"reading src from {name}", f"{name}: {cause}", "nothing is written"]
             self.ends(self.build("definition", "out", f"src={name}"), 2, *lines)
-        done = self.build("definition", "none/out")
-        self.assertEqual(done.returncode, 3)
-        self.nothing_is_left()
+        self.ends(self.build("definition", "none/out"), 2, "none: no directory is there")
         self.assertFalse((self.at / "given").exists())
 
     def test_a_program_that_does_not_start(self):
