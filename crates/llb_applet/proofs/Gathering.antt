@@ -126,6 +126,7 @@ behind_one : (commands : List Command) (c : Command) (r : Result (List Command) 
 behind_one commands c (Ok more) = ap Ok (sym (append_assoc commands (c ∷ []) more))
 behind_one commands c (Err e) = refl
 
+-- before any command stands, what becomes of the calls is what becomes of the rest alone
 pub behind_none : (r : Result (List Command) ScriptFault) → behind [] r ≡ r
 behind_none (Ok more) = refl
 behind_none (Err e) = refl

@@ -85,6 +85,7 @@ all_left n (l ∷ lines) are =
     ∙ ap (λ b. map (λ l. l.1) (cond (not b) ((n, l.1) ∷ kept_of behind) (kept_of behind))) (is_kept l.1 are.0)
     ∙ ap (λ ls. l.1 ∷ ls) (all_left (n + 1) lines are.1)
 
+-- the lines that are kept of a text of solid lines are these lines, without what they are indented by
 pub kept_lines : (lines : List PlainLine) → AreContents lines → map (λ l. l.1) (kept (text_of_lines lines)) ≡ map (λ l. l.1) lines
 unfolding kept
 kept_lines lines are = ap (λ ps. map (λ l. l.1) (kept_of (numbered 1 ps))) (pieces_are lines are) ∙ all_left 1 lines are

@@ -62,6 +62,7 @@ structured_by entry bytes b = go (op_of entry) refl
           λ (op', is', written). test ∙ (bytes_eq-Decides bytes entry).1 (same ∙ ap op_bytes (one_op op op' (sym is ∙ is')) ∙ written),
         )
 
+-- an entry that is not read as an op is not written as one
 pub unread_raw : (entry : List ℕ) → None ≡ canonical_of (op_of entry) → ¬ IsStructured entry
 unread_raw entry none (op, is, written) = let some : canonical_of (op_of entry) ≡ Some (op_bytes op) = ap canonical_of is in cc
 
@@ -92,6 +93,7 @@ map_more : (xs : List Formed) (x : Formed) → map (λ x. x.0) (xs ++ x ∷ []) 
 map_more [] x = refl
 map_more (y ∷ ys) x = ap (λ l. y.0 ∷ l) (map_more ys x)
 
+-- entries in their forms have forms with one entry more
 pub formed_more : (entries : List (List ℕ)) (xs : List Formed) (entry : List ℕ) → AreFormed entries xs → EntryHasFields entry
     → (ys : List Formed) × AreFormed (entries ++ entry ∷ []) ys
 formed_more entries xs entry are law =
@@ -119,6 +121,7 @@ next_in (x ∷ xs) (suc k) d all less =
     let later : drop (suc k + 1) (x ∷ xs) ≡ drop (k + 1) xs = ap (λ n. drop n (x ∷ xs)) (add-one (suc k)) ∙ sym (ap (λ n. drop n xs) (add-one k)) in
     record { form = y.form; has = y.has; is = y.is ∙ ap (λ l. (get_or (map (λ x. x.0) xs) k d, y.form) ∷ l) (sym later) }
 
+-- of entries in their forms, the one at a place has the form that stands there
 pub next_form : (entries : List (List ℕ)) (xs : List Formed) (k : ℕ) (entry : List ℕ) → AreFormed entries xs → k < length entries
     → entry ≡ get_or entries k entry → Next xs k entry
 next_form entries xs k entry are less is =

@@ -52,6 +52,7 @@ pub record Holds (front : Front) (r : Record) (rest : List ℕ) : Type 0 where
   pub payload : front.payload.now ≡ r.payload
   pub after : front.after.now ≡ rest
 
+-- what is found where a record stands at the start has its number, value and payload, and the bytes after it are left
 pub front_holds : (bytes : List ℕ) (front : Front) (r : Record) (rest : List ℕ) → Finds bytes (Some front) → IsRecord r → bytes ≡ r.text ++ rest
     → Holds front r rest
 front_holds bytes front r rest (f, next, number, value, payload, after) h split =
@@ -65,6 +66,7 @@ front_holds bytes front r rest (f, next, number, value, payload, after) h split 
           ∙ drop_at r.text rest (placed 0 r).«end» (let c : length r.text ≡ 0 + length r.text = omega arith in c);
     }
 
+-- where nothing is found at the start, no record stands there
 pub front_there : (bytes : List ℕ) (r : Record) (rest : List ℕ) → Finds bytes None → IsRecord r → bytes ≡ r.text ++ rest → ⊥
 front_there bytes r rest none h split = none (placed 0 r) (ap (λ x. next_field x 0) split ∙ next_is r rest h)
 
@@ -111,6 +113,7 @@ row_in_range (r ∷ rows) n row all e = go (λ good later. row_in_range rows n r
         subst (λ (x : Row). IsFieldNumber x.1.number) is ((let g : 1 ≤ r.1.number = omega (arith, some) in g), leb-true r.1.number 536_870_911 range.1)
     go again false later = again both.1 later
 
+-- the number of a row of the table is one that a field may have
 pub named_number : (m : MessageName) (row : Row) → by_number row.1.number (rows_of m) ≡ Some row → IsFieldNumber row.1.number
 named_number m row e = row_in_range (rows_of m) row.1.number row (table_in_range m) e
 
@@ -120,16 +123,20 @@ number_record n v = written_record n wire.Varint v []
 abbrev pub bytes_record : ℕ → List ℕ → Record
 bytes_record n held = written_record n wire.Len 0 held
 
+-- what a number of 64 bits is written as is a record by the grammar
 pub number_is_record : (n v : ℕ) → IsFieldNumber n → v < 2 ^ 64 → IsRecord (number_record n v)
 number_is_record n v named small = written_is_record n wire.Varint v [] named small (omega arith) (λ x. absurd cc)
 
+-- what bytes are written as, where they are not too many, is a record by the grammar
 pub bytes_is_record : (n : ℕ) (held : List ℕ) → IsFieldNumber n → length held < 2 ^ 64 → IsRecord (bytes_record n held)
 bytes_is_record n held named small = written_is_record n wire.Len 0 held named (omega arith) small (λ x. absurd cc)
 
+-- a number in a field, whatever follows it, begins with the bytes of its record
 pub number_split : (n v : ℕ) (rest : List ℕ) → set_number n v ++ rest ≡ (number_record n v).text ++ rest
 unfolding set_number
 number_split n v rest = refl
 
+-- bytes in a field, whatever follows them, begin with the bytes of their record
 pub bytes_split : (n : ℕ) (held rest : List ℕ) → set_bytes n held ++ rest ≡ (bytes_record n held).text ++ rest
 unfolding set_bytes
 bytes_split n held rest = refl
@@ -224,5 +231,6 @@ pub next_nothing : (all : List ℕ) (front : Front) → all ≡ [] → Finds all
 unfolding next_field
 next_nothing all front is (f, next, number, value, payload, after) = let e : next_field all 0 ≡ next_field [] 0 = ap (λ x. next_field x 0) is in cc
 
+-- the number that is found at the start is that of the record which is read there
 pub unnamed_number : (all : List ℕ) (front : Front) (g : Field) → Finds all (Some front) → next_field all 0 ≡ found g → front.number ≡ g.number
 unnamed_number all front g (f, next, number, value, payload, after) e = number ∙ ap (λ (h : Field). h.number) (field_is f g (sym next ∙ e))

@@ -20,6 +20,7 @@ smaller (suc more) j k le = go (ltb j 128) (ltb k 128) refl refl (smaller more (
   go false true e f rest = absurd (omega (arith, le, ltb-false j 128 e, ltb-true k 128 f))
   go false false e f rest = rw (e, f) (omega (arith, rest))
 
+-- a record with a longer payload is no shorter
 pub record_grows : (number j k : ℕ) → j ≤ k → record_length number j ≤ record_length number k
 record_grows number j k le = omega (arith, smaller 9 j k le)
 
@@ -38,8 +39,10 @@ within_below earlier j k le is =
 abbrev pub HasRoom : Hand → ℕ → Type 0
 HasRoom hand size = (k : ℕ) → k ≤ length hand.bytes + size → hand.room k ≡ true
 
+-- where there is room for a total, there is room after some bytes for what these leave of it
 pub room_behind : (hand : Hand) (next : Here) (b : List ℕ) (size total : ℕ) → length b + size ≤ total → HasRoom hand total → HasRoom (beyond hand next b) size
 room_behind hand next b size total le has k below = has k (omega (arith, le, below, length-append hand.bytes b))
 
+-- where there is room for a total, a smaller size passes the test
 pub room_for : (hand : Hand) (size total : ℕ) → size ≤ total → HasRoom hand total → hand.room (length hand.bytes + size) ≡ true
 room_for hand size total le has = has (length hand.bytes + size) (omega (arith, le))

@@ -14,6 +14,7 @@ no_bytes : length (definition_bytes []) ≡ 0
 unfolding each_field
 no_bytes = refl
 
+-- of no entries no digests are kept, and no bytes are counted
 pub kept_none : (es ls : List (List ℕ)) → es ≡ [] → ls ≡ [] → IsKept es ls 0
 kept_none es ls e l = rw (e, l) (record { digests = refl; bytes = sym no_bytes; small = omega arith })
 
@@ -21,6 +22,7 @@ second : (a b : Bool) → (a && b) ≡ true → b ≡ true
 second true b e = e
 second false b e = absurd cc
 
+-- one entry more that is within the limits adds its digest, and the length of its record to the count
 pub kept_more : (es ls : List (List ℕ)) (size : ℕ) (e : List ℕ) (n : ℕ) (fs ms : List (List ℕ)) → IsKept es ls size → is_within es (length e) ≡ true
     → fs ≡ es ++ e ∷ [] → ms ≡ ls ++ digest_text e ∷ [] → n ≡ record_length 1 (length e) → IsKept fs ms (size + n)
 kept_more es ls size e n fs ms kept room f m same =

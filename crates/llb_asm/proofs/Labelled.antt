@@ -116,6 +116,7 @@ module _ (texts : List (List ℕ)) (t : List ℕ) where
 
 -- ---- a string that is no label
 
+-- a string that is the digest of no earlier entry is written between quotes, in any field
 pub no_label : (labels : List (List ℕ)) (name text : List ℕ) → label_for labels text ≡ None → string_for labels name text ≡ string_text text
 no_label labels name text none = go (is_text name (codes "digest"))
   where
@@ -123,5 +124,6 @@ no_label labels name text none = go (is_text name (codes "digest"))
     go true = ap (labelled_text text) none
     go false = refl
 
+-- a string in a field that is not named `digest` is written between quotes
 pub other_name : (labels : List (List ℕ)) (name text : List ℕ) → is_text name (codes "digest") ≡ false → string_for labels name text ≡ string_text text
 other_name labels name text other = ap (λ b. labelled_text text (cond b (label_for labels text) None)) other

@@ -79,6 +79,7 @@ earlier_fields m last later set more le (message row inner rest) (is, within_it,
 
 -- ---- without some fields they are fields
 
+-- fields by the table are such without the empty keys and values of entries too
 pub lean_fields : (m : MessageName) (last : ℕ) (set : Bool) (fs : Fields) → AreFields m last set fs → AreFields m last set (without_empty fs)
 lean_fields m last set (extra more) are = are
 lean_fields m last set (number row v rest) (is, fits, some, are) = (is, fits, some, lean_fields m row.1.number (set || row.1.member) rest are)
@@ -108,6 +109,7 @@ payload_bytes n held are =
     let all : AreBytes (varint_text (8 * n + 2) ++ (varint_text (length held) ++ held)) = subst AreBytes (bytes_spelled n held) are in
     are_bytes-back (varint_text (length held)) held (are_bytes-back (varint_text (8 * n + 2)) (varint_text (length held) ++ held) all)
 
+-- where all that fields are written as is below 256, so is all that each of them holds
 pub hold_bytes : (fs : Fields) → AreBytes (bytes_of fs) → HoldBytes fs
 hold_bytes (extra more) all = all
 hold_bytes (number row v rest) all = hold_bytes rest (are_bytes-back (set_number row.1.number v) (bytes_of rest) all)
@@ -122,6 +124,7 @@ hold_bytes (message row inner rest) all =
       hold_bytes rest (are_bytes-back b (bytes_of rest) all),
     )
 
+-- what fields hold is bytes without the empty keys and values of entries too
 pub lean_bytes : (fs : Fields) → HoldBytes fs → HoldBytes (without_empty fs)
 lean_bytes (extra more) all = all
 lean_bytes (number row v rest) all = lean_bytes rest all

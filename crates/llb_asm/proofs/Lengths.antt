@@ -15,10 +15,12 @@ use Rattle.llb_asm.specs.Running.{room_in}
 
 -- ---- varints
 
+-- where no byte more may come, a spelling is one byte
 pub length_last : (n : ℕ) → length (shortest 0 n) ≡ 1
 unfolding shortest
 length_last n = refl
 
+-- a number below 128 is spelled as one byte, however many may come
 pub length_small : (more n : ℕ) → n < 128 → length (shortest more n) ≡ 1
 unfolding shortest
 length_small zero n lt = refl
@@ -28,6 +30,7 @@ pub length_large : (more n : ℕ) → nat_lt n 128 ≡ false → length (shortes
 unfolding shortest
 length_large more n e = rw e (omega arith)
 
+-- a spelling is at most one byte longer than the count of those that may still come
 pub length_positive : (more n : ℕ) → length (shortest more n) ≤ 1 + more
 unfolding shortest
 length_positive zero n = omega arith
@@ -39,11 +42,13 @@ length_positive (suc more) n = go (length_positive more (n / 128)) (nat_lt n 128
 
 -- ---- records
 
+-- a record with a payload has the length that its number and the payload's length say
 pub length_record : (n : ℕ) (b : List ℕ) → length (set_bytes n b) ≡ record_length n (length b)
 unfolding set_bytes
 length_record n b =
     length-append (tag_text n wire.Len) (varint_text (length b) ++ b) ∙ ap (λ k. length (tag_text n wire.Len) + k) (length-append (varint_text (length b)) b)
 
+-- one entry more makes a definition longer by the length of its record
 pub length_with : (es : List (List ℕ)) (e : List ℕ) → length (definition_bytes (es ++ e ∷ [])) ≡ length (definition_bytes es) + record_length 1 (length e)
 unfolding each_field
 length_with [] e = length-append (set_bytes 1 e) [] ∙ (let h = length_record 1 e in omega (arith, h))
@@ -57,6 +62,7 @@ at_least n size = omega arith
 
 -- ---- room
 
+-- more bytes than an entry may have find no room, in whichever message they are
 pub no_room : (earlier : List (List ℕ)) (below : List Frame) (size : ℕ) → entry_limit < size → room_in (is_within earlier) below size ≡ false
 no_room earlier [] size lt = go (nat_le size entry_limit) refl
   where
@@ -66,6 +72,7 @@ no_room earlier [] size lt = go (nat_le size entry_limit) refl
 no_room earlier (f ∷ below) size lt = no_room earlier below (length f.bytes + record_length f.number size) (let h = at_least f.number size in omega
     (arith, lt, h))
 
+-- the spelling of 128 or more is one byte longer than that of the number divided by 128
 pub length_further : (more n k : ℕ) → ¬ (more ≡ 0) → 128 ≤ n → k ≡ length (shortest (more - 1) (n / 128)) → 1 + k ≡ length (shortest more n)
 length_further zero n k some large e = absurd (some refl)
 length_further (suc more) n k some large e =
@@ -73,5 +80,6 @@ length_further (suc more) n k some large e =
     let same : k ≡ length (shortest more (n / 128)) = e ∙ ap (λ m. length (shortest m (n / 128))) less in
     ap (λ x. 1 + x) same ∙ sym (length_large more n (le-ltb n 128 large))
 
+-- turned round, a list of open messages begins with its last one
 pub turned_below : (below : List Frame) (f : Frame) → reverse (below ++ f ∷ []) ≡ f ∷ reverse below
 turned_below below f = reverse-append below (f ∷ [])

@@ -65,12 +65,14 @@ signed_back : (limit v : ℕ) → limit ≤ 2 ^ 63 → (v < limit) ⊎ ((2 ^ 64 
 signed_back limit v most (inl low) = signed_plain_back limit v most low
 signed_back limit v most (inr high) = signed_minus_back limit v most high.0 high.1
 
+-- a number that an int64 spells has 64 bits
 pub int64_small : (v : ℕ) → cast_unsigned w64 (int64 v) ≡ v → v < 2 ^ 64
 int64_small v is = let same : v % 2 ^ 64 ≡ v = sym (of_z-to_z w64 (v % 2 ^ 64) (omega arith)) ∙ is in omega arith
 
 int64_range : (v : ℕ) → v < 2 ^ 64 → (v < 2 ^ 63) ⊎ ((2 ^ 64 ≤ v + 2 ^ 63) × (v < 2 ^ 64))
 int64_range v small = elim (cases_lt v (2 ^ 63)) [ inl low ↦ inl low | inr high ↦ inr (omega arith, small) ]
 
+-- a number that an int32 spells is below 2 ^ 31, or among the last 2 ^ 31 numbers of 64 bits
 pub int32_range : (v : ℕ) → cast_unsigned w64 (int32 v) ≡ v → (v < 2 ^ 31) ⊎ ((2 ^ 64 ≤ v + 2 ^ 31) × (v < 2 ^ 64))
 int32_range v is = elim (cases_lt v (2 ^ 31)) [
   | inl low ↦ inl low
@@ -90,6 +92,7 @@ uint32_back v is =
     ∙ ap (λ o. then_in o (below (2 ^ 32))) (magnitude_decimal v (omega arith))
     ∙ ap (λ t. where_so t v) (lt-ltb v (2 ^ 32) lt)
 
+-- a number that a flag spells is 0 or 1
 pub flag_values : (v : ℕ) → bit (flag v) ≡ v → (v ≡ 0) ⊎ (v ≡ 1)
 flag_values v is = elim (cases_eq v 0) [
   | inl none ↦ inl none

@@ -21,6 +21,7 @@ pub goes_from : {A B : Type 0} (r : Result A Refusal) (f : A → B) (y : B) → 
 goes_from (Ok x) f y e = (x, refl, cc)
 goes_from (Err d) f y e = absurd cc
 
+-- a refusal after a step that refuses nothing itself was there before the step
 pub refused_from : {A B : Type 0} (r : Result A Refusal) (f : A → B) (d : Refusal) → (r >>= λ x. Ok (f x)) ≡ Err d → r ≡ Err d
 refused_from (Ok x) f d e = absurd cc
 refused_from (Err x) f d e = cc

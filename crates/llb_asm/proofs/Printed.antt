@@ -43,6 +43,7 @@ IsNumeric String = ⊥
 IsNumeric Bytes = ⊥
 IsNumeric (Message m) = ⊥
 
+-- the five kinds of numbers are numeric
 pub numeric_kind : (k : FieldKind) → (k ≡ Int64) ⊎ ((k ≡ Int32) ⊎ ((k ≡ Uint32) ⊎ ((k ≡ Enum) ⊎ (k ≡ Flag)))) → IsNumeric k
 numeric_kind k (inl e) = subst IsNumeric (sym e) tt
 numeric_kind k (inr (inl e)) = subst IsNumeric (sym e) tt
@@ -60,6 +61,7 @@ IsHeld String = Unit {0}
 IsHeld Bytes = Unit {0}
 IsHeld (Message m) = ⊥
 
+-- strings and bytes are the kinds that are held as bytes
 pub held_kind : (k : FieldKind) → (k ≡ String) ⊎ (k ≡ Bytes) → IsHeld k
 held_kind k (inl e) = subst IsHeld (sym e) tt
 held_kind k (inr e) = subst IsHeld (sym e) tt

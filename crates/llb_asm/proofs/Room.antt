@@ -29,6 +29,7 @@ guarded earlier (Ok b) bytes same = go (nat_lt (length earlier) entries_limit &&
         let is : b ≡ Raw bytes = cc in
         ap (λ x. is_within earlier (begun_size x)) (sym is) ∙ second (nat_lt (length earlier) entries_limit) (is_within earlier (begun_size b)) e
 
+-- an entry that is begun as its bytes is within the limits
 pub begun_room : (earlier : List (List ℕ)) (line bytes : List ℕ) → begun_in earlier line ≡ Ok (Raw bytes) → is_within earlier (length bytes) ≡ true
 unfolding begun_in
 begun_room earlier line bytes same = guarded earlier (begun_by line (parted line)) bytes same
@@ -43,6 +44,7 @@ canonical_room earlier (Some bytes) entry same = go (is_within earlier (length b
     go false e same = absurd cc
     go true e same = let is : bytes ≡ entry = cc in ap (λ x. is_within earlier (length x)) (sym is) ∙ e
 
+-- the canonical bytes that the records of an op are taken as are within the limits
 pub entry_room : (earlier : List (List ℕ)) (records entry : List ℕ) → entry_in earlier records ≡ Ok entry → is_within earlier (length entry) ≡ true
 unfolding entry_in
 entry_room earlier records entry same = canonical_room earlier (canonical_of (op_of records)) entry same

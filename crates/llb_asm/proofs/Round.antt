@@ -14,12 +14,15 @@ use Rattle.llb_asm.proofs.Escapes.{escaped_by}
 use Rattle.llb_asm.proofs.Numbers as numbers
 use Rattle.llb_asm.proofs.Hexadecimal as hexadecimal
 
+-- the text of a number is read as the number, by its kind
 pub number_back : (kind : FieldKind) (v : ℕ) → IsNumberOf kind v → number_in kind (number_text kind v) ≡ Some v
 number_back kind v is = numbers.number_back kind v is
 
+-- the hexadecimal digits of bytes, or a dash for none, are read as the bytes
 pub bytes_back : (b : List ℕ) → AreBytes b → bytes_spelled (hex_text b) ≡ Some b
 bytes_back b bytes = hexadecimal.bytes_back b bytes
 
+-- the text of a label is read as the label's number
 pub label_back : (k : ℕ) → k < 2 ^ 64 → label_in (label_text k) ≡ Some k
 label_back k small = numbers.label_back k small
 
@@ -79,14 +82,17 @@ written_read (b ∷ s) =
     ∙ escaped_read (flat_map escaped s ++ 34 ∷ []) b
     ∙ ap (after_it b) (written_read s)
 
+-- the text of a string is read as the string, its escapes undone
 pub string_back : (s : List ℕ) → string_in (string_text s) ≡ Some s
 unfolding string_in string_text
 string_back s = written_read s
 
+-- the text of a string begins with a quote, so it is no label
 pub string_no_label : (s : List ℕ) → label_in (string_text s) ≡ None
 unfolding label_in string_text
 string_no_label s = refl
 
+-- each text that is written for a value is read as the value, and a string's is no label
 pub values_are_read_back : ValuesAreReadBack
 values_are_read_back = record {
   number_back = number_back;

@@ -105,6 +105,7 @@ word_ascii (b ∷ text) good =
     let both = and_parts (is_letter b) (is_word text) good in
     IsAscii-cons b text (ltb-true b 128 (and_parts (nat_lt 32 b) (nat_lt b 128) both.0).1) (word_ascii text both.1)
 
+-- a text of ASCII without a space is UTF-8
 pub word_utf8 : (text : List ℕ) → is_word text ≡ true → is_utf8 text ≡ true
 word_utf8 text good = is_utf8-from_IsUtf8 text (IsUtf8-from_ascii text (word_ascii text good))
 
@@ -114,6 +115,7 @@ line_utf8 text after good utf8 =
     (IsUtf8-append text (32 ∷ after) (IsUtf8-from_ascii text (word_ascii text good))
     (IsUtf8-append (32 ∷ []) after (IsUtf8-from_ascii (32 ∷ []) (IsAscii-cons 32 [] (omega arith) IsAscii-nil)) (IsUtf8-from_is_utf8 after utf8)))
 
+-- a word, a space and a text are taken apart at this space
 pub parted_word : (text after : List ℕ) → is_word text ≡ true → is_utf8 after ≡ true → parted (text ++ (32 ∷ after)) ≡ Some (text, after)
 unfolding parted
 parted_word text after good utf8 =

@@ -87,6 +87,7 @@ module _ (labels : List (List ℕ)) (small : length labels < 2 ^ 64) where
 
 -- ---- numbers
 
+-- the text of a number is taken as the number's record
 pub number_said : (labels : List (List ℕ)) (row : Row) (kind : FieldKind) (v : ℕ) → IsNumberOf kind v
     → held_by labels row kind (number_text kind v) ≡ Ok (number_record row.1 v)
 number_said labels row Int64 v is = rw (number_back Int64 v is) refl
@@ -98,11 +99,13 @@ number_said labels row String v is = absurd is
 number_said labels row Bytes v is = absurd is
 number_said labels row (Message m) v is = absurd is
 
+-- the text of a number is UTF-8
 pub number_utf8 : (kind : FieldKind) (v : ℕ) → IsNumberOf kind v → is_utf8 (number_text kind v) ≡ true
 number_utf8 kind v is = (number_solid kind v is).utf8
 
 -- ---- messages
 
+-- a brace in a field for a message opens that message
 pub opening_said : (labels : List (List ℕ)) (row : Row) (m : MessageName) → row.1.kind ≡ Message m
     → held_in labels row opening ≡ Ok (Opens row.1.number m)
 unfolding held_in
@@ -115,9 +118,11 @@ left_in true true r e = refl
 left_in true false r e = absurd cc
 left_in false may r e = refl
 
+-- a number that is not 0, or may stand as 0, adds its record and is not left out
 pub number_left_in : (row : Row) (v : ℕ) → not (v == 0) || may_be_empty row.1 ≡ true → number_record row.1 v ≡ Record (set_number row.1.number v)
 number_left_in row v e = ap (λ b. Record b) (left_in (v == 0) (may_be_empty row.1) (set_number row.1.number v) e)
 
+-- bytes that are not empty, or may stand empty, add their record and are not left out
 pub bytes_left_in : (row : Row) (held : List ℕ) → not (length held == 0) || may_be_empty row.1 ≡ true
     → bytes_record row.1 held ≡ Record (set_bytes row.1.number held)
 bytes_left_in row held e = ap (λ b. Record b) (left_in (length held == 0) (may_be_empty row.1) (set_bytes row.1.number held) e)

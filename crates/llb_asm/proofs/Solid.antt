@@ -116,9 +116,11 @@ number_word String v is = absurd is
 number_word Bytes v is = absurd is
 number_word (Message m) v is = absurd is
 
+-- the text of a number has no control character, and no blank at either end
 pub number_solid : (kind : FieldKind) (v : ℕ) → IsNumberOf kind v → IsSolid (number_text kind v)
 number_solid kind v is = word_solid (number_text kind v) (number_word kind v is)
 
+-- the text of a label has no control character, and no blank at either end
 pub label_solid : (k : ℕ) → k < 2 ^ 64 → IsSolid (label_text k)
 label_solid k small = word_solid (label_text k) (word_behind 37 (decimal k) (omega arith) (omega arith) (decimal_word k small))
 
@@ -162,6 +164,7 @@ bytes_word (b ∷ content) bytes =
       ascii = IsAscii-encode_with lower_digits (b ∷ content) digit_ascii;
     }
 
+-- hexadecimal digits, or a dash, have no control character and no blank at either end
 pub bytes_solid : (b : List ℕ) → AreBytes b → IsSolid (hex_text b)
 bytes_solid b bytes = word_solid (hex_text b) (bytes_word b bytes)
 
@@ -236,6 +239,7 @@ quoted_plain t plain =
     All-cons (λ b. 32 ≤ b) 34 (t ++ 34 ∷ []) (omega arith)
     (All-append (λ b. 32 ≤ b) t (34 ∷ []) plain (All-cons (λ b. 32 ≤ b) 34 [] (omega arith) (All-nil (λ b. 32 ≤ b))))
 
+-- the text of a string in UTF-8 has no control character, and a quote at either end
 pub string_solid : (s : List ℕ) → is_utf8 s ≡ true → IsSolid (string_text s)
 unfolding string_text
 string_solid s is = record {
@@ -245,5 +249,6 @@ string_solid s is = record {
   utf8 = is_utf8-from_IsUtf8 (34 ∷ (flat_map escaped s ++ 34 ∷ [])) (string_utf8 s (IsUtf8-from_is_utf8 s is));
 }
 
+-- each text that is written for a value stands on one line as it is
 pub values_are_solid : ValuesAreSolid
 values_are_solid = record { number_solid = number_solid; string_solid = string_solid; bytes_solid = bytes_solid; label_solid = label_solid }

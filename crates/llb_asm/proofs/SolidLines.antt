@@ -249,6 +249,7 @@ plain_contents entries are few xs formed =
     let many : length xs ≡ length entries = sym (as_many xs) ∙ ap length formed.same in
     lines_are [] xs (omega arith) (subst (AllByRecursion AreBytes) (sym formed.same) are) formed.forms
 
+-- the lines that are kept of the text of entries are the lines that were written
 pub kept_plain : (entries : List (List ℕ)) → AllByRecursion AreBytes entries → length entries ≤ 2 ^ 64 → (xs : List Formed) → AreFormed entries xs
     → map (λ l. l.1) (kept (plain_text xs)) ≡ map (λ l. l.1) (plain_lines [] xs)
 kept_plain entries are few xs formed = kept_lines (plain_lines [] xs) (plain_contents entries are few xs formed)

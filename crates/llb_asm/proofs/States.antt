@@ -65,6 +65,7 @@ hand_after room h b w (single line next bytes rest) = hand_after room next (b ++
 hand_after room h b w (nested line next number sub inner rest) = hand_after room next (b ++ set_bytes number (records_of inner)) w rest
 hand_after room h b w (unclosed line next number sub inner) = hand_after room (inside sub) [] (frame next number b ∷ w) inner
 
+-- the items are whole, or the last of them is a message that is not closed
 pub whole_or_not : (t : Items) → IsWhole t ⊎ ¬ IsWhole t
 whole_or_not done = inl tt
 whole_or_not (single line next bytes rest) = whole_or_not rest
@@ -83,6 +84,7 @@ below_more h b w g (single line next bytes rest) = below_more next (b ++ bytes) 
 below_more h b w g (nested line next number sub inner rest) = below_more next (b ++ set_bytes number (records_of inner)) w g rest
 below_more h b w g (unclosed line next number sub inner) = below_more (inside sub) [] (g ∷ w) (frame next number b) inner
 
+-- after items that are not whole, some message is open
 pub below_open : (h : Here) (b : List ℕ) (w : List Frame) (t : Items) → ¬ IsWhole t → HasBelow (state_after h b w t)
 below_open h b w done not = absurd (not tt)
 below_open h b w (single line next bytes rest) not = below_open next (b ++ bytes) w rest not
@@ -106,6 +108,7 @@ progress_closed earlier (op line items entry rest) closed =
     progress_closed (earlier ++ entry ∷ []) rest closed ∙ ap (λ x. between x) (append_assoc earlier (entry ∷ []) (entries_of rest))
 progress_closed earlier (open_op line items) closed = absurd closed
 
+-- the entries are closed, or the last of them is an op that is not
 pub closed_or_not : (t : Entries) → AreClosed t ⊎ ¬ AreClosed t
 closed_or_not none = inl tt
 closed_or_not (raw line bytes rest) = closed_or_not rest
@@ -118,6 +121,7 @@ pub record IsAmid (p : Progress) : Type 0 where
   pub current : Seen
   pub is : p ≡ amid earlier current
 
+-- after entries that are not closed, an op is open
 pub progress_open : (earlier : List (List ℕ)) (t : Entries) → ¬ AreClosed t → IsAmid (progress_after earlier t)
 progress_open earlier none not = absurd (not tt)
 progress_open earlier (raw line bytes rest) not = progress_open (earlier ++ bytes ∷ []) rest not
@@ -163,10 +167,12 @@ item_apart labels hand line i e same =
 abbrev pub item_in : List (List ℕ) → Seen → List ℕ → Result Item Refusal
 item_in earlier s line = item_at (labels_of earlier) (hand_of (is_within earlier) s) line
 
+-- a line that is not a closing one adds its item to the message at hand, or is refused as its item is
 pub step_other : (earlier : List (List ℕ)) (s : Seen) (line : List ℕ) → line ≢ closing
     → step_in earlier s line ≡ (item_in earlier s line >>= λ i. Ok (amid earlier (with_item s i)))
 step_other earlier s line apart = rw (no_closing line apart) refl
 
+-- a line with an item is not a closing one, and adds the item to the message at hand
 pub step_item : (earlier : List (List ℕ)) (s : Seen) (line : List ℕ) (i : Item) → item_in earlier s line ≡ Ok i
     → step_in earlier s line ≡ Ok (amid earlier (with_item s i))
 step_item earlier s line i e =

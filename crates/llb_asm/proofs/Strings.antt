@@ -31,6 +31,7 @@ split_two (b ∷ d ∷ text) long = ap (λ t. b ∷ d ∷ t) (sym (take_all (len
 
 -- ---- two digits
 
+-- after `\x`, fewer than two bytes spell no string
 pub no_two_digits : (text : List ℕ) → length text < 2 → string_from first text ≡ None
 unfolding string_from
 no_two_digits [] short = refl
@@ -96,6 +97,7 @@ module _ (text : List ℕ) (long : 1 ≤ length text) where
       one (inl quote) = ap (λ t. t || (get_or text 0 0 == 92)) (eq-eqb _ 34 quote)
       one (inr slash) = or_right (get_or text 0 0 == 34) (get_or text 0 0 == 92) (eq-eqb _ 92 slash)
 
+-- after a backslash, what begins with no quote, backslash or x spells no string
 pub no_escape : (text : List ℕ) → (1 ≤ length text → (get_or text 0 0 ≡ 34 → ⊥) × (get_or text 0 0 ≡ 92 → ⊥) × (get_or text 0 0 ≡ 120 → ⊥))
     → string_from backslash text ≡ None
 unfolding string_from
@@ -141,6 +143,7 @@ no_byte (b ∷ d ∷ text) quote other =
 
 -- ---- the whole string
 
+-- where the rest of a text is the last quote, the bytes that were spelled before it are the string
 pub ends : (text rest string : List ℕ) → string_from closed text ≡ option_map (λ t. string ++ t) (string_from closed rest)
     → pointwise nat_eq rest (34 ∷ []) ≡ true → Some string ≡ string_from closed text
 unfolding string_from
@@ -148,10 +151,12 @@ ends text rest string so quote =
     let last = (bytes_decides rest (34 ∷ [])).0 quote in
     sym (so ∙ ap (λ t. option_map (λ s. string ++ s) (string_from closed t)) last ∙ ap (λ s. Some s) (append-nil string))
 
+-- a text that begins with a quote spells what its rest does
 pub opened : (text : List ℕ) → 1 ≤ length text → get_or text 0 0 ≡ 34 → string_in text ≡ string_from closed (rest_of 1 text)
 unfolding string_in
 opened text long is = ap string_in (split text long) ∙ ap (λ b. string_in (b ∷ rest_of 1 text)) is
 
+-- a text that does not begin with a quote spells no string
 pub no_quote : (text : List ℕ) → (1 ≤ length text → get_or text 0 0 ≡ 34 → ⊥) → None ≡ string_in text
 unfolding string_in
 no_quote [] other = refl
@@ -159,6 +164,7 @@ no_quote (b ∷ text) other = sym (ap (λ t. cond t (string_from closed text) No
 
 -- ---- what is written
 
+-- with one byte more written as it is escaped, the first i + 1 bytes of a string are out
 pub string_more : (old now after s : List ℕ) (i : ℕ) → now ≡ old ++ (34 ∷ flat_map escaped (take i s)) → i < length s → after ≡ now ++ escaped (get_or s i 0)
     → after ≡ old ++ (34 ∷ flat_map escaped (take (i + 1) s))
 string_more old now after s i is inside more =
@@ -168,6 +174,7 @@ string_more old now after s i is inside more =
     ap (λ l. flat_map escaped l) (take_more s i 0 inside) ∙ flat_map-append escaped (take i s) (b ∷ []) ∙ ap (λ t. front ++ t) (append-nil (escaped b)) in
     more ∙ ap (λ t. t ++ escaped b) is ∙ append_assoc old (34 ∷ front) (escaped b) ∙ ap (λ t. old ++ (34 ∷ t)) (sym whole)
 
+-- with all bytes of a string out, a quote more makes its whole text
 pub string_done : (old now after s : List ℕ) (i : ℕ) → now ≡ old ++ (34 ∷ flat_map escaped (take i s)) → length s ≤ i → after ≡ now ++ 34 ∷ []
     → after ≡ old ++ string_text s
 unfolding string_text

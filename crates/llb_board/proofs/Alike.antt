@@ -18,5 +18,6 @@ pub alike_read : {A B : Type 0} (f : A → B) (xs ys : List A) (i : ℕ) (d : A)
     → map f xs ≡ map f ys → f (get_or xs i d) ≡ f (get_or ys i d)
 alike_read f xs ys i d low len = alike_items f xs ys i _ _ (slice_get-get_or xs i d low) (slice_get-get_or ys i d (subst (λ n. i < n) len low))
 
+-- a test of what never holds is right to say no
 pub differ : {A : Type 0} → (A → ⊥) → (IsTrue false → A) × (A → IsTrue false)
 differ never = (λ h. absurd (true≢false (sym h)), λ a. absurd (never a))

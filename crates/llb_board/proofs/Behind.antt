@@ -60,6 +60,7 @@ waits_all zero k = refl
 waits_all (suc n) zero = refl
 waits_all (suc n) (suc k) = waits_all n k
 
+-- lists that are made with no vertex done are right on a board where all wait
 pub linked_open : (vs : List Vertex) (l : Linked) → IsLinked vs (λ u. false) l → IsLinked vs (done_in (replicate (length vs) Waiting)) l
 linked_open vs l so = linked_same vs (λ u. false) (done_in (replicate (length vs) Waiting)) l (λ u. sym (waits_all (length vs) u)) so
 
@@ -210,6 +211,7 @@ module _ (vs : List Vertex) (done : ℕ → Bool) (l : Linked) (so : IsLinked vs
   pub counts_fit : (v : ℕ) → v < length vs → length vs ≤ 65536 → (x : ℕ) → get_or l.counts x 0 + length (users_at l v) < 2 ^ 32
   counts_fit v low few x = omega (arith, counts_few x, ap length (so.users_are v low), users_from_few v 0 vs, few)
 
+-- a running vertex is settled done: with the counts of its users lowered, the lists are right again
 pub linked_settled : (b : Build) (ss : List Stand) (v : ℕ) (s : Stand) (w : ℕ) (l m : Linked) → slice_get (map status_of ss) v ≡ Some (Running w)
     → v < length b.graph.vertices → is_done (ending_of (Some (status_of s))) ≡ true → m.users ≡ l.users → AreLowered (users_at l v) l.counts m.counts
     → IsLinked b.graph.vertices (done_in (map status_of ss)) l → IsLinked b.graph.vertices (done_in (map status_of (slice_set ss v s))) m
@@ -219,6 +221,7 @@ linked_settled b ss v s w l m at low is users counts so =
     (linked_lowered b.graph.vertices (done_in S) (done_in (slice_set S v (status_of s))) l m v low (ap (λ o. is_done (ending_of o)) at)
     (done_here S v (Running w) (status_of s) at ∙ is) (λ u apart. others_done S v (status_of s) u apart) so users counts)
 
+-- a vertex runs again: with the counts of its users raised where it was done, and else as they were, the lists are right
 pub linked_resumed : (b : Build) (ss : List Stand) (v w : ℕ) (had : Stand) (was_done : Bool) (l m : Linked) → slice_get ss v ≡ Some had
     → v < length b.graph.vertices → was_done ≡ is_done (ending_of (Some (status_of had))) → m.users ≡ l.users
     → (was_done ≡ true → AreRaised (users_at l v) l.counts m.counts) → (was_done ≡ false → m ≡ l)

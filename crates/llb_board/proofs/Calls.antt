@@ -56,14 +56,17 @@ granted fault (Err cause) a e = absurd cc
 
 -- ---- the table, by the grants
 
+-- what the rule of a claim grants, the table gives
 pub claim_done : (b : Build) (s : State) (w v : ℕ) (a : Answer) → claim_grant b s w v ≡ Ok a → table b s (Claim w v) ≡ Some a
 unfolding table
 claim_done b s w v a is = ap result_ok is
 
+-- what the rule of a step grants, the table gives
 pub step_done : (b : Build) (s : State) (w : ℕ) (a : Answer) → step_grant b s w ≡ Ok a → table b s (Step w) ≡ Some a
 unfolding table
 step_done b s w a is = ap result_ok is
 
+-- what the rule of a settle grants, the table gives
 pub settle_done : (b : Build) (s : State) (w : ℕ) (a : Answer) → settle_grant b s w ≡ Ok a → table b s (Settle w) ≡ Some a
 unfolding table
 settle_done b s w a is = ap result_ok is
@@ -81,6 +84,7 @@ pub record CanClaim (b : Build) (s : State) (w v : ℕ) (x : Vertex) : Type 0 wh
   pub there : slice_get b.graph.vertices v ≡ Some x
   pub grants : claim_grant b s w v ≡ claim_unless b s w v (start_with x trees) (held_key (held s.workers) (needs_of x))
 
+-- a claim that has a start: the worker is idle, the vertex waits with all inputs there, and only a locked key can refuse it
 pub can_claim : (b : Build) (s : State) (w v : ℕ) (x : Vertex) → is_ok (start_for b s w v) ≡ true → slice_get b.graph.vertices v ≡ Some x → CanClaim b s w v x
 can_claim b s w v x ok there =
     by_worker (slice_get s.workers w) refl (ap (λ o. is_ok (claim_start s.statuses v (slice_get s.workers w) o)) (sym there) ∙ ok)
@@ -179,6 +183,7 @@ pub record Granted (c : CachesValue) (x : Vertex) (trees : List TreeMap) (l : Op
 lease_inside : {a b : Option ℕ × CachesValue} → ◌≡◌ {A = Result (Option ℕ × CachesValue) LeaseFault} (Ok a) (Ok b) → a ≡ b
 lease_inside e = cc
 
+-- a lease of a vertex's needs makes the instances that were not there, and is out under a new number; of no needs there is none
 pub granted_of : (c new : CachesValue) (x : Vertex) (trees : List TreeMap) (l : Option ℕ) (ns : List cache_need.Need)
     → ns ≡ asked trees (needs_of x) → lease_if c ns ≡ Ok (l, new)
     → Granted c x trees l new
@@ -233,6 +238,7 @@ pub needs_asked : (b : Build) (c : CachesValue) (w v : ℕ) (x : Vertex) (trees 
     → begun_so.needs ≡ asked trees (needs_of x)
 needs_asked b c w v x trees o begun_so there is = ap (λ (g : Begun). g.needs) (sym (begun_is b c w v x trees o begun_so there is))
 
+-- where no locked key is held, the table's claim gives the execution and the reply that were begun, and the contents that were leased
 pub claims : (b : Build) (s : State) (w v : ℕ) (x : Vertex) (c new : CachesValue) (l : Option ℕ) (begun_so : Begun) (ns : List Need)
     (can : CanClaim b s w v x) → s.store ≡ store_of c.rows → Leased c s.workers
     → Distinct (map key_of (needs_of x)) → unless_shut (needs_of x) (shut_key c.out (needs_of x)) ≡ Ok ns
@@ -287,6 +293,7 @@ step_alone b s w = by_worker (slice_get s.workers w)
     by_worker (Some Idle) = refl
     by_worker (Some (Runs x)) = by_next x (next_step (program_in b x).steps x)
 
+-- a micro-step that is granted over no statuses at all is granted over any, which stay as they are
 pub steps : (b : Build) (s t : State) (w : ℕ) (r : Reply)
     → faulted step_fault (step_grant b (record s { statuses = [] }) w) ≡ Ok (record t { statuses = [] }, r)
     → step_grant b s w ≡ Ok (record t { statuses = s.statuses }, r)
@@ -298,6 +305,7 @@ abbrev pub granted_by : List Desk → ℕ → Result Written StepFault → Resul
 granted_by ds w (Ok p) = Ok (record { statuses = []; workers = slice_set (map at_of ds) w (Runs p.0); store = store_of p.1 }, p.2)
 granted_by ds w (Err e) = Err e
 
+-- the table's step is a micro-step over the lists of instances, where those of the worker are there
 pub stepped_as : (b : Build) (ds : List Desk) (rows : List Row) (w : ℕ) (x : Execution)
     → slice_get (map at_of ds) w ≡ Some (Runs x) → ((p : Place) → Has x.places p → p.number < length (trees_of rows p.key))
     → faulted step_fault (step_grant b (state_of [] ds rows) w) ≡ granted_by ds w (worked_in b rows x)
@@ -335,6 +343,7 @@ pub record CanSettle (b : Build) (s : State) (w v : ℕ) (stands : Status) : Typ
   pub vertex : x.vertex ≡ v
   pub grants : settle_grant b s w ≡ Ok (settle_with s w v ending)
 
+-- a worker that can leave a vertex runs it and is finished, so that the table grants its settle
 pub can_settle : (b : Build) (s : State) (w v : ℕ) (stands : Status) → left_at b (slice_get s.workers w) ≡ Ok (v, stands) → CanSettle b s w v stands
 can_settle b s w v stands is = by_worker (slice_get s.workers w) refl is
   where

@@ -42,6 +42,7 @@ pub record MayClaim (b : Build) (first : List Row) (ss : List Stand) (ds : List 
   pub apart : AreApart c.out
   pub there : AreThere c.rows c.out
 
+-- the leases that are out on a board have what its running workers have, as each of these has its own
 pub same_held : (b : Build) (first : List Row) (ss : List Stand) (ds : List Desk) (c : CachesValue) (stop_marks : List Bool) (es : List Event) (capacity : ℕ)
     → Keeps b first (data_of ss ds c stop_marks) es capacity → HoldsAs c.out (map at_of ds)
 same_held b first ss ds c stop_marks es capacity kept = leased_holds_as c.out (map at_of ds) (map leased_by ds) kept.leased

@@ -55,6 +55,7 @@ seen_same p q same =
       events = same.events i;
     }
 
+-- what a board's type keeps it keeps of a second board with the same parts, whose record has room for a whole run
 pub tracked_same : (p q : Parts) (room more n : ℕ) → AreSame p q → most_events q.build ≤ more
     → IsTracked (seen_in p) p.desks p.caches.out p.marks p.links room n
     → IsTracked (seen_in q) q.desks q.caches.out q.marks q.links more n

@@ -22,6 +22,7 @@ counted_more vs k all n v there here is few =
     = ap (sum_by events_of) next ∙ sum_by-cons events_of v (drop (k + 1) vs) in
     record { counted = omega (arith, add, here.counted); small = omega (arith, here.small) }
 
+-- the vertex of the next number is counted, with its claim, its micro-steps and its settle
 pub counted_at : (vs : List Vertex) (k all n : ℕ) → k < length vs → CountedSoFar vs k all → n ≡ length (program_at (slice_get vs k)).steps
     → n < 2 ^ 32 → CountedSoFar vs (k + 1) (all + (n + 2))
 counted_at [] k all n low here is few = absurd (omega arith)

@@ -133,5 +133,6 @@ inside_send = declared_send inside.the_type (
   ),
 )
 
+-- all that a board has may go to another thread, and so may the board
 pub board_crosses : IsSend board.the_row
 board_crosses = view_send inside.the_row _ _ _ _ inside_send

@@ -38,9 +38,11 @@ one_more : (trees : List TreeMap) (t : TreeMap) (o : Option (List TreeMap))
 one_more trees t None = refl
 one_more trees t (Some more) = ap (λ (l : List TreeMap). Some l) (append_assoc trees (t ∷ []) more)
 
+-- before the first edge no tree is gathered, and all edges are left
 pub gathered_start : (E : ℕ → Option Ending) (es : List Edge) → option_map (λ (more : List TreeMap). [] ++ more) (inputs_from E (drop 0 es)) ≡ inputs_from E es
 gathered_start E es = none_before (inputs_from E es)
 
+-- the tree of the next edge is gathered, and the edges after it are left
 pub gathered_next : (E : ℕ → Option Ending) (es : List Edge) (i : ℕ) (trees : List TreeMap) (t : TreeMap)
     → option_map (λ (more : List TreeMap). trees ++ more) (inputs_from E (drop i es)) ≡ inputs_from E es → i < length es → tree_at E es i ≡ Some t
     → option_map (λ (more : List TreeMap). (trees ++ t ∷ []) ++ more) (inputs_from E (drop (i + 1) es)) ≡ inputs_from E es
@@ -49,6 +51,7 @@ gathered_next E es i trees t here low there =
     ∙ ap (λ o. option_map (λ (more : List TreeMap). trees ++ more) (both o (inputs_from E (drop (i + 1) es)))) (sym there)
     ∙ ap (option_map (λ (more : List TreeMap). trees ++ more)) (sym (inputs_next E es i low)) ∙ here
 
+-- an edge without a tree decides: the inputs are not all there
 pub gathered_missing : (E : ℕ → Option Ending) (es : List Edge) (i : ℕ) (trees : List TreeMap)
     → option_map (λ (more : List TreeMap). trees ++ more) (inputs_from E (drop i es)) ≡ inputs_from E es → i < length es → tree_at E es i ≡ None
     → inputs_from E es ≡ None
@@ -56,6 +59,7 @@ gathered_missing E es i trees here low gone =
     sym here ∙ ap (option_map (λ (more : List TreeMap). trees ++ more)) (inputs_next E es i low)
     ∙ ap (λ o. option_map (λ (more : List TreeMap). trees ++ more) (both o (inputs_from E (drop (i + 1) es)))) gone
 
+-- where no edge is left, the trees that are gathered are those of all inputs
 pub gathered_end : (E : ℕ → Option Ending) (es : List Edge) (i : ℕ) (trees : List TreeMap)
     → option_map (λ (more : List TreeMap). trees ++ more) (inputs_from E (drop i es)) ≡ inputs_from E es → length es ≤ i → inputs_from E es ≡ Some trees
 gathered_end E es i trees here past =

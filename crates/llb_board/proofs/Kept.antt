@@ -80,6 +80,7 @@ kept_more b s first rows t u es e r so_far granted =
     ∙ ap (λ o. kept_next b o e) so_far
     ∙ ap (option_map (λ (a : State × Reply). (a.0, rows_after rows a.0 (worker_of e)))) granted
 
+-- what a board's type keeps it keeps after a granted event, where leases, supplies, marks and lists of instances are as they should be
 pub kept_after : (b : Build) (first : List Row) (d d' : Data) (es : List Event) (capacity : ℕ) (e : Event) (r : Reply) → Keeps b first d es capacity
     → table b (state_as d) e ≡ Some (state_as d', r) → Stays b (worker_of e) d d' → Keeps b first d' (es ++ e ∷ []) capacity
 kept_after b first d d' es capacity e r kept granted stays =
@@ -176,6 +177,7 @@ claim_rows b d w v l x c new own r idle same claims =
     ∙ (λ i. written (store_of new.rows) (sym same i) (places_at (sym (set_there (map at_of d.desks) w Idle (Runs (execution_of own)) idle) i)))
     ∙ ap (λ (ws : List At). written (store_of new.rows) d.rows (places_at (slice_get ws w))) (sym (map_set at_of d.desks w (desk.Runs l own)))
 
+-- after a claim each running worker has a lease of its own: the new one, or none where it has no instances
 pub leased_claimed : (d : Data) (w : ℕ) (l : Option ℕ) (own : own.Execution) (ps : List Place) (new : Leases)
     → AreLeased d.out (map at_of d.desks) (map leased_by d.desks)
     → slice_get (map at_of d.desks) w ≡ Some Idle → own.places.items ≡ ps → LeasedNew d.out l ps new
@@ -195,10 +197,12 @@ leased_claimed d w l own ps new leased idle same is =
           (claim_without d.out (map at_of d.desks) (map leased_by d.desks) w (execution_of own) leased idle (same ∙ h.1)))
     ]))
 
+-- the supplies of a vertex are those that are asked for at its number
 pub made_for : (b : Build) (x : Vertex) (v n : ℕ) → slice_get b.graph.vertices v ≡ Some x → n ≡ v
     → supplies_for (Some x) ≡ supplies_for (slice_get b.graph.vertices n)
 made_for b x v n there same = sym (ap (λ k. supplies_for (slice_get b.graph.vertices k)) same ∙ ap supplies_for there)
 
+-- after a claim each worker has what its vertex needs, where the new execution has
 pub supplies_claimed : (b : Build) (ds : List Desk) (w : ℕ) (l : Option ℕ) (x : own.Execution) → map ready_made ds ≡ map (needed b) (map at_of ds)
     → supplies_of x ≡ supplies_for (slice_get b.graph.vertices x.vertex)
     → map ready_made (slice_set ds w (desk.Runs l x)) ≡ map (needed b) (map at_of (slice_set ds w (desk.Runs l x)))
@@ -222,6 +226,7 @@ needs_stay b s w a step =
     ∙ map_set (needed b) s.workers w (Runs (with_step step.x left))
     ∙ set_same (map (needed b) s.workers) w (needed b (Runs step.x)) (get_map (needed b) s.workers w (Runs step.x) step.there)
 
+-- a step leaves each worker its vertex and what it has ready, which is still what it needs
 pub supplies_stepped : (b : Build) (ss : List Stand) (ds ds' : List Desk) (rows rows' : List Row) (w : ℕ) (r : Reply)
     → map ready_made ds ≡ map (needed b) (map at_of ds)
     → table b (state_of ss ds rows) (Step w) ≡ Some (state_of ss ds' rows', r) → map ready_made ds' ≡ map ready_made ds
@@ -231,6 +236,7 @@ supplies_stepped b ss ds ds' rows rows' w r kept granted same =
     ∙ sym (needs_stay b (state_of ss ds rows) w (state_of ss ds' rows', r)
     (step_is b (state_of ss ds rows) w (state_of ss ds' rows', r) granted))
 
+-- desks that have the same ready are as many
 pub same_length : (ds ds' : List Desk) → map ready_made ds' ≡ map ready_made ds → length ds' ≡ length ds
 same_length ds ds' same = sym (length_map ready_made ds') ∙ ap length same ∙ length_map ready_made ds
 
@@ -244,6 +250,7 @@ made_enough b ds w l x kept at =
     inside (sym (get_map ready_made ds w (desk.Runs l x) at) ∙ ap (λ l. slice_get l w) kept
     ∙ get_map (needed b) (map at_of ds) w (Runs (execution_of x)) (get_map at_of ds w (desk.Runs l x) at))
 
+-- the outputs that a running worker has ready are empty trees, one for each output of its vertex
 pub all_empty : (b : Build) (ds : List Desk) (w : ℕ) (l : Option ℕ) (x : own.Execution) → map ready_made ds ≡ map (needed b) (map at_of ds)
     → slice_get ds w ≡ Some (desk.Runs l x) → x.outputs.items ≡ replicate (program_in b (execution_of x)).outputs empty_tree
 all_empty b ds w l x kept at = ap (λ (s : Supplies). s.outputs) (made_enough b ds w l x kept at)
@@ -301,16 +308,19 @@ settle_rows d w v s out stop_marks x at =
 pub leaves_running : (b : Seen) (w v : ℕ) (stands : Status) → Replays b → CanSettle b.build b.state w v stands → slice_get b.state.statuses v ≡ Some (Running w)
 leaves_running b w v stands here can = ap (slice_get b.state.statuses) (sym can.vertex) ∙ (consistent b here).working w can.x can.there
 
+-- after a settle each worker has what its vertex needs, and the one that is idle needs nothing
 pub supplies_settled : (b : Build) (ds : List Desk) (w : ℕ) → map ready_made ds ≡ map (needed b) (map at_of ds)
     → map ready_made (slice_set ds w desk.Idle) ≡ map (needed b) (map at_of (slice_set ds w desk.Idle))
 supplies_settled b ds w kept =
     map_set ready_made ds w desk.Idle ∙ ap (λ l. slice_set l w (supplies_for None)) kept ∙ sym (map_set (needed b) (map at_of ds) w Idle)
     ∙ ap (map (needed b)) (sym (map_set at_of ds w desk.Idle))
 
+-- the settle of a vertex with a fault is told as a failure
 pub reply_failed : (v : ℕ) (e : Ending) → is_failed (Some e) ≡ true → settle_reply v e ≡ SettledFailed v
 reply_failed v (Done trees) is = absurd (cc)
 reply_failed v (Failed f) is = refl
 
+-- the settle of a vertex without a fault is told as done
 pub reply_done : (v : ℕ) (e : Ending) → is_failed (Some e) ≡ false → settle_reply v e ≡ SettledDone v
 reply_done v (Done trees) is = refl
 reply_done v (Failed f) is = absurd (cc)

@@ -286,6 +286,7 @@ pub record HasDesk (b : Build) (d : Data) (w : ℕ) (job : Job) : Type 0 where
   pub at : slice_get d.desks w ≡ Some (desk.Runs l own)
   pub run : IsRunOf b (store_of d.rows) w (execution_of own) job
 
+-- where an outcome can land, the worker's desk has the execution that its job is of
 pub has_desk : (b : Build) (first : List Row) (d : Data) (es : List Event) (w : ℕ) (job : Job) → CanLand (seen_as b first d es) w job → HasDesk b d w job
 has_desk b first d es w job can = by_desk (slice_get d.desks w) refl (sym (slice_get-map at_of d.desks w) ∙ can.runs)
   where

@@ -43,6 +43,7 @@ put_none rows (p ∷ ps) = refl
 
 -- ---- a worker that leaves
 
+-- a worker that leaves gives its lease back, if it had one, and the others keep theirs
 pub leased_settled : (c : CachesValue) (ds : List Desk) (w : ℕ) (l : Option ℕ) → AreLeased c.out (map at_of ds) (map leased_by ds)
     → slice_get (map leased_by ds) w ≡ Some l
     → AreLeased (given_back c l).out (map at_of (slice_set ds w desk.Idle)) (map leased_by (slice_set ds w desk.Idle))
@@ -99,6 +100,7 @@ idled_same (suc n) (d ∷ ds) at = ap (λ l. desk.Idle ∷ l) (idled_same n ds a
 abbrev pub LeasedFrom : Leases → ℕ → List Desk → Type 0
 LeasedFrom out n ds = AreLeased out (map at_of (idled n ds)) (map leased_by (idled n ds))
 
+-- the next worker runs: it is sent away, and its lease is given back
 pub leased_next : (c : CachesValue) (n : ℕ) (l : Option ℕ) (x : own.Execution) (ds : List Desk) → LeasedFrom c.out n ds → slice_get ds n ≡ Some (desk.Runs l x)
     → LeasedFrom (given_back c l).out (n + 1) ds
 leased_next c n l x ds leased at =
@@ -107,6 +109,7 @@ leased_next c n l x ds leased at =
     subst (λ (es : List Desk). AreLeased (given_back c l).out (map at_of es) (map leased_by es)) same
     (leased_settled c (idled n ds) n l leased there)
 
+-- the next worker is idle: there is nothing to give back
 pub leased_idle : (out : Leases) (n : ℕ) (ds : List Desk) → LeasedFrom out n ds → slice_get ds n ≡ Some desk.Idle → LeasedFrom out (n + 1) ds
 leased_idle out n ds leased at =
     subst (λ (es : List Desk). AreLeased out (map at_of es) (map leased_by es)) (sym (ap (λ k. idled k ds) (add-one n) ∙ idled_same n ds at)) leased
@@ -128,5 +131,6 @@ all_idle zero (d ∷ ds) le w l at = absurd (omega (arith, le))
 all_idle (suc n) (d ∷ ds) le zero l at = cc
 all_idle (suc n) (d ∷ ds) le (suc w) l at = all_idle n ds (omega (arith, le)) w l at
 
+-- where every worker was sent away, no lease is out
 pub none_left : (out : Leases) (n : ℕ) (ds : List Desk) → LeasedFrom out n ds → length ds ≤ n → leases out ≡ 0
 none_left out n ds leased past = none_out out (map at_of (idled n ds)) (map leased_by (idled n ds)) leased (all_idle n ds past)

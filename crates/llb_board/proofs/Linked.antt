@@ -44,6 +44,7 @@ times_few x (y ∷ ys) = let rest = times_few x ys in elim (cases_eq y x) [
   | inr apart ↦ omega (arith, rest, bit_no (y == x) (eq_no y x apart))
 ]
 
+-- with one user more listed, one count more is lowered
 pub lowered_more : (us : List ℕ) (x : ℕ) (old now : List ℕ) → x < length now → AreLowered us old now
     → AreLowered (us ++ x ∷ []) old (set now x (get_or now x 0 - 1))
 lowered_more us x old now low so = (
@@ -59,6 +60,7 @@ lowered_more us x old now low so = (
   ],
 )
 
+-- with one user more listed, one count more is raised
 pub raised_more : (us : List ℕ) (x : ℕ) (old now : List ℕ) → x < length now → AreRaised us old now
     → AreRaised (us ++ x ∷ []) old (set now x (get_or now x 0 + 1))
 raised_more us x old now low so = (
@@ -100,6 +102,7 @@ count_one p q (suc n) u low out passes same = elim (cases_eq u n) [
       omega (arith, rest, here)
 ]
 
+-- no more than n numbers below n pass a test
 pub count_few : (p : ℕ → Bool) (n : ℕ) → count_below p n ≤ n
 count_few p zero = omega arith
 count_few p (suc n) = by_test (p n) refl (count_few p n)
@@ -136,6 +139,7 @@ leads_here es e = leads_push es e e.vertex ∙ ap (λ b. leads es e.vertex || b)
     by_test true = refl
     by_test false = refl
 
+-- of a vertex without edges no list changes, and nothing is counted
 pub entered_none : (v : ℕ) (lists : List (List ℕ)) → IsEntered [] v lists lists 0
 entered_none v lists = record { same = refl; lists = λ u low. refl; counted = sym (none (length lists)) }
   where
@@ -225,6 +229,7 @@ users_below u k (x ∷ xs) = by_test (leads x.inputs u) (All-weaker (λ y. y < (
     by_test true rest = All-cons (λ y. y < k + length (x ∷ xs)) k (users_from u (k + 1) xs) (omega arith) rest
     by_test false rest = rest
 
+-- the users of a vertex are vertices of the graph
 pub users_low : (vs : List Vertex) (u : ℕ) → All (λ y. y < length vs) (users_of vs u)
 users_low vs u = All-weaker (λ y. y < 0 + length vs) (λ y. y < length vs) (λ y low. omega (arith, low)) (users_of vs u) (users_below u 0 vs)
 
@@ -280,6 +285,7 @@ nothing_done x n = count_same (leads x.inputs) (waits_for (λ u. false) x) n (λ
     by_test true = refl
     by_test false = refl
 
+-- the next vertex is entered in the lists of those that its edges lead to, and its count is how many these are
 pub linking_next : (vs : List Vertex) (v : ℕ) (x : Vertex) (users later : List (List ℕ)) (counts : List ℕ) (n : ℕ) → v < length vs → x ≡ get_or vs v x
     → Linking vs v users counts → IsEntered x.inputs v users later n → Linking vs (v + 1) later (counts ++ n ∷ [])
 linking_next vs v x users later counts n low is so entered = record {
@@ -309,6 +315,7 @@ linking_next vs v x users later counts n low is so entered = record {
     inside : {A : Type 0} {a b : A} → ◌≡◌ {A = Option A} (Some a) (Some b) → a ≡ b
     inside e = cc
 
+-- where all vertices are entered, the lists and counts are those of the graph with no vertex done
 pub linking_end : (vs : List Vertex) (v : ℕ) (users : List (List ℕ)) (counts : List ℕ) → Linking vs v users counts → v ≡ length vs
     → IsLinked vs (λ u. false) (record { users = users; counts = counts })
 linking_end vs v users counts so is = record {
@@ -327,6 +334,7 @@ linking_below vs v users counts u low so fits =
 
 -- ---- a vertex is done, or not any more
 
+-- the lists depend on nothing but which vertices are done
 pub linked_same : (vs : List Vertex) (done later : ℕ → Bool) (l : Linked) → ((u : ℕ) → done u ≡ later u) → IsLinked vs done l → IsLinked vs later l
 linked_same vs done later l same so = record {
   same_users = so.same_users;
@@ -357,6 +365,7 @@ one_done vs done later u x low was is same = by_test (leads x.inputs u) refl
         ]) in
         omega (arith, equal)
 
+-- one vertex more is done: with the counts of its users lowered, the lists are right again
 pub linked_lowered : (vs : List Vertex) (done later : ℕ → Bool) (l m : Linked) (u : ℕ) → u < length vs → done u ≡ false → later u ≡ true
     → ((w : ℕ) → w ≢ u → done w ≡ later w) → IsLinked vs done l → m.users ≡ l.users → AreLowered (users_at l u) l.counts m.counts → IsLinked vs later m
 linked_lowered vs done later l m u low was is same so users counts = record {
@@ -368,6 +377,7 @@ linked_lowered vs done later l m u low was is same so users counts = record {
       omega (arith, counts.1 v, so.counts_are v x at, one_done vs done later u x low was is same, less);
 }
 
+-- one vertex is not done any more: with the counts of its users raised, the lists are right again
 pub linked_raised : (vs : List Vertex) (done later : ℕ → Bool) (l m : Linked) (u : ℕ) → u < length vs → done u ≡ true → later u ≡ false
     → ((w : ℕ) → w ≢ u → done w ≡ later w) → IsLinked vs done l → m.users ≡ l.users → AreRaised (users_at l u) l.counts m.counts → IsLinked vs later m
 linked_raised vs done later l m u low was is same so users counts = record {
@@ -424,6 +434,7 @@ opened done n (e ∷ es) below none = by_test (done e.vertex) refl none (λ rest
         let parts = and_parts (leads es found.0) (not (done found.0)) found.2 in
         (found.0, found.1, and_from (leads (e ∷ es) found.0) (not (done found.0)) (or_right (e.vertex == found.0) (leads es found.0) parts.0) parts.1)
 
+-- a count is 0 exactly where all edges lead to vertices that are done
 pub counted_done : (vs : List Vertex) (done : ℕ → Bool) (x : Vertex) → All (λ (e : Edge). e.vertex < length vs) x.inputs
     → (open_inputs vs done x == 0) ≡ all_done done x.inputs
 counted_done vs done x below = by_test (all_done done x.inputs) refl

@@ -13,9 +13,11 @@ pub record Replicated {A : Type 0} (x : A) (n : ℕ) (xs : List A) (last capacit
   pub all : xs ≡ replicate n x
   pub reserved : last ≤ capacity
 
+-- n equal items and one more are n + 1 of them
 pub replicate_more : {A : Type 0} (x : A) (n : ℕ) → replicate n x ++ x ∷ [] ≡ replicate (n + 1) x
 replicate_more x n = replicate-append-replicate n 1 x
 
+-- a function on each item leaves as many items
 pub length_map : {A B : Type 0} (f : A → B) (xs : List A) → length (map f xs) ≡ length xs
 length_map f [] = refl
 length_map f (x ∷ xs) = omega (arith, length_map f xs)
@@ -25,9 +27,11 @@ pub record Copied {A B : Type 0} (f : A → B) (xs : List A) (n : ℕ) (ys : Lis
   pub front : ys ≡ map f (take n xs)
   pub reserved : length xs ≤ capacity
 
+-- the copy of the first n items has n of them, where the list is longer
 pub copied_length : {A B : Type 0} (f : A → B) (xs : List A) (n : ℕ) (ys : List B) → ys ≡ map f (take n xs) → n < length xs → length ys ≡ n
 copied_length f xs n ys is lt = ap length is ∙ length_map f (take n xs) ∙ length-take-le n xs (omega arith)
 
+-- the copy of the first n items, and what the function makes of the next, is the copy of one more
 pub copied_more : {A B : Type 0} (f : A → B) (xs : List A) (n : ℕ) (ys : List B) (x : A) → ys ≡ map f (take n xs) → slice_get xs n ≡ Some x
     → ys ++ f x ∷ [] ≡ map f (take (n + 1) xs)
 copied_more f xs n ys x is at =
@@ -42,11 +46,13 @@ map_set f [] i x = refl
 map_set f (y ∷ xs) zero x = refl
 map_set f (y ∷ xs) (suc i) x = ap (λ l. f y ∷ l) (map_set f xs i x)
 
+-- a write of what stands at a place changes nothing
 pub set_same : {A : Type 0} (xs : List A) (i : ℕ) (x : A) → slice_get xs i ≡ Some x → slice_set xs i x ≡ xs
 set_same [] i x e = refl
 set_same (y ∷ xs) zero x e = let same : x ≡ y = cc in ap (λ z. z ∷ xs) same
 set_same (y ∷ xs) (suc i) x e = ap (λ l. y ∷ l) (set_same xs i x e)
 
+-- in a list of results, the result of an item is found where the item is
 pub get_map : {A B : Type 0} (f : A → B) (xs : List A) (i : ℕ) (x : A) → slice_get xs i ≡ Some x → slice_get (map f xs) i ≡ Some (f x)
 get_map f xs i x e = slice_get-map f xs i ∙ ap (option_map f) e
 

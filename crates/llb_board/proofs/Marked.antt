@@ -24,14 +24,17 @@ any_next before es i low =
     ap (list_any (marked_at before)) (drop-cons es i (record { vertex = 0; index = 0 }) low)
     ∙ ap (λ k. marked_at before (edge_at es i) || list_any (marked_at before) (drop k es)) (sym (add-one i))
 
+-- an edge to a marked vertex decides: some edge leads to one
 pub behind_marked : (before : List Bool) (es : List Edge) (i : ℕ) → AsBehind before es i → i < length es → marked_at before (edge_at es i) ≡ true
     → true ≡ list_any (marked_at before) es
 behind_marked before es i here low is = ap (λ b. b || list_any (marked_at before) (drop (i + 1) es)) (sym is) ∙ sym (any_next before es i low) ∙ here
 
+-- past an edge to a vertex without a mark, the edges that are left decide
 pub behind_next : (before : List Bool) (es : List Edge) (i : ℕ) → AsBehind before es i → i < length es → marked_at before (edge_at es i) ≡ false
     → AsBehind before es (i + 1)
 behind_next before es i here low is = ap (λ b. b || list_any (marked_at before) (drop (i + 1) es)) (sym is) ∙ sym (any_next before es i low) ∙ here
 
+-- where no edge is left and none has led to a marked vertex, none does
 pub behind_end : (before : List Bool) (es : List Edge) (i : ℕ) → AsBehind before es i → length es ≤ i → false ≡ list_any (marked_at before) es
 behind_end before es i here past = ap (list_any (marked_at before)) (sym (drop_all i es past)) ∙ here
 
@@ -45,6 +48,7 @@ take_set [] k x low = absurd (omega arith)
 take_set (y ∷ xs) zero x low = refl
 take_set (y ∷ xs) (suc k) x low = ap (λ l. y ∷ l) (take_set xs k x (omega arith))
 
+-- one vertex more has the mark that the rule gives it from the marks before
 pub marked_more : (statuses : List Status) (vs : List Vertex) (k : ℕ) (marks : List Bool) (v : Vertex) (mark : Bool)
     → MarkedSoFar statuses vs k marks → k < length vs
     → v ≡ get_or vs k v → mark ≡ next_stopped statuses (take k marks) v → MarkedSoFar statuses vs (k + 1) (set marks k mark)
@@ -59,6 +63,7 @@ marked_more statuses vs k marks v mark here low is rule =
       lengths = length-set marks k mark ∙ here.lengths;
     }
 
+-- where each vertex has been looked at, the marks are those of the rule
 pub marked_end : (statuses : List Status) (vs : List Vertex) (k : ℕ) (marks : List Bool) → MarkedSoFar statuses vs k marks → length vs ≤ k
     → marks ≡ by_number (next_stopped statuses) [] vs
 marked_end statuses vs k marks here past =
@@ -81,6 +86,7 @@ failed_set (y ∷ S) zero old new at a b (suc k) = refl
 failed_set (y ∷ S) (suc v) old new at a b zero = refl
 failed_set (y ∷ S) (suc v) old new at a b (suc k) = failed_set S v old new at a b k
 
+-- where one vertex gets another status, failed neither before nor after, all marks stay
 pub marks_stay : (vs : List Vertex) (S : List Status) (v : ℕ) (old new : Status) → slice_get S v ≡ Some old
     → is_failed (ending_of (Some old)) ≡ false → is_failed (ending_of (Some new)) ≡ false
     → by_number (next_stopped (slice_set S v new)) [] vs ≡ by_number (next_stopped S) [] vs
@@ -111,5 +117,6 @@ marks_open S none n (v ∷ vs) =
     ap (λ b. by_number (next_stopped S) (replicate n false ++ b ∷ []) vs) mark
     ∙ ap (λ l. by_number (next_stopped S) l vs) (replicate-append-replicate n 1 false) ∙ marks_open S none (n + 1) vs ∙ ap (λ k. replicate k false) count
 
+-- while all vertices wait, none is marked
 pub unmarked : (vs : List Vertex) → by_number (next_stopped (replicate (length vs) Waiting)) [] vs ≡ replicate (length vs) false
 unmarked vs = marks_open (replicate (length vs) Waiting) (waits_all (length vs)) 0 vs ∙ ap (λ k. replicate k false) (zero-add (length vs))

@@ -23,6 +23,7 @@ use Rattle.llb_model.proofs.Vertices.{kind_at}
 
 -- ---- a view before the first micro-step
 
+-- at first a view has as many mounts as its op
 pub mounts_on : (locals : List Local) (v : Vertex) (k : Option Kind) (inputs : List TreeMap) → mounts_in (view_on locals v k inputs) ≡ length (kind_mounts k)
 mounts_on locals v (Some (kind.Source s)) inputs = refl
 mounts_on locals v (Some (kind.File f)) inputs = refl
@@ -42,6 +43,7 @@ shown_of_kind locals v (Some (kind.Build b)) inputs is = ap (λ o. map mount_of 
 shown_of_kind locals v (Some (kind.Diff d)) inputs is = ap (λ o. map mount_of (needs_from v.op.inputs 0 (kind_mounts o))) (sym is)
 shown_of_kind locals v None inputs is = ap (λ o. map mount_of (needs_from v.op.inputs 0 (kind_mounts o))) (sym is)
 
+-- the mounts of a view that show caches are those that the needs of its vertex name
 pub shown_on : (locals : List Local) (v : Vertex) (inputs : List TreeMap) → shown_in (view_on locals v v.op.kind inputs) ≡ map mount_of (needs_of v)
 shown_on locals v inputs = shown_of_kind locals v v.op.kind inputs refl
 
@@ -77,5 +79,6 @@ few_at : (g : Numbered) (k : ℕ) (o : Option Vertex) → IsGraph g → slice_ge
 few_at g k None graph at = omega arith
 few_at g k (Some v) graph at = omega (arith, needs_fewer v.op.inputs 0 (kind_mounts v.op.kind), few_mounts v (kind_at g k v graph at))
 
+-- the needs of a vertex can be counted in 32 bits, as its mounts can
 pub few_needs : (g : Numbered) (k : ℕ) → IsGraph g → length (needs_at (slice_get g.vertices k)) < 2 ^ 32
 few_needs g k graph = few_at g k (slice_get g.vertices k) graph refl

@@ -22,10 +22,12 @@ use Rattle.llb_board.specs.declared.stand.Desk.TheVariants.{Idle}
 use Rattle.llb_board.proofs.Returned.{none_leased}
 use Rattle.llb_board.proofs.Marked.{unmarked}
 
+-- what a function makes of n equal items are n equal results
 pub map_replicate : {A B : Type 0} (f : A → B) (n : ℕ) (x : A) → map f (replicate n x) ≡ replicate n (f x)
 map_replicate f zero x = refl
 map_replicate f (suc n) x = ap (λ l. f x ∷ l) (map_replicate f n x)
 
+-- where all vertices wait, all workers are idle and no event is recorded, a board is seen as one that was just opened
 pub seen_open : (b : Build) (first : List Row) (workers : ℕ) (ss : List Stand) (ds : List Desk) (rows : List Row) (es : List Event)
     → ss ≡ replicate (length b.graph.vertices) Waiting → ds ≡ replicate workers Idle → es ≡ [] → first ≡ rows
     → seen b first ss ds rows es ≡ opened b workers rows
@@ -55,6 +57,7 @@ both false b is = absurd (cc)
 pub some_work : (n : ℕ) → may_work n ≡ true → 0 < n
 some_work n is = let some : 1 ≤ n = leb-true 1 n (both (nat_le 1 n) (nat_le n 64) is).0 in omega arith
 
+-- a number of workers that is allowed is at most 64
 pub few_work : (n : ℕ) → may_work n ≡ true → n ≤ 64
 few_work n is = leb-true n 64 (both (nat_le 1 n) (nat_le n 64) is).1
 
@@ -71,6 +74,7 @@ pub record IsFresh (b : Build) (workers : ℕ) (ss : List Stand) (ds : List Desk
   pub marks : stop_marks ≡ replicate (length b.graph.vertices) false
   pub room : most_events b ≤ capacity
 
+-- a board that was just opened keeps what its type asks for, where no lease is out and the number of workers is allowed
 pub kept_open : (b : Build) (first : List Row) (workers capacity : ℕ) (ss : List Stand) (ds : List Desk) (rows : List Row) (out : Leases) (es : List Event)
     (stop_marks : List Bool)
     → IsFresh b workers ss ds es stop_marks capacity → first ≡ rows → leases out ≡ 0 → 0 < workers → workers ≤ 64

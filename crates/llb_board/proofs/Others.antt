@@ -9,6 +9,7 @@ use Rattle.llb_model.proofs.Events.{Answer, claim_places, claim_is, step_is, set
 use Rattle.llb_board.specs.Board.{Seen, Replays}
 use Rattle.llb_board.proofs.Sound.{consistent}
 
+-- an event writes what its own worker does, and no other's
 pub others : (b : Build) (s : State) (e : Event) (a : Answer) → table b s e ≡ Some a → (u : ℕ) → u ≢ worker_of e
     → slice_get a.0.workers u ≡ slice_get s.workers u
 others b s (Claim w v) a given u apart =
@@ -27,6 +28,7 @@ running_by : Status → ℕ
 running_by (Running w) = w
 running_by _ = 0
 
+-- the status of a vertex names the worker that runs it, so no two run one
 pub one_each : (b : Seen) → Replays b → (u w : ℕ) (x y : Execution) → slice_get b.state.workers u ≡ Some (Runs x) → slice_get b.state.workers w ≡ Some (Runs y)
     → x.vertex ≡ y.vertex → u ≡ w
 unfolding running_by

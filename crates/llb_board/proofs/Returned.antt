@@ -43,6 +43,7 @@ at_most_one_less (Some qs ∷ out) (suc l) =
 
 -- ---- leases of workers
 
+-- idle workers without a lease are right where no lease is out
 pub none_leased : (out : Leases) (n : ℕ) → leases out ≡ 0 → AreLeased out (replicate n Idle) (replicate n None)
 none_leased out n none = record {
   count = length-replicate n None ∙ sym (length-replicate n Idle);
@@ -52,6 +53,7 @@ none_leased out n none = record {
   whose = λ l ps at. absurd (let some = some_out out l ps at in omega (arith, some, none));
 }
 
+-- where no worker has a lease, none is out
 pub none_out : (out : Leases) (workers : List At) (ls : List (Option ℕ)) → AreLeased out workers ls
     → ((w : ℕ) (l : ℕ) → slice_get ls w ≡ Some (Some l) → ⊥) → leases out ≡ 0
 none_out out workers ls are idle = nothing_out out (λ l ps at. let w = are.whose l ps at in idle w.0 l w.1)
@@ -78,6 +80,7 @@ few_by (Some k ∷ ls) out whose =
     let less = at_most_one_less out k in
     omega (arith, rest, less)
 
+-- each lease that is out is one worker's own, so there are no more than workers
 pub few_leases : (out : Leases) (workers : List At) (ls : List (Option ℕ)) → AreLeased out workers ls → leases out ≤ length workers
 few_leases out workers ls are =
     let few = few_by ls out are.whose in

@@ -95,6 +95,7 @@ each_counts rows [] ts k = refl
 each_counts rows (p ∷ ps) [] k = refl
 each_counts rows (p ∷ ps) (t ∷ ts) k = each_counts (cache.put rows p t) ps ts k ∙ put_counts rows p t k
 
+-- writes leave as many instances of each key, so that what was there still is
 pub each_within : (rows : List Row) (ps : List Place) (ts : List TreeMap) (qs : List Place) → AreWithin rows qs → AreWithin (put_each rows ps ts) qs
 each_within rows ps ts qs within p has = let low = within p has in let same = each_counts rows ps ts p.key in omega (arith, low, same)
 
@@ -110,6 +111,7 @@ each_put rows p t (q ∷ ps) (u ∷ ts) apart there =
     ap (λ r. put_each r ps ts) (put_swap rows p q t u (apart q (inl refl)) there)
     ∙ each_put (cache.put rows q u) p t ps ts (λ r has. apart r (inr has)) (let same = put_counts rows q u p.key in omega (arith, there, same))
 
+-- of two writes at the same instances, with keys that differ, the last is what counts
 pub each_again : (rows : List Row) (ps : List Place) (ts us : List TreeMap) → AreKeysApart ps → AreWithin rows ps → length ts ≡ length ps
     → length us ≡ length ps
     → put_each (put_each rows ps ts) ps us ≡ put_each rows ps us
@@ -123,6 +125,7 @@ each_again rows (p ∷ ps) (t ∷ ts) (u ∷ us) apart within many count =
     ∙ ap (λ r. put_each r ps ts) (put_again rows p t u))
     ∙ each_again (cache.put rows p u) ps ts us apart.1 (put_within rows p u ps (λ q has. within q (inr has))) (omega (arith, many)) (omega (arith, count))
 
+-- a write of the trees that stand at instances changes nothing
 pub each_there : (rows : List Row) (ps : List Place) (ts : List TreeMap) → AreWithin rows ps → Hold (store_of rows) ps ts → put_each rows ps ts ≡ rows
 each_there rows [] [] within hold = refl
 each_there rows [] (t ∷ ts) within hold = absurd hold

@@ -45,6 +45,7 @@ unmarked_set (false ∷ bs) zero low is = omega arith
 unmarked_set (true ∷ bs) (suc x) low is = let rest = unmarked_set bs x (omega (arith, low)) is in omega (arith, rest)
 unmarked_set (false ∷ bs) (suc x) low is = let rest = unmarked_set bs x (omega (arith, low)) is in omega (arith, rest)
 
+-- a vertex without a mark counts among those that are not marked
 pub some_unmarked : (marks : List Bool) (x : ℕ) → x < length marks → is_marked marks x ≡ false → 1 ≤ unmarked marks
 some_unmarked marks x low is = let less = unmarked_set marks x low is in omega (arith, less)
 
@@ -59,6 +60,7 @@ unmarked_less (b ∷ bs) zero low = omega (arith, unmarked_few bs)
 unmarked_less (true ∷ bs) (suc x) low = omega (arith, unmarked_less bs x (omega (arith, low)))
 unmarked_less (false ∷ bs) (suc x) low = omega (arith, unmarked_less bs x (omega (arith, low)))
 
+-- what is marked is within the marks
 pub marked_low : (marks : List Bool) (x : ℕ) → is_marked marks x ≡ true → x < length marks
 marked_low [] x is = absurd cc
 marked_low (b ∷ bs) zero is = omega arith
@@ -138,6 +140,7 @@ pub record Spreading (users : List (List ℕ)) (v : ℕ) (old now : List Bool) (
   pub marked : (x : ℕ) → Contains reached x → is_marked now x ≡ true
   pub room : unmarked now + length reached ≤ length old
 
+-- at first the vertex is marked that the marks spread from, and it alone is reached
 pub spreading_start : (users : List (List ℕ)) (v : ℕ) (old : List Bool) → v < length old → Spreading users v old (set old v true) (v ∷ []) 0
 spreading_start users v old low = record {
   same = length-set old v true;
@@ -152,6 +155,7 @@ spreading_start users v old low = record {
   room = omega (arith, unmarked_less old v low);
 }
 
+-- the users of the next vertex that was reached are visited, and those that had no mark are reached in turn
 pub spreading_next : (users : List (List ℕ)) (v : ℕ) (old now later : List Bool) (reached more_reached : List ℕ) (i : ℕ) → Spreading users v old now reached i
     → i < length reached → Visits (get_or users (get_or reached i 0) []) now later reached more_reached → Spreading users v old later more_reached (i + 1)
 spreading_next users v old now later reached more_reached i s low visits =

@@ -37,6 +37,7 @@ inside_ok e = cc
 
 -- ---- what is not finished has a micro-step
 
+-- where the rule has no refusal, any answer has out of memory last
 pub last_of : {A B : Type 0} (r : Result A StepFault) (rule : Result B StepFault) → is_ok rule ≡ true → MemoryLast step_memory r rule
 last_of (Ok x) rule ok = tt
 last_of (Err e) rule ok = λ memory. ok
@@ -60,6 +61,7 @@ there_by (m ∷ steps) false (suc k) is = there_by steps false k (less (length s
         by_test true at = let le : n ≤ k = leb-true n k at in absurd (let more : nat_le (suc n) (suc k) ≡ true =
             le-leb (suc n) (suc k) (omega (arith, le)) in cc)
 
+-- what is not finished has a next micro-step, so that out of memory comes last
 pub goes_on : (b : Build) (rows : List Row) (x : Execution) {A : Type 0} (r : Result A StepFault)
     → is_finished (program_in b x).steps x ≡ false → MemoryLast step_memory r (worked_in b rows x)
 goes_on b rows x {A} r open_still =
@@ -77,6 +79,7 @@ some_apart l e = cc
 lease_inside : {k n : ℕ} → ◌≡◌ {A = Option (Option ℕ)} (Some (Some k)) (Some (Some n)) → k ≡ n
 lease_inside e = cc
 
+-- the instances of a worker's lease are those of its execution, none where it has no lease
 pub places_are : (out : Leases) (l : Option ℕ) (ps : List Place) → HasLease out (Some l) ps → leased_places out l ≡ ps
 places_are out None ps has = elim has [
   | inl h ↦ absurd (some_apart h.0 h.1)
@@ -87,6 +90,7 @@ places_are out (Some l) ps has = elim has [
   | inr h ↦ absurd (some_apart l (sym h.0))
 ]
 
+-- as many trees are read as there are places
 pub trees_count : (s : Store) (ps : List Place) (ts : List TreeMap) → ts ≡ trees_at s ps → length ts ≡ length ps
 trees_count s ps ts is = ap length is ∙ length_map (λ (p : Place). unwrap_or (content s p) _) ps
 
@@ -121,6 +125,7 @@ keys_apart (p ∷ ps) apart = (
   keys_apart ps (λ i j d less low. apart (suc i) (suc j) d (omega (arith, less)) (omega (arith, low))),
 )
 
+-- no two instances of a running worker have one key
 pub held_keys : (out : Leases) (l : Option (Option ℕ)) (ps : List Place) → AreApart out → HasLease out l ps → AreKeysApart ps
 held_keys out l ps apart has = elim has [
   | inl h ↦ keys_apart ps (apart h.0 ps h.2)
@@ -139,6 +144,7 @@ held_distinct out l ps apart has = elim has [
   | inr h ↦ subst Distinct (sym h.1) tt
 ]
 
+-- the instances of a running worker are there
 pub held_within : (rows : List Row) (out : Leases) (l : Option (Option ℕ)) (ps : List Place) → AreThere rows out → HasLease out l ps
     → (p : Place) → Has ps p → p.number < length (trees_of rows p.key)
 held_within rows out l ps there has = elim has [
@@ -146,6 +152,7 @@ held_within rows out l ps there has = elim has [
   | inr h ↦ λ p held. absurd (subst (λ qs. Has qs p) h.1 held)
 ]
 
+-- a running worker has its lease, and the instances of it differ and are there
 pub holding : (rows : List Row) (out : Leases) (ds : List Desk) (w : ℕ) (l : Option ℕ) (x : own.Execution) → AreApart out
     → AreThere rows out → AreLeased out (map at_of ds) (map leased_by ds)
     → slice_get ds w ≡ Some (desk.Runs l x) → Holding rows out ds w l x
@@ -161,6 +168,7 @@ holding rows out ds w l x apart there leased at =
 
 -- ---- from the execution to the worker
 
+-- where a call gives the rule's micro-step of a worker, it gives the table's step
 pub gives_through : (ds : List Desk) (w : ℕ) (r : Result Stepped StepFault) (f : Stepped → Written) (rule : Result Written StepFault)
     (whole : Result (State × Reply) StepFault)
     → whole ≡ granted_by ds w rule → GivesStep f r rule
@@ -172,6 +180,7 @@ granted_ok : (ds : List Desk) (w : ℕ) (rule : Result Written StepFault) → is
 granted_ok ds w (Ok p) = refl
 granted_ok ds w (Err e) = refl
 
+-- where out of memory comes last by the rule of a micro-step, so it does by the table
 pub last_through : (ds : List Desk) (w : ℕ) (r : Result Stepped StepFault) (rule : Result Written StepFault) (whole : Result (State × Reply) StepFault)
     → whole ≡ granted_by ds w rule → MemoryLast step_memory r rule → MemoryLast step_memory r whole
 last_through ds w (Ok s) rule whole is last = tt
@@ -193,12 +202,14 @@ written_back rows x z rows' r (Some m) distinct within is =
     ∙ ap (λ s. written s rows x.places) (sym (writes_alike rows x.places left.work.trees within))
     ∙ (λ i. written (store_of (whole i).1) rows (whole i).0.places)
 
+-- after a micro-step the lists of instances have what the contents have there, at the worker's instances
 pub rows_through : (b : Build) (rows rows' : List Row) (x z : Execution) (r : Result Stepped StepFault) (f : Stepped → Reply) → Distinct x.places
     → ((p : Place) → Has x.places p → p.number < length (trees_of rows p.key))
     → GivesStep (λ s. (z, rows', f s)) r (worked_in b rows x) → OnOk r (rows' ≡ written (store_of rows') rows z.places)
 rows_through b rows rows' x z (Ok s) f distinct within gives = written_back rows x z rows' (f s) (next_step (program_in b x).steps x) distinct within gives
 rows_through b rows rows' x z (Err e) f distinct within gives = tt
 
+-- what follows from a fact of a granted call is a fact of it too
 pub ok_through : {A : Type 0} (P Q : Type 0) (r : Result A StepFault) → (P → Q) → OnOk r P → OnOk r Q
 ok_through P Q (Ok x) f h = f h
 ok_through P Q (Err e) f h = tt

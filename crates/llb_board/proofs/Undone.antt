@@ -111,6 +111,7 @@ store_by : (o : Option Before) (rows : List Row) → store_of (rows_before o row
 store_by (Some c) rows = refl
 store_by None rows = refl
 
+-- data that is what an undo leaves is seen as the board that the undo tells
 pub undone_is : (b : Build) (first : List Row) (d d' : Data) (es : List Event) (u : Displaced) → Leaves b d d' u → seen_as b first d' (front es)
     ≡ undone u (seen_as b first d es)
 undone_is b first d d' es u leaves =
@@ -125,6 +126,7 @@ undone_is b first d d' es u leaves =
       events = front es;
     }
 
+-- what a board's type keeps it keeps of data that is what an undo leaves
 pub undo_keeps : (b : Build) (first : List Row) (d d' : Data) (es : List Event) (capacity : ℕ) (u : Displaced) → Keeps b first d es capacity
     → Replays (undone u (seen_as b first d es))
     → Leaves b d d' u → Keeps b first d' (front es) capacity
@@ -165,12 +167,14 @@ abbrev pub LeasedSo : Option Before → List At → Leases → List (Option ℕ)
 LeasedSo (Some c) workers out ls = AreLeased c.caches.out workers c.leases
 LeasedSo None workers out ls = AreLeased out workers ls
 
+-- after an undo the leases fit: those of the caches that are put back, or else those that are there
 pub leased_so : (u : Displaced) (n : Seen) (o : Option Before) (workers : List At) (out : Leases) (ls : List (Option ℕ)) → FitsLeases u n o → workers
     ≡ (undone u n).state.workers
     → (HasNoPlaces u.back → AreLeased out workers ls) → LeasedSo o workers out ls
 leased_so u n (Some c) workers out ls fits same else = subst (λ ws. AreLeased c.caches.out ws c.leases) (sym same) fits
 leased_so u n None workers out ls fits same else = else fits
 
+-- with the caches and their leases put back, or as they are, each running worker has its own lease
 pub leased_put : (o : Option Before) (ds ds' : List Desk) (c c' : CachesValue) → LeasedSo o (map at_of ds) c.out (map leased_by ds)
     → map at_of ds' ≡ map at_of ds → map leased_by ds' ≡ leases_before o (map leased_by ds) → c' ≡ caches_before o c
     → AreLeased c'.out (map at_of ds') (map leased_by ds')
@@ -181,6 +185,7 @@ leased_put None ds ds' c c' leased workers leases caches =
     subst (λ ws. AreLeased c'.out ws (map leased_by ds')) (sym workers)
     (subst (AreLeased c'.out (map at_of ds)) (sym leases) (subst (λ (x : CachesValue). AreLeased x.out (map at_of ds) (map leased_by ds)) (sym caches) leased))
 
+-- the lists of instances come from the caches that are put back, or stay
 pub rows_put : (o : Option Before) (c c' : CachesValue) (rows : List Row) → c.rows ≡ rows → c' ≡ caches_before o c → c'.rows ≡ rows_before o rows
 rows_put (Some k) c c' rows same caches = ap (λ (x : CachesValue). x.rows) caches
 rows_put None c c' rows same caches = ap (λ (x : CachesValue). x.rows) caches ∙ same
@@ -209,9 +214,11 @@ desk_at (d ∷ ds) (suc w) x at = desk_at ds w x at
 pub runs_there : (n : Seen) (w v : ℕ) → Replays n → IsBegun n w v → (x : Execution) × (slice_get n.state.workers w ≡ Some (Runs x))
 runs_there n w v here begun = let r = (consistent n here).running v w begun.runs in (r.0, r.1)
 
+-- a worker whose claim is taken back is idle
 pub unclaimed_workers : (ds : List Desk) (w v : ℕ) → map at_of (slice_set ds w desk.Idle) ≡ workers_before (Unclaim w v) (map at_of ds)
 unclaimed_workers ds w v = map_set at_of ds w desk.Idle
 
+-- a running vertex that waits again had not failed, so the marks stay
 pub unclaimed_marks : (b : Build) (ss : List Stand) (w v : ℕ) (marks : List Bool) → marks ≡ stopped b (map status_of ss) → slice_get (map status_of ss) v
     ≡ Some (Running w)
     → marks ≡ stopped b (map status_of (slice_set ss v stand.Waiting))
@@ -245,6 +252,7 @@ unstepped_supplies b ds w mark l x kept at mounts =
       keys = (made i).keys;
     })
 
+-- a worker whose micro-step is taken back keeps its lease and has what its vertex needs
 pub unstep_leaves : (b : Build) (first : List Row) (ss : List Stand) (ds : List Desk) (c : CachesValue) (es : List Event) (capacity w : ℕ) (mark : Mark)
     (marks : List Bool)
     → Keeps b first (record { stands = ss; desks = ds; rows = c.rows; out = c.out; stop_marks = marks }) es capacity
@@ -287,11 +295,13 @@ resumed_there u n w left is here idle =
     let same = length_set n.state.statuses left.execution.vertex (Running w) in
     omega (arith, low, same)
 
+-- a worker that runs again without instances needs no lease
 pub resumed_leased : (b : Build) (first : List Row) (d : Data) (es : List Event) (capacity w : ℕ) (x : own.Execution) → Keeps b first d es capacity
     → slice_get (map at_of d.desks) w ≡ Some Idle → x.places.items ≡ []
     → AreLeased d.out (map at_of (slice_set d.desks w (desk.Runs None x))) (map leased_by (slice_set d.desks w (desk.Runs None x)))
 resumed_leased b first d es capacity w x kept idle none = leased_claimed d w None x [] d.out kept.leased idle none (inr (refl, refl, refl))
 
+-- the marks are made anew where the vertex that runs again had failed, and else stay
 pub resumed_marks : (b : Build) (ss : List Stand) (w v : ℕ) (had : Stand) (failed : Bool) (old new : List Bool) → old ≡ stopped b (map status_of ss)
     → slice_get ss v ≡ Some had
     → failed ≡ is_failed (ending_of (Some (status_of had)))
@@ -338,6 +348,7 @@ lease_put : (ls : List (Option ℕ)) (workers : List At) (n : ℕ) (l : Option �
 lease_put ls workers n l desk.Idle place at there = lease_inside (sym (place.idle n there) ∙ at)
 lease_put ls workers n l (desk.Runs k x) place at there = refl
 
+-- the lease of one worker more is put back
 pub put_more : (ds ds' new : List Desk) (ls : List (Option ℕ)) (n : ℕ) (l : Option ℕ) (d : Desk) → HasPlaceFor ls (map at_of ds) → PutSoFar ds ds' ls n
     → slice_get ds' n ≡ Some d → slice_get ls n ≡ Some l → new ≡ slice_set ds' n (desk_leased l d) → PutSoFar ds new ls (n + 1)
 put_more ds ds' new ls n l d place so_far there at is =
@@ -369,6 +380,7 @@ pub on_true : (b : Bool) (P : Type 0) → OnTrue b P → b ≡ true → P
 on_true true P h is = h
 on_true false P h is = absurd cc
 
+-- what is promised where a test fails, of a test that has failed
 pub on_false : (b : Bool) (P : Type 0) → OnFalse b P → b ≡ false → P
 on_false true P h is = absurd cc
 on_false false P h is = h

@@ -253,11 +253,13 @@ undoes b (Claim w v) a u here grants marks = claim_back b w v a u here grants ma
 undoes b (Step w) a u here grants marks = step_back b w a u here grants marks
 undoes b (Settle w) a u here grants marks = settle_back b w a u here grants marks
 
+-- what was kept before a granted event leads back from the board after it to the one before
 pub walk_back : (b n : Seen) (e : Event) (r : replied.Reply) (u : Displaced) → Replays b → walk_of b e ≡ Ok (n, r) → Marks b e u → undone u n ≡ b
 walk_back b n e r u here is marks =
     let g = granted b n e r is in
     ap (undone u) g.is ∙ (undoes b e g.answer u here g.grants marks).back
 
+-- and it can be undone: the board before replays its record, and worker and vertex stand as the event left them
 pub walk_can : (b n : Seen) (e : Event) (r : replied.Reply) (u : Displaced) → Replays b → walk_of b e ≡ Ok (n, r) → Marks b e u → CanUndo u n
 walk_can b n e r u here is marks =
     let g = granted b n e r is in
@@ -277,6 +279,7 @@ pub record IsAt (n : Seen) (b : Build) (ds : List Desk) (w : ℕ) (l : Option �
   pub supplies : map ready_made ds ≡ map (needed b) (map at_of ds)
   pub there : slice_get ds w ≡ Some (desk.Runs l x)
 
+-- before a step, the mark of the worker's view and, where asked for, the caches are all that the step can displace
 pub marks_step : (n : Seen) (b : Build) (ds : List Desk) (w : ℕ) (l : Option ℕ) (x : own.Execution) (m : Mark) (o : Option Before) (asked : Bool)
     → IsAt n b ds w l x
     → m ≡ mark_of x.view → KeepsIf asked n o → (asked ≡ false → x.places.items ≡ []) → MarksStep n w (record { back = Unstep w m; caches = o })
@@ -290,6 +293,7 @@ marks_step n b ds w l x m o asked at is keeps none =
       caches = keeps_where x.places.items n asked o keeps none;
     }
 
+-- before a settle, the worker's execution and, where asked for, the caches are all that the settle can displace
 pub marks_settle : (n : Seen) (b : Build) (ds : List Desk) (w : ℕ) (l : Option ℕ) (x y : own.Execution) (o : Option Before) (asked : Bool) → IsAt n b ds w l x
     → left_in y ≡ left_in x → KeepsIf asked n o → (asked ≡ false → x.places.items ≡ []) → MarksSettle n w (record { back = Resume w (left_in y); caches = o })
 marks_settle n b ds w l x y o asked at is keeps none =

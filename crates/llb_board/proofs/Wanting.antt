@@ -40,6 +40,7 @@ edges_of vertices v has i input there =
           (has.each i input e.0 within)).index,
     )
 
+-- a vertex of a graph has an edge for each input of its op, with the index that the input names
 pub graph_edges : (g : Numbered) (k : ℕ) (v : Vertex) → IsGraph g → slice_get g.vertices k ≡ Some v → HasEdges v
 graph_edges g k v graph there =
     edges_of g.vertices v
@@ -71,6 +72,7 @@ first_suc s inputs zero (q ∷ ps) (m ∷ ns) p n at need =
 first_suc s inputs (suc i) (q ∷ ps) (m ∷ ns) p n at need =
     ap (λ ts. unwrap_or (content s q) (base_in m.input inputs) ∷ ts) (first_suc s inputs i ps ns p n at need)
 
+-- one place more begins with the tree that stands there, or else with the one that its need takes from the inputs
 pub first_more : (s : Store) (inputs : List TreeMap) (i : ℕ) (ps : List Place) (ws : List Wanted) (p : Place) (w : Wanted)
     → slice_get ps i ≡ Some p → slice_get ws i ≡ Some w
     → first_trees s inputs (take i ps) (map need_of (take i ws)) ++ unwrap_or (content s p) (base_in w.input inputs) ∷ []

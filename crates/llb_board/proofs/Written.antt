@@ -40,6 +40,7 @@ each_written s rows (p ∷ ps) (t ∷ ts) hold within =
     ap (λ r. written s r ps) (ap (λ o. showing rows p (unwrap_or o empty_tree)) hold.0 ∙ put_shown rows p t (within p (inl refl)))
     ∙ each_written s (cache.put rows p t) ps ts hold.1 (λ q h. let same = put_counts rows p t q.key in let low = within q (inr h) in omega (arith, low, same))
 
+-- rows that show a store after writes at their instances are the rows with the same writes
 pub written_each : (rows : List Row) (ps : List Place) (ts : List TreeMap) → Distinct ps → length ts ≡ length ps
     → ((p : Place) → Has ps p → p.number < length (trees_of rows p.key))
     → written (put_all (store_of rows) ps ts) rows ps ≡ put_each rows ps ts
@@ -59,6 +60,7 @@ same_rows (r ∷ rows) k some = go (same_key k r.0) some (same_rows rows k)
     go true some rest = refl
     go false some rest = ap (λ rs. r ∷ rs) (rest some)
 
+-- a write of what stands at a number changes nothing
 pub set_got : (ts : List TreeMap) (n : ℕ) (t : TreeMap) → slice_get ts n ≡ Some t → slice_set ts n t ≡ ts
 set_got [] n t at = refl
 set_got (u ∷ ts) zero t at = let same : t ≡ u = ap (λ o. unwrap_or o u) (sym at) in ap (λ v. v ∷ ts) same
@@ -107,6 +109,7 @@ taken_places : (out : Leases) (inputs : List TreeMap) (needs : List Need)
 taken_places out inputs [] = refl
 taken_places out inputs (n ∷ needs) = ap (λ ps. cache.place_for out n.key ∷ ps) (taken_places out inputs needs)
 
+-- rows that show the store after a claim are the rows with the instances that a lease makes
 pub written_made : (rows : List Row) (out : Leases) (workers : List At) (inputs : List TreeMap) (needs : List Need) → HoldsAs out workers
     → cache.AreApart out → cache.AreThere rows out
     → Distinct (map key_of needs)

@@ -22,6 +22,7 @@ split_at (e ∷ es) (suc i) below =
     let rest = split_at es i (omega (arith, below)) in
     record { row = rest.row; at = rest.at; whole = ap (λ xs. e ∷ xs) rest.whole; more = ap (λ xs. e ∷ xs) rest.more }
 
+-- the next row's key is none of those before it, so that put in it stands after them
 pub row_copied : (es new : List Row) (i : ℕ) → i < length es → IsDistinct same_key (keys_of es)
     → IfSome (slice_get es i) (λ e. new ≡ insert_entry same_key (take i es) e.0 e.1) → new ≡ take (i + 1) es
 row_copied es new i below distinct put =
@@ -32,6 +33,7 @@ row_copied es new i below distinct put =
     let next : suc i ≡ i + 1 = omega arith in
     is ∙ insert_entry-absent same_key e.0 e.1 (take i es) (absent_from_lookup (same_key e.0) (take i es) none) ∙ sym s.more ∙ ap (λ n. take n es) next
 
+-- lists of one length that have the same at each place are the same
 pub all_same : (xs ys : List Row) → length xs ≡ length ys → ((k : ℕ) → k < length xs → slice_get xs k ≡ slice_get ys k) → xs ≡ ys
 all_same [] [] count each = refl
 all_same [] (y ∷ ys) count each = absurd (omega (arith, count))

@@ -12,6 +12,7 @@ places_shown : (readies : List Ready) → map (λ (r : Ready). r.place) readies 
 places_shown [] = refl
 places_shown (r ∷ readies) = ap (λ ps. r.place ∷ ps) (places_shown readies)
 
+-- a lease that was made ready need by need is the one that the rule grants for all the needs
 pub is_granted : (c : CachesValue) (needs left : List Need) (readies : List Ready) (places : List Place) (rows : List Row) (out : Leases) (lease : ℕ)
     → left ≡ needs → map shown readies ≡ taken c.out left → places ≡ map (λ (r : Ready). r.place) readies
     → rows ≡ made_all c.rows (map shown readies) → out ≡ with_lease c.out (free_lease c.out) places → lease ≡ free_lease c.out

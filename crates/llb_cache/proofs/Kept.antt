@@ -115,8 +115,10 @@ fewer c d is before short same = record {
   short = let s = is.short in omega (arith, s, short);
 }
 
+-- a tree that is written to an instance leaves all that holds of caches
 pub put_keeps : (c : CachesValue) (p : Place) (tree : TreeMap) → IsCaches c → IsCaches (record c { rows = put c.rows p tree })
 put_keeps c p tree is = fewer c (record c { rows = put c.rows p tree }) is (λ a ps at. at) (omega arith) (λ k. put_counts c.rows p tree k)
 
+-- a lease that is given back leaves all that holds of caches
 pub back_keeps : (c : CachesValue) (lease : ℕ) → IsCaches c → IsCaches (given_back c lease)
 back_keeps c lease is = fewer c (given_back c lease) is (λ a ps at. back_cases c.out lease a ps at) (back_short c.out lease) (λ k. refl)

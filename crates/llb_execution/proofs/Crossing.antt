@@ -14,9 +14,11 @@ use Rattle.llb_execution.specs.contracts.view.Own as own
 use Rattle.llb_execution.specs.contracts.view.View as view
 use Rattle.llb_execution.specs.contracts.view.View.TheInside as inside
 
+-- all that a tree is made of may go to another thread, and so may the tree
 pub tree_send : IsSend tree.the_row
 tree_send = search (crosses, knot.crosses, sendable) depth 60 fits 20000
 
+-- a list of trees may go to another thread, as each tree may
 pub trees_send : IsSend (vec.the_row tree.the_row heap.the_row ghosts)
 trees_send = Vec-send tree.the_row tree_send
 
@@ -38,5 +40,6 @@ own_send = variants_send own.enum ((one, tt), ((many, (many, tt)), ((many, (one,
 inside_send : IsSend inside.the_row
 inside_send = declared_send inside.the_type (own_send, tt)
 
+-- all that a view owns may go to another thread, and so may the view
 pub view_crosses : IsSend view.the_row
 view_crosses = view_send inside.the_row _ _ _ _ inside_send

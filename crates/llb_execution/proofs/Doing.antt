@@ -112,6 +112,7 @@ module _ (steps : List MicroStep) (done : ℕ) (first : View) (trees : List Tree
       over = ap (λ (l : Left). is_over steps (done + (k + 1 - done)) l) (sym leaves) ∙ ap (λ b. b || nat_le (length steps) (done + (k + 1 - done))) some;
     }
 
+-- a fault that is tested not to be there is None
 pub none_of : (f : Option VertexFault) → is_some f ≡ false → f ≡ None
 none_of None is = refl
 none_of (Some f) is = absurd cc

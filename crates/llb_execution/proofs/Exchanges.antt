@@ -44,6 +44,7 @@ past mounts m t (n ∷ ms) [] apart = refl
 past mounts m t (n ∷ ms) (u ∷ ts) apart =
     past (with_tree_of mounts n u) m t ms ts (λ h. apart (inr h)) ∙ ap (λ xs. filled xs ms ts) (swap mounts n m u t (λ e. apart (inl (sym e))))
 
+-- trees that are filled in leave as many mounts
 pub as_many_filled : (mounts : List Shown) (ms : List ℕ) (ts : List TreeMap) → length (filled mounts ms ts) ≡ length mounts
 as_many_filled mounts [] ts = refl
 as_many_filled mounts (m ∷ ms) [] = refl
@@ -113,6 +114,7 @@ module _ (mounts : List Shown) (ms : List ℕ) (ts : List TreeMap) (apart : Dist
 
 -- ---- before and after a command
 
+-- numbers of mounts are numbers of other mounts too, where there are as many of these
 pub within_as_many : (before after : List Shown) (ms : List ℕ) → All (λ n. n < length before) ms → length after ≡ length before → All (λ n. n < length after) ms
 within_as_many before after ms within same = subst (λ (k : ℕ). All (λ n. n < k) ms) (sym same) within
 
@@ -127,6 +129,7 @@ pub record ThereAndBack (mounts : List Shown) (ms : List ℕ) (ts : List TreeMap
   filled_back : last ≡ filled view ms left
   taken_then : back ≡ taken view ms left
 
+-- trees are exchanged before a command and exchanged again after it: the facts of both, put together
 pub there_and_back : {mounts : List Shown} {ms : List ℕ} {ts : List TreeMap} {next : List Shown} {left : List TreeMap} {view last : List Shown}
     {back : List TreeMap}
     → Distinct ms → All (λ n. n < length mounts) ms → length ts ≡ length ms → next ≡ filled mounts ms ts → left ≡ taken mounts ms ts

@@ -41,6 +41,7 @@ ran_back : (k : ℕ) (mounts : List Shown) (caches : List ℕ) (trees : List Tre
 ran_back k mounts caches trees None = refl
 ran_back k mounts caches trees (Some after) = refl
 
+-- whatever micro-step is done on a view, its mark from before puts it back
 pub puts_back : (view : View) → PutsBack view (mark_of view)
 unfolding micro_step
 puts_back view k None trees = same_back view

@@ -8,6 +8,7 @@ use Rattle.llb_model.specs.Program.{MicroStep, Act, LayInput, Run}
 
 -- ---- micro-steps of two kinds
 
+-- two lists of micro-steps of different kinds are not the same, where the second has some
 pub apart : {A B : Type 0} (f : A → MicroStep) (g : B → MicroStep) → ((x : A) (y : B) → f x ≡ g y → ⊥) → (xs : List A) (ys : List B) → (length ys == 0) ≡ false
     → IsTrue false ↔ (map f xs ≡ map g ys)
 apart f g differ xs [] some = absurd (let w : true ≡ false = some in cc)
@@ -27,6 +28,7 @@ same_made f one (x ∷ xs) (y ∷ ys) e =
     let rest = same_made f one xs ys tail in
     λ i. same i ∷ rest i
 
+-- actions whose micro-steps are the same are the same
 pub acts_same : (xs ys : List Action) → map Act xs ≡ map Act ys → xs ≡ ys
 acts_same = same_made Act (λ x y e. cc)
 
@@ -35,6 +37,7 @@ pub laid_by : (inputs : List MergeInput) → map LayInput (map (λ (i : MergeInp
 laid_by [] = refl
 laid_by (i ∷ inputs) = ap (λ steps. LayInput i.input ∷ steps) (laid_by inputs)
 
+-- numbers are those of a merge's inputs exactly where the layings of both are the same
 pub layings_same : (numbers : List ℤ) (inputs : List MergeInput)
     → (numbers ≡ map (λ (i : MergeInput). i.input) inputs) ↔ (map LayInput numbers ≡ map (λ (i : MergeInput). LayInput i.input) inputs)
 layings_same numbers inputs = (

@@ -65,6 +65,7 @@ drop_front : (xs ys : List TreeMap) → drop (length xs) (xs ++ ys) ≡ ys
 drop_front [] ys = refl
 drop_front (x ∷ xs) ys = drop_front xs ys
 
+-- at first no result has taken its place, and all outputs are empty
 pub placed_start : (ns : List ℤ) (all : List TreeMap) (outs : List TreeMap) → outs ≡ replicate (length outs) empty_tree
     → PlacedSoFar ns all (length outs) all outs
 placed_start ns all outs is =
@@ -115,6 +116,7 @@ placed_past ns all n rs t outs here past =
       front = ap (λ l. rs ++ l) rest ∙ whole;
     }
 
+-- where no result is left, each output has the tree that stands beside the first number that is its own
 pub placed_end : (ns : List ℤ) (all : List TreeMap) (n : ℕ) (rs outs : List TreeMap) → PlacedSoFar ns all n rs outs → rs ≡ []
     → outs ≡ map (λ i. tree_by i ns all) (range_with_len 0 n)
 placed_end ns all n rs outs here is = here.outputs ∙ ap (λ l. map (from_on ns all (length l)) (range_with_len 0 n)) is
@@ -124,6 +126,7 @@ past [] k at = omega arith
 past (z ∷ ns) zero at = absurd (cc)
 past (z ∷ ns) (suc k) at = omega (arith, past ns k at)
 
+-- the last of the results that are left takes the place of its number, where there is one
 pub placed_next : (ns : List ℤ) (all : List TreeMap) (n : ℕ) (rs : List TreeMap) (t : TreeMap) (outs : List TreeMap)
     → PlacedSoFar ns all n (rs ++ t ∷ []) outs
     → PlacedSoFar ns all n rs (placed_by (slice_get ns (length rs)) t outs)
@@ -135,6 +138,7 @@ placed_next ns all n rs t outs here =
     ] in
     cases (slice_get ns (length rs)) refl
 
+-- a list of length 0 is the empty one
 pub no_items : {A : Type 0} (xs : List A) → length xs ≡ 0 → xs ≡ []
 no_items [] e = refl
 no_items (x ∷ xs) e = absurd (omega (arith, e))
@@ -148,6 +152,7 @@ shown_by i [] mounts = refl
 shown_by i (n ∷ ns) [] = refl
 shown_by i (n ∷ ns) (m ∷ mounts) = ap (λ t. if is_output i n then m.tree else t) (shown_by i ns mounts)
 
+-- outputs that are placed by the trees of mounts are the outputs that the mounts give
 pub shown_end : (ns : List ℤ) (mounts : List Shown) (n : ℕ) (outs : List TreeMap) → outs ≡ map (λ i. tree_by i ns (trees_of mounts)) (range_with_len 0 n)
     → outs ≡ map (λ i. tree_for i ns mounts) (range_with_len 0 n)
 shown_end ns mounts n outs is =
@@ -186,6 +191,7 @@ by_kind i None script rs = refl
 abbrev pub program_with : Vertex → ℕ → Program
 program_with v n = record (program_of v) { outputs = n }
 
+-- results that are placed by the numbers of their actions are the outputs of a file op's view
 pub outputs_of_files : (v : Vertex) (inputs results outs : List TreeMap) (n : ℕ)
     → outs ≡ map (λ i. tree_by i (numbers_of (actions_in v.op.kind)) results) (range_with_len 0 n)
     → outs ≡ outputs_of (program_with v n) (Files inputs results)
@@ -194,6 +200,7 @@ outputs_of_files v inputs results outs n is =
     is ∙ same_map (λ i. tree_by i (numbers_of (actions_in v.op.kind)) results) (output_from (program_with v n) (Files inputs results))
     (λ i. by_kind i v.op.kind v.script results) (range_with_len 0 n)
 
+-- trees of mounts that are placed by the numbers of an exec's outputs are the outputs of its view
 pub outputs_of_mounts : (v : Vertex) (mounts : List Shown) (caches : List ℕ) (given : List ℤ) (outs : List TreeMap) (n : ℕ) → given ≡ (program_of v).given
     → outs ≡ map (λ i. tree_for i given mounts) (range_with_len 0 n) → outs ≡ outputs_of (program_with v n) (Mounted mounts caches)
 unfolding outputs_of
@@ -209,11 +216,13 @@ pub first_alone : (f : ℕ → TreeMap) (t : TreeMap) → f 0 ≡ t → ((i : �
 first_alone f t first rest zero outs is = ap (first_placed t) is
 first_alone f t first rest (suc n) outs is = ap (first_placed t) is ∙ (λ j. sym first j ∷ sym (behind_first f rest n 0) j)
 
+-- the tree that is read, in the place of the first output, makes the outputs of a source's view
 pub outputs_of_local : (v : Vertex) (t : TreeMap) (n : ℕ) (outs : List TreeMap) → outs ≡ replicate n empty_tree
     → first_placed t outs ≡ outputs_of (program_with v n) (LocalTree t)
 unfolding outputs_of
 outputs_of_local v t n outs is = first_alone (output_from (program_with v n) (LocalTree t)) t refl (λ i. refl) n outs is
 
+-- what is laid, in the place of the first output, makes the outputs of a merge's view
 pub outputs_of_layers : (v : Vertex) (inputs : List TreeMap) (t : TreeMap) (n : ℕ) (outs : List TreeMap) → outs ≡ replicate n empty_tree
     → first_placed t outs ≡ outputs_of (program_with v n) (Layers inputs t)
 unfolding outputs_of

@@ -17,11 +17,13 @@ use Rattle.llb_execution.proofs.Exchanges.{as_many_filled}
 
 -- ---- actions
 
+-- an action that gives a tree leaves the view with that result more, and no fault
 pub acted : (k : ℕ) (view : View) (a : Action) (t : TreeMap) (trees : List TreeMap) → act_among a (trees_in view) ≡ Ok t
     → left_with (with_tree view t) trees None ≡ step_on k (Some (Act a)) (work_with view trees)
 unfolding micro_step
 acted k view a t trees is = ap (λ r. tried (work_with view trees) (with_own (work_with view trees) (with_result k view r))) (sym is)
 
+-- an action that fails leaves the view as it was, and the fault with the numbers of both
 pub act_failed : (k : ℕ) (view : View) (a : Action) (e : ActFault) (trees : List TreeMap) → act_among a (trees_in view) ≡ Err e
     → left_with view trees (Some (fault.Action k (fault_number e))) ≡ step_on k (Some (Act a)) (work_with view trees)
 unfolding micro_step
@@ -29,14 +31,17 @@ act_failed k view a e trees is = ap (λ r. tried (work_with view trees) (with_ow
 
 -- ---- the other micro-steps
 
+-- the read of a source leaves the work as it is, since its tree is in the view from the start
 pub read : (k : ℕ) (view : View) (trees : List TreeMap) → left_with view trees None ≡ step_on k (Some ReadLocal) (work_with view trees)
 unfolding micro_step
 read k view trees = refl
 
+-- the laying of an input leaves the view with it over those before it, and never a fault
 pub laid : (k : ℕ) (i : ℤ) (view : View) (trees : List TreeMap) → left_with (lay_on i view) trees None ≡ step_on k (Some (LayInput i)) (work_with view trees)
 unfolding micro_step
 laid k i view trees = refl
 
+-- a command is tried on the view and the trees of the caches, and leaves what its run makes of both
 pub has_run : (k : ℕ) (s : Setting) (m : Command) (view : View) (trees : List TreeMap)
     → step_on k (Some (Run s m)) (work_with view trees) ≡ tried (work_with view trees) (run_on k s m view trees)
 unfolding micro_step
@@ -99,6 +104,7 @@ seen_run k s m (Mounted mounts caches) trees =
     seen_parted k mounts caches trees (run s started m)
     (λ after is. sym (ap (λ o. length (left_of started o)) is) ∙ left_as_many s started m ∙ as_many_filled mounts caches trees)
 
+-- every micro-step leaves as many mounts, of which the same show caches
 pub seen_so : (k : ℕ) (m : MicroStep) (view : View) (trees : List TreeMap) → IsSeenSo view (step_on k (Some m) (work_with view trees)).work.own
 unfolding micro_step
 seen_so k ReadLocal view trees = record { mounts = refl; shown = refl }

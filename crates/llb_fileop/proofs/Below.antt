@@ -32,6 +32,7 @@ get-rid_of : (ps : List (List (List ℕ))) (t : TreeMap) (q : List (List ℕ)) �
 get-rid_of ps t q =
     finite.get-retain_keys t (λ x. not (is_below_any ps x)) q (λ x tie. ap (λ y. not (is_below_any ps y)) (sym (path_cmp-IsAntisymmetric q x tie)))
 
+-- a tree rid of what is below no path at all is the tree itself
 pub rid_of_none : (t : TreeMap) → rid_of [] t ≡ t
 rid_of_none t = finite.same_map path_cmp-IsTotalOrder path_cmp-IsAntisymmetric (rid_of [] t) t (λ q. get-rid_of [] t q)
 
@@ -116,14 +117,17 @@ some_pass f (x ∷ xs) is = by_test (f x) is (some_pass f xs)
     by_test true is rest = (x, filter f xs, refl)
     by_test false is rest = rest is
 
+-- where no path of a tree passes the test, the list of the paths that match is empty
 pub no_match : (pattern : List (List Item)) (t : TreeMap) → list_any (path_matches pattern) (finite.keys t) ≡ false → matching pattern t ≡ []
 no_match pattern t is = none_pass (path_matches pattern) (finite.keys t) is
 
+-- where nothing matches a pattern with parts, its removal is a fault, or leaves all where that is allowed
 pub rm_none : (pattern : List (List Item)) (t : TreeMap) (allowed : Bool) → pattern ≢ [] → list_any (path_matches pattern) (finite.keys t) ≡ false
     → rm_pattern allowed t pattern ≡ absent allowed t
 rm_none [] t allowed parts is = absurd (parts refl)
 rm_none (part ∷ parts) t allowed some is = ap (λ ps. removed_all allowed ps t) (no_match (part ∷ parts) t is)
 
+-- where a path matches a pattern with parts, its removal leaves all but the matches and what is below them
 pub rm_some : (pattern : List (List Item)) (t : TreeMap) (allowed : Bool) → pattern ≢ [] → list_any (path_matches pattern) (finite.keys t) ≡ true
     → rm_pattern allowed t pattern ≡ Ok (left pattern t)
 rm_some [] t allowed parts is = absurd (parts refl)

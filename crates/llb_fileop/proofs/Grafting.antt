@@ -277,6 +277,7 @@ pub record HasFile (o : Option Entry) : Type 0 where
   pub content : List ℕ
   pub is : o ≡ Some (File meta content)
 
+-- what stands at a path and is no directory is a file, with a meta and a content
 pub has_file : (o : Option Entry) → IsSome o → is_dir o ≡ false → HasFile o
 has_file None there not_dir = absurd (true≢false (sym there))
 has_file (Some (Dir m)) there not_dir = absurd (true≢false not_dir)
@@ -388,6 +389,7 @@ walk_after m p t u is = all_made m (parents p) t u is
 pub subtree_is : (t : TreeMap) (p : List (List ℕ)) (u : TreeMap) → subtree t p ≡ Ok u → u ≡ tree_at t p
 subtree_is t p u is = sym (same_Ok (bind_ok (dir_there t p) (λ _. Ok (tree_at t p)) u is).2)
 
+-- the subtree that is given of a tree is itself a tree
 pub IsTree-subtree : (t : TreeMap) (p : List (List ℕ)) (u : TreeMap) → IsTree t → subtree t p ≡ Ok u → IsTree u
 IsTree-subtree t p u tree is = subst IsTree (sym (subtree_is t p u is)) (IsTree-tree_at t p tree (bind_ok (dir_there t p) (λ _. Ok (tree_at t p)) u is).1)
 

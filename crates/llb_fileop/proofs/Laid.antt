@@ -28,6 +28,7 @@ find_laid given t (e ∷ es) q = by_tie (eq_by_cmp path_cmp q e.0) refl (find_la
     by_tie true t2 rest = ap (λ k. Some (landed given (finite.get t k) e.1)) (sym (same_path q e.0 t2))
     by_tie false t2 rest = rest
 
+-- after entries land on a tree, a path has what the tree had there with the entry found for that path laid over it
 pub get-laid_on : (given : MetaValue → MetaValue) (t : TreeMap) (es : List Pair) (q : List (List ℕ))
     → finite.get (laid_on given t es) q ≡ laid given (finite.get t q) (finite.find path_cmp q es)
 get-laid_on given t es q = finite.get-from_entries path_cmp-IsTotalOrder (map (landed_on given t) es ++ finite.entries t) q ∙ find_laid given t es q

@@ -20,6 +20,7 @@ use Rattle.llb_fileop.proofs.Moved.{within_split}
 pub fits-Ok : (p : List (List ℕ)) → length p ≤ 128 → fits p ≡ Ok tt
 fits-Ok p short = ap (λ b. cond {A = Result (Unit {0}) TreeFault} b (Err BadName) (Ok tt)) (le-ltb 128 (length p) short)
 
+-- a path that passes the test of its length has at most 128 names
 pub fits_short : (p : List (List ℕ)) → fits p ≡ Ok tt → length p ≤ 128
 fits_short p is = by_test (nat_lt 128 (length p)) refl is
   where
@@ -94,6 +95,7 @@ meet_beside here tree k (e ∷ es) none = by_place (is_within k e.0) refl (meet_
     by_place true inside rest = ap (λ o. meets o e.1 >>= λ _. all_meet here es) (none_below here tree k e.0 none inside) ∙ rest
     by_place false inside rest = ap (λ r. meets (finite.get here e.0) e.1 >>= λ _. r) rest
 
+-- where a tree has nothing at the first entry's path, what is below that path meets nothing and may be passed over
 pub meet_skip : (here : TreeMap) → IsTree here → (es : List Pair) (k : List (List ℕ)) (e : Entry) → slice_get es 0 ≡ Some (k, e) → finite.get here k ≡ None
     → all_meet here es ≡ all_meet here (beside k (drop 1 es))
 meet_skip here tree es k e is none =

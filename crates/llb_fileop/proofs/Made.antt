@@ -9,6 +9,7 @@ use Rattle.llb_fileop.proofs.Passing.{same_path}
 
 -- ---- what is there after an entry is put
 
+-- a fact of what was at a path, and of the new entry if that is its path, holds of what is there after the entry is put
 pub get-insert_cases : (P : Option Entry → Type 0) (t : TreeMap) (p : List (List ℕ)) (e : Entry) (q : List (List ℕ))
     → (q ≡ p → P (Some e)) → P (finite.get t q) → P (finite.get (finite.insert t p e) q)
 get-insert_cases P t p e q here there = subst P (sym (finite.get-insert path_cmp-IsTotalOrder t p e q)) (by_test (eq_by_cmp path_cmp q p) refl)

@@ -32,6 +32,7 @@ pub within_split : (p q : List (List ℕ)) → is_within p q ≡ true → q ≡ 
 within_split p q is = sym (take-append-drop (length p) q)
     ∙ ap (λ x. x ++ drop (length p) q) (sym ((pointwise_decides bytes_decides p (take (length p) q)).0 is))
 
+-- a path with any names after it is at or below the path
 pub within-append : (p q : List (List ℕ)) → is_within p (p ++ q) ≡ true
 within-append p q = (pointwise_decides bytes_decides p (take (length p) (p ++ q))).1 (sym (take_at p q (length p) refl))
 
@@ -45,10 +46,12 @@ cmp-append (n ∷ p) q r = ap (λ o. ordering_then o (path_cmp (p ++ q) (p ++ r)
 
 -- ---- below a path
 
+-- among entries that were moved below a path, what was found at q before is found at q below it
 pub find_moved : (p q : List (List ℕ)) (es : List Pair) → finite.find path_cmp (p ++ q) (map (moved 0 p) es) ≡ finite.find path_cmp q es
 find_moved p q [] = refl
 find_moved p q (e ∷ es) = λ i. cond (is_eq (cmp-append p q e.0 i)) (Some e.1) (find_moved p q es i)
 
+-- among entries that were moved below a path, none is found outside it
 pub find_beside : (p q : List (List ℕ)) (es : List Pair) → is_within p q ≡ false → finite.find path_cmp q (map (moved 0 p) es) ≡ None
 find_beside p q [] beside = refl
 find_beside p q (e ∷ es) beside = by_tie (eq_by_cmp path_cmp q (p ++ e.0)) refl (find_beside p q es beside)
@@ -72,6 +75,7 @@ find_over q (e ∷ es) fs = by_tie (eq_by_cmp path_cmp q e.0) (find_over q es fs
     by_tie true rest = refl
     by_tie false rest = rest
 
+-- without what is at or below a path, nothing is there, and all else is as it was
 pub get-without : (t : TreeMap) (p q : List (List ℕ)) → finite.get (without t p) q ≡ cond (not (is_within p q)) (finite.get t q) None
 get-without t p q = finite.get-retain_keys t (λ x. not (is_within p x)) q (λ x tie. ap (λ y. not (is_within p y)) (sym (path_cmp-IsAntisymmetric q x tie)))
 
@@ -82,6 +86,7 @@ get-with_tree t other p q =
     ∙ find_over q (map (moved 0 p) (finite.entries other)) (finite.entries (without t p))
     ∙ ap (or_else (finite.find path_cmp q (map (moved 0 p) (finite.entries other)))) (sym (finite.get-entries (without t p) q))
 
+-- where another tree is put at a path, what stands at it and below is what the other has
 pub get_inside : (t other : TreeMap) (p q : List (List ℕ)) → finite.get (with_tree t p other) (p ++ q) ≡ finite.get other q
 get_inside t other p q =
     get-with_tree t other p (p ++ q)
@@ -96,6 +101,7 @@ get_inside t other p q =
     right (Some e) = refl
     right None = refl
 
+-- where another tree is put at a path, all outside the path is as it was
 pub get_outside : (t other : TreeMap) (p q : List (List ℕ)) → is_within p q ≡ false → finite.get (with_tree t p other) q ≡ finite.get t q
 get_outside t other p q beside =
     get-with_tree t other p q
@@ -199,6 +205,7 @@ find_inside p q (e ∷ es) = by_test (is_within p e.0) refl (find_inside p q es)
         by_tie false t = refl
         by_tie true t = absurd (true≢false (sym (within-append p q) ∙ ap (is_within p) (same_path (p ++ q) e.0 t) ∙ is))
 
+-- the tree of what is at or below a path has at q what stands at q below that path
 pub get-tree_at : (t : TreeMap) (p q : List (List ℕ)) → finite.get (tree_at t p) q ≡ finite.get t (p ++ q)
 get-tree_at t p q =
     finite.get-from_entries path_cmp-IsTotalOrder (inside p (finite.entries t)) q ∙ find_inside p q (finite.entries t) ∙ sym (finite.get-entries t (p ++ q))

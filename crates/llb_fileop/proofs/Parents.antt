@@ -39,6 +39,7 @@ pub record MadeSoFar (m : MetaValue) (ns : List (List ℕ)) (old : TreeMap) (i :
   pub left : make_all m (parents_from p (drop i ns)) t ≡ make_all m (parents ns) old
   pub names : length p ≡ i
 
+-- before the first step, what is left to make is all the parents
 pub made_start : (m : MetaValue) (ns : List (List ℕ)) (t : TreeMap) → make_all m (parents_from [] (drop 0 ns)) t ≡ make_all m (parents ns) t
 made_start m ns t = ap (λ ps. make_all m ps t) (parents_are ns)
 
@@ -50,12 +51,14 @@ made_next m ns i p t low =
     ap (λ l. make_all m (parents_from p l) t) (drop-cons ns i [] low)
     ∙ ap (λ k. kept_or_made m p (finite.get t p) t >>= make_all m (parents_from (p ++ get_or ns i [] ∷ []) (drop k ns))) (sym (add-one i))
 
+-- where the parent at hand can't be made, its fault is that of making all the parents
 pub made_fault : (m : MetaValue) (ns : List (List ℕ)) (old : TreeMap) (i : ℕ) (p : List (List ℕ)) (t : TreeMap) (e : TreeFault)
     → MadeSoFar m ns old i p t → i < length ns
     → kept_or_made m p (finite.get t p) t ≡ Err e → make_all m (parents ns) old ≡ Err e
 made_fault m ns old i p t e here low is =
     sym here.left ∙ made_next m ns i p t low ∙ ap (λ r. r >>= make_all m (parents_from (p ++ get_or ns i [] ∷ []) (drop (i + 1) ns))) is
 
+-- where the parent at hand is there or is made, one more is made so far, and the next lies one name below
 pub made_more : (m : MetaValue) (ns : List (List ℕ)) (old : TreeMap) (i : ℕ) (p : List (List ℕ)) (t u : TreeMap) (n : List ℕ)
     → MadeSoFar m ns old i p t → i < length ns
     → kept_or_made m p (finite.get t p) t ≡ Ok u → n ≡ get_or ns i [] → MadeSoFar m ns old (i + 1) (p ++ n ∷ []) u
@@ -66,6 +69,7 @@ made_more m ns old i p t u n here low is same =
       names = omega (arith, length-append p (n ∷ []), here.names);
     }
 
+-- with no name left, the tree so far is the one that making all the parents gives
 pub made_end : (m : MetaValue) (ns : List (List ℕ)) (old : TreeMap) (i : ℕ) (p : List (List ℕ)) (t : TreeMap) → MadeSoFar m ns old i p t
     → length ns ≤ i → make_all m (parents ns) old ≡ Ok t
 made_end m ns old i p t here past = sym here.left ∙ ap (λ l. make_all m (parents_from p l) t) (drop_all i ns past)
@@ -78,6 +82,7 @@ below_fits p q n short e = go (nat_lt (length p) 128) (lt-ltb (length p) 128 sho
     go true is e = let same : p ++ n ∷ [] ≡ q = cc in sym same
     go false is e = absurd cc
 
+-- a path of fewer than 128 names is never refused one more
 pub below_grants : {C : Type 0} (p : List (List ℕ)) (n : List ℕ) (f : TreeFault) → length p < 128 → below p n ≡ Err f → C
 below_grants {C} p n f short e = go (nat_lt (length p) 128) (lt-ltb (length p) 128 short) e
   where

@@ -41,6 +41,7 @@ and_second false b h = absurd h
 pub same_path : (p q : List (List ℕ)) → eq_by_cmp path_cmp p q ≡ true → p ≡ q
 same_path p q e = path_cmp-IsAntisymmetric p q (tied _ e)
 
+-- a path ties with itself in the order of paths
 pub ties_itself : (p : List (List ℕ)) → eq_by_cmp path_cmp p p ≡ true
 ties_itself p = ap is_eq (tied_itself path_cmp-IsTotalOrder p)
 
@@ -72,6 +73,7 @@ pub walk_first : (es : List Pair) (k : List (List ℕ)) (e : Entry) → slice_ge
 walk_first [] k e is = absurd cc
 walk_first (f ∷ es) k e is = let same : f ≡ (k, e) = cc in ap (λ x. x ∷ es) same
 
+-- where no first entry is left of a walk, nothing is
 pub walk_end : (es : List Pair) → slice_get es 0 ≡ None → es ≡ []
 walk_end [] is = refl
 walk_end (f ∷ es) is = absurd cc
@@ -80,6 +82,7 @@ walk_end (f ∷ es) is = absurd cc
 abbrev pub beside : List (List ℕ) → List Pair → List Pair
 beside k es = where_key path_cmp (λ q. not (is_within k q)) es
 
+-- past the first entry come the later ones that are not below its path
 pub past_is : (es : List Pair) (k : List (List ℕ)) (e : Entry) → slice_get es 0 ≡ Some (k, e) → past es ≡ beside k (drop 1 es)
 past_is [] k e is = absurd cc
 past_is (f ∷ es) k e is = let same : f ≡ (k, e) = cc in ap (λ x. beside x.0 es) same
@@ -93,6 +96,7 @@ beside_short k (e ∷ es) = by_test (not (is_within k e.0)) (beside_short k es)
     by_test true rest = omega (arith, rest)
     by_test false rest = omega (arith, rest)
 
+-- passing an entry and what is below it leaves fewer of them, so the walk ends
 pub skip_short : (es fs : List Pair) (k : List (List ℕ)) (e : Entry) → slice_get es 0 ≡ Some (k, e) → past es ≡ fs → length fs < length es
 skip_short es fs k e is next =
     let long = ap length (walk_first es k e is) in
@@ -108,13 +112,16 @@ stand_each : (t : TreeMap) (es : List Pair) → ((i : ℕ) (k : List (List ℕ))
 stand_each t [] each = tt
 stand_each t (e ∷ es) each = (each 0 e.0 e.1 refl, stand_each t es (λ i. each (suc i)))
 
+-- each of a tree's own entries has its path in the tree
 pub stand_all : (t : TreeMap) → Stand t (finite.entries t)
 stand_all t = stand_each t (finite.entries t) (λ i k e is. ap is_some (finite.get-entries t k ∙ found_at (finite.entries t) i k e (finite.entries_sorted t) is))
 
+-- where all paths of what is left are there, so is the path of the first entry
 pub stand_first : (t : TreeMap) (es : List Pair) (k : List (List ℕ)) (e : Entry) → slice_get es 0 ≡ Some (k, e) → Stand t es → IsSome (finite.get t k)
 stand_first t [] k e is all = absurd cc
 stand_first t (f ∷ es) k e is all = let same : f ≡ (k, e) = cc in ap (λ x. is_some (finite.get t x.0)) (sym same) ∙ all.0
 
+-- where all paths of what is left are there, so are those after the first entry
 pub stand_rest : (t : TreeMap) (es : List Pair) → Stand t es → Stand t (drop 1 es)
 stand_rest t [] all = tt
 stand_rest t (e ∷ es) all = all.1
@@ -123,10 +130,12 @@ stand_rest t (e ∷ es) all = all.1
 abbrev pub hits : List (List Item) → List Pair → List (List (List ℕ))
 hits pattern es = filter (path_matches pattern) (map (λ e. e.0) es)
 
+-- where the first entry's path matches, the matches are this path and those of the rest
 pub hits_next : (pattern : List (List Item)) (es : List Pair) (k : List (List ℕ)) (e : Entry) → slice_get es 0 ≡ Some (k, e)
     → path_matches pattern k ≡ true → hits pattern es ≡ k ∷ hits pattern (drop 1 es)
 hits_next pattern es k e is hit =
     ap (hits pattern) (walk_first es k e is) ∙ ap (λ b. cond b (k ∷ hits pattern (drop 1 es)) (hits pattern (drop 1 es))) hit
 
+-- where no entry is left, no path matches
 pub hits_end : (pattern : List (List Item)) (es : List Pair) → slice_get es 0 ≡ None → hits pattern es ≡ []
 hits_end pattern es is = ap (hits pattern) (walk_end es is)

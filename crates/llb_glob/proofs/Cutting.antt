@@ -18,6 +18,7 @@ use Rattle.llb_glob.specs.Pattern.{each_cut}
 abbrev pub behind : {A : Type 0} → List A → Result (List A) PatternFault → Result (List A) PatternFault
 behind before rest = rest >>= λ more. Ok (before ++ more)
 
+-- where nothing is cut yet, the answer is that of what is left
 pub behind_none : {A : Type 0} (rest : Result (List A) PatternFault) → behind [] rest ≡ rest
 behind_none (Ok more) = refl
 behind_none (Err e) = refl

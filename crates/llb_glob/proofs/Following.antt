@@ -66,6 +66,7 @@ goes_down path part some dot dots name room = λ i.
     else (if dots i then Ok (take (length path - 1) path)
     else ((if name i then Ok part else Err BadName) >>= λ n. if room i then Ok (path ++ n ∷ []) else Err BadName))
 
+-- a `..` leads up by one name, and from the root nowhere
 pub goes_up :
     (path : List (List ℕ)) (part : List ℕ)
     → (length part == 0) ≡ false

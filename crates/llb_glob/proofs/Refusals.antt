@@ -41,6 +41,7 @@ bad : {A : Type 0} (r : Result A PatternFault) → NothingElse r → is_ok r ≡
 bad (Ok x) only e = absurd (false≢true (sym e))
 bad (Err e) only _ = ap Err only
 
+-- where a text is no pattern, the fault is a bad pattern, whether its path or one of its parts was refused
 pub bad_pattern : (r : Result (List (List ℕ)) TreeFault) → is_ok (cut_path r) ≡ false → cut_path r ≡ Err BadPattern
 bad_pattern (Ok names) = bad (each_cut names) (else-each names)
 bad_pattern (Err e) = λ _. refl

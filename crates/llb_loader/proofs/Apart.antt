@@ -26,6 +26,7 @@ pub record IsAmong {X : Type 0} (values : List (Option X)) (n : ℕ) (v : Option
 abbrev pub ApartBelow : {X : Type 0} → List (Option X) → ℕ → Type 0
 ApartBelow values n = (a b : ℕ) → a < b → b < n → ¬ Share (value_at values a) (value_at values b)
 
+-- a value that no earlier place has leaves one place more apart from those before it
 pub apart_more : {X : Type 0} (values : List (Option X)) (n : ℕ) → ¬ IsAmong values n (value_at values n) → ApartBelow values n → ApartBelow values (n + 1)
 apart_more {X} values n fresh s a b l h e = elim (at_or_below b n h) [
   | inl m ↦ s a b l m e
@@ -36,6 +37,7 @@ apart_more {X} values n fresh s a b l h e = elim (at_or_below b n h) [
   })
 ]
 
+-- where the places up to the last are apart, all are, as there are no values past it
 pub apart_end : {X : Type 0} (values : List (Option X)) (n : ℕ) → length values ≤ n → ApartBelow values n → AreApart values
 apart_end {X} values n h s = record {
   apart = λ a b l e. elim (cases_lt b n) [
@@ -75,6 +77,7 @@ seen_none {X} cmp values s e = record {
   all = λ x m. absurd (let l = m.below in omega (arith, l));
 }
 
+-- a place without a value adds nothing to the values that were seen
 pub seen_skip : {X : Type 0} (values : List (Option X)) (n : ℕ) (held : X → Bool) → value_at values n ≡ None → IsSeen values n held → IsSeen values (n + 1) held
 seen_skip {X} values n held none s = record {
   among = λ x h. among_more values n (Some x) (s.among x h);
@@ -84,6 +87,7 @@ seen_skip {X} values n held none s = record {
   ];
 }
 
+-- with the value of the next place put in, the set has the values of one place more
 pub seen_more : {X : Type 0} (cmp : X → X → Ordering) → IsTotalOrder cmp → IsAntisymmetric cmp
     → (values : List (Option X)) (n : ℕ) (p : X) (held next : X → Bool) → value_at values n ≡ Some p
     → ((q : X) → next q ≡ cond (is_eq (cmp p q)) true (held q)) → IsSeen values n held → IsSeen values (n + 1) next
@@ -110,10 +114,12 @@ seen_more {X} cmp total only values n p held next here added s = record {
     equal_from Less e = absurd (let x : false ≡ true = e in cc)
     equal_from Greater e = absurd (let x : false ≡ true = e in cc)
 
+-- where a negation fails, what it denies is so
 pub when_not_false : (b : Bool) → not b ≡ false → b ≡ true
 when_not_false true e = refl
 when_not_false false e = absurd (let x : true ≡ false = e in cc)
 
+-- where a negation holds, what it denies is not so
 pub when_not_true : (b : Bool) → not b ≡ true → b ≡ false
 when_not_true true e = absurd (let x : false ≡ true = e in cc)
 when_not_true false e = refl
@@ -125,6 +131,7 @@ not_seen {X} values n p held here none s m =
     let h = s.all p (subst (λ (o : Option X). IsAmong values n o) here m) in
     let x : true ≡ false = sym h ∙ none in cc
 
+-- a value that the set has stands at an earlier place, so that two places share it
 pub already_seen : {X : Type 0} (values : List (Option X)) (n : ℕ) (p : X) (held : X → Bool) → value_at values n ≡ Some p → held p ≡ true
     → IsSeen values n held → ¬ AreApart values
 already_seen {X} values n p held here some s = among_not_apart values n (subst (λ (o : Option X). IsAmong values n o) (sym here) (s.among p some))
@@ -135,6 +142,7 @@ apart_skip {X} values n none s = apart_more values n (λ m. let e = m.shared in 
 
 -- ---- keys
 
+-- the key at the place of a mount is that mount's
 pub key_read : (inputs : List Input) (mounts : List Mount) (i : ℕ) (x : Mount) → i < length mounts → x ≡ get_or mounts i x
     → value_at (keys_of inputs mounts) i ≡ key_of inputs x
 key_read inputs mounts i x h e = get_or-map (key_of inputs) mounts i x None h ∙ ap (key_of inputs) (sym e)

@@ -13,6 +13,7 @@ use Rattle.llb_loader.proofs.Firsts.{below_step}
 no_vertex : Vertex
 no_vertex = record { digest = []; op = record { inputs = []; kind = None; extra = [] }; script = None; inputs = []; steps = 0; outputs = 0 }
 
+-- with the vertex of the next row of the order, one vertex more is built
 pub built_push : (rows : List Row) (ops : List Op) (links : List (List ℕ)) (ranks order : List ℕ) (vs : List Vertex) (v : Vertex) (n : ℕ) → length vs ≡ n
     → AreBuilt rows ops links ranks order vs n
     → IsBuilt (row_at rows (get_or order n 0)).digest (op_at ops (get_or order n 0)) (inputs links (get_or order n 0)) ranks v
@@ -26,6 +27,7 @@ built_push rows ops links ranks order vs v n len old new =
     (subst (λ (x : Vertex). IsBuilt (row_at rows (get_or order n 0)).digest (op_at ops (get_or order n 0)) (inputs links (get_or order n 0)) ranks x)
     (sym (get_or_push vs v no_vertex n len)) new)
 
+-- an op is moved out of its list, and the ops of later rows stay, as no row stands twice in the order
 pub kept_step : (first ops : List Op) (order : List ℕ) (n : ℕ) (moved : Op) → ((i j : ℕ) → i < length order → j < i → get_or order j 0 ≢ get_or order i 0)
     → ((i : ℕ) → n ≤ i → i < length order → op_at ops (get_or order i 0) ≡ op_at first (get_or order i 0))
     → (i : ℕ) → n + 1 ≤ i → i < length order → op_at (set ops (get_or order n 0) moved) (get_or order i 0) ≡ op_at first (get_or order i 0)

@@ -50,6 +50,7 @@ local_copied {Z} es new i below distinct put =
     ∙ sym (front_of es (suc i))
     ∙ ap (λ n. take n (locals_of es)) next
 
+-- each entry of a map of trees is one local
 pub all_named : {Z : Type 0} (es : List (String Z × TreeMap)) → length (locals_of es) ≡ length es
 unfolding locals_of
 all_named [] = refl

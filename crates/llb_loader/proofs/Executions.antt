@@ -37,6 +37,7 @@ commands_there : (r : Result (List Command) ScriptFault) → IsSome (result_ok r
 commands_there (Ok cs) e = (cs, refl)
 commands_there (Err f) e = absurd (let x : false ≡ true = e in cc)
 
+-- an exec that meets its rules, and has neither secrets nor agents among its mounts, is a vertex of its kind
 pub exec_vertex : (v : Vertex) (x : ExecOp) → All (λ m. has_type secret m ≡ false) x.mounts → All (λ m. has_type ssh m ≡ false) x.mounts
     → MeetsAll v.op.inputs (Some (Exec x)) (rules_on (Some (Exec x))) → IsKindWithin (Some (Exec x)) → length v.inputs ≡ length v.op.inputs
     → v.script ≡ commands_in x.meta → v.steps ≡ kind_steps (Some (Exec x)) → v.outputs ≡ kind_outputs (Some (Exec x)) → IsExecVertex v x

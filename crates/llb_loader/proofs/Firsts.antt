@@ -63,6 +63,7 @@ first_again rows n k d look there f = elim (cases_bytes (row_at rows n).digest d
   | inr x ↦ first_other rows n d (look d) x (f d)
 ]
 
+-- the first of all rows with a digest text is the one that a search for it finds
 pub first_is : (rows : List Row) (d : List ℕ) (o : Option ℕ) → IsFirst rows (length rows) d o → o ≡ first_with rows d
 first_is rows d None f =
     let e = position_or_len_is (λ (r : Row). bytes_eq d r.digest) rows (length rows) (record { digest = []; bytes = [] }) (omega arith)
@@ -75,13 +76,16 @@ first_is rows d (Some k) f =
 
 -- ---- collisions
 
+-- a row with the digest of an earlier row and other bytes collides
 pub collides_with : (rows : List Row) (j k : ℕ) → k < length rows → IsFirst rows k (row_at rows k).digest (Some j)
     → (row_at rows j).bytes ≢ (row_at rows k).bytes → Collides rows k
 collides_with rows j k h f n = record { here = h; earlier = (j, f.0, f.1, n) }
 
+-- a row whose digest no earlier row has does not collide
 pub fresh_apart : (rows : List Row) (k : ℕ) → IsFirst rows k (row_at rows k).digest None → ¬ Collides rows k
 fresh_apart rows k f c = f c.earlier.0 c.earlier.1 c.earlier.2
 
+-- a row with the bytes of the first one that has its digest does not collide, where none before it does
 pub equal_apart : (rows : List Row) (j k : ℕ) → IsFirst rows k (row_at rows k).digest (Some j) → (row_at rows j).bytes ≡ (row_at rows k).bytes
     → ((i : ℕ) → i < k → ¬ Collides rows i) → ¬ Collides rows k
 equal_apart rows j k f e apart c =
@@ -104,6 +108,7 @@ equal_apart rows j k f e apart c =
 pub row_read : (rows : List Row) (k : ℕ) (x : Row) → k < length rows → x ≡ get_or rows k x → row_at rows k ≡ x
 row_read rows k x h e = sym (get_or_read rows k x h e (record { digest = []; bytes = [] }))
 
+-- an answer that is read as row k tells that row k is the first
 pub first_below : (rows : List Row) (n k : ℕ) (d : List ℕ) (o : Option ℕ) → o ≡ Some k → IsFirst rows n d o → IsFirst rows n d (Some k)
 first_below rows n k d o e f = subst (λ (x : Option ℕ). IsFirst rows n d x) e f
 
@@ -128,6 +133,7 @@ find_first rows (suc n) d =
     let f = find_first rows n d in
     subst (λ (m : ℕ). (o : Option ℕ) × IsFirst rows m d o) (add-one n) (one_more rows n d f.0 f.1)
 
+-- what a search for a digest text finds is the first of all rows that has it; where it finds nothing, no row has it
 pub first_cases : (rows : List Row) (d : List ℕ) (o : Option ℕ) → first_with rows d ≡ o → IsFirst rows (length rows) d o
 first_cases rows d o e =
     let f = find_first rows (length rows) d in
@@ -137,6 +143,7 @@ same_row : (a b : Row) → a.digest ≡ b.digest → a.bytes ≡ b.bytes → a �
 same_row a b p q = ap (λ (x : List ℕ). let r : Row = record { digest = x; bytes = a.bytes } in r) p
     ∙ ap (λ (x : List ℕ). let r : Row = record { digest = b.digest; bytes = x } in r) q
 
+-- where no row collides, the first row with the last row's digest is equal to it: the terminal
 pub terminal_is : (rows : List Row) (t : ℕ) → 0 < length rows → ((k : ℕ) → ¬ Collides rows k)
     → first_with rows (row_at rows (length rows - 1)).digest ≡ Some t → IsTerminal rows t
 terminal_is rows t some apart e =
@@ -156,5 +163,6 @@ terminal_is rows t some apart e =
       least = λ j l x. f.2 j l (ap (λ (r : Row). r.digest) x.1);
     }
 
+-- a search for the last row's own digest finds a row
 pub last_there : (rows : List Row) → 0 < length rows → first_with rows (row_at rows (length rows - 1)).digest ≡ None → ⊥
 last_there rows some e = first_cases rows (row_at rows (length rows - 1)).digest None e (length rows - 1) (omega (arith, some)) refl

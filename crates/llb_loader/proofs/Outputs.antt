@@ -10,9 +10,11 @@ use Rattle.llb_loader.specs.Rules.{none, is_output, count_outputs, output_at, Ar
 use Rattle.llb_loader.proofs.Rows.{unmarked, unmarked-mark, unmarked-none, weight}
 use Rattle.llb_loader.proofs.Searching.{mark_stays, mark_cases, none_marked}
 
+-- with an output at the next place, one output more is counted
 pub more_yes : (os : List ℤ) (i : ℕ) → i < length os → is_output (output_at os i) ≡ true → count_outputs (take (i + 1) os) ≡ count_outputs (take i os) + 1
 more_yes os i h t = count_by_more_yes is_output os i none h t
 
+-- with no output at the next place, no more are counted
 pub more_no : (os : List ℤ) (i : ℕ) → i < length os → is_output (output_at os i) ≡ false → count_outputs (take (i + 1) os) ≡ count_outputs (take i os)
 more_no os i h t = count_by_more_no is_output os i none h t
 
@@ -20,11 +22,13 @@ more_no os i h t = count_by_more_no is_output os i none h t
 pub output_read : {X : Type 0} (output : X → ℤ) (xs : List X) (i : ℕ) (x : X) → i < length xs → x ≡ get_or xs i x → output_at (map output xs) i ≡ output x
 output_read output xs i x h e = get_or-map output xs i x none h ∙ ap output (sym e)
 
+-- of items with output numbers, the next gives an output: one more is counted
 pub count_more_yes : {X : Type 0} (output : X → ℤ) (xs : List X) (i : ℕ) (x : X) → i < length xs → x ≡ get_or xs i x → is_output (output x) ≡ true
     → count_outputs (take (i + 1) (map output xs)) ≡ count_outputs (take i (map output xs)) + 1
 count_more_yes output xs i x h e t = more_yes (map output xs) i (let l = length-map xs output in omega (arith, l, h))
     (ap is_output (output_read output xs i x h e) ∙ t)
 
+-- the next item gives no output: no more are counted
 pub count_more_no : {X : Type 0} (output : X → ℤ) (xs : List X) (i : ℕ) (x : X) → i < length xs → x ≡ get_or xs i x → is_output (output x) ≡ false
     → count_outputs (take (i + 1) (map output xs)) ≡ count_outputs (take i (map output xs))
 count_more_no output xs i x h e t = more_no (map output xs) i (let l = length-map xs output in omega (arith, l, h))
@@ -53,6 +57,7 @@ at_or_below a i h = elim (cases_lt a i) [ inl l ↦ inl l | inr g ↦ inr (omega
 not_none : (z : ℤ) (j : ℕ) → z ≡ pos j → z ≢ none
 not_none z j e n = let x : pos j ≡ negsuc 0 = sym e ∙ n in cc
 
+-- before the first place no number is taken
 pub taking_start : (os : List ℤ) (n : ℕ) → n ≡ count_outputs os → IsTaking os (replicate n false) 0
 taking_start os n e = record {
   len = length-replicate n false ∙ e;
@@ -63,6 +68,7 @@ taking_start os n e = record {
   left = (let u = unmarked-none n in omega (arith, u, e));
 }
 
+-- a place that gives no output takes no number
 pub taking_skip : (os : List ℤ) (seen : List Bool) (i : ℕ) → output_at os i ≡ none
     → count_outputs (take (i + 1) os) ≡ count_outputs (take i os) → IsTaking os seen i → IsTaking os seen (i + 1)
 taking_skip os seen i e n s = record {
@@ -77,6 +83,7 @@ taking_skip os seen i e n s = record {
   left = (let l = s.left in omega (arith, l, n));
 }
 
+-- a place takes its number, which lies within the outputs and was not taken before
 pub taking_mark : (os : List ℤ) (seen : List Bool) (i j : ℕ) → output_at os i ≡ pos j → j < count_outputs os → get_or seen j false ≡ false
     → IsBelow (count_outputs os) (output_at os i) → count_outputs (take (i + 1) os) ≡ count_outputs (take i os) + 1 → IsTaking os seen i
     → IsTaking os (set seen j true) (i + 1)
@@ -105,6 +112,7 @@ taking_mark os seen i j e h fresh below n s =
 named_within : (os : List ℤ) (a : ℕ) → output_at os a ≢ none → a < length os
 named_within os a o = elim (cases_lt a (length os)) [ inl l ↦ l | inr g ↦ absurd (o (get_or_past os a none g)) ]
 
+-- where all places are passed, each number was taken once and none is left: the numbers are those of outputs
 pub taking_end : (os : List ℤ) (seen : List Bool) (i : ℕ) → length os ≤ i → IsTaking os seen i → AreOutputs os
 taking_end os seen i h s = record {
   within = λ a o. s.passed a (let l = named_within os a o in omega (arith, l, h)) o;
@@ -118,28 +126,35 @@ taking_end os seen i h s = record {
       let r = s.marked j (all_marked seen z j (let p = s.len in omega (arith, l, p))) in (r.0, r.2);
 }
 
+-- a number that lies outside the outputs is against the rule
 pub outside : (os : List ℤ) (i : ℕ) → output_at os i ≢ none → ¬ IsBelow (count_outputs os) (output_at os i) → ¬ AreOutputs os
 outside os i o n s = n (s.within i o)
 
+-- a number that is already taken stands twice, which is against the rule
 pub twice : (os : List ℤ) (seen : List Bool) (i j : ℕ) → output_at os i ≡ pos j → IsMarked seen j → IsTaking os seen i → ¬ AreOutputs os
 twice os seen i j e m s o =
     let r = s.marked j m in
     let same = o.once r.0 i (not_none _ j r.2) (r.2 ∙ sym e) in
     omega (arith, same, r.1)
 
+-- -1 alone is the number of no output
 pub is_none_from : (z : ℤ) → is_output z ≡ false → z ≡ none
 is_none_from (pos n) e = absurd (let x : true ≡ false = e in cc)
 is_none_from (negsuc zero) e = refl
 is_none_from (negsuc (suc n)) e = absurd (let x : true ≡ false = e in cc)
 
+-- the number of an output is not -1
 pub not_none_from : (z : ℤ) → is_output z ≡ true → z ≢ none
 not_none_from z e n = let x : is_output z ≡ false = ap is_output n in let y : true ≡ false = sym e ∙ x in cc
 
+-- a test that says yes is right where the fact holds
 pub true_when : {P : Type 0} → P → IsTrue true ↔ P
 true_when p = (λ h. p, λ h. refl)
 
+-- a test that says no is right where the fact does not hold
 pub false_when : {P : Type 0} → ¬ P → IsTrue false ↔ P
 false_when n = (λ h. absurd (let x : false ≡ true = h in cc), λ p. absurd (n p))
 
+-- a number that is j, below n, is one from 0 to n - 1
 pub below_at : (n : ℕ) (z : ℤ) (j : ℕ) → z ≡ pos j → j < n → IsBelow n z
 below_at n z j e h = rw e (record { low = omega (arith, ints); high = omega (arith, ints) })

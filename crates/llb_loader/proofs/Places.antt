@@ -10,6 +10,7 @@ use Rattle.llb_loader.specs.Rows.{lists, inputs}
 use Rattle.llb_loader.specs.Placing.{IsMarked, IsChecked, GoesToWaiting}
 use Rattle.llb_loader.proofs.Rows.{list_at}
 
+-- a row whose inputs are marked up to one that is not goes to the rows that wait for that one
 pub goes_to_waiting : (g : List (List ℕ)) (done : List Bool) (w : Waiter) (r : ℕ → Bool) (named : List ℕ) (at : ℕ)
     (items : List (Vec Waiter)) (old next : Vec Waiter)
     → named ≡ inputs g w.row → IsChecked g done w → at < length named

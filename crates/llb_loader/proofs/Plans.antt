@@ -47,22 +47,26 @@ named_digest rows t d k e = (first_cases rows d (Some k) (other_cases t (first_w
 abbrev pub IsFirstRow : List Row → ℕ → Type 0
 IsFirstRow rows k = (j : ℕ) → j < k → (row_at rows j).digest ≢ (row_at rows k).digest
 
+-- a row that is named is the first with its digest
 pub named_first : (rows : List Row) (t : ℕ) (d : List ℕ) (k : ℕ) → row_named rows t d ≡ Some k → IsFirstRow rows k
 named_first rows t d k e j l same =
     let f = first_cases rows d (Some k) (other_cases t (first_with rows d) k e).0 in
     f.2 j l (same ∙ f.1)
 
+-- two rows that are both the first with one digest are the same row
 pub same_first : (rows : List Row) (a b : ℕ) → IsFirstRow rows a → IsFirstRow rows b → (row_at rows a).digest ≡ (row_at rows b).digest → a ≡ b
 same_first rows a b f g e = elim (cases_order a b) [
   | inl same ↦ same
   | inr o ↦ elim o [ inl l ↦ absurd (g a l e) | inr l ↦ absurd (f b l (sym e)) ]
 ]
 
+-- whatever inputs name is one of the rows
 pub in_range : (rows : List Row) (t : ℕ) (ops : List Op) → InRange (graph_of rows t ops) (length rows)
 in_range rows t ops = All-map (λ (r : List ℕ). All (λ b. b < length rows) r) (rows_named rows t) ops
     (λ k d h. all_filter_map (λ (i : Input). row_named rows t i.digest) (λ b. b < length rows) (λ x y e. named_below rows t x.digest y e)
     (get_or ops k d).inputs)
 
+-- what row k names is what the inputs of op k name, nothing where there is no such row
 pub graph_at : (rows : List Row) (t : ℕ) (ops : List Op) (k : ℕ) → inputs (graph_of rows t ops) k ≡ rows_named rows t (op_at ops k)
 graph_at rows t ops k = elim (cases_lt k (length ops)) [
   | inl l ↦ get_or-map (rows_named rows t) ops k (record { inputs = []; kind = None; extra = [] }) [] l
@@ -83,6 +87,7 @@ walk_below : (g : List (List ℕ)) (n s k m : ℕ) → InRange g n → s < n →
 walk_below g n s k zero all h w = subst (λ (x : ℕ). x < n) w h
 walk_below g n s k (suc m) all h (c, w, e) = edge_below g n c k all e
 
+-- what is reached from one of the rows is one of the rows
 pub row_below : (g : List (List ℕ)) (n s k : ℕ) → InRange g n → s < n → Reached g s k → k < n
 row_below g n s k all h r = walk_below g n s k r.0 all h r.1
 
@@ -113,6 +118,7 @@ named_cons h x xs d n (Some y) e f r =
     let same : filter_map h (x ∷ xs) ≡ y ∷ filter_map h xs = ap (λ (o : Option ℕ). cons_option o (filter_map h xs)) e in
     (rw same (let l = r.0 in omega (arith, l)), λ i l. rw same (head_or_tail h x xs d n y e r i l))
 
+-- where each of the first n items gives a value, the value of item i stands at place i
 pub named_at : {X : Type 0} (h : X → Option ℕ) (xs : List X) (d : X) (n : ℕ) → n ≤ length xs → ((i : ℕ) → i < n → h (get_or xs i d) ≢ None) → NamedAt h xs d n
 named_at h [] d n l f = (l, λ i m. absurd (omega (arith, l, m)))
 named_at h (x ∷ xs) d zero l f = (omega arith, λ i m. absurd (omega (arith, m)))
@@ -121,24 +127,29 @@ named_at h (x ∷ xs) d (suc n) l f = named_cons h x xs d n (h x) refl (f 0 (ome
 
 -- ---- numbers below a bound
 
+-- of any integer it can be told whether it is from 0 to n - 1
 pub below_cases : (n : ℕ) (z : ℤ) → IsBelow n z ⊎ (¬ IsBelow n z)
 below_cases n (pos m) = elim (cases_lt m n) [ inl l ↦ inl (below_at n (pos m) m refl l) | inr g ↦ inr (λ b. let h = b.high in omega (arith, ints, g, h)) ]
 below_cases n (negsuc m) = inr (λ b. let h = b.low in omega (arith, ints, h))
 
+-- an integer below a bound, and at least 0, is below a greater bound too
 pub below_wider : (n m : ℕ) (z : ℤ) → n ≤ m → IsBelow n z → IsBelow m z
 below_wider n m (pos k) l b = below_at m (pos k) k refl (let h = b.high in omega (arith, ints, l, h))
 below_wider n m (negsuc k) l b = absurd (let h = b.low in omega (arith, ints, h))
 
+-- an integer from 0 to n - 1, taken as a natural number, is below n
 pub below_abs : (n : ℕ) (z : ℤ) → IsBelow n z → nat_abs z < n
 below_abs n (pos k) b = let h = b.high in omega (arith, ints, h)
 below_abs n (negsuc k) b = absurd (let h = b.low in omega (arith, ints, h))
 
+-- an integer from 0 to n - 1 is the natural number that it is taken as
 pub below_pos : (n : ℕ) (z : ℤ) → IsBelow n z → z ≡ pos (nat_abs z)
 below_pos n (pos k) b = refl
 below_pos n (negsuc k) b = absurd (let h = b.low in omega (arith, ints, h))
 
 -- ---- a value that is there
 
+-- what is not None is Some of the number that is read of it
 pub value_there : (o : Option ℕ) → o ≢ None → o ≡ Some (unwrap_or o 0)
 value_there None n = absurd (n refl)
 value_there (Some k) n = refl

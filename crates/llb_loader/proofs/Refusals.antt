@@ -18,6 +18,7 @@ use Rattle.llb_loader.specs.Linking.{Refused}
 use Rattle.llb_loader.specs.Checks.{NamesAll, RefusesUnknown, RefusesFeature, RefusesRule, RefusesIndex, FitsAll, FirstBad, asked_of, count_there}
 use Rattle.llb_loader.proofs.Plans.{named_below, in_range, graph_at, row_below, NamedAt, named_at}
 
+-- a count that is tested not to be 0 is at least 1
 pub not_empty : (n : ℕ) → false ≡ eqb n 0 → 0 < n
 not_empty n e = elim (cases_lt 0 n) [
   | inl l ↦ l
@@ -26,12 +27,15 @@ not_empty n e = elim (cases_lt 0 n) [
 
 -- ---- the parts of a plan
 
+-- the result's row is one of the rows, as an input names it
 pub started_below : (p : Plan) → IsStarted p → p.start < length p.rows
 started_below p s = named_below p.rows p.terminal (input_at (op_at p.ops p.terminal) 0).digest p.start s.start
 
+-- each reached row is one of the rows
 pub reached_in : (p : Plan) → IsStarted p → (k : ℕ) → ReachedRow p k → k < length p.rows
 reached_in p s k r = row_below (links_in p) (length p.rows) p.start k (in_range p.rows p.terminal p.ops) (started_below p s) r
 
+-- where no input is unknown, each input of a reached row names a row
 pub input_named : (p : Plan) → IsNamed p → (k i : ℕ) → HasInput p k i → input_row p k i ≢ None
 input_named p n k i h e = n.named k i (record { input = h; unknown = e })
 
@@ -40,6 +44,7 @@ first_named p s e = let x : None ≡ Some p.start = sym e ∙ s.start in cc
 
 -- ---- the plan of rows and ops
 
+-- the terminal that was found, and the row that its first input names, make the plan of the rows
 pub planned : (rows : List Row) (ops : List Op) (t s : ℕ) → t ≡ terminal_in rows
     → row_named rows t (input_at (op_at ops t) 0).digest ≡ Some s → IsPlanOf rows ops (plan rows ops t s)
 planned rows ops t s terminal found =
@@ -47,6 +52,7 @@ planned rows ops t s terminal found =
     ap (λ (o : Option ℕ). unwrap_or o 0) (sym found) ∙ ap (λ (x : ℕ). unwrap_or (row_named rows x (input_at (op_at ops x) 0).digest) 0) terminal in
     record { same = ap (λ (x : ℕ). plan rows ops x s) terminal ∙ ap (λ (y : ℕ). plan rows ops (terminal_in rows) y) start }
 
+-- where the terminal's first input names nothing, the plan of the rows has 0 in the place of the result's row
 pub unplanned : (rows : List Row) (ops : List Op) (t : ℕ) → t ≡ terminal_in rows
     → row_named rows t (input_at (op_at ops t) 0).digest ≡ None → IsPlanOf rows ops (plan rows ops t 0)
 unplanned rows ops t terminal none =
@@ -54,11 +60,13 @@ unplanned rows ops t terminal none =
     ap (λ (o : Option ℕ). unwrap_or o 0) (sym none) ∙ ap (λ (x : ℕ). unwrap_or (row_named rows x (input_at (op_at ops x) 0).digest) 0) terminal in
     record { same = ap (λ (x : ℕ). plan rows ops x 0) terminal ∙ ap (λ (y : ℕ). plan rows ops (terminal_in rows) y) start }
 
+-- what refuses the plan of the rows refuses the rows
 pub refused_by : (rows : List Row) (ops : List Op) (p : Plan) (e : LoadFault) → IsPlanOf rows ops p → Refuses p e → Refused rows ops e
 refused_by rows ops p e of r = subst (λ (q : Plan). Refuses q e) of.same r
 
 -- ---- the first refusals
 
+-- where the marked rows are the reached ones, the first input of theirs that names no row refuses the plan
 pub refuses_unknown : (rows : List Row) (ops : List Op) (t s : ℕ) (Marked : ℕ → Type 0) → IsStarted (plan rows ops t s)
     → ((k : ℕ) → Marked k ↔ ReachedRow (plan rows ops t s) k) → (e : LoadFault) → RefusesUnknown rows t ops Marked e → Refuses (plan rows ops t s) e
 refuses_unknown rows ops t s Marked started exact e (k, i, same, marked, first, before) =
@@ -91,6 +99,7 @@ all_named rows ops t s Marked started exact named = record {
   named = λ k i u. named k ((exact k).1 u.input.reached) i u.input.here u.unknown;
 }
 
+-- where the marked rows are the reached ones, the first of them that has a feature refuses the plan
 pub refuses_feature : (rows : List Row) (ops : List Op) (t s : ℕ) (order : List ℕ) (Marked : ℕ → Type 0) → IsOrdered (plan rows ops t s) order
     → ((k : ℕ) → Marked k ↔ ReachedRow (plan rows ops t s) k) → (e : LoadFault) → RefusesFeature ops Marked e → Refuses (plan rows ops t s) e
 refuses_feature rows ops t s order Marked ordered exact e (k, f, same, marked, feature, before) =
@@ -104,6 +113,7 @@ refuses_feature rows ops t s order Marked ordered exact e (k, f, same, marked, f
       },
     )
 
+-- where the marked rows are the reached ones, the first of them that breaks a rule refuses the plan
 pub refuses_rule : (rows : List Row) (ops : List Op) (t s : ℕ) (order : List ℕ) (Marked : ℕ → Type 0) → IsTaken (plan rows ops t s) order
     → ((k : ℕ) → Marked k ↔ ReachedRow (plan rows ops t s) k) → (e : LoadFault) → RefusesRule ops Marked e → Refuses (plan rows ops t s) e
 refuses_rule rows ops t s order Marked taken exact e (k, r, same, marked, broken, before) =
@@ -233,6 +243,7 @@ module _ (p : Plan) (seen : List Bool) (exact : (k : ℕ) → IsMarked seen k �
         ];
   }
 
+-- where the marked rows are the reached ones, the first input looked at that has the index of no output refuses the plan
 pub refuses_index : (rows : List Row) (ops : List Op) (t s : ℕ) (order : List ℕ) (seen : List Bool) → IsValid (plan rows ops t s) order
     → length ops ≡ length rows
     → ((k : ℕ) → IsMarked seen k ↔ ReachedRow (plan rows ops t s) k) → (e : LoadFault)

@@ -14,6 +14,7 @@ get_or-map f [] k d e h = absurd (omega arith)
 get_or-map f (x ∷ xs) zero d e h = refl
 get_or-map f (x ∷ xs) (suc k) d e h = get_or-map f xs k d e (omega arith)
 
+-- what is read as row k is what row k names
 pub inputs_at : (rows : List (Vec ℕ)) (k : ℕ) (row : Vec ℕ) → k < length rows → row ≡ get_or rows k row → inputs (lists rows) k ≡ row.items
 inputs_at rows k row h e = get_or-map (λ (r : Vec ℕ). r.items) rows k row [] h ∙ ap (λ (r : Vec ℕ). r.items) (sym e)
 
@@ -28,6 +29,7 @@ weight b = cond b 0 1
 unfoldable pub unmarked : List Bool → ℕ
 unmarked seen = sum_by weight seen
 
+-- a new mark leaves one row fewer without a mark
 pub unmarked-mark : (seen : List Bool) (k : ℕ) → k < length seen → get_or seen k false ≡ false → unmarked (set seen k true) + 1 ≡ unmarked seen
 unfolding unmarked weight
 unmarked-mark seen k h e =
@@ -35,6 +37,7 @@ unmarked-mark seen k h e =
     let z : weight (get_or seen k false) ≡ 1 = ap weight e in
     omega (arith, s, z)
 
+-- what is read at place k of some vectors is list k of their lists
 pub list_at : {X : Type 0} (rows : List (Vec X)) (k : ℕ) (row : Vec X) → k < length rows → row ≡ get_or rows k row → get_or (lists rows) k [] ≡ row.items
 list_at {X} rows k row h e = get_or-map (λ (r : Vec X). r.items) rows k row [] h ∙ ap (λ (r : Vec X). r.items) (sym e)
 

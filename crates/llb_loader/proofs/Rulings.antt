@@ -67,6 +67,7 @@ of_source inputs s broken h = placed inputs (Some (Source s)) (rule.NoKind ∷ [
     (refl, tt) h
     (tt, (tt, (tt, (tt, (tt, (tt, (tt, (tt, (tt, (tt, (tt, (tt, (tt, (tt, (tt, (tt, (tt, tt)))))))))))))))))
 
+-- a source meets the rules of other kinds, so what it breaks first of its own it breaks first of all
 pub of_source_at : (inputs : List Input) (kind : Kind) (s : SourceOp) (broken : Option Rule) → kind ≡ (Source s)
     → IsFirstBroken inputs (Some (Source s)) source_rules broken → IsFirstBroken inputs (Some kind) (rules_on (Some kind)) broken
 of_source_at inputs kind s broken is h = subst (λ (k : Kind). IsFirstBroken inputs (Some k) (rules_on (Some k)) broken) (sym is) (of_source inputs s broken h)

@@ -91,12 +91,14 @@ searching_walk g start seen k (suc n) s (c, w, e) = elim (s.closed c (searching_
 pub searching_whole : (g : List (List ℕ)) (start : ℕ) (seen : List Bool) (k : ℕ) → IsSearching g start seen [] NoRow → Reached g start k → IsMarked seen k
 searching_whole g start seen k s r = searching_walk g start seen k r.0 s r.1
 
+-- where no mark is set, no row is marked
 pub none_marked : (n k : ℕ) → IsMarked (replicate n false) k → ⊥
 none_marked n k m = elim (cases_lt k n) [
   | inl h ↦ (let e = get_or-replicate n k false false h in cc)
   | inr h ↦ (let e = get_or_past (replicate n false) k false (rw length-replicate h) in cc)
 ]
 
+-- at first the start alone is marked, and it is on the stack
 pub searching_start : (g : List (List ℕ)) (start n : ℕ) → start < n → IsSearching g start (set (replicate n false) start true) (start ∷ []) NoRow
 searching_start g start n h =
     let only : (k : ℕ) → IsMarked (set (replicate n false) start true) k → k ≡ start =
@@ -116,6 +118,7 @@ pub searching_pop : (g : List (List ℕ)) (start : ℕ) (seen : List Bool) (stac
 searching_pop g start seen stack rest row e s =
     searching_take g start seen rest row (subst (λ (xs : List ℕ). IsSearching g start seen xs NoRow) e s)
 
+-- a row that comes off the stack is marked
 pub popped_marked : (g : List (List ℕ)) (start : ℕ) (seen : List Bool) (stack rest : List ℕ) (row : ℕ) → stack ≡ rest ++ row ∷ []
     → IsSearching g start seen stack NoRow → IsMarked seen row
 popped_marked g start seen stack rest row e s = s.marked row (rw e (Contains-push rest row))
@@ -124,6 +127,7 @@ popped_marked g start seen stack rest row e s = s.marked row (rw e (Contains-pus
 pub reached_step : (g : List (List ℕ)) (start row b : ℕ) → Reached g start row → HasEdge g row b → Reached g start b
 reached_step g start row b r e = (suc r.0, (row, r.1, e))
 
+-- a row that comes off the stack is one of the rows
 pub popped_below : (g : List (List ℕ)) (start : ℕ) (seen : List Bool) (stack rest : List ℕ) (row n : ℕ) → stack ≡ rest ++ row ∷ []
     → IsSearching g start seen stack NoRow → length seen ≡ n → row < n
 popped_below g start seen stack rest row n e s l =
@@ -138,12 +142,14 @@ pub record IsAtRow (g : List (List ℕ)) (start n row : ℕ) (named : List ℕ) 
   pub passed : (j : ℕ) → j < i → IsMarked seen (get_or named j 0)
   pub left : unmarked seen + length stack ≡ work
 
+-- a row that an input names is one of the rows
 pub named_below : (g : List (List ℕ)) (n row : ℕ) (named : List ℕ) (i : ℕ) → InRange g n → named ≡ inputs g row → i < length named → get_or named i 0 < n
 named_below g n row named i all e h = elim (cases_lt row (length g)) [
   | inl l ↦ (let r : All (λ b. b < n) named = rw e (All-get_or (λ (r : List ℕ). All (λ b. b < n) r) g row [] l all) in r i 0 h)
   | inr l ↦ absurd (let z = get_or_past g row [] l in let y : length named ≡ 0 = ap length (e ∙ z) in omega (arith, y))
 ]
 
+-- an input that is marked is passed
 pub at_row_skip : (g : List (List ℕ)) (start n row : ℕ) (named : List ℕ) (seen : List Bool) (stack : List ℕ) (i work : ℕ)
     → IsMarked seen (get_or named i 0) → IsAtRow g start n row named seen stack i work → IsAtRow g start n row named seen stack (i + 1) work
 at_row_skip g start n row named seen stack i work m s = record {
@@ -155,6 +161,7 @@ at_row_skip g start n row named seen stack i work m s = record {
   left = s.left;
 }
 
+-- an input that is not marked is marked, put on the stack and passed
 pub at_row_mark : (g : List (List ℕ)) (start n row : ℕ) (named : List ℕ) (seen : List Bool) (stack : List ℕ) (i work : ℕ)
     → InRange g n → i < length named → get_or seen (get_or named i 0) false ≡ false → IsAtRow g start n row named seen stack i work
     → IsAtRow g start n row named (set seen (get_or named i 0) true) (stack ++ get_or named i 0 ∷ []) (i + 1) work
@@ -174,6 +181,7 @@ at_row_mark g start n row named seen stack i work all h fresh s =
       left = (let w = s.left in let p = length_push stack (get_or named i 0) in omega (arith, u, w, p));
     }
 
+-- the next input has a place among the marks
 pub at_row_below : (g : List (List ℕ)) (start n row : ℕ) (named : List ℕ) (seen : List Bool) (stack : List ℕ) (i work : ℕ)
     → InRange g n → i < length named → IsAtRow g start n row named seen stack i work → get_or named i 0 < length seen
 at_row_below g start n row named seen stack i work all h s =

@@ -9,6 +9,7 @@ use Rattle.indexmap.specs.IndexMap.{insert_entry}
 use Rattle.llb_tree.specs.Tree.{TreeMap}
 use Rattle.llb_loader.specs.Locals.{Local, locals_of, tree_of_local, with_local}
 
+-- a look-up by name in a map of trees finds the tree of the local with that name
 pub locals_found : {Z : Type 0} (name : List ℕ) (es : List (String Z × TreeMap))
     → lookup (λ k. bytes_eq name (string_bytes k)) es ≡ tree_of_local (locals_of es) name
 unfolding locals_of
@@ -21,6 +22,7 @@ unfolding locals_of
 insert_case true e v es rest seen h = refl
 insert_case false e v es rest seen h = ap (λ xs. (string_bytes e.0, e.1) ∷ xs) h
 
+-- an entry that is put into a map of trees is put among the locals in the same way
 pub locals_added : {Z : Type 0} (es : List (String Z × TreeMap)) (k : String Z) (v : TreeMap)
     → locals_of (insert_entry string_eq es k v) ≡ with_local (locals_of es) (string_bytes k) v
 unfolding locals_of

@@ -135,6 +135,7 @@ place_waiting g start done w r r' ws ws' P Q b next split p x s =
       ];
     }
 
+-- once a row is placed, among the ready ones or those that wait, it is no longer one of those still to be placed
 pub place_step : (g : List (List ℕ)) (start : ℕ) (done : List Bool) (w : Waiter) (r r' : ℕ → Bool) (ws ws' : List (List Waiter)) (P Q : ℕ → Type 0)
     → ((k : ℕ) → P k → Q k ⊎ (k ≡ w.row)) → IsPending g start done w → IsPlacing g done w r r' ws ws' → IsPlaced g start done r ws P
     → IsPlaced g start done r' ws' Q
@@ -143,6 +144,7 @@ place_step g start done w r r' ws ws' P Q split p x s = elim x [
   | inr y ↦ place_waiting g start done w r r' ws ws' P Q y.0 y.1 split p y.2 s
 ]
 
+-- the rows still to be placed may be told by any test that holds of each of them
 pub placed_weaker : (g : List (List ℕ)) (start : ℕ) (done : List Bool) (r : ℕ → Bool) (ws : List (List Waiter)) (P Q : ℕ → Type 0)
     → ((k : ℕ) → Reached g start k → P k → Q k) → IsPlaced g start done r ws P → IsPlaced g start done r ws Q
 placed_weaker g start done r ws P Q weaker s = record {
@@ -160,12 +162,14 @@ no_waiter = record { row = 0; checked = 0 }
 abbrev pub WokenFrom : List Waiter → ℕ → ℕ → Type 0
 WokenFrom woken i q = (j : ℕ) × (i ≤ j) × (j < length woken) × ((get_or woken j no_waiter).row ≡ q)
 
+-- a woken row from i on is the one at i, or is among those after it
 pub woken_step : (woken : List Waiter) (i : ℕ) (q : ℕ) → WokenFrom woken i q → WokenFrom woken (i + 1) q ⊎ (q ≡ (get_or woken i no_waiter).row)
 woken_step woken i q v = elim (cases_eq v.0 i) [
   | inl x ↦ inr (sym v.3 ∙ ap (λ (n : ℕ). (get_or woken n no_waiter).row) x)
   | inr n ↦ (let l : i + 1 ≤ v.0 = (let a = v.1 in omega arith) in inl (v.0, l, v.2, v.3))
 ]
 
+-- past the last woken row none is left
 pub woken_end : (woken : List Waiter) (i : ℕ) → length woken ≤ i → (q : ℕ) → WokenFrom woken i q → ⊥
 woken_end woken i h q v = (let a = v.1 in let b = v.2 in omega arith)
 
@@ -257,6 +261,7 @@ next_least g start done order r ws k j least s o x =
       ]
     ]
 
+-- the least ready row comes next in the order, and is marked
 pub order_step : (g : List (List ℕ)) (start : ℕ) (done : List Bool) (order : List ℕ) (r : ℕ → Bool) (ws : List (List Waiter)) (k : ℕ)
     → k < length done → r k ≡ true → ((q : ℕ) → r q ≡ true → k ≤ q) → IsPlaced g start done r ws NoRow → IsOrder g start done order
     → IsOrder g start (set done k true) (order ++ k ∷ [])
@@ -310,6 +315,7 @@ falls_for_ever g start done rank down on (suc bound) k h t f =
     let l = down k n.0 t n.1 in
     falls_for_ever g start done rank down on bound n.0 (omega (arith, l, h)) (reached_step g start k n.0 t n.1) n.2
 
+-- a reached row without a number, where none is ready, leads on to another for ever, so that there is a cycle
 pub cycle_from_stuck : (g : List (List ℕ)) (start : ℕ) (done : List Bool) (r : ℕ → Bool) (ws : List (List Waiter)) (k : ℕ)
     → ((q : ℕ) → r q ≡ false) → IsPlaced g start done r ws NoRow → Reached g start k → IsFresh done k → HasCycle g start
 cycle_from_stuck g start done r ws k none s t f rank down =
@@ -321,6 +327,7 @@ cycle_from_stuck g start done r ws k none s t f rank down =
 pub fresh_all : (n k : ℕ) → IsFresh (replicate n false) k
 fresh_all n k = elim (cases_Bool (get_or (replicate n false) k false)) [ inl m ↦ absurd (none_marked n k m) | inr f ↦ f ]
 
+-- at first nothing is marked, and the order is empty
 pub order_start : (g : List (List ℕ)) (start n : ℕ) → IsOrder g start (replicate n false) []
 order_start g start n = record {
   has = λ k m. absurd (none_marked n k m);
@@ -342,6 +349,7 @@ turn_taken g start done r r' items k old next h hw m cut is nothing s =
     let u = subst (λ (xs : List Waiter). IsPlaced g start (set done k true) r' (set (lists items) k []) (WokenFrom xs 0)) at t in
     subst (λ (ws : List (List Waiter)). IsPlaced g start (set done k true) r' ws (WokenFrom old.items 0)) (sym e) u
 
+-- a row that waited for the one that now has a number is to be placed again
 pub taken_pending : (g : List (List ℕ)) (start : ℕ) (done : List Bool) (r : ℕ → Bool) (items : List (Vec Waiter)) (k : ℕ) (old : Vec Waiter)
     → k < length done → k < length items → r k ≡ true → old ≡ get_or items k old
     → IsPlaced g start done r (lists items) NoRow → (w : Waiter) → Contains old.items w → IsPending g start (set done k true) w
@@ -357,6 +365,7 @@ reached_below g start n seen exact l k t = let h = marked_below seen k ((exact k
 pub looked_placed : (k row : ℕ) → row ≤ k → (row + 1 ≤ k) ⊎ (k ≡ row)
 looked_placed k row h = elim (cases_eq k row) [ inl e ↦ inr e | inr n ↦ inl (omega arith) ]
 
+-- a row without a mark is not reached, so what is reached from there on comes after it
 pub looked_past : (g : List (List ℕ)) (start : ℕ) (seen : List Bool) → ((k : ℕ) → (get_or seen k false ≡ true) ↔ Reached g start k)
     → (row : ℕ) → IsFresh seen row
     → (k : ℕ) → Reached g start k → row ≤ k → row + 1 ≤ k

@@ -35,6 +35,7 @@ rank_before (x ∷ xs) k (suc i) (suc j) h e = elim (cases_eq x k) [
   | inr n ↦ (let r = rank_tail x k xs n in let t = rank_before xs k i j (omega arith) e in omega (arith, r, t))
 ]
 
+-- in a numbering each input stands before the row that names it, so that every edge goes down
 pub numbering_down : (g : List (List ℕ)) (start : ℕ) (order : List ℕ) → IsNumbering g start order → GoesDown g start (rank_in order)
 numbering_down g start order s a b t e =
     let c = s.whole a t in
@@ -66,6 +67,7 @@ no_more g start xs ys s t h =
     let y = (t.each (length xs) h).ready in
     y.fresh (subst (λ (d : List ℕ). Contains d (get_or ys (length xs) 0)) z (s.whole (get_or ys (length xs) 0) y.reached))
 
+-- each turn of a numbering is decided by those before it, so that there is one at most
 pub one_numbering : (g : List (List ℕ)) (start : ℕ) (xs ys : List ℕ) → IsNumbering g start xs → IsNumbering g start ys → xs ≡ ys
 one_numbering g start xs ys s t = elim (cases_order (length xs) (length ys)) [
   | inl e ↦ sym (take_all (length xs) xs (omega arith)) ∙ same_prefix g start xs ys s t (length xs) (omega arith) (omega arith)

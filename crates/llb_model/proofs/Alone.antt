@@ -58,6 +58,7 @@ chosen_claim : (o : Option ℕ) (e : Event) → option_map {U = Event} (λ v. Cl
 chosen_claim None e is = absurd cc
 chosen_claim (Some v) e is = (v, refl, sym (inside is))
 
+-- a chosen event is the next one of a running worker, or worker 0 claims the least Ready vertex while none runs
 pub chosen_is : (b : Build) (s : State) (e : Event) → chosen b s ≡ Some e → IsNextOf b s e ⊎ ((v : ℕ) × (e ≡ Claim 0 v) × IsChosenClaim b s v)
 chosen_is b s e is = by_next (next_of b 0 s.workers) refl is
   where

@@ -56,6 +56,7 @@ places_free ps ns granted p h alone there =
     let key : p.key ≡ m.0.key = ap (λ (q : Place). q.key) m.2 in
     free_by_mode ps m.0.key m.0.key.mode (subst (λ (k : Key). IsExclusive k.mode) key alone) shut (subst (Has ps) m.2 there)
 
+-- needs with different keys are given different instances
 pub places_distinct : (ps : List Place) (ns : List Need) → Distinct (map key_of ns) → Distinct (places_for ps ns)
 places_distinct ps [] apart = tt
 places_distinct ps (n ∷ ns) apart = (λ h. apart.0 (again ns h), places_distinct ps ns apart.1)
@@ -65,10 +66,12 @@ places_distinct ps (n ∷ ns) apart = (λ h. apart.0 (again ns h), places_distin
     again (m ∷ ms) (inl h) = inl (ap (λ (q : Place). q.key) h)
     again (m ∷ ms) (inr h) = inr (again ms h)
 
+-- a claim takes one instance for each need
 pub places_length : (ps : List Place) (ns : List Need) → length (places_for ps ns) ≡ length ns
 places_length ps [] = refl
 places_length ps (n ∷ ns) = ap suc (places_length ps ns)
 
+-- each place has a tree to begin with, where there is a need for each
 pub first_length : (s : Store) (inputs : List TreeMap) (ps : List Place) (ns : List Need) → length ps ≡ length ns
     → length (first_trees s inputs ps ns) ≡ length ps
 first_length s inputs [] ns e = refl
@@ -82,6 +85,7 @@ places_numbered ps (n ∷ ns) = ap (λ qs. place_for ps n ∷ qs) (places_number
 
 -- ---- holders
 
+-- what a running worker has is among the instances that are held
 pub held_has : (ws : List At) (w : ℕ) (x : Execution) (p : Place) → slice_get ws w ≡ Some (Runs x) → Has x.places p → Has (held ws) p
 held_has [] w x p there h = absurd cc
 held_has (Idle ∷ ws) zero x p there h = absurd cc
@@ -91,5 +95,6 @@ held_has (Runs y ∷ ws) zero x p there h =
     has_left y.places (held ws) p (subst (λ (z : Execution). Has z.places p) (sym same) h)
 held_has (Runs y ∷ ws) (suc w) x p there h = has_right y.places (held ws) p (held_has ws w x p there h)
 
+-- an instance that is not among those held is free: no running worker has it
 pub free_from : (ws : List At) (p : Place) → (Has (held ws) p → ⊥) → IsFree ws p
 free_from ws p none w x there h = none (held_has ws w x p there h)

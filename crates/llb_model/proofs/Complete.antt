@@ -31,6 +31,7 @@ is_over b s k = is_settled (slice_get s.statuses k) || is_blocked b s.statuses k
 first_or : (v k : ℕ) → v ≤ k → (v ≡ k) ⊎ (v + 1 ≤ k)
 first_or v k low = elim (cases_eq v k) [ inl h ↦ inl h | inr h ↦ inr (omega arith) ]
 
+-- where all numbers of a range pass the test, each single one does
 pub each_true : (test : ℕ → Bool) (v n : ℕ) → each test v n ≡ true → (k : ℕ) → v ≤ k → k < v + n → test k ≡ true
 each_true test v zero e k low high = absurd (omega arith)
 each_true test v (suc n) e k low high = go (test v) refl e (λ e low. each_true test (v + 1) n e k low (omega arith))
@@ -66,6 +67,7 @@ pub record IsLeast (test : ℕ → Bool) (v n k : ℕ) : Type 0 where
   pub high : k < v + n
   pub below : (j : ℕ) → v ≤ j → j < k → test j ≡ false
 
+-- the number that is found passes, lies in the range, and no number of the range below it passes
 pub least_some : (test : ℕ → Bool) (v n k : ℕ) → least test v n ≡ Some k → IsLeast test v n k
 least_some test v zero k e = absurd cc
 least_some test v (suc n) k e = go (test v) refl e (λ e. least_some test (v + 1) n k e)

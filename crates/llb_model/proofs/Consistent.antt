@@ -18,6 +18,7 @@ use Rattle.llb_model.proofs.Events.{Answer, IsReady, claim_places, claim_is, ste
 use Rattle.llb_model.proofs.Runs.{run_keeps}
 use Rattle.llb_model.proofs.Outcomes.{inputs_mono, ended_count}
 
+-- at first all vertices wait and no worker runs, which is consistent
 pub opening_consistent : (b : Build) (o : Opening) → IsConsistent b (opening b o)
 opening_consistent b o = record {
   count = length-replicate (length b.graph.vertices) Waiting;
@@ -175,5 +176,6 @@ event_consistent b s (Settle w) a here given =
     let c = settle_is b s w a given in
     subst (λ (t : Answer). IsConsistent b t.0) (sym c.gives) (settle_keeps b s here w c.x c.there)
 
+-- from a consistent state any list of granted events leads to a consistent one
 pub run_consistent : (b : Build) (s t : State) (es : List Event) (rs : List Reply) → IsConsistent b s → run b s es ≡ Some (t, rs) → IsConsistent b t
 run_consistent b = run_keeps b (IsConsistent b) (event_consistent b)

@@ -23,6 +23,7 @@ use Rattle.llb_model.proofs.Separate.{stepped_back, settled_back}
 
 -- ---- below the least free one
 
+-- a place that the test finds is one of the list
 pub in_has : (ps : List Place) (p : Place) → is_in ps p ≡ true → Has ps p
 in_has [] p e = absurd cc
 in_has (q ∷ ps) p e = go (eq_by_cmp place_cmp p q) refl e (in_has ps p)
@@ -46,6 +47,7 @@ below_free ps k n (suc tries) m le lt = go (is_in ps (place k n)) refl lt (below
     ]
     go false is lt rest = absurd (omega (arith, le, lt))
 
+-- all instances of a key below the one that a claim takes are held
 pub below_number : (ps : List Place) (k : Key) (mode : Mode) (m : ℕ) → m < number_for ps k mode → Has ps (place k m)
 below_number ps k Shared m lt = absurd (omega (arith, lt))
 below_number ps k Locked m lt = absurd (omega (arith, lt))
@@ -179,9 +181,11 @@ event_filled b s (Settle w) a f given =
 opening_filled : (b : Build) (o : Opening) → IsDense o.store → IsFilled (opening b o)
 opening_filled b o dense = record { dense = dense; there = λ w x p there. absurd (let h : Runs x ≡ Idle = got_replicate o.workers Idle w (Runs x) there in cc) }
 
+-- each instance that a claim takes is there or comes next, so caches without gaps have none after any run
 pub stays_dense : (b : Build) → StaysDense b
 stays_dense b o es rs s dense given = let f = run_keeps b IsFilled (event_filled b) (opening b o) s es rs (opening_filled b o dense) given in f.dense
 
+-- below the instance that a claim takes each has a running worker, so none of them is free
 pub claims_least : (b : Build) → ClaimsLeast b
 claims_least b s t w v vertex job at given p h n lt free =
     let c = claim_is b s w v (t, Claimed job) given in

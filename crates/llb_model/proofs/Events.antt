@@ -51,6 +51,7 @@ pub record IsSettle (b : Build) (s : State) (w : ℕ) (a : Answer) : Type 0 wher
 
 -- ---- Ready
 
+-- what a Ready vertex begins with shows that it waits, is one of the graph's, and has the trees of all its inputs
 pub ready_is : (b : Build) (statuses : List Status) (v : ℕ) (start : Start) → ready b statuses v ≡ Some start → IsReady b statuses v start
 ready_is b statuses v start e = by_status (slice_get statuses v) refl (slice_get b.graph.vertices v) refl e
   where
@@ -70,6 +71,7 @@ ready_is b statuses v start e = by_status (slice_get statuses v) refl (slice_get
     by_status (Some (Running w)) waits u there e = absurd cc
     by_status (Some (Settled x)) waits u there e = absurd cc
 
+-- and back: a vertex that waits and has the trees of all its inputs is Ready, and begins with just these
 pub ready_as : (b : Build) (statuses : List Status) (v : ℕ) (start : Start) → IsReady b statuses v start → ready b statuses v ≡ Some start
 ready_as b statuses v start r =
     ap (λ o. start_from statuses o (slice_get b.graph.vertices v)) r.waits ∙ ap (start_from statuses (Some Waiting)) r.there
@@ -87,6 +89,7 @@ granted_ok : {E : Type 0} (r : Result Answer E) (a : Answer) → result_ok r ≡
 granted_ok (Ok x) a e = ap (λ y. Ok y) (inside e)
 granted_ok (Err f) a e = absurd cc
 
+-- what a granted claim shows: the worker is idle, the vertex Ready, no locked key of it is held, and what the claim gives
 pub claim_is : (b : Build) (s : State) (w v : ℕ) (a : Answer) → table b s (Claim w v) ≡ Some a → IsClaim b s w v a
 unfolding table
 claim_is b s w v a e =
@@ -111,6 +114,7 @@ claim_is b s w v a e =
     by_worker (Some Idle) is (Some vertex) there e =
         by_ready is (start_from s.statuses (slice_get s.statuses v) (Some vertex)) (ap (start_from s.statuses (slice_get s.statuses v)) there) e
 
+-- what a granted step shows: the worker runs something that has a next micro-step, and what the step gives
 pub step_is : (b : Build) (s : State) (w : ℕ) (a : Answer) → table b s (Step w) ≡ Some a → IsStep b s w a
 unfolding table
 step_is b s w a e = by_worker (slice_get s.workers w) refl (granted_ok (stepped b s w (slice_get s.workers w)) a e)
@@ -128,6 +132,7 @@ step_is b s w a e = by_worker (slice_get s.workers w) refl (granted_ok (stepped 
 settle_if : Build → State → ℕ → Execution → Bool → Result Answer SettleCause
 settle_if b s w x fin = cond fin (Ok (settle_with s w x.vertex (ending_from (program_in b x) x))) (Err NotFinished)
 
+-- what a granted settle shows: the worker runs something that is finished, and what the settle gives
 pub settle_is : (b : Build) (s : State) (w : ℕ) (a : Answer) → table b s (Settle w) ≡ Some a → IsSettle b s w a
 unfolding table settle_if
 settle_is b s w a e = by_worker (slice_get s.workers w) refl (granted_ok (settled b s w (slice_get s.workers w)) a e)
@@ -155,6 +160,7 @@ workers_stay b s (Settle w) a given = let c = settle_is b s w a given in ap (λ 
 
 -- ---- where it is granted
 
+-- an idle worker's claim of a Ready vertex is granted, where no locked key of the vertex is held
 pub claim_granted : (b : Build) (s : State) (w v : ℕ) (start : Start) → slice_get s.workers w ≡ Some Idle → IsReady b s.statuses v start
     → held_key (held s.workers) (needs_of start.vertex) ≡ None → table b s (Claim w v) ≡ Some (claim_at b s w v start (claim_places s start))
 unfolding table
@@ -165,12 +171,14 @@ claim_granted b s w v start idle r unheld =
     ∙ ready_as b s.statuses v start r)
     ∙ ap (λ o. result_ok (claim_unless b s w v start o)) unheld
 
+-- the step of a worker that has a next micro-step is granted
 pub step_granted : (b : Build) (s : State) (w : ℕ) (x : Execution) (m : MicroStep) → slice_get s.workers w ≡ Some (Runs x)
     → next_step (program_in b x).steps x ≡ Some m
     → table b s (Step w) ≡ Some (step_by s w x m (step_on x.done (Some m) (work_of s x)))
 unfolding table
 step_granted b s w x m there next = ap (λ o. result_ok (stepped b s w o)) there ∙ ap (λ o. result_ok (step_with s w x o)) next
 
+-- the settle of a worker that is finished is granted
 pub settle_granted : (b : Build) (s : State) (w : ℕ) (x : Execution) → slice_get s.workers w ≡ Some (Runs x) → is_finished (program_in b x).steps x ≡ true
     → table b s (Settle w) ≡ Some (settle_with s w x.vertex (ending_from (program_in b x) x))
 unfolding table settle_if

@@ -78,6 +78,7 @@ shown all (r ∷ rows) k n = go (same_key k r.0) refl (λ m. shown all rows k m)
     go false is rest =
         other_key (store_from all rows) r.0 k 0 n (trees_of all r.0) (λ e. let both : true ≡ false = sym (key_itself k) ∙ ap (same_key k) e ∙ is in cc) ∙ rest n
 
+-- the store that rows stand for has at each place the instance of that number, and nothing where no row has the key
 pub shows_instances : (rows : List Row) → ShowsInstances rows
 unfolding store_of has_row
 shows_instances rows p = shown rows rows p.key p.number ∙ go (lookup (same_key p.key) rows)

@@ -35,6 +35,7 @@ put_all_again s ps ts us apart count = same_store (put_all (put_all s ps ts) ps 
   | inr h ↦ kept_all (put_all s ps ts) ps us q h ∙ kept_all s ps ts q h ∙ sym (kept_all s ps us q h)
 ])
 
+-- of two writes at one number the last is what counts
 pub set_set : {A : Type 0} (xs : List A) (i : ℕ) (x y : A) → slice_set (slice_set xs i x) i y ≡ slice_set xs i y
 set_set [] i x y = refl
 set_set (a ∷ xs) zero x y = refl

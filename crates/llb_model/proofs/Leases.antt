@@ -86,6 +86,7 @@ module _ (out : Leases) (workers : List At) (same : HoldsAs out workers) where
   place_same : AreApart out → (k : Key) → cache.place_for out k ≡ place k (number_for (held workers) k k.mode)
   place_same apart k = ap (place k) (number_same apart k k.mode)
 
+-- a lease is refused for the same locked key as a claim: the first among the needs whose instance is held
 pub refuses_alike : (out : Leases) (workers : List At) → RefusesAlike out workers
 refuses_alike out workers inputs [] same = refl
 refuses_alike out workers inputs (n ∷ needs) same = go (is_shut (held workers) n.key n.key.mode)
@@ -108,6 +109,7 @@ refuses_alike out workers inputs (n ∷ needs) same = go (is_shut (held workers)
         by_test true rest = refl
         by_test false rest = rest
 
+-- a lease takes the instances that a claim takes, by one rule of the least number that nobody has
 pub takes_alike : (out : Leases) (workers : List At) → TakesAlike out workers
 takes_alike out workers inputs [] same apart = refl
 takes_alike out workers inputs (n ∷ needs) same apart =
@@ -144,6 +146,7 @@ all_made rows inputs (p ∷ ps) (n ∷ needs) apart reached count =
     ∙ ap (λ s. put_all s ps (first_trees s inputs ps needs)) one
     ∙ ap (put_all (put (store_of rows) p u) ps) (first_same (store_of rows) p u inputs ps needs apart.0)
 
+-- the instances that a lease makes, and the trees that they begin with, are those of a claim
 pub makes_alike : (rows : List Row) (out : Leases) (workers : List At) → MakesAlike rows out workers
 makes_alike rows out workers inputs needs same apart there differ =
     ap (λ ts. store_of (made_all rows ts)) (taken_paired out workers inputs needs same apart)
@@ -160,6 +163,7 @@ makes_alike rows out workers inputs needs same apart there differ =
     count [] = refl
     count (n ∷ needs) = ap suc (count needs)
 
+-- trees that are written one by one to instances of rows are written to the same places of the store
 pub writes_alike : (rows : List Row) → WritesAlike rows
 writes_alike rows [] ts within = refl
 writes_alike rows (p ∷ ps) [] within = refl

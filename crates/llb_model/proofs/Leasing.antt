@@ -116,6 +116,7 @@ module _ (out : Leases) (workers : List At) (ls : List (Option ℕ)) (are : AreL
       let r = are.runs u (free_lease out) at in
       free_apart out (free_lease out) r.0.places (leased_at u (free_lease out) r.0 at r.1) refl
 
+-- where each running worker has its own lease, an instance is held by a lease exactly where a running worker has it
 pub leased_holds_as : LeasedHoldsAs
 leased_holds_as out workers ls are = record {
   leased = λ p h.
@@ -135,6 +136,7 @@ leased_holds_as out workers ls are = record {
     places_same : (l : ℕ) (ps qs : List Place) → cache.Has out l ps → cache.Has out l qs → ps ≡ qs
     places_same l ps qs at here = let both : ◌≡◌ {A = Option (Option (List Place))} (Some (Some ps)) (Some (Some qs)) = sym at ∙ here in cc
 
+-- an idle worker that takes instances has a new lease of them, whose number no other worker has
 pub claim_leases : ClaimLeases
 claim_leases out workers ls w z are idle = record {
   count = length_set ls w (Some l) ∙ are.count ∙ sym (length_set workers w (Runs z));
@@ -191,6 +193,7 @@ without ls w u k at = elim (got_set ls w None u (Some k) at) [
   | inr h ↦ h
 ]
 
+-- an idle worker that takes no instances needs no lease
 pub claim_without : ClaimWithout
 claim_without out workers ls w z are idle none = record {
   count = length_set ls w None ∙ are.count ∙ sym (length_set workers w (Runs z));
@@ -217,6 +220,7 @@ claim_without out workers ls w z are idle none = record {
     there : slice_get (slice_set ls w None) w ≡ Some None
     there = let old = get_within ls w (omega (arith, are.count, got_within workers w Idle idle)) in get_set_same ls w None old.0 old.1
 
+-- a worker that goes on with the same instances goes on with the same lease
 pub step_keeps_lease : StepKeepsLease
 step_keeps_lease out workers ls w x z are at_w places = record {
   count = are.count ∙ sym (length_set workers w (Runs z));
@@ -238,6 +242,7 @@ step_keeps_lease out workers ls w x z are at_w places = record {
   whose = are.whose;
 }
 
+-- the lease that a worker gives back was its own, so the others keep theirs
 pub settle_gives_back : SettleGivesBack
 settle_gives_back out workers ls w l are at_w = record {
   count = length_set ls w None ∙ are.count ∙ sym (length_set workers w Idle);
@@ -267,6 +272,7 @@ settle_gives_back out workers ls w l are at_w = record {
       (old.0, get_set_other ls w None old.0 (λ same. b.0 (same_lease (sym old.1 ∙ ap (slice_get ls) same ∙ at_w))) ∙ old.1);
 }
 
+-- a worker without a lease leaves all leases as they are when it settles
 pub settle_without : SettleWithout
 settle_without out workers ls w are at_w = record {
   count = length_set ls w None ∙ are.count ∙ sym (length_set workers w Idle);

@@ -156,6 +156,7 @@ inputs_indexed vertices v has i input there =
           (has.each i input e.0 within)).index,
     )
 
+-- the loader refuses mounts with equal keys, so no vertex of a graph needs one key twice
 pub graph_distinct : (b : model.Build) → IsGraph b.graph → HasDistinctNeeds b
 graph_distinct b graph k v there =
     by_kind v.op.kind (whole.valid)

@@ -24,6 +24,7 @@ use Rattle.llb_model.proofs.Separate.{alone, alone_free, reached_separate, held_
 
 -- ---- what stays
 
+-- another worker's event writes only what it has or takes, so what a running worker has alone stays as it is
 pub others_keep : (b : Build) → OthersKeep b
 unfolding alone
 others_keep b s t (Claim u v) r reached given w x p there has exclusive other =
@@ -42,6 +43,7 @@ others_keep b s t (Settle u) r reached given w x p there has exclusive other =
 
 -- ---- what is not looked at
 
+-- what a claim begins with does not depend on what stands at a place that it does not take
 pub first_same : (s : Store) (p : Place) (t : TreeMap) (inputs : List TreeMap) (ps : List Place) (ns : List Need) → (Has ps p → ⊥)
     → first_trees (put s p t) inputs ps ns ≡ first_trees s inputs ps ns
 first_same s p t inputs [] ns apart = refl
@@ -125,6 +127,7 @@ settle_ignores b s u p t = go (slice_get s.workers u)
     go (Some Idle) = refl
     go (Some (Runs x)) = by_test x (is_finished (program_in b x).steps x)
 
+-- another worker's event does not look at what a running worker has alone: reply and effect are the same with any tree there
 pub others_ignore : (b : Build) → OthersIgnore b
 unfolding Ignored alone
 others_ignore b s (Claim u v) t reached w x p there has exclusive other =
@@ -182,6 +185,7 @@ reached_first b s r =
     run_keeps b (λ (t : State). IsFirst t.workers) (event_first b) (opening b r.opened) s r.events r.replies
     (record { first = λ w x p there. absurd (let h : Runs x ≡ Idle = got_replicate r.opened.workers Idle w (Runs x) there in cc) }) r.leads
 
+-- a locked key has instance 0 only, so two workers that have the key have one instance, and are one worker
 pub locked_once : (b : Build) → IsLockedOnce b
 locked_once b s reached w u x y p q there here has_x has_y key locked =
     let f = reached_first b s reached in

@@ -72,6 +72,7 @@ inputs_none f [] h = absurd h
 inputs_none f (d ∷ edges) (inl h) = ap (λ o. both o (all_there (map (λ (e : Edge). output_in (f e.vertex) e.index) edges))) h
 inputs_none f (d ∷ edges) (inr h) = ap (both (output_in (f d.vertex) d.index)) (inputs_none f edges h) ∙ both_none (output_in (f d.vertex) d.index)
 
+-- and back: where the trees of the inputs are not all there, some input has none
 pub none_in_inputs : (f : ℕ → Option Ending) (edges : List Edge) → inputs_from f edges ≡ None
     → Some_of (λ (e : Edge). output_in (f e.vertex) e.index ≡ None) edges
 unfolding inputs_from
@@ -119,6 +120,7 @@ edge_there g f counts k fits e leads =
         let t = get_within trees e.index (omega (arith, size, index)) in
         ap is_some t.1
 
+-- what is done has all its outputs, so the trees of the inputs are there exactly where each vertex that they come from is done
 pub inputs_there : (g : Numbered) (f : ℕ → Option Ending) → HasOutputs g f → (k : ℕ) → k ≤ length g.vertices → (edges : List Edge)
     → Each_of (LeadsBelow g.vertices k) edges
     → is_some (inputs_from f edges) ≡ list_all (λ (e : Edge). is_done (f e.vertex)) edges
@@ -151,6 +153,7 @@ mounts_need inputs i (m ∷ ms) none = by_test (has_type cache m) refl none (mou
     by_test false is none rest =
         ap (λ t. with_need i m (key_by (seed_of inputs m.input) (cond t m.cache_opt None)) (needs_from inputs (i + 1) ms)) is ∙ rest none
 
+-- a vertex of which no mount shows a cache takes no instances
 pub no_needs : (v : Vertex) → has_cache v ≡ false → needs_of v ≡ []
 no_needs v none = mounts_need v.op.inputs 0 (kind_mounts v.op.kind) none
 
@@ -232,6 +235,7 @@ outputs_count : (p : Program) (view : View) → length (outputs_of p view) ≡ p
 unfolding outputs_of
 outputs_count p view = length-map-range_with_len (output_from p view) 0 p.outputs
 
+-- what ends done has as many trees as its program has outputs
 pub ended_count : (p : Program) (view : View) (fault : Option VertexFault) (trees : List TreeMap) → ended p view fault ≡ Done trees → length trees ≡ p.outputs
 ended_count p view None trees e = let same : outputs_of p view ≡ trees = cc in ap length (sym same) ∙ outputs_count p view
 ended_count p view (Some f) trees e = absurd cc

@@ -75,6 +75,7 @@ none_done : (a b : Bool) → (a || b) ≡ false → b ≡ false
 none_done true b e = absurd cc
 none_done false b e = e
 
+-- a next micro-step is the one after those done, of an execution that is not finished and has no fault
 pub next_step_is : (steps : List MicroStep) (x : Execution) (m : MicroStep) → next_step steps x ≡ Some m → IsNextStep steps x m
 next_step_is steps x m e = by_test (is_finished steps x) refl e
   where
@@ -86,6 +87,7 @@ next_step_is steps x m e = by_test (is_finished steps x) refl e
 pub finished_none : (steps : List MicroStep) (x : Execution) → is_finished steps x ≡ true → next_step steps x ≡ None
 finished_none steps x e = ap (λ b. cond b None (slice_get steps x.done)) e
 
+-- what is not finished has a next micro-step
 pub unfinished_some : (steps : List MicroStep) (x : Execution) → is_finished steps x ≡ false → (m : MicroStep) × (next_step steps x ≡ Some m)
 unfinished_some steps x e =
     let lt : x.done < length steps = leb-false _ _ (none_done (is_some x.fault) (nat_le (length steps) x.done) e) in
@@ -117,6 +119,7 @@ own_keeps : (work : Work) (r : Result View VertexFault) → length (tried work (
 own_keeps work (Ok view) = refl
 own_keeps work (Err f) = refl
 
+-- a micro-step, done or faulted, leaves as many trees of instances
 pub step_keeps : (k : ℕ) (m : Option MicroStep) (work : Work) → length (step_on k m work).work.trees ≡ length work.trees
 unfolding micro_step
 step_keeps k None work = refl
@@ -125,6 +128,7 @@ step_keeps k (Some (Act action)) work = own_keeps work (act_on k action work.own
 step_keeps k (Some (LayInput i)) work = refl
 step_keeps k (Some (Run setting command)) work = command_keeps k setting command work work.own
 
+-- and as many trees stay where a fault before it lets nothing be done
 pub go_keeps : (steps : List MicroStep) (k : ℕ) (left : Left) → length (go_on steps k left).work.trees ≡ length left.work.trees
 go_keeps steps k left = by_fault left.fault
   where
@@ -132,6 +136,7 @@ go_keeps steps k left = by_fault left.fault
     by_fault None = step_keeps k (slice_get steps k) left.work
     by_fault (Some f) = refl
 
+-- the first k micro-steps leave as many trees of instances as they began with
 pub part_keeps : (steps : List MicroStep) (work : Work) (k : ℕ) → length (part steps work k).work.trees ≡ length work.trees
 unfolding part
 part_keeps steps work zero = refl

@@ -19,6 +19,7 @@ use Rattle.llb_model.proofs.Events.{Answer, IsReady, IsStep, IsSettle, claim_pla
 use Rattle.llb_model.proofs.Runs.{run_keeps}
 use Rattle.llb_model.proofs.Outcomes.{inputs_mono, plain, outcome_is, plain_needs, plain_inputs}
 
+-- at first nothing runs and nothing has ended, so nothing is other than its plain outcome
 pub opening_plain : (b : Build) (o : Opening) → StandsByOutcomes b (opening b o)
 opening_plain b o = record {
   settled = λ v e is there. absurd (let h : Settled e ≡ Waiting = got_replicate (length b.graph.vertices) Waiting v (Settled e) there in cc);
@@ -144,6 +145,7 @@ event_plain b graph s (Settle w) a stands given =
       working = λ u x is there. elim (got_set s.workers w Idle u (Runs x) there) [ inl h ↦ absurd (cc (h.1)) | inr h ↦ stands.working u x is h.1 ];
     })
 
+-- what stands by the plain outcomes still does after any list of granted events
 pub run_plain : (b : Build) → IsGraph b.graph → (s t : State) (es : List Event) (rs : List Reply) → StandsByOutcomes b s
     → run b s es ≡ Some (t, rs) → StandsByOutcomes b t
 run_plain b graph = run_keeps b (StandsByOutcomes b) (event_plain b graph)

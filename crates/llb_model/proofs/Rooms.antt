@@ -58,6 +58,7 @@ come_open (y ∷ vs) = omega (arith, come_open vs, sum_by-cons events_of y vs)
 pub opening_room : (b : Build) (o : Opening) → still_to_come b (opening b o) ≡ most_events b
 opening_room b o = omega (arith, come_open b.graph.vertices, left_none b o.workers)
 
+-- after a granted event at least one event fewer is still to come
 pub event_room : (b : Build) (s : State) (e : Event) (a : Answer) → table b s e ≡ Some a → still_to_come b a.0 + 1 ≤ still_to_come b s
 event_room b s (Claim w v) a given =
     let c = claim_is b s w v a given in

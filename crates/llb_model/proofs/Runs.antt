@@ -41,10 +41,12 @@ unfolding run
 run_append b s [] ys = behind_none (run b s ys)
 run_append b s (x ∷ xs) ys = (λ i. after (table b s x) (λ t. run_append b t xs ys i)) ∙ after_joined (table b s x) (λ t. run b t xs) (λ t. run b t ys)
 
+-- a granted event is a run of that event alone
 pub run_one : (b : Build) (s t : State) (e : Event) (r : Reply) → table b s e ≡ Some (t, r) → run b s (e ∷ []) ≡ Some (t, r ∷ [])
 unfolding run
 run_one b s t e r granted = ap (λ o. after o (λ t. run b t [])) granted
 
+-- a run, and another from the state that it leads to, are one run with the replies of both
 pub run_on : (b : Build) (s t u : State) (xs ys : List Event) (rs qs : List Reply) → run b s xs ≡ Some (t, rs) → run b t ys ≡ Some (u, qs)
     → run b s (xs ++ ys) ≡ Some (u, rs ++ qs)
 run_on b s t u xs ys rs qs first later =
@@ -64,10 +66,12 @@ pub record IsFirstOf (b : Build) (s : State) (e : Event) (es : List Event) (t : 
   pub goes_on : run b a.0 es ≡ Some (t, rest)
   pub replies : rs ≡ a.1 ∷ rest
 
+-- a run of no events stays in its state and has no reply
 pub run_none : (b : Build) (s t : State) (rs : List Reply) → run b s [] ≡ Some (t, rs) → (s ≡ t) × (rs ≡ [])
 unfolding run
 run_none b s t rs e = let same : ◌≡◌ {A = State × List Reply} (s, []) (t, rs) = inside e in (ap (λ x. x.0) same, sym (ap (λ x. x.1) same))
 
+-- a run begins with its first event, which is granted, and goes on from there with the rest
 pub run_first : (b : Build) (s : State) (e : Event) (es : List Event) (t : State) (rs : List Reply) → run b s (e ∷ es) ≡ Some (t, rs) → IsFirstOf b s e es t rs
 unfolding run
 run_first b s e es t rs given = go (table b s e) refl given

@@ -22,6 +22,7 @@ alone p = IsExclusive p.key.mode
 abbrev some_at : At → Option At
 some_at a = Some a
 
+-- idle workers have no places, so no two of them have one
 pub opening_separate : (E : Place → Type 0) (n : ℕ) → IsSeparate E (replicate n Idle)
 opening_separate E n = record { once = λ w u x y p there. absurd (let h : Runs x ≡ Idle = got_replicate n Idle w (Runs x) there in cc) }
 
@@ -55,6 +56,7 @@ fewer_separate E ws vs back sep = record {
       sep.once a b m.0 n.0 p m.1 n.1 (subst (λ ps. Has ps p) (sym m.2) has_a) (subst (λ ps. Has ps p) (sym n.2) has_b) counts;
 }
 
+-- what runs after a step of a worker ran before it, on the same places
 pub stepped_back : (ws : List At) (w : ℕ) (x : Execution) (left : Left) → slice_get ws w ≡ Some (Runs x)
     → (u : ℕ) (y : Execution) → slice_get (slice_set ws w (Runs (with_step x left))) u ≡ Some (Runs y)
     → (z : Execution) × (slice_get ws u ≡ Some (Runs z)) × (z.places ≡ y.places)
@@ -68,6 +70,7 @@ stepped_back ws w x left there u y at_u = elim (got_set ws w (Runs (with_step x 
     inside : {a b : Execution} → Runs a ≡ Runs b → a ≡ b
     inside e = cc
 
+-- what runs after a settle of a worker ran before it, on the same places
 pub settled_back : (ws : List At) (w u : ℕ) (y : Execution) → slice_get (slice_set ws w Idle) u ≡ Some (Runs y)
     → (z : Execution) × (slice_get ws u ≡ Some (Runs z)) × (z.places ≡ y.places)
 settled_back ws w u y at_u = elim (got_set ws w Idle u (Runs y) at_u) [ inl h ↦ absurd (cc (h.1)) | inr h ↦ (y, h.1, refl) ]
@@ -105,12 +108,14 @@ takes_alone b s a (Claim w v) = alone_free b s w v a
 takes_alone b s a (Step w) = tt
 takes_alone b s a (Settle w) = tt
 
+-- wherever granted events lead, no two running workers have one instance of a private or a locked key
 pub reached_separate : (b : Build) (s : State) → IsReached b s → IsSeparate alone s.workers
 reached_separate b s r =
     run_keeps b (λ (t : State). IsSeparate alone t.workers)
     (λ t e a sep given. event_separate alone b t e a sep (takes_alone b t a e) given)
     (opening b r.opened) s r.events r.replies (opening_separate alone r.opened.workers) r.leads
 
+-- two running workers with one such instance are one worker, as the law says it
 pub held_once : (b : Build) → IsHeldOnce b
 unfolding alone
 held_once b s reached w u x y p there here has_x has_y exclusive = (reached_separate b s reached).once w u x y p there here has_x has_y exclusive

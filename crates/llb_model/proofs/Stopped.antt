@@ -28,6 +28,7 @@ pub stopped_next : (b : Build) (statuses : List Status) (k : ℕ) (v : Vertex) �
     → slice_get (stopped b statuses) k ≡ Some (next_stopped statuses (take k (stopped b statuses)) v)
 stopped_next b statuses k v there = by_number_is (next_stopped statuses) b.graph.vertices k v there
 
+-- there is one mark for each vertex of the graph
 pub stopped_length : (b : Build) (statuses : List Status) → length (stopped b statuses) ≡ length b.graph.vertices
 stopped_length b statuses = by_number_length (next_stopped statuses) b.graph.vertices
 
@@ -43,6 +44,7 @@ stopped_there b statuses k e = subst (λ n. k < n) (stopped_length b statuses) (
 abbrev pub any_stopped : Build → List Status → List Edge → Bool
 any_stopped b statuses edges = list_any (λ (e : Edge). is_stopped b statuses e.vertex) edges
 
+-- a vertex is stopped exactly where it has failed itself or an edge of it leads to a stopped one
 pub stopped_is : (b : Build) → IsGraph b.graph → (statuses : List Status) (k : ℕ) (v : Vertex) → slice_get b.graph.vertices k ≡ Some v
     → is_stopped b statuses k ≡ (is_failed (ending_at statuses k) || any_stopped b statuses v.inputs)
 stopped_is b graph statuses k v there =

@@ -59,12 +59,14 @@ place_total = on_total name_of (lists_total nat_list_cmp_total)
 place_antisymmetric : IsAntisymmetric place_cmp
 place_antisymmetric p q e = place_same p q (slice_cmp-IsAntisymmetric (slice_cmp-IsAntisymmetric nat_cmp-IsAntisymmetric) (name_of p) (name_of q) e)
 
+-- places that compare as equal are the same place
 pub place_test : (p q : Place) → eq_by_cmp place_cmp p q ≡ true → p ≡ q
 place_test p q e = place_antisymmetric p q ((Equal-is (place_cmp p q)).0 e)
 
 pub place_itself : (p : Place) → eq_by_cmp place_cmp p p ≡ true
 place_itself p = (eq_by_cmp_equiv place_total).refl p
 
+-- of any two places it can be told whether they are the same
 pub place_or : (p q : Place) → (p ≡ q) ⊎ (p ≢ q)
 place_or p q = go (eq_by_cmp place_cmp p q) refl
   where
@@ -81,14 +83,17 @@ place_apart p q apart = go (eq_by_cmp place_cmp p q) refl
 
 -- ---- one write
 
+-- the tree that is written stands at its place
 pub content_same : (s : Store) (p : Place) (t : TreeMap) → content (put s p t) p ≡ Some t
 unfolding content put
 content_same s p t = finite.get-insert place_total s p t p ∙ ap (λ b. cond b (Some t) (finite.get s p)) (place_itself p)
 
+-- a write leaves what stands at every other place
 pub content_other : (s : Store) (p : Place) (t : TreeMap) (q : Place) → q ≢ p → content (put s p t) q ≡ content s q
 unfolding content put
 content_other s p t q apart = finite.get-insert place_total s p t q ∙ ap (λ b. cond b (Some t) (finite.get s q)) (place_apart q p apart)
 
+-- stores that have the same at every place are the same store
 pub same_store : (a b : Store) → ((p : Place) → content a p ≡ content b p) → a ≡ b
 unfolding content
 same_store a b same = finite.same_map place_total place_antisymmetric a b same
@@ -109,6 +114,7 @@ put_put s p q t u apart = same_store (put (put s p t) q u) (put (put s q u) p t)
 
 -- ---- membership
 
+-- of any place it can be told whether it is in a list
 pub has_or : (ps : List Place) (p : Place) → Has ps p ⊎ (Has ps p → ⊥)
 has_or [] p = inr (λ h. h)
 has_or (q ∷ ps) p = elim (place_or p q) [
@@ -119,6 +125,7 @@ has_or (q ∷ ps) p = elim (place_or p q) [
   ]
 ]
 
+-- the test finds each place of a list
 pub has_in : (ps : List Place) (p : Place) → Has ps p → is_in ps p ≡ true
 has_in [] p h = absurd h
 has_in (q ∷ ps) p (inl h) = ap (λ b. b || is_in ps p) (ap (eq_by_cmp place_cmp p) (sym h) ∙ place_itself p)
@@ -128,15 +135,18 @@ has_in (q ∷ ps) p (inr h) = go (eq_by_cmp place_cmp p q) (is_in ps p) (has_in 
     go true b e = refl
     go false b e = e
 
+-- what is in a list is in it with more after it
 pub has_left : {A : Type 0} (xs ys : List A) (x : A) → Has xs x → Has (xs ++ ys) x
 has_left [] ys x h = absurd h
 has_left (a ∷ xs) ys x (inl h) = inl h
 has_left (a ∷ xs) ys x (inr h) = inr (has_left xs ys x h)
 
+-- what is in a list is in it with more before it
 pub has_right : {A : Type 0} (xs ys : List A) (x : A) → Has ys x → Has (xs ++ ys) x
 has_right [] ys x h = h
 has_right (a ∷ xs) ys x h = inr (has_right xs ys x h)
 
+-- what is in a list of results is the result of some item
 pub has_map : {A B : Type 0} (f : A → B) (xs : List A) (y : B) → Has (map f xs) y → (x : A) × Has xs x × (y ≡ f x)
 has_map f [] y h = absurd h
 has_map f (x ∷ xs) y (inl h) = (x, inl refl, h)
@@ -149,17 +159,20 @@ mapped_has f (a ∷ xs) x (inr h) = inr (mapped_has f xs x h)
 
 -- ---- writes at several places
 
+-- writes at several places leave what stands at any that is not among them
 pub kept_all : (s : Store) (ps : List Place) (ts : List TreeMap) (q : Place) → (Has ps q → ⊥) → content (put_all s ps ts) q ≡ content s q
 kept_all s [] ts q apart = refl
 kept_all s (p ∷ ps) [] q apart = refl
 kept_all s (p ∷ ps) (t ∷ ts) q apart = kept_all (put s p t) ps ts q (λ h. apart (inr h)) ∙ content_other s p t q (λ e. apart (inl e))
 
+-- trees that stand at places stand there in every store that has the same at these places
 pub hold_moved : (s r : Store) (ps : List Place) (ts : List TreeMap) → Hold s ps ts → ((p : Place) → Has ps p → content r p ≡ content s p) → Hold r ps ts
 hold_moved s r [] [] hold same = tt
 hold_moved s r [] (t ∷ ts) hold same = absurd hold
 hold_moved s r (p ∷ ps) [] hold same = absurd hold
 hold_moved s r (p ∷ ps) (t ∷ ts) hold same = (same p (inl refl) ∙ hold.0, hold_moved s r ps ts hold.1 (λ q h. same q (inr h)))
 
+-- after writes at places that differ, each has the tree that was written to it
 pub hold_all : (s : Store) (ps : List Place) (ts : List TreeMap) → Distinct ps → length ts ≡ length ps → Hold (put_all s ps ts) ps ts
 hold_all s [] [] apart len = tt
 hold_all s [] (t ∷ ts) apart len = absurd (omega (arith, len))
@@ -167,6 +180,7 @@ hold_all s (p ∷ ps) [] apart len = absurd (omega (arith, len))
 hold_all s (p ∷ ps) (t ∷ ts) apart len =
     (kept_all (put s p t) ps ts p apart.0 ∙ content_same s p t, hold_all (put s p t) ps ts apart.1 (omega (arith, len)))
 
+-- trees that stand at places are the ones that are read there
 pub hold_trees : (s : Store) (ps : List Place) (ts : List TreeMap) → Hold s ps ts → trees_at s ps ≡ ts
 hold_trees s [] [] hold = refl
 hold_trees s [] (t ∷ ts) hold = absurd hold
@@ -174,18 +188,21 @@ hold_trees s (p ∷ ps) [] hold = absurd hold
 hold_trees s (p ∷ ps) (t ∷ ts) hold =
     ap (λ o. unwrap_or o empty_tree ∷ trees_at s ps) hold.0 ∙ ap (λ us. t ∷ us) (hold_trees s ps ts hold.1)
 
+-- where trees stand at places, there is one for each
 pub hold_length : (s : Store) (ps : List Place) (ts : List TreeMap) → Hold s ps ts → length ts ≡ length ps
 hold_length s [] [] hold = refl
 hold_length s [] (t ∷ ts) hold = absurd hold
 hold_length s (p ∷ ps) [] hold = absurd hold
 hold_length s (p ∷ ps) (t ∷ ts) hold = ap suc (hold_length s ps ts hold.1)
 
+-- two stores in which the same trees stand at places have the same at each of them
 pub hold_same : (s r : Store) (ps : List Place) (ts : List TreeMap) → Hold s ps ts → Hold r ps ts → (p : Place) → Has ps p → content s p ≡ content r p
 hold_same s r [] ts a b p h = absurd h
 hold_same s r (q ∷ ps) [] a b p h = absurd a
 hold_same s r (q ∷ ps) (t ∷ ts) a b p (inl h) = ap (content s) h ∙ a.0 ∙ sym b.0 ∙ ap (content r) (sym h)
 hold_same s r (q ∷ ps) (t ∷ ts) a b p (inr h) = hold_same s r ps ts a.1 b.1 p h
 
+-- a write at a place that is not among others may come after theirs
 pub put_all_put : (s : Store) (p : Place) (t : TreeMap) (ps : List Place) (ts : List TreeMap) → (Has ps p → ⊥)
     → put_all (put s p t) ps ts ≡ put (put_all s ps ts) p t
 put_all_put s p t [] ts apart = refl
@@ -193,6 +210,7 @@ put_all_put s p t (q ∷ ps) [] apart = refl
 put_all_put s p t (q ∷ ps) (u ∷ ts) apart =
     ap (λ r. put_all r ps ts) (put_put s p q t u (λ e. apart (inl e))) ∙ put_all_put (put s q u) p t ps ts (λ h. apart (inr h))
 
+-- stores that have the same at some places show the same trees there
 pub trees_same : (s r : Store) (ps : List Place) → ((p : Place) → Has ps p → content r p ≡ content s p) → trees_at r ps ≡ trees_at s ps
 trees_same s r [] same = refl
 trees_same s r (p ∷ ps) same =

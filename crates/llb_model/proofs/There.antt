@@ -62,6 +62,7 @@ event_there b differ s (Settle w) a f given =
     subst (λ (t : Answer). AreThere t.0) (sym c.gives)
     (record { each = λ u x there. elim (got_set s.workers w Idle u (Runs x) there) [ inl h ↦ absurd (cc (h.1)) | inr h ↦ f.each u x h.1 ] })
 
+-- claims write different instances and steps write them again, so each running worker has a tree in each of its own
 pub held_are_there : (b : Build) → HasDistinctNeeds b → HeldAreThere b
 held_are_there b differ s r w x there =
     let f = run_keeps b AreThere (event_there b differ) (opening b r.opened) s r.events r.replies

@@ -62,6 +62,7 @@ pub record Tracks (b : Build) (s : State) (o : Order) : Type 0 where
 
 -- ---- statuses
 
+-- what has ended in a state has the same ending in the order
 pub agree_settled : (a b : Option Status) (e : Ending) → Agrees a b → a ≡ Some (Settled e) → b ≡ Some (Settled e)
 agree_settled a b e h is = subst (λ (x : Option Status). Agrees x b) is h
 
@@ -376,6 +377,7 @@ settle_stays : (b : Build) (o : Order) (v : ℕ) (e : Ending) → after_reply b 
 settle_stays b o v (Done trees) = refl
 settle_stays b o v (Failed f) = refl
 
+-- an event keeps step with the claim order, where no running worker has what a claim takes
 pub event_tracks : (b : Build) → HasDistinctNeeds b → (s : State) (o : Order) (e : Event) (a : Answer) → Tracks b s o
     → TakesFree any b s a e → table b s e ≡ Some a
     → Tracks b a.0 (after_reply b o a.1)
@@ -406,6 +408,7 @@ event_tracks b differ s o (Settle w) a tracks free given =
     subst (λ (t : Answer). Tracks b t.0 (after_reply b o t.1)) (sym c.gives)
     (subst (Tracks b (after_settle s w c.x.vertex end)) (sym (settle_stays b o c.x.vertex end)) (settle_tracks b s o tracks w c.x c.there c.finished separate))
 
+-- at first all vertices wait in both, and the caches are the same
 pub opening_tracks : (b : Build) (o : Opening) → Tracks b (opening b o) (at_first b o.store)
 opening_tracks b o = record {
   agree = λ v. go v (slice_get (replicate (length b.graph.vertices) Waiting) v) refl;

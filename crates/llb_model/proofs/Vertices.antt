@@ -11,6 +11,7 @@ use Rattle.llb_loader.specs.Graph.{Numbered, IsGraph, IsVertex, IsVertexOf}
 use Rattle.llb_model.specs.Program.{Act, LayInput, Run, setting_of, steps_of, program_of, program_at}
 use Rattle.llb_model.proofs.Lists.{length_map}
 
+-- a vertex keeps the number of micro-steps that its kind and its script give
 pub counted_by : (v : Vertex) (k : Option Kind) → IsVertexOf v k → v.steps ≡ length (steps_of k v.script)
 counted_by v (Some (kind.Source s)) is = is.steps
 counted_by v (Some (kind.File f)) is = is.steps ∙ sym (length_map Act f.actions)
@@ -22,11 +23,13 @@ counted_by v (Some (kind.Build b)) is = absurd is
 counted_by v (Some (kind.Diff d)) is = absurd is
 counted_by v None is = absurd is
 
+-- a vertex of a graph keeps the number of micro-steps of its program
 pub counted : (g : Numbered) (k : ℕ) (v : Vertex) → IsGraph g → slice_get g.vertices k ≡ Some v → v.steps ≡ length (program_of v).steps
 counted g k v graph at =
     counted_by v v.op.kind (subst (λ x. IsVertexOf x x.op.kind) (get_or_from_slice_get g.vertices k v v at)
     (graph.kind k v (slice_get_within g.vertices k v at)))
 
+-- the loader takes no vertex with 2^25 micro-steps or more
 pub few_steps : (g : Numbered) (k : ℕ) (v : Vertex) → IsGraph g → slice_get g.vertices k ≡ Some v → v.steps < 2 ^ 25
 few_steps g k v graph at =
     (subst IsVertex (get_or_from_slice_get g.vertices k v v at) (graph.vertex k v (slice_get_within g.vertices k v at))).few_steps
@@ -39,6 +42,7 @@ program_few (Some v) g k graph at = omega (arith, counted g k v graph at, few_st
 pub few_of : (g : Numbered) (k : ℕ) → IsGraph g → length (program_at (slice_get g.vertices k)).steps < 2 ^ 25
 few_of g k graph = program_few (slice_get g.vertices k) g k graph refl
 
+-- the facts that the loader checked of a vertex, by the kind of its op
 pub kind_at : (g : Numbered) (k : ℕ) (v : Vertex) → IsGraph g → slice_get g.vertices k ≡ Some v → IsVertexOf v v.op.kind
 kind_at g k v graph at =
     subst (λ x. IsVertexOf x x.op.kind) (get_or_from_slice_get g.vertices k v v at) (graph.kind k v (slice_get_within g.vertices k v at))

@@ -31,6 +31,7 @@ past mounts m t (n ∷ ms) [] apart = refl
 past mounts m t (n ∷ ms) (u ∷ ts) apart =
     past (with_tree_of mounts n u) m t ms ts (λ h. apart (inr h)) ∙ ap (λ xs. filled xs ms ts) (swap mounts n m u t (λ e. apart (inl (sym e))))
 
+-- the trees of caches that are taken out of a view and filled in again give the same view, where no mount is named twice
 pub parts_meet : PartsMeet
 parts_meet [] ts mounts apart count = refl
 parts_meet (m ∷ ms) [] mounts apart count = refl
@@ -39,6 +40,7 @@ parts_meet (m ∷ ms) (t ∷ ts) mounts apart count =
     ∙ ap (λ xs. filled (filled xs ms (map (λ t. empty_tree) ts)) ms (taken mounts ms ts)) (again mounts m empty_tree (mount_at mounts m).tree ∙ itself mounts m)
     ∙ parts_meet ms ts mounts apart.1 (omega (arith, count))
 
+-- as many trees of caches are taken out of a view as there were
 pub parts_count : PartsCount
 parts_count ms [] mounts = refl
 parts_count [] (t ∷ ts) mounts = refl

@@ -65,6 +65,7 @@ stands b s o tracks = record {
   contents = tracks.free;
 }
 
+-- where no cache is shared, a claim takes only what is free, so a run keeps step with its claim order
 pub runs_in_claim_order : (b : Build) → HasDistinctNeeds b → NoShared b → RunsInClaimOrder b
 runs_in_claim_order b differ none opened es rs s given =
     stands b s (order b (at_first b opened.store) (claims_in rs))
@@ -102,6 +103,7 @@ rests (Some Waiting) b h nothing = sym h
 rests (Some (Settled e)) b h nothing = sym h
 rests (Some (Running w)) b h nothing = absurd (nothing w refl)
 
+-- one driver claims only while nothing runs, so it leaves at rest what its claim order leaves, shared caches too
 pub alone_in_claim_order : (b : Build) → HasDistinctNeeds b → AloneInClaimOrder b
 alone_in_claim_order b differ opened es rs s given all rest =
     let o = order b (at_first b opened.store) (claims_in rs) in

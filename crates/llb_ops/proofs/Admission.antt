@@ -21,12 +21,14 @@ of_entries : (r : Result (List Record) OpFault) → (r >>= λ rs. entries_fit (p
 of_entries (Ok rs) = refl
 of_entries (Err f) = refl
 
+-- a definition of no more bytes than the limit is the entries in its bytes, where these fit
 pub by_entries : (bytes : List ℕ) → length bytes ≤ definition_limit → definition_of bytes ≡ (entries_in bytes >>= entries_fit)
 unfolding definition_of entries_in
 by_entries bytes fits =
     let short : nat_lt definition_limit (length bytes) ≡ false = le-ltb _ _ fits in
     rw short (of_entries (records_from definition_shape 0 bytes))
 
+-- a definition of more bytes than the limit is refused as over the limit
 pub too_long : (bytes : List ℕ) → definition_limit < length bytes → definition_of bytes ≡ Err OverLimit
 unfolding definition_of
 too_long bytes long = let e : nat_lt definition_limit (length bytes) ≡ true = lt-ltb _ _ long in rw e refl
@@ -35,6 +37,7 @@ err_counted : (r : Result (List (List ℕ)) OpFault) (f : OpFault) → counted r
 err_counted (Ok es) f e = absurd cc
 err_counted (Err g) f e = let h : g ≡ f = cc in ap (λ x. Err x) h
 
+-- a fault that counting the entries meets is the definition's
 pub unreadable : (bytes : List ℕ) (f : OpFault) → length bytes ≤ definition_limit → counted (entries_in bytes) ≡ Err f → definition_of bytes ≡ Err f
 unreadable bytes f fits e = by_entries bytes fits ∙ ap (λ r. r >>= entries_fit) (err_counted (entries_in bytes) f e)
 
@@ -51,6 +54,7 @@ there (Ok es) n s e = (
   same x y e = cc
 there (Err f) n s e = absurd cc
 
+-- where more entries than the limit are counted, the definition is refused as over the limit
 pub too_many : (bytes : List ℕ) (n : ℕ) (s : Bool) → length bytes ≤ definition_limit → counted (entries_in bytes) ≡ Ok (n, s)
     → entries_limit < n → definition_of bytes ≡ Err OverLimit
 too_many bytes n s fits e many =
@@ -62,11 +66,13 @@ fit_cases : (es : List (List ℕ)) (b : Bool) → nat_lt entries_limit (length e
 fit_cases es true e short = rw e refl
 fit_cases es false e short = rw (e, short) refl
 
+-- where an entry that is too long is counted, the definition is refused as over the limit, however many there are
 pub too_big : (bytes : List ℕ) (n : ℕ) → length bytes ≤ definition_limit → counted (entries_in bytes) ≡ Ok (n, false) → definition_of bytes ≡ Err OverLimit
 too_big bytes n fits e =
     let h = there (entries_in bytes) n false e in
     by_entries bytes fits ∙ ap (λ r. r >>= entries_fit) h.1 ∙ fit_cases h.0 (nat_lt entries_limit (length h.0)) refl h.3
 
+-- where the entries that are counted are few enough and none is too long, the definition is admitted
 pub fits : (bytes : List ℕ) (n : ℕ) → length bytes ≤ definition_limit → counted (entries_in bytes) ≡ Ok (n, true) → n ≤ entries_limit
     → admission (definition_of bytes) ≡ Ok tt
 fits bytes n small e few =
@@ -110,6 +116,7 @@ limit_named es e h = by (nat_lt entries_limit (length es)) (are_short es) h wher
   by false true h = absurd cc
   by false false h = let is : OverLimit ≡ e = cc in ap is_memory (sym is)
 
+-- the rule of a definition never gives out of memory
 pub definition_named : (bytes : List ℕ) (e : OpFault) → definition_of bytes ≡ Err e → is_memory e ≡ false
 unfolding definition_of
 definition_named bytes e h = by (nat_lt definition_limit (length bytes)) h where
@@ -125,6 +132,7 @@ err_admitted : (r : Result (List (List ℕ)) OpFault) (f : OpFault) → admissio
 err_admitted (Ok es) f e = absurd cc
 err_admitted (Err g) f e = let h : g ≡ f = cc in ap (λ x. Err x) h
 
+-- the fault that keeps a definition from being admitted is the definition's own
 pub refused : (bytes : List ℕ) (f : OpFault) → admission (definition_of bytes) ≡ Err f → definition_of bytes ≡ Err f
 refused bytes f e = err_admitted (definition_of bytes) f e
 
@@ -135,6 +143,7 @@ fit_same xs es h = by (nat_lt entries_limit (length xs)) (are_short xs) h where
   by false true h = cc
   by false false h = absurd cc
 
+-- bytes that a definition's entries are read of have passed the test of their length
 pub is_short : (bytes : List ℕ) (es : List (List ℕ)) (b : Bool) → nat_lt definition_limit (length bytes) ≡ b → definition_of bytes ≡ Ok es
     → nat_lt definition_limit (length bytes) ≡ false
 unfolding definition_of
@@ -163,6 +172,7 @@ ok_admitted : (r : Result (List (List ℕ)) OpFault) → admission r ≡ Ok tt �
 ok_admitted (Ok es) e = (es, refl)
 ok_admitted (Err f) e = absurd cc
 
+-- a definition that is admitted is the entries in its bytes, so taking them needs no second look at the limits
 pub admitted_is : (bytes : List ℕ) → admission (definition_of bytes) ≡ Ok tt → definition_of bytes ≡ entries_in bytes
 admitted_is bytes e =
     let h = ok_admitted (definition_of bytes) e in

@@ -64,6 +64,7 @@ some_bytes : (bytes : List ℕ) (n : ℕ) → Spells bytes n → 0 < length byte
 some_bytes [] n h = absurd h
 some_bytes (b ∷ bytes) n h = omega arith
 
+-- a record that the grammar spells has one byte or more
 pub some_text : (r : Record) → IsRecord r → 0 < length r.text
 some_text r h = omega (arith, ap length h.text, length-append h.tag h.behind, some_bytes h.tag (8 * r.number + code_of r.wire) h.tagged.spells)
 
@@ -79,10 +80,12 @@ part_of r h =
       again = λ rest. record_kept r rest h;
     }
 
+-- the record that a number of 64 bits is written as is read again, whatever follows its bytes
 pub number_part_is : (n v : ℕ) → 0 < n → n ≤ 536_870_911 → v < 2 ^ 64 → IsPart (number_part n v)
 number_part_is n v some small fits = part_of (number_part n v)
     (written_is_record n wire.Varint v [] (omega (arith, some), small) fits (omega arith) (λ e. absurd cc))
 
+-- the record that bytes are written as, where they are not too many, is read again, whatever follows it
 pub bytes_part_is : (n : ℕ) (bytes : List ℕ) → 0 < n → n ≤ 536_870_911 → length bytes < 2 ^ 64 → IsPart (bytes_part n bytes)
 bytes_part_is n bytes some small fits = part_of (bytes_part n bytes)
     (written_is_record n wire.Len 0 bytes (omega (arith, some), small) (omega arith) fits (λ e. absurd cc))

@@ -93,6 +93,7 @@ found_in bytes es e =
     let rs = bind_ok (records_from definition_shape 0 bytes) (λ rs. Ok (payloads (all 1 rs))) es e in
     (rs.0, rs.1, ok_is (payloads (all 1 rs.0)) es rs.2)
 
+-- the entries that a definition has are those of their canonical bytes
 pub definition_returns : (es : List (List ℕ)) → AreReadAgain es
 definition_returns es bytes are e =
     let few : length bytes ≤ definition_limit = ltb-false definition_limit (length bytes) (is_short bytes es (nat_lt definition_limit (length bytes)) refl e) in

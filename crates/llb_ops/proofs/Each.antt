@@ -30,6 +30,7 @@ first_is : {A : Type 0} (read : List ℕ → Result A OpFault) (n : ℕ) (rs : L
 unfolding each
 first_is read n rs i d lt e = ap (each read) (field_step n rs i d true lt e)
 
+-- where the record at hand is of the field and its message is read, this one goes after the others, and the total stays
 pub goes_on : {A : Type 0} (read : List ℕ → Result A OpFault) (front new : List A) (n : ℕ) (rs : List Held) (i : ℕ) (d : Held) (m : A)
     (total : Result (List A) OpFault) → i < length rs → eqb (get_or rs i d).number n ≡ true → read (get_or rs i d).payload.now ≡ Ok m
     → new ≡ front ++ m ∷ [] → behind front (each read (field_from n rs i)) ≡ total → behind new (each read (field_from n rs (i + 1))) ≡ total
@@ -38,6 +39,7 @@ goes_on read front new n rs i d m total lt is got put so_far =
     ap (λ xs. behind xs (each read (field_from n rs (i + 1)))) put ∙ sym (regroup front m (each read (field_from n rs (i + 1))))
     ∙ ap (behind front) (sym e) ∙ so_far
 
+-- where the record at hand is of another field, the messages so far and the total stay
 pub passes : {A : Type 0} (read : List ℕ → Result A OpFault) (front new : List A) (n : ℕ) (rs : List Held) (i : ℕ) (d : Held)
     (total : Result (List A) OpFault) → i < length rs → eqb (get_or rs i d).number n ≡ false
     → new ≡ front → behind front (each read (field_from n rs i)) ≡ total → behind new (each read (field_from n rs (i + 1))) ≡ total
@@ -51,11 +53,13 @@ err_goes read front n rs i d f total lt is got so_far =
     let e : each read (field_from n rs i) ≡ Err f = first_is read n rs i d lt is ∙ rw got refl in
     sym so_far ∙ ap (behind front) e
 
+-- where the message of the record at hand is refused, so are all
 pub ends : {A : Type 0} (read : List ℕ → Result A OpFault) (e : OpFault) (front : List A) (n : ℕ) (rs : List Held) (i : ℕ) (d : Held)
     (total : Result (List A) OpFault) → i < length rs → eqb (get_or rs i d).number n ≡ true → Fails is_memory e (read (get_or rs i d).payload.now)
     → behind front (each read (field_from n rs i)) ≡ total → Fails is_memory e total
 ends read e front n rs i d total lt is got so_far = λ named. err_goes read front n rs i d e total lt is (got named) so_far
 
+-- where no record is left, the messages so far are the total
 pub is_done : {A : Type 0} (read : List ℕ → Result A OpFault) (front : List A) (n : ℕ) (rs : List Held) (i : ℕ)
     (total : Result (List A) OpFault) → length rs ≤ i → behind front (each read (field_from n rs i)) ≡ total → total ≡ Ok front
 unfolding each

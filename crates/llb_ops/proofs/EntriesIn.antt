@@ -14,6 +14,7 @@ pub in_end : (bytes : List ℕ) → records_from definition_shape 0 bytes ≡ Ok
 unfolding entries_in
 in_end bytes e = rw e refl
 
+-- where the records can't be read, the entries have the same fault
 pub in_err : (bytes : List ℕ) (f : OpFault) → records_from definition_shape 0 bytes ≡ Err f → entries_in bytes ≡ Err f
 unfolding entries_in
 in_err bytes f e = rw e refl
@@ -44,6 +45,7 @@ in_more r bytes after e =
 abbrev pub tallied : ℕ × Bool → Result (List (List ℕ)) OpFault → Result (ℕ × Bool) OpFault
 tallied t read = read >>= λ es. Ok (t.0 + length es, t.1 && are_short es)
 
+-- with nothing counted yet, the tally of what is left is the count of all
 pub tally_begins : (read : Result (List (List ℕ)) OpFault) → tallied (0, true) read ≡ counted read
 tally_begins (Ok es) = ap (λ (n : ℕ). Ok (n, are_short es)) (zero-add (length es))
 tally_begins (Err f) = refl
@@ -71,6 +73,7 @@ more_tallied : (t : ℕ × Bool) (r : Record) (read : Result (List (List ℕ)) O
 more_tallied t r (Ok es) = ap (λ (x : ℕ × Bool). Ok x) (more_entry t r es (eqb r.number 1) refl)
 more_tallied t r (Err f) = refl
 
+-- where a record is read, it is counted if it is an entry, and the total stays
 pub tally_goes_on : (t : ℕ × Bool) (r : Record) (bytes after : List ℕ) (total : Result (ℕ × Bool) OpFault)
     → records_from definition_shape 0 bytes ≡ (records_from definition_shape 0 after >>= λ rs. Ok (r ∷ rs))
     → tallied t (entries_in bytes) ≡ total → tallied (one_more t r) (entries_in after) ≡ total
@@ -88,6 +91,7 @@ tally_small t s r rest after is shorter few =
     let more : s.0 ≤ t.0 + 1 = subst (λ (x : ℕ × Bool). x.0 ≤ t.0 + 1) (sym is) (at_most_one t r (eqb r.number 1) refl) in
     omega (arith, more, shorter, few)
 
+-- where no record is left, what is counted is the total
 pub tally_done : (t : ℕ × Bool) (bytes : List ℕ) (total : Result (ℕ × Bool) OpFault) → records_from definition_shape 0 bytes ≡ Ok []
     → tallied t (entries_in bytes) ≡ total → total ≡ Ok t
 tally_done t bytes total none so_far =
@@ -110,6 +114,7 @@ regrouped : (front : List (List ℕ)) (r : Record) (read : Result (List (List �
 regrouped front r (Ok es) = ap (λ (x : List (List ℕ)). Ok x) (more_gathered front r es (eqb r.number 1) refl)
 regrouped front r (Err f) = refl
 
+-- where a record is read, its payload goes after the others if it is an entry, and the total stays
 pub gather_goes_on : (front new : List (List ℕ)) (r : Record) (bytes after : List ℕ) (total : Result (List (List ℕ)) OpFault)
     → records_from definition_shape 0 bytes ≡ (records_from definition_shape 0 after >>= λ rs. Ok (r ∷ rs))
     → new ≡ cond (eqb r.number 1) (front ++ r.payload ∷ []) front
@@ -118,6 +123,7 @@ gather_goes_on front new r bytes after total more is so_far =
     ap (λ (xs : List (List ℕ)). behind xs (entries_in after)) is
     ∙ sym (regrouped front r (entries_in after)) ∙ ap (behind front) (sym (in_more r bytes after more)) ∙ so_far
 
+-- where no record is left, what is gathered is the total
 pub gather_done : (front : List (List ℕ)) (bytes : List ℕ) (total : Result (List (List ℕ)) OpFault)
     → records_from definition_shape 0 bytes ≡ Ok [] → behind front (entries_in bytes) ≡ total → total ≡ Ok front
 gather_done front bytes total none so_far = sym so_far ∙ ap (behind front) (in_end bytes none) ∙ ap (λ (x : List (List ℕ)). Ok x) (append-nil front)

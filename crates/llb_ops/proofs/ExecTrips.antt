@@ -24,6 +24,7 @@ meta_fields =
 abbrev pub meta_made : List (List ℕ) × (List (List ℕ) × (List ℕ × (List ℕ × Unit {0}))) → List ℕ → Meta
 meta_made a extra = record { args = a.0; env = a.1.0; cwd = a.1.1.0; user = a.1.1.1.0; extra = extra }
 
+-- the arguments, variables, directory and user of a run that were read are read again of their canonical bytes
 pub meta_returns : Returns meta_of meta_bytes
 unfolding message_of meta_in meta_bytes
 meta_returns = returns_by meta_fields meta_made meta_of meta_bytes refl (λ bytes. refl) (λ a extra. refl)
@@ -35,6 +36,7 @@ tmpfs_opt_fields =
 abbrev pub tmpfs_opt_made : ℤ × Unit {0} → List ℕ → TmpfsOpt
 tmpfs_opt_made a extra = record { size = a.0; extra = extra }
 
+-- the options of a tmpfs mount that were read are read again of their canonical bytes
 pub tmpfs_opt_returns : Returns tmpfs_opt_of tmpfs_opt_bytes
 unfolding message_of tmpfs_opt_in tmpfs_opt_bytes
 tmpfs_opt_returns = returns_by tmpfs_opt_fields tmpfs_opt_made tmpfs_opt_of tmpfs_opt_bytes refl (λ bytes. refl) (λ a extra. refl)
@@ -47,6 +49,7 @@ cache_opt_fields =
 abbrev pub cache_opt_made : List ℕ × (ℤ × Unit {0}) → List ℕ → CacheOpt
 cache_opt_made a extra = record { id = a.0; sharing = a.1.0; extra = extra }
 
+-- the options of a cache mount that were read are read again of their canonical bytes
 pub cache_opt_returns : Returns cache_opt_of cache_opt_bytes
 unfolding message_of cache_opt_in cache_opt_bytes
 cache_opt_returns = returns_by cache_opt_fields cache_opt_made cache_opt_of cache_opt_bytes refl (λ bytes. refl) (λ a extra. refl)
@@ -75,6 +78,7 @@ mount_made a extra = record {
   extra = extra;
 }
 
+-- a mount that was read is read again of its canonical bytes, and so are the options in it
 pub mount_returns : Returns mount_of mount_bytes
 unfolding message_of mount_in mount_bytes
 mount_returns = returns_by mount_fields mount_made mount_of mount_bytes refl (λ bytes. refl) (λ a extra. refl)
@@ -90,6 +94,7 @@ exec_op_fields =
 abbrev pub exec_op_made : Option Meta × (List Mount × (ℤ × (ℤ × (List (List ℕ) × Unit {0})))) → List ℕ → ExecOp
 exec_op_made a extra = record { meta = a.0; mounts = a.1.0; network = a.1.1.0; security = a.1.1.1.0; secretenv = a.1.1.1.1.0; extra = extra }
 
+-- an execution that was read is read again of its canonical bytes
 pub exec_op_returns : Returns exec_op_of exec_op_bytes
 unfolding message_of exec_op_in exec_op_bytes
 exec_op_returns = returns_by exec_op_fields exec_op_made exec_op_of exec_op_bytes refl (λ bytes. refl) (λ a extra. refl)

@@ -85,6 +85,7 @@ few_behind last count (message row held rest) room (own, deep, inner) =
       few_behind k (one_more_of last count k) rest (room_behind last count k ks room) inner,
     )
 
+-- where no number stands too often among fields, nor in the messages among them, none does as they are counted in order
 pub are_few : (fs : Fields) → NoneOften (numbers_of fs) → AreInnerFew fs → AreFew 0 0 fs
 are_few fs own inner = few_behind 0 0 fs (room_at_first (numbers_of fs) own) inner
 
@@ -124,6 +125,7 @@ inner_without (bytes row held rest) h = go (row.1.of_entry && (length held == 0)
   go false e k = rw e k
 inner_without (message row inner rest) (own, deep, h) = (none_often_without inner own, inner_without inner deep, inner_without rest h)
 
+-- and none does once the empty keys and values of entries are left out
 pub are_few_without : (fs : Fields) → NoneOften (numbers_of fs) → AreInnerFew fs → AreFew 0 0 (without_empty fs)
 are_few_without fs own inner = are_few (without_empty fs) (none_often_without fs own) (inner_without fs inner)
 
@@ -140,6 +142,7 @@ stands_at_most n (k ∷ ks) = go (eqb k n) (stands_at_most n ks) where
   go true h = omega (arith, h)
   go false h = omega (arith, h)
 
+-- among no more records than a field may have, no number stands too often
 pub none_often : (rs : List Record) → length rs ≤ field_limit → NoneOften (numbered rs)
 none_often rs few n = omega (arith, few, stands_at_most n (numbered rs), length-map rs (λ r. r.number))
 
@@ -171,6 +174,7 @@ stands_nowhere : (ns : List ℕ) (n : ℕ) (rs : List Record) → AllByRecursion
 stands_nowhere ns n [] h f = refl
 stands_nowhere ns n (r ∷ rs) h f = let e = is_other ns r.number n h.0 f in rw e (stands_nowhere ns n rs h.1 f)
 
+-- where two fields share no number, and none stands too often in either's records, none does in both together
 pub none_of_both : (ns ms : List ℕ) (xs ys : List Record) → apart ns ms ≡ true → AllByRecursion (λ r. is_member ns r ≡ true) xs
     → AllByRecursion (λ r. is_member ms r ≡ true) ys
     → NoneOften (numbered xs) → NoneOften (numbered ys) → NoneOften (numbered (xs ++ ys))

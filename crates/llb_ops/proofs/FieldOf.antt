@@ -70,6 +70,7 @@ end = record {
 
 -- ---- a field and others
 
+-- where two tests hold together, each does
 pub and_both : (a b : Bool) → a && b ≡ true → (a ≡ true) × (b ≡ true)
 and_both true b e = (refl, e)
 and_both false b e = absurd cc
@@ -77,12 +78,14 @@ and_both false b e = absurd cc
 abbrev pub ok_of : {A : Type 0} → A → Result A OpFault
 ok_of x = Ok x
 
+-- two equal answers that succeed have the same value
 pub ok_is : {A : Type 0} (x y : A) → ok_of x ≡ ok_of y → x ≡ y
 ok_is x y e = cc
 
 abbrev pub pair_read : {A B : Type 0} → (List Record → Result A OpFault) → (List Record → Result B OpFault) → List Record → Result (A × B) OpFault
 pair_read f g rs = f rs >>= λ a. (g rs >>= λ b. Ok (a, b))
 
+-- a pair that is read of two fields has the value of each
 pub pair_parts : {A B : Type 0} (f : List Record → Result A OpFault) (g : List Record → Result B OpFault) (rs : List Record) (p : A × B)
     → pair_read f g rs ≡ Ok p → (f rs ≡ Ok p.0) × (g rs ≡ Ok p.1)
 pair_parts f g rs p e =
@@ -190,6 +193,7 @@ good_parts shape (r ∷ rs) h e =
     let t = and_both (text_fits shape r) (texts_fit shape rs) e in
     (record { fits = h.0; text = t.0 }, good_parts shape rs h.1 t.1)
 
+-- the records of a message that is read are each read again, with their wire types, and with texts in UTF-8
 pub parts_good : (shape : Shape) (bytes : List ℕ) (rs : List Record) → parts shape bytes ≡ Ok rs → AllByRecursion (IsGood shape) rs
 unfolding parts
 parts_good shape bytes rs e =
@@ -208,6 +212,7 @@ good_again shape rs h =
     let fit = All-map (IsGood shape) (FitsShape shape) rs (λ r g. g.fits) h in
     rw (parts_again shape rs fit, texts_good shape rs h) refl
 
+-- where the bytes of all records are fewer than 2 ^ 64, those of each record are
 pub all_short : (rs : List Record) → length (spelled rs) < 2 ^ 64 → AllByRecursion IsShort rs
 all_short [] h = tt
 all_short (r ∷ rs) h = (omega (arith, h, length-append r.text (spelled rs)), all_short rs (omega (arith, h, length-append r.text (spelled rs))))
@@ -216,6 +221,7 @@ all_good : (shape : Shape) (rs : List Record) → AllByRecursion (IsWritten shap
 all_good shape [] h k = tt
 all_good shape (r ∷ rs) h k = (h.0 k.0, all_good shape rs h.1 k.1)
 
+-- a message that is read is made of the value of its fields, which are within the limits, and of its extra bytes
 pub message_parts : {shape : Shape} {A M : Type 0} (f : FieldOf shape M A) (make : A → List ℕ → M) (rs : List Record) (m : M) → message_read f make rs ≡ Ok m
     → (a : A) × (f.read rs ≡ Ok a) × (f.within rs ≡ true) × (make a (unnamed shape rs) ≡ m)
 message_parts {shape} f make rs m e =
@@ -259,6 +265,7 @@ fields_again {shape} f make rs a named good e w small =
 abbrev pub message_run : {shape : Shape} {A M : Type 0} → FieldOf shape M A → (A → List ℕ → M) → List Record → Result M OpFault
 message_run {shape} f make rs = f.run rs (λ a. if f.within rs then Ok (make a (unnamed shape rs)) else Err OverLimit)
 
+-- a message's fields read one after the other give what they give read together
 pub run_parts : {shape : Shape} {A M : Type 0} (f : FieldOf shape M A) (make : A → List ℕ → M) (r : Result (List Record) OpFault)
     → (r >>= message_run f make) ≡ (r >>= message_read f make)
 run_parts {shape} f make (Ok rs) = f.runs rs (λ a. if f.within rs then Ok (make a (unnamed shape rs)) else Err OverLimit)

@@ -13,6 +13,7 @@ use Rattle.llb_wire.specs.Answer.{◌>>=◌, bind_ok}
 use Rattle.llb_ops.specs.Records.{Shape, from_wire, first_record, form_of, wire_fits, records_from}
 use Rattle.llb_ops.proofs.Again.{IsPart, FitsShape}
 
+-- what succeeds with the wire's faults as an op's own succeeded with them as they were
 pub wire_ok : {A : Type 0} (r : Result A WireFault) (x : A) → from_wire r ≡ Ok x → r ≡ Ok x
 wire_ok (Ok y) x e = let h : y ≡ x = cc in ap (λ z. Ok z) h
 wire_ok (Err d) x e = absurd cc
@@ -20,9 +21,11 @@ wire_ok (Err d) x e = absurd cc
 abbrev pub ok_of : List Record → Result (List Record) OpFault
 ok_of xs = Ok xs
 
+-- two equal answers with records have the same records
 pub ok_list : (xs ys : List Record) → ok_of xs ≡ ok_of ys → xs ≡ ys
 ok_list xs ys e = cc
 
+-- a value that is given after a test is the one that was tested, and the test was passed
 pub guard_ended : {A : Type 0} (b : Bool) (d : OpFault) (x y : A) → cond b (Ok x) (Err d) ≡ Ok y → (b ≡ true) × (x ≡ y)
 guard_ended true d x y e = (refl, cc)
 guard_ended false d x y e = absurd cc
@@ -42,6 +45,7 @@ part_is bytes f e =
 nothing_fits : (shape : Shape) (rs : List Record) → ok_of [] ≡ ok_of rs → AllByRecursion (FitsShape shape) rs
 nothing_fits shape rs e = let h : [] ≡ rs = cc in subst (λ xs. AllByRecursion (FitsShape shape) xs) h tt
 
+-- each record that is read of bytes is read again of its own, and has a wire type that fits its field
 pub records_fit : (shape : Shape) (skip : ℕ) (bytes : List ℕ) (rs : List Record) → records_from shape skip bytes ≡ Ok rs → AllByRecursion (FitsShape shape) rs
 unfolding records_from
 records_fit shape zero [] rs e = nothing_fits shape rs e

@@ -17,11 +17,13 @@ last_push rs r =
     let e : length (rs ++ r ∷ []) - 1 ≡ length rs = omega (arith, length-append rs (r ∷ [])) in
     ap (slice_get (rs ++ r ∷ [])) e ∙ get_seam rs r
 
+-- after one record more, the last one of a field is that one if it is of the field, and else as before
 pub last_all_push : (n : ℕ) (rs : List Record) (r : Record) (b : Bool) → eqb r.number n ≡ b
     → last_of (all n (rs ++ r ∷ [])) ≡ cond b (Some r) (last_of (all n rs))
 last_all_push n rs r true e = rw (filter-append, e) (last_push (all n rs) r)
 last_all_push n rs r false e = rw (filter-append, e, append-nil) refl
 
+-- after one record more, the member that is set is that one's if it is a member's, and else as before
 pub chosen_push : (members : List ℕ) (rs : List Record) (r : Record) (b : Bool) → is_member members r ≡ b
     → chosen members (rs ++ r ∷ []) ≡ cond b (Some r.number) (chosen members rs)
 chosen_push members rs r true e = rw (filter-append, e) (ap (option_map (λ x. x.number)) (last_push (filter (is_member members) rs) r))
@@ -53,12 +55,14 @@ drop_more_views rs start i d lt le =
     let long : start ≤ length (views (take i rs)) = omega (arith, length-map (take i rs) view, length-take i rs, le, lt) in
     sym (drop_push (views (take i rs)) (view (get_or rs i d)) start long) ∙ ap (drop start) (sym (views_more rs i d lt))
 
+-- where what is kept are the records from a place on, one more that does not clear them is kept with them
 pub since_keeps : (p : Record → Bool) (rs : List Held) (start i : ℕ) (d : Held) → i < length rs → start ≤ i → p (view (get_or rs i d)) ≡ false
     → since p (views (take i rs)) ≡ drop start (views (take i rs)) → since p (views (take (i + 1) rs)) ≡ drop start (views (take (i + 1) rs))
 since_keeps p rs start i d lt le fails so_far =
     ap (since p) (views_more rs i d lt) ∙ since_push p (views (take i rs)) (view (get_or rs i d)) false fails
     ∙ ap (λ xs. xs ++ view (get_or rs i d) ∷ []) so_far ∙ drop_more_views rs start i d lt le
 
+-- after a record that clears, what is kept are the records from the place after it on, so none yet
 pub since_clears : (p : Record → Bool) (rs : List Held) (i : ℕ) (d : Held) → i < length rs → p (view (get_or rs i d)) ≡ true
     → since p (views (take (i + 1) rs)) ≡ drop (i + 1) (views (take (i + 1) rs))
 since_clears p rs i d lt passes =

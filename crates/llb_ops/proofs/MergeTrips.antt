@@ -16,6 +16,7 @@ merge_input_fields =
 abbrev pub merge_input_made : ℤ × Unit {0} → List ℕ → MergeInput
 merge_input_made a extra = record { input = a.0; extra = extra }
 
+-- an input of a merge that was read is read again of its canonical bytes
 pub merge_input_returns : Returns merge_input_of merge_input_bytes
 unfolding message_of merge_input_in merge_input_bytes
 merge_input_returns = returns_by merge_input_fields merge_input_made merge_input_of merge_input_bytes refl (λ bytes. refl) (λ a extra. refl)
@@ -27,6 +28,7 @@ merge_op_fields =
 abbrev pub merge_op_made : List MergeInput × Unit {0} → List ℕ → MergeOp
 merge_op_made a extra = record { inputs = a.0; extra = extra }
 
+-- a merge that was read is read again of its canonical bytes
 pub merge_op_returns : Returns merge_op_of merge_op_bytes
 unfolding message_of merge_op_in merge_op_bytes
 merge_op_returns = returns_by merge_op_fields merge_op_made merge_op_of merge_op_bytes refl (λ bytes. refl) (λ a extra. refl)

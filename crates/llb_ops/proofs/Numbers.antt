@@ -17,6 +17,7 @@ from_signed z = cast_unsigned w64 z
 int64_code : (u : ℕ) → u < 2 ^ 64 → cast_unsigned w64 (cast_signed w64 u) ≡ u
 int64_code u h = of_z-to_z w64 u h
 
+-- what is read of a number as an int64 is written in 64 bits, of which the same is read
 pub int64_recodes : Recodes int64 from_signed
 int64_recodes = record {
   small = λ v. let fits : v % 2 ^ 64 < 2 ^ 64 = omega arith in rw (int64_code (v % 2 ^ 64) fits) fits;
@@ -35,6 +36,7 @@ int32_again z h = grind (arith, ints)
 int32_wide : (z : ℤ) → FitsSigned w32 z → cast_unsigned w64 z < 2 ^ 64
 int32_wide z h = omega (arith, ints)
 
+-- what is read of a number as an int32 or an enum is written in 64 bits, of which the same is read
 pub int32_recodes : Recodes int32 from_signed
 int32_recodes = record {
   small = λ v. int32_wide (int32 v) (int32_fits (v % 2 ^ 32) (omega arith));
@@ -49,6 +51,7 @@ flag_bit : (b : Bool) → flag (bit b) ≡ b
 flag_bit true = refl
 flag_bit false = refl
 
+-- what is read of a number as a flag is written as 0 or 1, of which the same is read
 pub flag_recodes : Recodes flag bit
 flag_recodes = record {
   small = λ v. bit_small (flag v);

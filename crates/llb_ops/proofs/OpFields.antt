@@ -131,6 +131,7 @@ lean_is_read entry op e short =
     let long : ltb entry_limit (length (lean_op_bytes op)) ≡ false = le-ltb _ _ short in
     rw long (lean_op_returns entry op e (omega (arith, short)))
 
+-- an op that an entry is read as has canonical bytes that are fields by the table, and is read of them without empty keys too
 pub entry_has : (entry : List ℕ) → EntryHasFields entry
 unfolding op_of
 entry_has entry op e =

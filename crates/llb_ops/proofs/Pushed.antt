@@ -29,6 +29,7 @@ unnamed_push shape rs r false e = rw (filter-append, e, append-nil) refl
 
 -- ---- as a loop goes on
 
+-- with one record more, the payload goes after those so far if it is of the field, and they are still that field's in one
 pub joined_more : (n : ℕ) (rs : List Held) (i : ℕ) (d : Held) (b : Bool) (before out : List ℕ) → i < length rs
     → eqb (get_or rs i d).number n ≡ b → before ≡ joined (all n (views (take i rs)))
     → out ≡ cond b (before ++ (get_or rs i d).payload.now) before → out ≡ joined (all n (views (take (i + 1) rs)))
@@ -36,6 +37,7 @@ joined_more n rs i d b before out lt is so_far new =
     new ∙ ap (λ (xs : List ℕ). cond b (xs ++ (get_or rs i d).payload.now) xs) so_far
     ∙ sym (joined_push n (views (take i rs)) (view (get_or rs i d)) b is) ∙ ap (λ (xs : List Record). joined (all n xs)) (sym (views_more rs i d lt))
 
+-- with one record more, the payload goes after those so far if it is of the field, and they are still that field's, each by itself
 pub payloads_more : (n : ℕ) (rs : List Held) (i : ℕ) (d : Held) (b : Bool) (before out : List (List ℕ)) → i < length rs
     → eqb (get_or rs i d).number n ≡ b → before ≡ payloads (all n (views (take i rs)))
     → out ≡ cond b (before ++ (get_or rs i d).payload.now ∷ []) before → out ≡ payloads (all n (views (take (i + 1) rs)))
@@ -44,6 +46,7 @@ payloads_more n rs i d b before out lt is so_far new =
     ∙ sym (payloads_push n (views (take i rs)) (view (get_or rs i d)) b is)
     ∙ ap (λ (xs : List Record). payloads (all n xs)) (sym (views_more rs i d lt))
 
+-- with one record more, its bytes go after those so far if the message does not name it, and they are still all such bytes
 pub unnamed_more : (shape : Shape) (rs : List Held) (i : ℕ) (d : Held) (b : Bool) (before out : List ℕ) → i < length rs
     → is_none (form_of shape (get_or rs i d).number) ≡ b → before ≡ unnamed shape (views (take i rs))
     → out ≡ cond b (before ++ (get_or rs i d).text.now) before → out ≡ unnamed shape (views (take (i + 1) rs))

@@ -39,6 +39,7 @@ apart_fold : (held : List Held) (es : List AttributeEntry) → Apart held → Ap
 apart_fold held [] h = h
 apart_fold held (e ∷ es) h = apart_fold (put held e) es (apart_more held e.key (record { value = e.value; extra = e.extra }) h)
 
+-- no two of the attributes that are held have the same key
 pub settled_apart : (es : List AttributeEntry) → Apart (settled es)
 unfolding settled
 settled_apart es = apart_fold [] es tt
@@ -87,6 +88,7 @@ hold_fold : (P : AttributeEntry → Type 0) (held : List Held) (es : List Attrib
 hold_fold P held [] h k = h
 hold_fold P held (e ∷ es) h k = hold_fold P (put held e) es (hold_more P held e h k.0) k.1
 
+-- what holds of all entries that were read holds of the attributes that are held, as entries
 pub settled_hold : (P : AttributeEntry → Type 0) (es : List AttributeEntry) → AllByRecursion P es → AllByRecursion (λ p. P (entry_of p)) (settled es)
 unfolding settled
 settled_hold P es h = hold_fold P [] es tt h
@@ -107,6 +109,7 @@ fold_length held (e ∷ es) =
     let k = one_more held e.key (record { value = e.value; extra = e.extra }) in
     omega (arith, h, k)
 
+-- no more attributes are held than entries were read
 pub settled_length : (es : List AttributeEntry) → length (settled es) ≤ length es
 unfolding settled
 settled_length es = let h = fold_length [] es in omega (arith, h)

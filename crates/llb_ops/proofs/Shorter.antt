@@ -35,6 +35,7 @@ shorter_field n a b le =
       length-append (varint_text (length b)) b,
     )
 
+-- fields have no more bytes once the empty keys and values of entries are left out
 pub shorter : (fs : Fields) → length (bytes_of (without_empty fs)) ≤ length (bytes_of fs)
 shorter (extra more) = omega arith
 shorter (number row v rest) =

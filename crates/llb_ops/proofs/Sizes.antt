@@ -43,6 +43,7 @@ records_size shape zero (b ∷ bytes) rs le e =
     let size : length (joined (r ∷ xs.0)) + 0 ≤ suc (length bytes) = omega (arith, front.0, front.1, rest, length-append r.payload (joined xs.0)) in
     subst (λ (ys : List Record). length (joined ys) + 0 ≤ suc (length bytes)) (ok_list (r ∷ xs.0) rs xs.2) size
 
+-- the payloads of all records that bytes are read as are together no longer than the bytes
 pub parts_size : (shape : Shape) (bytes : List ℕ) (rs : List Record) → parts shape bytes ≡ Ok rs → length (joined rs) ≤ length bytes
 unfolding parts
 parts_size shape bytes rs e =
@@ -61,6 +62,7 @@ filter_size : (p : Record → Bool) (rs : List Record) → length (joined (filte
 filter_size p [] = omega arith
 filter_size p (r ∷ rs) = filter_more_size p r rs (p r) refl (filter_size p rs)
 
+-- the payloads of one field's records are together no longer than those of all
 pub all_size : (n : ℕ) (rs : List Record) → length (joined (all n rs)) ≤ length (joined rs)
 all_size n rs = filter_size (λ r. r.number == n) rs
 
@@ -77,11 +79,13 @@ fold_size : (p : Record → Bool) (front rs : List Record) → length (joined (f
 fold_size p front [] = omega arith
 fold_size p front (r ∷ rs) = omega (arith, fold_size p (kept p front r) rs, kept_size p front r (p r) refl, length-append r.payload (joined rs))
 
+-- the payloads of the records that count for a member are together no longer than those of all
 pub member_size : (members : List ℕ) (n : ℕ) (rs : List Record) → length (joined (member members n rs)) ≤ length (joined rs)
 member_size members n rs = omega (arith, all_size n (since (is_other members n) rs), fold_size (is_other members n) [] rs)
 
 -- ---- each payload
 
+-- where payloads are together within a limit, each is
 pub each_size : (limit : ℕ) (rs : List Record) → length (joined rs) ≤ limit → AllByRecursion (λ a. length a ≤ limit) (payloads rs)
 each_size limit [] h = tt
 each_size limit (r ∷ rs) h = (omega (arith, h, length-append r.payload (joined rs)), each_size limit rs (omega (arith, h, length-append r.payload (joined rs))))

@@ -26,12 +26,14 @@ pub record IsOf (shape : Shape) (n : ℕ) (r : Record) : Type 0 where
   pub good : IsGood shape r
   pub number : r.number ≡ n
 
+-- of good records those of one field are good, and of its number
 pub of_all : (shape : Shape) (n : ℕ) (rs : List Record) → AllByRecursion (IsGood shape) rs → AllByRecursion (IsOf shape n) (all n rs)
 of_all shape n rs good =
     All-map (λ r. (r.number == n ≡ true) × IsGood shape r) (IsOf shape n) (all n rs) (λ r h. record { good = h.1; number = eqb-true r.number n h.0 })
     (All-both (λ r. r.number == n ≡ true) (IsGood shape) (all n rs) (filter_passes (λ r. r.number == n) rs)
     (All-filter (IsGood shape) (λ r. r.number == n) rs good))
 
+-- records that are all of one number are all of that field's
 pub same_number : (n : ℕ) (rs : List Record) → AllByRecursion (λ r. r.number ≡ n) rs → all n rs ≡ rs
 same_number n rs h = filter_all (λ r. r.number == n) rs (All-map (λ r. r.number ≡ n) (λ r. r.number == n ≡ true) rs (λ r e. eq-eqb r.number n e) h)
 
@@ -85,6 +87,7 @@ number_small n e = leb-true n 536_870_911 (and_both (nat_lt 0 n) (nat_le n 536_8
 abbrev pub a_number : ℕ → ℕ → List Record
 a_number n v = if v == 0 then [] else number_part n v ∷ []
 
+-- a number of 64 bits that is written to a field for numbers is a good record
 pub number_written : (shape : Shape) (n v : ℕ) → is_number n ≡ true → form_of shape n ≡ Some form.Number → v < 2 ^ 64 → IsGood shape (number_part n v)
 number_written shape n v range named small =
     record {
@@ -137,6 +140,7 @@ payload_short n bytes short =
     let size = varint_text (length bytes) in
     omega (arith, short, length-append tag (size ++ bytes), length-append size bytes)
 
+-- bytes that are written to a field which takes them are a good record, where it is not too long
 pub bytes_written : (shape : Shape) (n : ℕ) (bytes : List ℕ) → is_number n ≡ true → wire_fits (form_of shape n) wire.Len ≡ true
     → text_ok (form_of shape n) bytes ≡ true → IsWritten shape (bytes_part n bytes)
 bytes_written shape n bytes range fits text =
@@ -153,6 +157,7 @@ pub payload_read : (n : ℕ) (bytes : List ℕ) → payload (some_bytes n bytes)
 payload_read n [] = refl
 payload_read n (b ∷ bytes) = let e : eqb (suc (length bytes)) 0 ≡ false = ne_eqb _ _ (omega arith) in rw e refl
 
+-- the payload of a good record is UTF-8 where the record's field is a text
 pub text_of : (shape : Shape) (n : ℕ) (r : Record) → IsOf shape n r → text_ok (form_of shape n) r.payload ≡ true
 text_of shape n r h = subst (λ (k : ℕ). text_ok (form_of shape k) r.payload ≡ true) h.number h.good.text
 
@@ -211,10 +216,12 @@ message_written : {M : Type 0} (shape : Shape) (write : M → List ℕ) (n : ℕ
 message_written shape write n m range named =
     bytes_written shape n (write m) range (ap (λ o. wire_fits o wire.Len) named) (ap (λ o. text_ok o (write m)) named)
 
+-- a message that was read, and is written to a record that is not too long, is read again of what is written
 pub message_short : {M : Type 0} (read : List ℕ → Result M OpFault) (write : M → List ℕ) (n : ℕ) (m : M)
     → ((bytes : List ℕ) × (read bytes ≡ Ok m)) → Returns read write → IsShort (bytes_part n (write m)) → read (write m) ≡ Ok m
 message_short read write n m from returns short = returns from.0 m from.1 (payload_short n (write m) short)
 
+-- a message that stands once and is there was read of some bytes
 pub one_from : {M : Type 0} (read : List ℕ → Result M OpFault) (xs : List Record) (m : M) (b : Bool) → eqb (length xs) 0 ≡ b
     → one read xs ≡ Ok (Some m) → (bytes : List ℕ) × (read bytes ≡ Ok m)
 unfolding one
@@ -269,10 +276,12 @@ message {shape} {W} {M} n read write returns range named =
 abbrev pub some_messages : {M : Type 0} → (M → List ℕ) → ℕ → List M → List Record
 some_messages write n ms = map (λ m. bytes_part n (write m)) ms
 
+-- each record that messages are written to has the field's number
 pub messages_own : {M : Type 0} (write : M → List ℕ) (n : ℕ) (ms : List M) → AllByRecursion (λ r. r.number ≡ n) (some_messages write n ms)
 messages_own write n [] = tt
 messages_own write n (m ∷ ms) = (refl, messages_own write n ms)
 
+-- each record that messages are written to is good, where it is not too long
 pub messages_are : {M : Type 0} (shape : Shape) (write : M → List ℕ) (n : ℕ) (ms : List M) → is_number n ≡ true → HoldsBytes shape n
     → AllByRecursion (IsWritten shape) (some_messages write n ms)
 messages_are shape write n [] range named = tt
@@ -298,6 +307,7 @@ messages_back read write n (x ∷ xs) (m ∷ ms) returns e short =
       tail_is : {M : Type 0} (x y : M) (xs ys : List M) → x ∷ xs ≡ y ∷ ys → xs ≡ ys
       tail_is x y xs ys e = cc
 
+-- as many messages are read as there are records
 pub each_length : {M : Type 0} (read : List ℕ → Result M OpFault) (xs : List Record) (ms : List M) → each read xs ≡ Ok ms → length ms ≡ length xs
 unfolding each
 each_length read [] ms e = ap length (sym (ok_is [] ms e))
@@ -306,6 +316,7 @@ each_length read (x ∷ xs) ms e =
     let b = bind_ok (each read xs) (λ ms. Ok (a.0 ∷ ms)) ms a.2 in
     ap length (sym (ok_is (a.0 ∷ b.0) ms b.2)) ∙ ap suc (each_length read xs b.0 b.1)
 
+-- the records that messages are written to have the bytes of their field
 pub messages_spelled : {M : Type 0} (write : M → List ℕ) (n : ℕ) (ms : List M) → spelled (some_messages write n ms) ≡ messages_field write n ms
 unfolding messages_field set_bytes
 messages_spelled write n [] = refl
@@ -328,10 +339,12 @@ messages {shape} {W} {M} n read write returns range named =
 abbrev pub some_strings : ℕ → List (List ℕ) → List Record
 some_strings n items = map (λ bytes. bytes_part n bytes) items
 
+-- each record that texts or byte strings are written to has the field's number
 pub strings_own : (n : ℕ) (items : List (List ℕ)) → AllByRecursion (λ r. r.number ≡ n) (some_strings n items)
 strings_own n [] = tt
 strings_own n (a ∷ items) = (refl, strings_own n items)
 
+-- the records that texts or byte strings are written to have the bytes of their field
 pub strings_spelled : (n : ℕ) (items : List (List ℕ)) → spelled (some_strings n items) ≡ each_field n items
 unfolding each_field set_bytes
 strings_spelled n [] = refl
@@ -342,6 +355,7 @@ pub strings_are : (shape : Shape) (n : ℕ) (xs : List Record) → is_number n �
 strings_are shape n [] range fits good = tt
 strings_are shape n (r ∷ xs) range fits good = (bytes_written shape n r.payload range fits (text_of shape n r good.0), strings_are shape n xs range fits good.1)
 
+-- the payloads of the records that texts or byte strings are written to are these again
 pub strings_read : (n : ℕ) (items : List (List ℕ)) → payloads (some_strings n items) ≡ items
 strings_read n [] = refl
 strings_read n (a ∷ items) = ap (λ xs. a ∷ xs) (strings_read n items)
@@ -364,6 +378,7 @@ strings {shape} {M} n range fits =
 abbrev pub IsRead : {M : Type 0} → (List ℕ → Result M OpFault) → M → Type 0
 IsRead read m = (bytes : List ℕ) × (read bytes ≡ Ok m)
 
+-- each message of a list that was read was read of some bytes
 pub each_read : {M : Type 0} (read : List ℕ → Result M OpFault) (xs : List Record) (ms : List M) → each read xs ≡ Ok ms → AllByRecursion (IsRead read) ms
 unfolding each
 each_read read xs [] e = tt
@@ -381,6 +396,7 @@ each_read read (x ∷ xs) (m ∷ ms) e =
       tail_is : {M : Type 0} (x y : M) (xs ys : List M) → x ∷ xs ≡ y ∷ ys → xs ≡ ys
       tail_is x y xs ys e = cc
 
+-- messages that were each read of some bytes are read again of the records that they are written to
 pub each_back : {M : Type 0} (read : List ℕ → Result M OpFault) (write : M → List ℕ) (n : ℕ) (ms : List M) → Returns read write
     → AllByRecursion (IsRead read) ms → AllByRecursion IsShort (some_messages write n ms) → each read (some_messages write n ms) ≡ Ok ms
 unfolding each

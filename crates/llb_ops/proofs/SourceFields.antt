@@ -56,10 +56,12 @@ source_op_told =
     })
     (told_end name.SourceOp 2 false) refl refl) refl refl
 
+-- the canonical bytes of a source that was read are fields by the table, and the lean ones are those without empty keys and values
 pub source_op_has : HasFrom name.SourceOp source_op_of source_op_bytes lean_source_bytes
 unfolding message_of source_op_in source_op_bytes lean_source_bytes
 source_op_has = has_by source_op_told source_op_made source_op_of source_op_bytes lean_source_bytes (λ entry. refl) (λ a more. refl) (λ a more. refl)
 
+-- a source that was read is read again of its bytes without empty keys and values of attributes
 pub lean_source_returns : Returns source_op_of lean_source_bytes
 unfolding message_of source_op_in lean_source_bytes
 lean_source_returns = returns_by source_op_told.lean source_op_made source_op_of lean_source_bytes refl (λ entry. refl) (λ a more. refl)

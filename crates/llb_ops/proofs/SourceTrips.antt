@@ -26,6 +26,7 @@ attribute_entry_fields = both (set_string 1 refl refl empty_utf8) (both (set_str
 abbrev pub attribute_entry_made : List ℕ × (List ℕ × Unit {0}) → List ℕ → AttributeEntry
 attribute_entry_made a extra = record { key = a.0; value = a.1.0; extra = extra }
 
+-- an entry of the attributes that was read is read again of its canonical bytes
 pub attribute_entry_returns : Returns attribute_entry_of attribute_entry_bytes
 unfolding message_of attribute_entry_in attribute_entry_bytes
 attribute_entry_returns = returns_by attribute_entry_fields attribute_entry_made attribute_entry_of attribute_entry_bytes refl (λ bytes. refl) (λ a extra. refl)
@@ -47,6 +48,7 @@ was_settled xs a e =
     let es = bind_ok (each attribute_entry_of xs) (λ es. Ok (settled es)) a e in
     (es.0, es.1, ok_is (settled es.0) a es.2)
 
+-- where each entry was read of some bytes, so was each attribute that is held of them
 pub was_read : (es : List AttributeEntry) (a : List Held) → settled es ≡ a → AllByRecursion (IsRead attribute_entry_of) es
     → AllByRecursion (IsRead attribute_entry_of) (map entry_of a)
 was_read es a is h =
@@ -94,6 +96,7 @@ source_op_fields = both (string 1 refl refl empty_utf8) (both (attributes_field 
 abbrev pub source_op_made : List ℕ × (List Held × Unit {0}) → List ℕ → SourceOp
 source_op_made a extra = record { identifier = a.0; attrs = a.1.0; extra = extra }
 
+-- a source that was read is read again of its canonical bytes
 pub source_op_returns : Returns source_op_of source_op_bytes
 unfolding message_of source_op_in source_op_bytes
 source_op_returns = returns_by source_op_fields source_op_made source_op_of source_op_bytes refl (λ bytes. refl) (λ a extra. refl)

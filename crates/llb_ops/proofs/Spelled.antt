@@ -26,6 +26,7 @@ use Rattle.llb_ops.proofs.Kept.{wire_ok, guard_ended, ok_list}
 nothing_spelled : (rs : List Record) → ◌≡◌ {A = Result (List Record) OpFault} (Ok []) (Ok rs) → SpellRecords [] rs
 nothing_spelled rs e = let h : [] ≡ rs = cc in subst (λ (xs : List Record). SpellRecords [] xs) h spelled_none
 
+-- the records that are read after some bytes are those that the bytes left spell by the grammar
 pub records_found : (shape : Shape) (skip : ℕ) (bytes : List ℕ) (rs : List Record) → AreBytes bytes → records_from shape skip bytes ≡ Ok rs
     → SpellRecords (drop skip bytes) rs
 unfolding records_from
@@ -121,6 +122,7 @@ op_spelled bytes rs spelled few =
     let short : ltb entry_limit (length bytes) ≡ false = le-ltb _ _ few in
     rw short (ap (λ (x : Result (List Record) OpFault). x >>= op_in) (parts_spelled op_shape bytes rs spelled))
 
+-- the records of a message are those that its bytes spell by the grammar, and an op is read of them alone
 pub read_of_records : (bytes : List ℕ) → AreBytes bytes → IsReadOfRecords bytes
 read_of_records bytes are = record {
   found = λ shape rs e. parts_found shape bytes rs are e;

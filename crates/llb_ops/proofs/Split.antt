@@ -22,6 +22,7 @@ regroup : (front : List Record) (r : Record) (read : Result (List Record) OpFaul
 regroup front r (Ok rs) = ap (λ (x : List Record). Ok x) (simp append_assoc)
 regroup front r (Err f) = refl
 
+-- reading past some bytes is reading what is left when they are dropped
 pub parts_skip : (shape : Shape) (skip : ℕ) (bytes : List ℕ) → records_from shape skip bytes ≡ records_from shape 0 (drop skip bytes)
 unfolding records_from
 parts_skip shape zero bytes = refl
@@ -56,22 +57,26 @@ nothing : next_field [] 0 ≡ Ok None
 unfolding next_field
 nothing = refl
 
+-- where no record comes next, there are no records
 pub parts_end : (shape : Shape) (bytes : List ℕ) → Ok None ≡ next_field bytes 0 → records_from shape 0 bytes ≡ Ok []
 unfolding records_from
 parts_end shape [] e = refl
 parts_end shape (b ∷ bytes) e = absurd (none_is (field_at (b ∷ bytes) 0) (sym (next_cons b bytes) ∙ sym e))
 
+-- a fault of the wire in the next record is that of all records
 pub parts_err : (shape : Shape) (bytes : List ℕ) (d : WireFault) → Err d ≡ next_field bytes 0 → records_from shape 0 bytes ≡ Err (Wire d)
 unfolding records_from
 parts_err shape [] d e = let h = nothing in absurd cc
 parts_err shape (b ∷ bytes) d e = let h = err_is (field_at (b ∷ bytes) 0) d (sym (next_cons b bytes) ∙ sym e) in rw h refl
 
+-- where the next record is of a named field with another wire type, all records are refused for it
 pub parts_wrong : (shape : Shape) (bytes : List ℕ) (f : Field) → Ok (Some f) ≡ next_field bytes 0
     → wire_fits (form_of shape f.number) f.wire ≡ false → records_from shape 0 bytes ≡ Err WrongWireType
 unfolding records_from
 parts_wrong shape [] f e fails = let h = nothing in absurd cc
 parts_wrong shape (b ∷ bytes) f e fails = let h = some_is (field_at (b ∷ bytes) 0) f (sym (next_cons b bytes) ∙ sym e) in rw (h, fails) refl
 
+-- dropping one byte or more drops the first, and of the rest one fewer
 pub drop_pred : (n b : ℕ) (bytes : List ℕ) → 0 < n → drop n (b ∷ bytes) ≡ drop (n - 1) bytes
 drop_pred zero b bytes lt = absurd (omega arith)
 drop_pred (suc n) b bytes lt = let e : suc n - 1 ≡ n = omega arith in rw e refl
@@ -99,11 +104,13 @@ is_front shape bytes f front e fits within seen left = record {
 
 -- the loop goes on, and ends
 
+-- where a record is read, it goes after those before it, and the total stays
 pub goes_on : (shape : Shape) (front : List Record) (r : Record) (bytes after : List ℕ) (total : Result (List Record) OpFault)
     → records_from shape 0 bytes ≡ (records_from shape 0 after >>= λ rs. Ok (r ∷ rs))
     → with_front front (records_from shape 0 bytes) ≡ total → with_front (front ++ r ∷ []) (records_from shape 0 after) ≡ total
 goes_on shape front r bytes after total more so_far = sym (regroup front r (records_from shape 0 after)) ∙ ap (with_front front) (sym more) ∙ so_far
 
+-- where no record is left, those that were read are the total
 pub is_done : (shape : Shape) (front : List Record) (bytes : List ℕ) (total : Result (List Record) OpFault)
     → records_from shape 0 bytes ≡ Ok [] → with_front front (records_from shape 0 bytes) ≡ total → total ≡ Ok front
 is_done shape front bytes total none so_far = sym so_far ∙ ap (with_front front) none ∙ ap (λ (x : List Record). Ok x) (append-nil front)

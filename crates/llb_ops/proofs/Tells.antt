@@ -88,12 +88,14 @@ tells_nothing m last next set then_set le few = record {
   };
 }
 
+-- a field that may come next and is left out is passed without a byte
 pub tells_left_out : (m : MessageName) (last : ℕ) (set : Bool) (row : Row) → IsNext m last set row
     → Tells m last set row.1.number (set || row.1.member) [] [] []
 tells_left_out m last set row next =
     tells_nothing m last row.1.number set (set || row.1.member) (above last row.1.number row.1.repeated row.1.member set next.follows)
     (left_most set row.1.member)
 
+-- bytes that lead to a place, and bytes that lead on from there, lead all the way one after the other
 pub tells_then : {m : MessageName} {a b c : ℕ} {s t u : Bool} {ns ms x x_spare y y_spare : List ℕ} → Tells m a s b t ns x x_spare → Tells m b t c u ms y y_spare
     → Tells m a s c u (ns ++ ms) (x ++ y) (x_spare ++ y_spare)
 tells_then {m} {a} {b} {c} {s} {t} {u} {ns} {ms} {x} {x_spare} {y} {y_spare} first second = record {
@@ -104,6 +106,7 @@ tells_then {m} {a} {b} {c} {s} {t} {u} {ns} {ms} {x} {x_spare} {y} {y_spare} fir
       (first.tells (ms ++ ks) (y ++ later) (y_spare ++ spare) (second.tells ks later spare z))));
 }
 
+-- a number as its field spells it leads past the field, where it is not 0 or may stand as 0
 pub tells_number : (m : MessageName) (last : ℕ) (set : Bool) (row : Row) (v : ℕ) → IsNext m last set row → IsNumberOf row.1.kind v
     → not (v == 0) || may_be_empty row.1 ≡ true
     → Tells m last set row.1.number (set || row.1.member) (row.1.number ∷ []) (set_number row.1.number v) (set_number row.1.number v)
@@ -133,6 +136,7 @@ tells_bytes m last set row held next fits shown plain = record {
   };
 }
 
+-- a message's fields in a field for that message lead past the field
 pub tells_message : (m sub : MessageName) (last : ℕ) (set : Bool) (row : Row) (inner inner_spare : List ℕ) → IsNext m last set row
     → row.1.kind ≡ Message sub → IsMessage sub inner inner_spare
     → Tells m last set row.1.number (set || row.1.member) (row.1.number ∷ []) (set_bytes row.1.number inner) (set_bytes row.1.number inner_spare)

@@ -12,9 +12,11 @@ use Rattle.llb_ops.specs.declared.shape.Form.TheVariants as form
 use Rattle.llb_ops.specs.declared.records.Record.{Record as Held}
 use Rattle.llb_ops.specs.Records.{Shape, view, views, form_of, text_ok, text_fits, texts_fit, all, last_of, payload}
 
+-- bytes that are UTF-8 pass the test for it
 pub utf8_true : (bytes : List ℕ) → IsUtf8 bytes → is_utf8 bytes ≡ true
 utf8_true bytes h = is_utf8-from_IsUtf8 bytes h
 
+-- bytes that are not UTF-8 fail the test for it
 pub utf8_false : (bytes : List ℕ) → ¬ (IsUtf8 bytes) → is_utf8 bytes ≡ false
 utf8_false bytes h = go (is_utf8 bytes) refl where
   go : (b : Bool) → is_utf8 bytes ≡ b → is_utf8 bytes ≡ false
@@ -23,6 +25,7 @@ utf8_false bytes h = go (is_utf8 bytes) refl where
 
 -- ---- the last record of a list
 
+-- the last of two records or more is the last of those after the first
 pub last_more : (r s : Record) (rs : List Record) → last_of (r ∷ s ∷ rs) ≡ last_of (s ∷ rs)
 last_more r s rs =
     let e : length (r ∷ s ∷ rs) - 1 ≡ suc (length (s ∷ rs) - 1) = omega arith in
@@ -56,9 +59,11 @@ texts_of shape n (r ∷ rs) named fit =
     let both = and_both (text_fits shape r) (texts_fit shape rs) fit in
     texts_more shape n r rs (eqb r.number n) refl named both.0 (texts_of shape n rs named both.1)
 
+-- the empty text is UTF-8
 pub empty_utf8 : is_utf8 [] ≡ true
 empty_utf8 = is_utf8-from_IsUtf8 [] ([], (refl, refl))
 
+-- where all texts of a message are UTF-8, so is what a field for a text is read as
 pub text_is_utf8 : (shape : Shape) (n : ℕ) (rs : List Record) → form_of shape n ≡ Some form.Text → texts_fit shape rs ≡ true
     → is_utf8 (payload (all n rs)) ≡ true
 text_is_utf8 shape n rs named fit = last_payload (λ bytes. is_utf8 bytes ≡ true) (all n rs) empty_utf8 (texts_of shape n rs named fit)

@@ -127,6 +127,7 @@ told_number m last set row decode encode code fits next range named = record {
 
 -- ---- texts and byte strings
 
+-- one of two tests holds where the second does
 pub or_true : (b c : Bool) → c ≡ true → b || c ≡ true
 or_true true c e = refl
 or_true false c e = e
@@ -291,6 +292,7 @@ told_message m sub last set row read write returns has next kind range named = r
   few = λ rs a good e w. few_message write row.1.number a;
 }
 
+-- messages that were each read, in a repeated field, lead past it by canonical bytes and by lean ones
 pub tells_messages : {M : Type 0} (m sub : MessageName) (last : ℕ) (set : Bool) (row : Row) (read : List ℕ → Result M OpFault)
     (write lean : M → List ℕ) (ms : List M) → HasFrom sub read write lean
     → IsRepeated m last set row → row.1.kind ≡ Message sub → AllByRecursion (IsRead read) ms
@@ -325,6 +327,7 @@ up_to {m} {a} {b} {c} {s} {t} {ns} {full} {spare} le few h = record {
   tells_back : (ms later later_spare : List ℕ) → From m c t ms later later_spare → From m b t ms later later_spare
   tells_back ms later later_spare x = (tells_nothing m b c t t le few).tells ms later later_spare x
 
+-- where each member that is read leads no further than a place, the oneof leads to it, with a member set or without
 pub tells_member : {A : Type 0} (m : MessageName) (last top : ℕ) (ns : List ℕ) (read : ℕ → List Record → Result A OpFault)
     (write lean : A → Record) (rs : List Record) (o : Option A) → last ≤ top → AllByRecursion (IsGood (shape_of m)) rs
     → ((n : ℕ) (xs : List Record) (a : A) → read n xs ≡ Ok a → (k : ℕ) × (k ≤ top) × LeadsBy m last false k true (write a) (lean a))
@@ -335,6 +338,7 @@ tells_member m last top ns read write lean rs (Some a) le good each e =
     let k = each f.0 f.1 a f.3 in
     rw (append-nil (write a).text, append-nil (lean a).text) (up_to k.1 refl k.2)
 
+-- a oneof has one record at most, so no number stands too often in it
 pub few_members : {A : Type 0} (write : A → Record) (o : Option A) → NoneOften (numbered (a_member write o))
 few_members write None = none_often [] (omega arith)
 few_members write (Some a) = none_often (write a ∷ []) (omega arith)
@@ -387,11 +391,14 @@ has_by {m} {W} {A} {next} {then_set} t make read write lean reads writes leans e
 abbrev pub row_at : MessageName → ℕ → Row
 row_at m n = unwrap_or (by_number n (rows_of m)) (once [] 0 Int64)
 
+-- what an int64 that was read is written as is a number that its kind spells
 pub int64_is : (v : ℕ) → IsNumberOf Int64 (from_signed (int64 v))
 int64_is v = ap from_signed (int64_recodes.same v)
 
+-- what an int32 that was read is written as is a number that its kind spells
 pub int32_is : (v : ℕ) → IsNumberOf Int32 (from_signed (int32 v))
 int32_is v = ap from_signed (int32_recodes.same v)
 
+-- what a flag that was read is written as is a number that its kind spells
 pub flag_is : (v : ℕ) → IsNumberOf Flag (bit (flag v))
 flag_is v = ap bit (flag_recodes.same v)

@@ -50,6 +50,7 @@ input_fields = both (string 1 refl refl empty_utf8) (both (numeric 2 int64 from_
 abbrev pub input_made : List ℕ × (ℤ × Unit {0}) → List ℕ → Input
 input_made a extra = record { digest = a.0; index = a.1.0; extra = extra }
 
+-- an input that was read is read again of its canonical bytes
 pub input_returns : Returns input_of input_bytes
 unfolding message_of input_in input_bytes
 input_returns = returns_by input_fields input_made input_of input_bytes refl (λ bytes. refl) (λ a extra. refl)
@@ -74,6 +75,7 @@ abbrev pub UserRead : User → Type 0
 UserRead (ByName name) = Unit {0}
 UserRead (ById id) = id < 2 ^ 32
 
+-- a user that was read is a name, or a number of 32 bits
 pub user_cases : (first : Bool) (bytes : List ℕ) (v : ℕ) (a : User)
     → cond {A = Result User OpFault} first (Ok (ByName bytes)) (Ok (ById (uint32 v))) ≡ Ok a → UserRead a
 user_cases true bytes v a e = subst UserRead (ok_is (ByName bytes) a e) tt
@@ -98,6 +100,7 @@ user_opt_fields = both user_choice end refl
 abbrev pub user_opt_made : Option User × Unit {0} → List ℕ → UserOpt
 user_opt_made a extra = record { user = a.0; extra = extra }
 
+-- a user or a group that was read is read again of its canonical bytes
 pub user_opt_returns : Returns user_opt_of user_opt_bytes
 unfolding message_of user_opt_in user_opt_bytes
 user_opt_returns = returns_by user_opt_fields user_opt_made user_opt_of user_opt_bytes refl (λ bytes. refl) (λ a extra. refl)
@@ -109,6 +112,7 @@ chown_opt_fields = both (message 1 user_opt_of user_opt_bytes user_opt_returns r
 abbrev pub chown_opt_made : Option UserOpt × (Option UserOpt × Unit {0}) → List ℕ → ChownOpt
 chown_opt_made a extra = record { user = a.0; group = a.1.0; extra = extra }
 
+-- an owner, a user and a group, that was read is read again of its canonical bytes
 pub chown_opt_returns : Returns chown_opt_of chown_opt_bytes
 unfolding message_of chown_opt_in chown_opt_bytes
 chown_opt_returns = returns_by chown_opt_fields chown_opt_made chown_opt_of chown_opt_bytes refl (λ bytes. refl) (λ a extra. refl)
@@ -240,6 +244,7 @@ action_cases false true b6 bytes a e = of_message ActionRead mk_file_of (λ m. a
 action_cases false false true bytes a e = of_message ActionRead mk_dir_of (λ m. action.MkDir m) bytes a e (λ m h. (bytes, h))
 action_cases false false false bytes a e = of_message ActionRead rm_of (λ m. action.Rm m) bytes a e (λ m h. (bytes, h))
 
+-- what a file action does, where that was read, is a message that was read of some bytes
 pub action_from : (n : ℕ) (xs : List Record) (a : ActionKind) → action_kind_of n xs ≡ Ok a → ActionRead a
 action_from n xs a e = action_cases (n == 4) (n == 5) (n == 6) (joined xs) a e
 
@@ -270,6 +275,7 @@ action_fields =
 abbrev pub action_made : ℤ × (ℤ × (ℤ × (Option ActionKind × Unit {0}))) → List ℕ → Action
 action_made a extra = record { input = a.0; secondary_input = a.1.0; output = a.1.1.0; kind = a.1.1.1.0; extra = extra }
 
+-- a file action that was read is read again of its canonical bytes
 pub action_returns : Returns action_of action_bytes
 unfolding message_of action_in action_bytes
 action_returns = returns_by action_fields action_made action_of action_bytes refl (λ bytes. refl) (λ a extra. refl)
@@ -303,6 +309,7 @@ kind_text (Build bytes) = refl
 kind_text (Merge m) = refl
 kind_text (Diff bytes) = refl
 
+-- the record that an op's kind is written to is of a member of the oneof
 pub kind_own : (a : Kind) → is_member kinds (kind_record a) ≡ true
 kind_own (Exec m) = refl
 kind_own (Source m) = refl
@@ -332,10 +339,12 @@ kind_cases false false false true b6 bytes a e = subst (KindRead bytes) (ok_is (
 kind_cases false false false false true bytes a e = of_message (KindRead bytes) merge_op_of (λ m. Merge m) bytes a e (λ m h. h)
 kind_cases false false false false false bytes a e = subst (KindRead bytes) (ok_is (Diff bytes) a e) tt
 
+-- an op's kind that was read and is a message was read of its records' payloads, one after the other
 pub kind_from : (n : ℕ) (xs : List Record) (a : Kind) → kind_of n xs ≡ Ok a → KindRead (joined xs) a
 unfolding kind_of
 kind_from n xs a e = kind_cases (n == 2) (n == 3) (n == 4) (n == 5) (n == 6) (joined xs) a e
 
+-- the record that an op's kind is written to is good, where it is not too long
 pub kind_written : (a : Kind) → IsWritten op_shape (kind_record a)
 kind_written (Exec m) = bytes_written op_shape 2 (exec_op_bytes m) refl refl refl
 kind_written (Source m) = bytes_written op_shape 3 (source_op_bytes m) refl refl refl
@@ -344,6 +353,7 @@ kind_written (Build bytes) = bytes_written op_shape 5 bytes refl refl refl
 kind_written (Merge m) = bytes_written op_shape 6 (merge_op_bytes m) refl refl refl
 kind_written (Diff bytes) = bytes_written op_shape 7 bytes refl refl refl
 
+-- an op's kind that was read is read again of the one record that it is written to
 pub kind_again : (bytes : List ℕ) (a : Kind) → KindRead bytes a → IsShort (kind_record a) → one_of kinds kind_of (kind_record a ∷ []) ≡ Ok (Some a)
 unfolding kind_of
 kind_again bytes (Exec m) h short = rw (append-nil (exec_op_bytes m), message_short exec_op_of exec_op_bytes 2 m (bytes, h) exec_op_returns short) refl
@@ -376,6 +386,7 @@ pub entry_cases : (b : Bool) (r : Result Op OpFault) (op : Op) → cond b (Err O
 entry_cases true r op e = absurd cc
 entry_cases false r op e = e
 
+-- an op that an entry stands for is read again of its canonical bytes, where these are within the limit of an entry
 pub op_returns : (op : Op) → IsReadAgain op
 unfolding op_of
 op_returns op entry e short =

@@ -41,19 +41,23 @@ with_named m r (Ok rs) e = go (texts_fit (shape_of m) (r ∷ rs))
     go true = rw e refl
     go false = refl
 
+-- after a record that the message does not name, what is left decides
 pub goes_on : (m : MessageName) (r : Record) (bytes after : List ℕ)
     → records_from (shape_of m) 0 bytes ≡ (records_from (shape_of m) 0 after >>= λ rs. Ok (r ∷ rs))
     → is_none (form_of (shape_of m) r.number) ≡ true → are_unnamed m bytes ≡ are_unnamed m after
 goes_on m r bytes after reads e = of_settled m bytes ∙ ap (λ x. only_unnamed m (settled m x)) reads
     ∙ with_first m r (records_from (shape_of m) 0 after) e ∙ sym (of_settled m after)
 
+-- bytes with a record that the message names are not only unnamed ones
 pub is_named : (m : MessageName) (r : Record) (bytes after : List ℕ)
     → records_from (shape_of m) 0 bytes ≡ (records_from (shape_of m) 0 after >>= λ rs. Ok (r ∷ rs))
     → is_none (form_of (shape_of m) r.number) ≡ false → are_unnamed m bytes ≡ false
 is_named m r bytes after reads e = of_settled m bytes ∙ ap (λ x. only_unnamed m (settled m x)) reads ∙ with_named m r (records_from (shape_of m) 0 after) e
 
+-- bytes without records have none that the message names
 pub at_end : (m : MessageName) (bytes : List ℕ) → records_from (shape_of m) 0 bytes ≡ Ok [] → are_unnamed m bytes ≡ true
 at_end m bytes reads = of_settled m bytes ∙ ap (λ x. only_unnamed m (settled m x)) reads
 
+-- bytes that can't be read as records are not unnamed ones
 pub unread : (m : MessageName) (bytes : List ℕ) (f : OpFault) → records_from (shape_of m) 0 bytes ≡ Err f → are_unnamed m bytes ≡ false
 unread m bytes f reads = of_settled m bytes ∙ ap (λ x. only_unnamed m (settled m x)) reads

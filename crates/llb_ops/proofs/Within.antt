@@ -211,6 +211,7 @@ message_within bytes op size e =
       kind = kind_member (chosen kinds rs) rs k.0 (omega (arith, size, r.2)) k.1;
     })
 
+-- an op that is read of an entry which is not too long is within the limits
 pub op_read_within : (bytes : List ℕ) (r : Result Op OpFault) → length bytes ≤ entry_limit
     → Gives {X = Op} {Y = Op} (λ op. op) r (op_message_of bytes) → IfOk r IsWithinLimits
 op_read_within bytes (Ok op) size h = message_within bytes op size h
@@ -233,5 +234,6 @@ fit_within es false true f g e = record {
 }
 fit_within es false false f g e = absurd cc
 
+-- the entries that a definition has are within the limits, by number and by length
 pub entries_within : (bytes : List ℕ) (es : List (List ℕ)) → definition_of bytes ≡ Ok es → AreWithinLimits es
 entries_within bytes es e = fit_within es (ltb entries_limit (length es)) (are_short es) refl refl (still_fit bytes es e)

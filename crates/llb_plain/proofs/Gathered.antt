@@ -37,6 +37,7 @@ one_more trees t (Some more) = ap (λ (l : List TreeMap). Some l) (append_assoc 
 pub gathered_start : (E : ℕ → Option Ending) (es : List Edge) → GatheredSoFar E es 0 []
 gathered_start E es = none_before (inputs_from E es)
 
+-- the tree of the next edge is gathered, and the edges after it are left
 pub gathered_next : (E : ℕ → Option Ending) (es : List Edge) (i : ℕ) (trees : List TreeMap) (e : Edge) (t : TreeMap)
     → GatheredSoFar E es i trees → slice_get es i ≡ Some e → output_in (E e.vertex) e.index ≡ Some t → GatheredSoFar E es (i + 1) (trees ++ t ∷ [])
 gathered_next E es i trees e t here at there =
@@ -44,11 +45,13 @@ gathered_next E es i trees e t here at there =
     ∙ ap (λ o. behind trees (both o (inputs_from E (drop (i + 1) es)))) (sym there)
     ∙ ap (behind trees) (sym (inputs_next E es i e at)) ∙ here
 
+-- an edge without a tree decides: the inputs are not all there
 pub gathered_missing : (E : ℕ → Option Ending) (es : List Edge) (i : ℕ) (trees : List TreeMap) (e : Edge)
     → GatheredSoFar E es i trees → slice_get es i ≡ Some e → output_in (E e.vertex) e.index ≡ None → inputs_from E es ≡ None
 gathered_missing E es i trees e here at gone =
     sym here ∙ ap (behind trees) (inputs_next E es i e at) ∙ ap (λ o. behind trees (both o (inputs_from E (drop (i + 1) es)))) gone
 
+-- where no edge is left, the trees that are gathered are those of all inputs
 pub gathered_end : (E : ℕ → Option Ending) (es : List Edge) (i : ℕ) (trees : List TreeMap) → GatheredSoFar E es i trees → length es ≤ i
     → inputs_from E es ≡ Some trees
 gathered_end E es i trees here past =

@@ -14,6 +14,7 @@ pub record Leaves (steps : List MicroStep) (start : View) (k : ℕ) (view : View
   pub shown : shown_in view ≡ []
   pub none : trees ≡ []
 
+-- before the first micro-step the view is the one begun with, and nothing has faulted
 pub none_yet : (steps : List MicroStep) (start : View) (trees : List TreeMap) → shown_in start ≡ [] → trees ≡ [] → Leaves steps start 0 start trees
 unfolding part
 none_yet steps start trees bare none = record { left = refl; shown = bare; none = none }

@@ -8,14 +8,17 @@ abbrev pub doubled : List ℕ → List ℕ
 doubled [] = []
 doubled (x ∷ xs) = (x + x) ∷ doubled xs
 
+-- weights that are doubled are twice as much together
 pub sum-doubled : (xs : List ℕ) → sum (doubled xs) ≡ sum xs + sum xs
 sum-doubled [] = refl
 sum-doubled (x ∷ xs) = omega (arith, sum_by-cons (λ n. n) (x + x) (doubled xs), sum_by-cons (λ n. n) x xs, sum-doubled xs)
 
+-- weights that are doubled are as many as before
 pub length-doubled : (xs : List ℕ) → length (doubled xs) ≡ length xs
 length-doubled [] = refl
 length-doubled (x ∷ xs) = ap suc (length-doubled xs)
 
+-- at each place, and past the end, a doubled weight is twice the one that was there
 pub get_or-doubled : (xs : List ℕ) (i : ℕ) → get_or (doubled xs) i 0 ≡ get_or xs i 0 + get_or xs i 0
 get_or-doubled [] i = refl
 get_or-doubled (x ∷ xs) zero = refl

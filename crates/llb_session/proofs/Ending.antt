@@ -72,6 +72,7 @@ pub some_left : (over : List ℕ) → false ≡ (length over == 0) → 0 < lengt
 some_left [] e = absurd cc
 some_left (b ∷ over) e = omega arith
 
+-- of a piece nothing is left where the rest is tested to have no bytes
 pub none_left : (over : List ℕ) → true ≡ (length over == 0) → over ≡ []
 none_left over e = nil_from_length over (eqb-true (length over) 0 (sym e))
 
@@ -81,6 +82,7 @@ none_taken a b buffer n none taken = let P : ℕ → Type 0 = λ k. Consumes a b
 
 -- ---- the bound on reads, and a read that failed
 
+-- reading fails: all that was taken before was heard and answered, and the conversation ends with that fault
 pub ends_unread : (limit room : ℕ) (s : Stepping) (q : Standing) (a b o o' : Option (List ℕ)) → Listened limit room s q a b o o'
     → Converses limit s q.session a b o o' (Err Read)
 ends_unread limit room s q a b o o' l = record {
@@ -149,6 +151,7 @@ ends_so limit s t q heard a b o o1 o2 (Err Read) taken end few w last = absurd l
 ends_so limit s t q heard a b o o1 o2 (Err Memory) taken end few w last = absurd last
 ends_so limit s t q heard a b o o1 o2 (Err TooLong) taken end few w last = absurd last
 
+-- the input ends: the conversation ends as is said to its last line
 pub ends_last : (limit room : ℕ) (s t : Stepping) (q : Standing) (a b c o o1 o2 : Option (List ℕ)) (r : Result (Unit {0}) SessionFault)
     → Listened limit room s q a b o o1 → Consumes b c [] → IsAtEnd c → IsLast q t o1 o2 r → Converses limit s t a c o o2 r
 ends_last limit room s t q a b c o o1 o2 r l none end last =
@@ -180,6 +183,7 @@ piece_of limit room s q r a b c o o1 o2 fits over result l taken few h =
       comes = all.comes;
     }
 
+-- a line of a piece ends the session: the conversation ends there without a fault
 pub ends_quit : (limit room : ℕ) (s : Stepping) (q r : Standing) (a b c o o1 o2 : Option (List ℕ)) (fits over : List ℕ)
     → Listened limit room s q a b o o1 → Consumes b c (fits ++ over) → length fits ≤ room → Hears q fits r o1 o2 (Ok false)
     → Converses limit s r.session a c o o2 (Ok tt)
@@ -194,6 +198,7 @@ fault_of limit s r a c o o2 Memory p = record { heard = p.heard; unheard = p.unh
 fault_of limit s r a c o o2 Read p = absurd p.comes
 fault_of limit s r a c o o2 TooLong p = absurd p.comes
 
+-- a piece is heard up to a fault: the conversation ends with it
 pub ends_fault : (limit room : ℕ) (s : Stepping) (q r : Standing) (a b c o o1 o2 : Option (List ℕ)) (fits over : List ℕ) (e : SessionFault)
     → Listened limit room s q a b o o1 → Consumes b c (fits ++ over) → length fits ≤ room → Hears q fits r o1 o2 (Err e)
     → Converses limit s r.session a c o o2 (Err e)
@@ -223,6 +228,7 @@ said_last : (s t : Stepping) (n : ℕ) (line : List ℕ) (o o' : Option (List �
 said_last s t n [] o o' text more answers printed = absurd (omega (arith, more))
 said_last s t n (b ∷ line) o o' text more answers printed = inl (text, Talks-one s t n (b ∷ line) text answers, printed)
 
+-- what is said to a line at its end is said to a last one without an end, where it is not empty
 pub last_said : (p : Standing) (t : Stepping) (o o' : Option (List ℕ)) (goes_on : Bool) → 0 < length p.line → IsSaid p t o o' (Ok goes_on)
     → IsLast p t o o' (Ok tt)
 last_said p t o o' true more (text, answers, printed) = said_last p.session t p.number p.line o o' text more answers printed

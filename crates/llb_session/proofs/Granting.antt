@@ -15,6 +15,7 @@ use Rattle.llb_session.specs.declared.request.Request.TheVariants as ask
 use Rattle.llb_session.specs.Request.{request_in}
 use Rattle.llb_session.specs.Answers.{Comes, GrantsNext, AnswersAs, Answers, Quits, Puts, Says}
 
+-- `next` comes to what the chosen event comes to, which is refused only where it is out of memory
 pub chosen_comes : (s t : Stepping) (e : own.Event) (r : Result (Vec ℕ Global) StepperFault) → ChosenIsDone s
     → Some (event_of e) ≡ chosen s.board.build s.board.state
     → Comes (ask.Event e) s t r → Comes ask.Next s t r

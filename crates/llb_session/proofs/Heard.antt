@@ -45,6 +45,7 @@ cut_none p t o o' is (said, answers, (front, rest, split, printed)) = record {
 pub went_none : (p : Standing) (o : Option (List ℕ)) → IsLine p.line → Went p [] p o o
 went_none p o is = record { text = []; talked = Talked-none p is; printed = Appends-nil o }
 
+-- bytes that were heard, and more that were heard after them, were heard together
 pub went_more : (p q r : Standing) (bytes more : List ℕ) (o o1 o2 : Option (List ℕ)) → Went p bytes q o o1 → Went q more r o1 o2 → Went p (bytes ++ more) r o o2
 went_more p q r bytes more o o1 o2 a b = record {
   text = a.text ++ b.text;
@@ -103,6 +104,7 @@ comes_after p q r bytes heard unheard text o o1 o2 (Err Memory) talked out c = a
 comes_after p q r bytes heard unheard text o o1 o2 (Err Read) talked out c = c
 comes_after p q r bytes heard unheard text o o1 o2 (Err TooLong) talked out c = c
 
+-- what comes of bytes after others that were heard comes of both together
 pub hears_after : (p q r : Standing) (bytes more text : List ℕ) (o o1 o2 : Option (List ℕ)) (result : Result Bool SessionFault)
     → Talked p bytes text q → Appends o o1 text → Hears q more r o1 o2 result → Hears p (bytes ++ more) r o o2 result
 hears_after p q r bytes more text o o1 o2 result talked out h = record {
@@ -141,6 +143,7 @@ hears_over_quit p q bytes more o o' h = record {
 
 -- ---- all of them were
 
+-- where the session goes on, all the bytes were heard
 pub went_all : (p q : Standing) (bytes : List ℕ) (o o' : Option (List ℕ)) → Hears p bytes q o o' (Ok true) → Went p bytes q o o'
 went_all p q bytes o o' h =
     let P : List ℕ → Type 0 = λ x. Went p x q o o' in
@@ -197,11 +200,13 @@ said_err p q o o' Read is said = absurd said
 said_err p q o o' Memory is said = absurd said
 said_err p q o o' TooLong is said = absurd said
 
+-- a line end is heard: its line is answered and a new one begun, or it ends the session
 pub byte_ends : (p q : Standing) (b : ℕ) (o o' : Option (List ℕ)) (goes_on : Bool) → IsLine p.line → b ≡ 10 → q.number ≡ p.number + 1 → q.line ≡ []
     → IsSaid p q.session o o' (Ok goes_on) → Hears p (b ∷ []) q o o' (Ok goes_on)
 byte_ends p q b o o' goes_on is end next new said =
     let P : ℕ → Type 0 = λ x. Hears p (x ∷ []) q o o' (Ok goes_on) in subst P (sym end) (said_ok p q o o' goes_on is next new said)
 
+-- a line end is heard, and the answer to its line is not put out whole
 pub byte_fails : (p q : Standing) (b : ℕ) (o o' : Option (List ℕ)) (e : SessionFault) → IsLine p.line → b ≡ 10
     → IsSaid p q.session o o' (Err e) → Hears p (b ∷ []) q o o' (Err e)
 byte_fails p q b o o' e is end said = let P : ℕ → Type 0 = λ x. Hears p (x ∷ []) q o o' (Err e) in subst P (sym end) (said_err p q o o' e is said)
@@ -211,12 +216,14 @@ byte_fails p q b o o' e is end said = let P : ℕ → Type 0 = λ x. Hears p (x 
 around : (xs : List ℕ) (i : ℕ) → i < length xs → (take i xs ++ get_or xs i 0 ∷ []) ++ drop (i + 1) xs ≡ xs
 around xs i h = ap (λ x. x ++ drop (i + 1) xs) (sym (take_more xs i 0 h)) ∙ take-append-drop (i + 1) xs
 
+-- the next byte is heard, and so all up to it are
 pub went_on : (p q r : Standing) (xs : List ℕ) (i : ℕ) (o o1 o2 : Option (List ℕ)) → i < length xs
     → Went p (take i xs) q o o1 → Hears q (get_or xs i 0 ∷ []) r o1 o2 (Ok true) → Went p (take (i + 1) xs) r o o2
 went_on p q r xs i o o1 o2 in' w h =
     let P : List ℕ → Type 0 = λ x. Went p x r o o2 in
     subst P (sym (take_more xs i 0 in')) (went_more p q r (take i xs) (get_or xs i 0 ∷ []) o o1 o2 w (went_all q r (get_or xs i 0 ∷ []) o1 o2 h))
 
+-- a byte ends the session, and those after it are not heard
 pub quit_at : (p q r : Standing) (xs : List ℕ) (i : ℕ) (o o1 o2 : Option (List ℕ)) → i < length xs
     → Went p (take i xs) q o o1 → Hears q (get_or xs i 0 ∷ []) r o1 o2 (Ok false) → Hears p xs r o o2 (Ok false)
 quit_at p q r xs i o o1 o2 in' w h =
@@ -225,6 +232,7 @@ quit_at p q r xs i o o1 o2 in' w h =
     (hears_over_quit p r (take i xs ++ get_or xs i 0 ∷ []) (drop (i + 1) xs) o o2
     (hears_after p q r (take i xs) (get_or xs i 0 ∷ []) w.text o o1 o2 (Ok false) w.talked w.printed h))
 
+-- a byte is heard with a fault, and those after it are not heard
 pub fails_at : (p q r : Standing) (xs : List ℕ) (i : ℕ) (o o1 o2 : Option (List ℕ)) (e : SessionFault) → i < length xs
     → Went p (take i xs) q o o1 → Hears q (get_or xs i 0 ∷ []) r o1 o2 (Err e) → Hears p xs r o o2 (Err e)
 fails_at p q r xs i o o1 o2 e in' w h =

@@ -4,9 +4,11 @@ use Rattle.std.specs.Str.{IsUtf8, is_utf8}
 use Rattle.std.proofs.lemmas.Str.{IsUtf8-from_is_utf8, is_utf8-from_IsUtf8}
 use Rattle.llb_session.specs.Request.{request_in, by_words, parted}
 
+-- a line that is UTF-8 asks for what its words say
 pub of_text : (line : List ℕ) → IsUtf8 line → by_words line (parted line) ≡ request_in line
 of_text line is = rw (is_utf8-from_IsUtf8 line is) refl
 
+-- a line that is not UTF-8 asks for nothing
 pub of_none : (line : List ℕ) → (IsUtf8 line → ⊥) → None ≡ request_in line
 of_none line none = by_test (is_utf8 line) refl
   where

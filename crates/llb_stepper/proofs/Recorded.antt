@@ -137,6 +137,7 @@ told_as b ws d s i e x j is place are board past low high inside at =
     let reply : x.reply ≡ (get_or ws (length ws - 1 - (length b.events - i)) d).reply = ap (λ (y : Walked). y.reply) (is ∙ ap (λ k. get_or ws k d) place) in
     ap (λ q. Some (e, q)) reply ∙ told_here b ws d s i e are board past low high inside at
 
+-- a number other than 0 is at least 1
 pub positive : (n : ℕ) → (n ≡ 0 → ⊥) → 1 ≤ n
 positive zero none = absurd (none refl)
 positive (suc n) none = omega arith

@@ -108,6 +108,7 @@ gone_on s t u es i e hit kept at met = (
       ∙ met_by t.breaks e (answered t.board e) met.0 met.1 met.2 ∙ sym met.4,
 )
 
+-- before the first event of a list nothing was done, and no breakpoint was met
 pub begun : (s : Stepping) (es : List Event) → GoneTo s es s 0
 unfolding run_on
 begun s es = record { leads = refl; past = refl; breaks = refl; none = λ k lt. absurd (omega arith); depth = omega arith }
@@ -227,6 +228,7 @@ longer s t es e g = record {
 all_of : (s t : Stepping) (es : List Event) → GoneTo s es t (length es) → run_on s.board es ≡ Some t.board
 all_of s t es g = ap (run_on s.board) (sym (take_whole es)) ∙ g.leads
 
+-- at first no chosen event was done
 pub none_chosen : (s : Stepping) → Chosen s s
 unfolding AreChosen
 none_chosen s = record { events = []; are = tt; gone = begun s [] }
@@ -274,6 +276,7 @@ pub since : (s t : Stepping) (i before now : ℕ) → length t.past ≡ length s
     → now - before + length s.past ≡ length t.past
 since s t i before now depth from to = omega (arith, depth, from, to)
 
+-- what is chosen on a stepper's board is chosen on an equal one's
 pub chosen_as : (s t : Stepping) (e : Event) → Some e ≡ chosen s.board.build s.board.state → s ≡ t → chosen t.board.build t.board.state ≡ Some e
 chosen_as s t e is same = ap (λ (z : Stepping). chosen z.board.build z.board.state) (sym same) ∙ sym is
 

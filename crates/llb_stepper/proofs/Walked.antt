@@ -85,6 +85,7 @@ depth : (ws : List Walked) (b : Seen) → length (past_of b ws) ≡ length ws
 depth [] b = refl
 depth (w ∷ ws) b = ap suc (depth ws (undone w.undo b))
 
+-- as many boards are before a stepper's as events were done
 pub depth_of : (ws : List Walked) (b : Seen) → length ws ≡ length (past_of b (reverse ws))
 depth_of ws b = sym (length-reverse ws) ∙ sym (depth (reverse ws) b)
 
@@ -126,6 +127,7 @@ refused_by : (s : Stepping) (o : Walk) (f : StepperFault) → done_by s o ≡ Er
 refused_by s (Ok p) f is = absurd cc
 refused_by s (Err g) f is = (g, refl)
 
+-- an event that the table grants is refused only where it is out of memory
 pub memory_alone : (s : Stepping) (e : Event) (f : StepperFault) → is_some (table s.board.build s.board.state e) ≡ true
     → (stepper_memory f ≡ false → done_of s e ≡ Err f) → stepper_memory f ≡ true
 memory_alone s e f granted refused = by_test (stepper_memory f) refl
@@ -139,6 +141,7 @@ pub chosen_granted : (b : Seen) (s : Stepping) (e : Event) → b ≡ s.board →
     → is_some (table s.board.build s.board.state e) ≡ true
 chosen_granted b s e same law is = ap (λ (x : Seen). is_some (table x.build x.state e)) (sym same) ∙ law e is
 
+-- the chosen event is granted by the table, so it is refused only where it is out of memory
 pub chosen_done : (b : Seen) (s : Stepping) → b ≡ s.board → ChosenIsGranted b → (e : Event) (f : StepperFault) → chosen s.board.build s.board.state ≡ Some e
     → done_of s e ≡ Err f → stepper_memory f ≡ true
 chosen_done b s same law e f is refused =
@@ -159,6 +162,7 @@ parts s u past breaks =
     let before : u.past ≡ s.past = cc in
     ap (λ b. stood b u.past u.breaks) board ∙ ap (λ p. stood s.board p u.breaks) before ∙ ap (λ k. stood s.board s.past k) breaks
 
+-- an event, and back, leads to the stepper as it was: board, boards before and breakpoints
 pub gone_and_back : (s : Stepping) (e : Event) (t u : Stepping) → done_of s e ≡ Ok t → GoesBack t u → u ≡ s
 gone_and_back s e t u done back =
     let d = done_inside s t (walk_of s.board e) done in

@@ -29,6 +29,7 @@ by_place p C in' out q = by_test (is_within p q) refl
     by_test true is = subst C (sym (within_split p q is)) (in' _)
     by_test false is = out q is
 
+-- at and below the path that is set stands what the new tree has, or nothing where there is none
 pub set_inside : (p q : List (List ℕ)) (t : Option TreeMap) (old : Look) → set_look p t old (p ++ q) ≡ look_in t q
 set_inside [] q t old = refl
 set_inside (n ∷ p) q t old = ap (λ o. cond (is_eq o) (set_look p t (λ r. old (n ∷ r)) (p ++ q)) (old (n ∷ (p ++ q)))) (tied n)
@@ -37,6 +38,7 @@ set_inside (n ∷ p) q t old = ap (λ o. cond (is_eq o) (set_look p t (λ r. old
     tied : (n : List ℕ) → name_cmp n n ≡ Equal
     tied n = tied_itself nat_list_cmp_total n
 
+-- outside the path that is set all is as it was
 pub set_outside : (p q : List (List ℕ)) (t : Option TreeMap) (old : Look) → is_within p q ≡ false → set_look p t old q ≡ old q
 set_outside [] q t old out = absurd (true≢false out)
 set_outside (n ∷ p) [] t old out = refl
@@ -77,6 +79,7 @@ put_same t new p one e here more is = finite.same_map path_cmp-IsTotalOrder path
     below [] = here
     below (n ∷ q) = more n q
 
+-- a directory set at a path, with below it what was there, makes the map that has the directory inserted
 pub dir_put : (t new one : TreeMap) (p : List (List ℕ)) (m : MetaValue) → ((q : List (List ℕ)) → finite.get one q ≡ dir_look m (λ r. finite.get t (p ++ r)) q)
     → ((q : List (List ℕ)) → finite.get new q ≡ set_look p (Some one) (finite.get t) q) → new ≡ finite.insert t p (Dir m)
 dir_put t new one p m made is = put_same t new p (Some one) (Dir m) (made []) (λ n q. made (n ∷ q)) is
@@ -98,6 +101,7 @@ nothing_below t p n q tree fits = by_entry (finite.get t (p ++ (n ∷ q))) refl
         (ap (λ x. file_fits (finite.get t x)) (append-nil p) ∙ fits)
         (sym (walk-cons (λ r. finite.get t (p ++ r)) n q) ∙ walk_below (finite.get t) p (n ∷ q) (tree.closed (p ++ (n ∷ q)) (ap is_some is))))
 
+-- a file set at a path where one may be put makes the map that has the file inserted
 pub file_put : (t new one : TreeMap) (p : List (List ℕ)) (m : MetaValue) (b : List ℕ) → IsTree t → file_fits (finite.get t p) ≡ Ok tt
     → ((q : List (List ℕ)) → finite.get one q ≡ file_look m b q)
     → ((q : List (List ℕ)) → finite.get new q ≡ set_look p (Some one) (finite.get t) q) → new ≡ finite.insert t p (File m b)
@@ -105,6 +109,7 @@ file_put t new one p m b tree fits made is = put_same t new p (Some one) (File m
 
 -- ---- a path taken away, and a tree put
 
+-- nothing set at a path makes the map without what is at or below the path
 pub taken_away : (t new : TreeMap) (p : List (List ℕ)) → ((q : List (List ℕ)) → finite.get new q ≡ set_look p None (finite.get t) q) → new ≡ without t p
 taken_away t new p is = finite.same_map path_cmp-IsTotalOrder path_cmp-IsAntisymmetric new (without t p)
     (by_place p (λ q. finite.get new q ≡ finite.get (without t p) q)
@@ -112,6 +117,7 @@ taken_away t new p is = finite.same_map path_cmp-IsTotalOrder path_cmp-IsAntisym
     ∙ sym (get-without t p (p ++ q) ∙ ap (λ b. cond (not b) (finite.get t (p ++ q)) None) (within-append p q)))
     (λ q out. is q ∙ set_outside p q None (finite.get t) out ∙ sym (get-without t p q ∙ ap (λ b. cond (not b) (finite.get t q) None) out)))
 
+-- a tree set at a path makes the map that has the tree there in place of what was at or below it
 pub tree_put : (t new other : TreeMap) (p : List (List ℕ))
     → ((q : List (List ℕ)) → finite.get new q ≡ set_look p (Some other) (finite.get t) q) → new ≡ with_tree t p other
 tree_put t new other p is = finite.same_map path_cmp-IsTotalOrder path_cmp-IsAntisymmetric new (with_tree t p other)
@@ -119,6 +125,7 @@ tree_put t new other p is = finite.same_map path_cmp-IsTotalOrder path_cmp-IsAnt
     (λ q. is (p ++ q) ∙ set_inside p q (Some other) (finite.get t) ∙ sym (get_inside t p other q))
     (λ q out. is q ∙ set_outside p q (Some other) (finite.get t) out ∙ sym (get_outside t p other q out)))
 
+-- a tree that has at each q what another has at q below a path is the other's tree at that path
 pub tree_taken : (t sub : TreeMap) (p : List (List ℕ)) → ((q : List (List ℕ)) → finite.get sub q ≡ finite.get t (p ++ q)) → sub ≡ tree_at t p
 tree_taken t sub p is = finite.same_map path_cmp-IsTotalOrder path_cmp-IsAntisymmetric sub (tree_at t p) (λ q. is q ∙ sym (get-tree_at t p q))
 
@@ -128,9 +135,11 @@ tree_taken t sub p is = finite.same_map path_cmp-IsTotalOrder path_cmp-IsAntisym
 abbrev pub IsDeep : TreeMap → ℕ → Type 0
 IsDeep t n = (q : List (List ℕ)) → is_some (finite.get t q) ≡ true → length q ≤ n
 
+-- a tree of height n + 1 at most has no path of more than n names
 pub deep_from : (t : TreeMap) (n : ℕ) → height t ≤ n + 1 → IsDeep t n
 deep_from t n le q there = let h = le_height t q there in omega arith
 
+-- a tree with no path of more than n names is of height n + 1 at most
 pub height_from : (t : TreeMap) (n : ℕ) → IsDeep t n → height t ≤ n + 1
 height_from t n deep = height_le t (n + 1) (λ q there. let h = deep q there in omega arith)
 

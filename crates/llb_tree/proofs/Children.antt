@@ -48,9 +48,11 @@ look_child n q (k ∷ ks) h =
 pub get-child : (k : Kind) (n : List ℕ) (q : List (List ℕ)) → AreSorted (kids_of k) → finite.get (map_of k) (n ∷ q) ≡ look_in (child n (kids_of k)) q
 get-child k n q h = get-below k n q ∙ look_child n q (kids_of k) h
 
+-- what stands at the root of a node's map is the node's own entry
 pub read_root : (k : Kind) (v : TreeMap) → map_of k ≡ v → Some (own_entry k) ≡ finite.get v []
 read_root k v view = sym (get-root k) ∙ ap (λ t. finite.get t []) view
 
+-- below a node without children nothing stands
 pub read_file : (k : Kind) (v : TreeMap) (n : List ℕ) (q : List (List ℕ)) → map_of k ≡ v → kids_of k ≡ [] → None ≡ finite.get v (n ∷ q)
 read_file k v n q view none = sym (ap (λ t. finite.get t (n ∷ q)) (sym view) ∙ get-below k n q ∙ ap (λ ks. look_kids ks n q) none)
 
@@ -65,6 +67,7 @@ module _ (k : Kind) (ks : List Child) (v : TreeMap) (n : List ℕ) (q : List (Li
   pub read_gap : (i : ℕ) → Err i ≡ place n ks → None ≡ finite.get v (n ∷ q)
   read_gap i at = sym (read_child ∙ ap (λ o. look_in o q) ((is_gap n ks i (sym at)).none (subst AreSorted is sorted)))
 
+-- a map of one file at the root has at each path what a lone file has: at the root itself, and below it nothing
 pub file_alone : (m : MetaValue) (b c : List ℕ) → c ≡ b → (q : List (List ℕ))
     → finite.get {R = path_cmp} (finite.insert finite.empty [] (File m c)) q ≡ file_look m b q
 file_alone m b c is [] = finite.get-insert path_cmp-IsTotalOrder finite.empty [] (File m c) [] ∙ ap (λ x. Some (File m x)) is

@@ -77,6 +77,7 @@ none_stands q d is = none_there q (ap is_some is)
 root_path : IsPath []
 root_path = record { short = omega arith; named = λ k d lt. absurd (omega arith) }
 
+-- a directory at the root with nothing below it is a tree, where its mode and its owners are in range
 pub IsTree-empty : (m : MetaValue) → IsMeta m → IsTree (single m)
 IsTree-empty m is = record {
   root = (m, finite.get-insert path_cmp-IsTotalOrder finite.empty [] (Dir m) []);

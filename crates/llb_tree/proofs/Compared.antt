@@ -215,15 +215,19 @@ module _ (ks ls : List Child) (i : ℕ) (so : SoFar ks ls i) where
           sorted2 = and_second _ _ sorted_here2;
         })
 
+-- a test that says false tells of a fact that can't hold
 pub differ : {A : Type 0} → (A → ⊥) → (IsTrue false → A) × (A → IsTrue false)
 differ never = (λ h. absurd (true≢false (sym h)), λ a. absurd (never a))
 
+-- a test that says true tells of a fact that holds
 pub agree : {A : Type 0} → A → (IsTrue true → A) × (A → IsTrue true)
 agree always = (λ _. always, λ _. refl)
 
+-- where the test for a difference says true, two texts are not the same
 pub unequal : (xs ys : List ℕ) → true ≡ not (pointwise nat_eq xs ys) → xs ≡ ys → ⊥
 unequal xs ys test same = true≢false (test ∙ ap not ((bytes_decides xs ys).1 same))
 
+-- where the test for a difference says false, two texts are the same
 pub equal : (xs ys : List ℕ) → false ≡ not (pointwise nat_eq xs ys) → xs ≡ ys
 equal xs ys test = (bytes_decides xs ys).0 (go (pointwise nat_eq xs ys) test)
   where

@@ -34,6 +34,7 @@ find_mapped {X = X} R f q (e ∷ es) = ap (cond (eq_by_cmp R q e.0) (Some (f e.1
     moved true rest = refl
     moved false rest = refl
 
+-- a dressed tree has at each path the entry that was there, in the mode and the owner that are given
 pub get-dress : (w : WayValue) (t : TreeMap) (q : List (List ℕ)) → finite.get (dress w t) q ≡ option_map (worn w) (finite.get t q)
 get-dress w t q =
     finite.get-from_entries path_cmp-IsTotalOrder (map (λ (e : Pair). (e.0, worn w e.1)) (finite.entries t)) q
@@ -48,6 +49,7 @@ worn_all : (w : WayValue) (o : Option Entry) → ((m : MetaValue) → given w m 
 worn_all w None same = refl
 worn_all w (Some e) same = ap (λ x. Some x) (worn_same w e same)
 
+-- where each mode and owner would be given as it is, dressing changes nothing
 pub dress_same : (w : WayValue) (t : TreeMap) → ((m : MetaValue) → given w m ≡ m) → dress w t ≡ t
 dress_same w t same = finite.same_map path_cmp-IsTotalOrder path_cmp-IsAntisymmetric (dress w t) t (λ q. get-dress w t q ∙ worn_all w (finite.get t q) same)
 
@@ -65,11 +67,13 @@ look_dressed : (w : WayValue) (o : Option TreeMap) (q : List (List ℕ)) → loo
 look_dressed w None q = refl
 look_dressed w (Some t) q = get-dress w t q
 
+-- dressed children keep their names, so they stay in order
 pub AreSorted-dressed : (w : WayValue) (old new : List Child) → map pair_of new ≡ map (dress_pair w) (map pair_of old) → AreSorted old → AreSorted new
 AreSorted-dressed w old new is h = subst T (sym (ap (is_sorted name_cmp) is ∙ sorted_dressed w (map pair_of old))) h
 
 -- ---- a node
 
+-- a node whose own entry and whose children are dressed stands for the dressed tree
 pub node_dressed : (w : WayValue) (k j : Kind) → AreSorted (kids_of k) → own_entry j ≡ worn w (own_entry k)
     → map pair_of (kids_of j) ≡ map (dress_pair w) (map pair_of (kids_of k)) → map_of j ≡ dress w (map_of k)
 node_dressed w k j h own kids = node_is j (dress w (map_of k)) (AreSorted-dressed w (kids_of k) (kids_of j) kids h)
@@ -104,6 +108,7 @@ module _ (w : WayValue) where
   pub pairs_taken : (ks new : List Child) (i : ℕ) → length ks ≤ i → map pair_of new ≡ take i (worn_pairs ks) → map pair_of new ≡ worn_pairs ks
   pairs_taken ks new i h is = is ∙ take_all i (worn_pairs ks) (omega (arith, h, lengths ks))
 
+-- a fact of the value that a call gives, if it gives one, yields what follows from it
 pub if_ok : {A E : Type 0} {P Q : A → Type 0} (r : Result A E) → ((x : A) → P x → Q x) → IfOk r P → IfOk r Q
 if_ok (Ok x) f h = f x h
 if_ok (Err e) f h = tt

@@ -47,6 +47,7 @@ module _ (t new one : TreeMap) (d n : ℕ) (p : List (List ℕ)) (m : MetaValue)
       below long le made (x ∷ q) there = let h = deep_from t d whole.deep (p ++ (x ∷ q)) (sym (ap is_some (made (x ∷ q))) ∙ there) in
           omega (arith, h, length-append p (x ∷ q))
 
+-- a tree with nothing set at a path that was there, and was not the root, is whole and what the removal gives
 pub removal : (t new : TreeMap) (d : ℕ) (p : List (List ℕ)) → IsWhole t d → p ≢ [] → found (finite.get t p) ≡ Ok tt
     → ((q : List (List ℕ)) → finite.get new q ≡ set_look p None (finite.get t) q) → IsWhole new d × (remove t p ≡ Ok new)
 removal t new d p whole named there set =
@@ -80,6 +81,7 @@ module _ (t new other : TreeMap) (d e n : ℕ) (p : List (List ℕ)) (whole : Is
       deep : (q : List (List ℕ)) → is_some (finite.get other q) ≡ true → length p + length q ≤ 128
       deep q there = at (finite.get other q) q refl there
 
+-- what a whole tree has at and below a directory is whole, less deep by that path's names, and is the subtree there
 pub taking : (t sub : TreeMap) (d n : ℕ) (p : List (List ℕ)) → IsWhole t d → dir_there t p ≡ Ok tt → d - length p ≤ n → n ≤ 128
     → ((q : List (List ℕ)) → finite.get sub q ≡ finite.get t (p ++ q)) → IsWhole sub n × (subtree t p ≡ Ok sub)
 taking t sub d n p whole there le short is =
@@ -92,6 +94,7 @@ taking t sub d n p whole there le short is =
       subtree-Ok t p there ∙ ap Ok (sym same),
     )
 
+-- the empty tree is whole, and its one path has no name
 pub IsWhole-empty : (t : TreeMap) → t ≡ empty_tree → IsWhole t 0
 IsWhole-empty t is = subst (λ s. IsWhole s 0) (sym is) (record {
   tree = IsTree-empty new_dir_meta (record { mode = omega arith; uid = omega arith; gid = omega arith });

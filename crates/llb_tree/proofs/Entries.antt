@@ -19,6 +19,7 @@ use Rattle.llb_tree.proofs.Orders.{is_less, and_first, and_second, and_both, bel
 abbrev Pair : Type 0
 Pair = List (List ℕ) × Entry
 
+-- a list of length zero is the empty one
 pub nothing : {A : Type 0} (es : List A) → length es ≡ 0 → es ≡ []
 nothing [] none = refl
 nothing (e ∷ es) none = absurd (omega arith)
@@ -108,5 +109,6 @@ root_first e ((n ∷ q, x) ∷ es) sorted is = absurd (found_none
     found_none : finite.find path_cmp [] es ≡ None → finite.find path_cmp [] es ≡ Some e → ⊥
     found_none none some = cc
 
+-- what stands at the root is the first of a tree's entries
 pub entries-root : (m : TreeMap) (e : Entry) → finite.get m [] ≡ Some e → (rest : List Pair) × (finite.entries m ≡ ([], e) ∷ rest)
 entries-root m e is = root_first e (finite.entries m) (finite.entries_sorted m) (sym (finite.get-entries m []) ∙ is)

@@ -86,9 +86,11 @@ fits_none p (e ∷ es) short lt = by_test (fits_none p es short) (nat_lt 128 (le
     by_test rest true is = refl
     by_test rest false is = let le = ltb-false 128 (length p + length e.0) is in rest (omega (arith, le, lt))
 
+-- a path of as many names as leave room for a tree's longest path lets each place of the tree stand below it
 pub fit_all : (p : List (List ℕ)) (t : TreeMap) → length p + height t ≤ 129 → Ok tt ≡ places_fit p (finite.keys t)
 fit_all p t le = sym (fits_all p (finite.entries t) le)
 
+-- a number that is not at most another is above it
 pub less : (m n : ℕ) → (n ≤ m → ⊥) → m < n
 less m n never = by_test (nat_lt m n) refl
   where
@@ -96,6 +98,7 @@ less m n never = by_test (nat_lt m n) refl
     by_test true is = ltb-true m n is
     by_test false is = absurd (never (ltb-false m n is))
 
+-- a path of too many names for a tree's longest path is refused, as a bad name
 pub fit_none : (p : List (List ℕ)) (t : TreeMap) → length p ≤ 128 → 129 < length p + height t → Err BadName ≡ places_fit p (finite.keys t)
 fit_none p t short lt = sym (fits_none p (finite.entries t) short lt)
 
@@ -120,6 +123,7 @@ module _ (k : Kind) (v : TreeMap) (view : map_of k ≡ v) (levels : ℕ) where
       let here : height kid.node + 1 ≤ height v = subst (λ m. height kid.node + 1 ≤ height m) view there in
       omega (arith, here, le)
 
+-- where the first i children go no deeper than n, and neither does the next one, the first i + 1 go no deeper
 pub all_more : (ks : List Child) (i n : ℕ) (kid : Child) → kid ≡ get_or ks i kid → i < length ks → height kid.node ≤ n → AllWithin ks i n →
     AllWithin ks (i + 1) n
 all_more ks i n kid at lt le so_far j d below = by_test (nat_lt j i) refl

@@ -170,6 +170,7 @@ module _ (t : TreeMap) (tree : IsTree t) (p : List (List ℕ)) (path : IsPath p)
         (λ q out is. tree.stands q e (sym (get_outside t p other q out) ∙ is)) q;
   }
 
+-- a graft with directories all the way to its path, and with room for all its places, gives the tree with the other in it
 pub graft-Ok : (t : TreeMap) (p : List (List ℕ)) (other : TreeMap) → walk (finite.get t) p ≡ Ok tt
     → places_fit p (finite.keys other) ≡ Ok tt → graft t p other ≡ Ok (with_tree t p other)
 graft-Ok t p other walks fit = ap (λ r. r >>= λ _. places_fit p (finite.keys other) >>= λ _. Ok (with_tree t p other)) walks

@@ -26,6 +26,7 @@ laid_more w old (u ∷ upper) (m ∷ made) zero d k lt so_far laid = absurd so_f
 laid_more w old (u ∷ upper) [] (suc i) d k lt so_far laid = absurd so_far
 laid_more w old (u ∷ upper) (m ∷ made) (suc i) d k lt so_far laid = (so_far.0, laid_more w old upper made i d k (omega arith) so_far.1 laid)
 
+-- pushing the next upper child, laid, after the first i of them makes the first i + 1 laid
 pub laid_pushed : (w : WayValue) (old upper made new : List Child) (i : ℕ) (kid k : Child) → i < length upper → kid ≡ get_or upper i kid → new ≡ made ++ k ∷ []
     → AreLaid w old (take i upper) made → IsLaid w old kid k → AreLaid w old (take (i + 1) upper) new
 laid_pushed w old upper made new i kid k lt is pushed so_far laid =
@@ -41,6 +42,7 @@ below_made w old [] (k ∷ made) n laid = absurd laid
 below_made w old (u ∷ upper) [] n laid = absurd laid
 below_made w old (u ∷ upper) (k ∷ made) n laid = λ i. is_lt (name_cmp n (laid.0.named i)) && below_made w old upper made n laid.1 i
 
+-- laid children have the names of the upper ones, so they are in order where those are
 pub sorted_made : (w : WayValue) (old upper made : List Child) → AreLaid w old upper made
     → is_sorted name_cmp (map pair_of made) ≡ is_sorted name_cmp (map pair_of upper)
 sorted_made w old [] [] laid = refl
@@ -87,6 +89,7 @@ found_made w old (u ∷ upper) (k ∷ made) m q laid =
       | Greater ↦ λ _. found_made w old upper made m q laid.1
     ] refl
 
+-- putting the laid children among the old ones lays all upper children over them
 pub lays_puts : (w : WayValue) (old upper made new : List Child) → AreSorted old → AreSorted upper → AreLaid w old upper made
     → map pair_of new ≡ puts (map pair_of made) (map pair_of old) → Lays w upper old new
 lays_puts w old upper made new h above laid is = record {
@@ -97,6 +100,7 @@ lays_puts w old upper made new h above laid is = record {
       ∙ found_made w old upper made m q laid;
 }
 
+-- what holds in any case holds where a call fails
 pub err_holds : {A E P : Type 0} (r : Result A E) → P → OnErr r P
 err_holds (Ok x) p = tt
 err_holds (Err e) p = p

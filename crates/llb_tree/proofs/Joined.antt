@@ -45,5 +45,6 @@ reads : (path : List (List ℕ)) → IsPath path → path_of (joined path) ≡ O
 reads [] is = refl
 reads (name ∷ names) is = ap (follow []) (parts_joined name names is.named) ∙ follow_names [] (name ∷ names) is.named (omega (arith, is.short))
 
+-- a path's names with `/` between them read as the path, with a `/` before them or without
 pub reads_back : (path : List (List ℕ)) → IsPath path → ReadsBack path
 reads_back path is = record { relative = reads path is; absolute = reads path is }

@@ -51,6 +51,7 @@ pub record IsLone (f : Look) : Type 0 where
   pub at : (m : MetaValue) × (b : List ℕ) × (f [] ≡ Some (File m b))
   pub below : (n : List ℕ) (q : List (List ℕ)) → f (n ∷ q) ≡ None
 
+-- all that is left of a lone file over any tree is the file, in the mode and the owner that are given
 pub over_file : (w : WayValue) (f g : Look) (q : List (List ℕ)) → IsLone g → over_at w f g q ≡ option_map (over w None) (g q)
 over_file w f g [] lone = let at = lone.at in ap (λ o. laid_over w (f []) o false) at.2 ∙ go (f []) at.0 at.1 ∙ ap (option_map (over w None)) (sym at.2)
   where
@@ -64,6 +65,7 @@ over_file w f g (n ∷ q) lone =
     ∙ ap (λ o. laid_over w (f (n ∷ q)) None (is_file o || below_file (λ r. g (n ∷ r)) q)) at.2
     ∙ ap (option_map (over w None)) (sym (lone.below n q))
 
+-- all that is left of a tree over a lone file is the tree, in the mode and the owner that are given
 pub under_file : (w : WayValue) (f g : Look) (q : List (List ℕ)) (e : Entry) → IsLone f → g [] ≡ Some e → over_at w f g q ≡ option_map (over w None) (g q)
 under_file w f g [] e lone is = (λ i. laid_over w (lone.at.2 i) (is i) false) ∙ go lone.at.0 lone.at.1 e ∙ ap (option_map (over w None)) (sym is)
   where
@@ -74,15 +76,18 @@ under_file w f g (n ∷ q) e lone is =
     ap (λ o. laid_over w o (g (n ∷ q)) (below_file g (n ∷ q))) (lone.below n q)
     ∙ over_none w (g (n ∷ q)) (below_file g (n ∷ q))
 
+-- the map of a file's node has a file at the root and nothing below it
 pub lone_file : (k : Kind) (m : MetaValue) (c : Arc Bytes Global) (t : TreeMap) → map_of k ≡ t → k ≡ kind.File m c → IsLone (finite.get t)
 lone_file k m c t view is = record {
   at = (m, arc_value c, ap (λ x. finite.get x []) (sym view) ∙ get-root k ∙ ap (λ x. Some (own_entry x)) is);
   below = λ n q. ap (λ x. finite.get x (n ∷ q)) (sym view) ∙ get-below k n q ∙ ap (λ x. look_kids (kids_of x) n q) is;
 }
 
+-- the map of a node has the node's own entry at the root
 pub root_there : (k : Kind) (t : TreeMap) → map_of k ≡ t → finite.get t [] ≡ Some (own_entry k)
 root_there k t view = ap (λ x. finite.get x []) (sym view) ∙ get-root k
 
+-- a directory with its entry over another's and its children laid over the other's stands for one tree over the other
 pub node_laid : (w : WayValue) (k u j : Kind) (m l : MetaValue) → AreSorted (kids_of k) → AreSorted (kids_of u) → own_entry k ≡ Dir m → own_entry u ≡ Dir l
     → own_entry j ≡ over w (Some (Dir m)) (Dir l) → Lays w (kids_of u) (kids_of k) (kids_of j)
     → (q : List (List ℕ)) → finite.get (map_of j) q ≡ over_at w (finite.get (map_of k)) (finite.get (map_of u)) q
@@ -99,9 +104,11 @@ node_laid w k u j m l sk su ek eu ej lays (n ∷ q) =
 
 -- ---- children over children
 
+-- no children laid over others leave those as they are
 pub lays_none : (w : WayValue) (ks : List Child) → AreSorted ks → Lays w [] ks ks
 lays_none w ks h = record { sorted = h; children = λ m q. sym (none_over w (look_in (child m ks)) (look_in None) q (λ r. refl)) }
 
+-- children that are none by their count leave those that they are laid over as they are
 pub lays_nothing : (w : WayValue) (upper ks : List Child) → (length upper == 0) ≡ true → AreSorted ks → Lays w upper ks ks
 lays_nothing w [] ks is h = lays_none w ks h
 lays_nothing w (k ∷ upper) ks is h = absurd (grind (arith, nat_tests, is))
@@ -163,6 +170,7 @@ taken_more [] i d lt = absurd (omega arith)
 taken_more (k ∷ ks) zero d lt = refl
 taken_more (k ∷ ks) (suc i) d lt = ap (λ es. pair_of k ∷ es) (taken_more ks i d (omega arith))
 
+-- laying the first i upper children over others, and then the next one, lays the first i + 1
 pub lays_more : (w : WayValue) (upper a b c : List Child) (i : ℕ) (kid : Child) → AreSorted upper → i < length upper → kid ≡ get_or upper i kid
     → Lays w (take i upper) a b → Lays w (kid ∷ []) b c → Lays w (take (i + 1) upper) a c
 lays_more w upper a b c i kid h lt is first second = record {
@@ -194,6 +202,7 @@ lays_more w upper a b c i kid h lt is first second = record {
         ∙ none_over w (look_in (child m a)) (look_in None) r (λ r. refl) in
         ap (λ f. over_at w f (look_in (Some kid.node)) q) (λ j r. as_before r j)
 
+-- a fact that holds where a call succeeds yields there what follows from it
 pub on_ok : {A E P Q : Type 0} (r : Result A E) → (P → Q) → OnOk r P → OnOk r Q
 on_ok (Ok x) f h = f h
 on_ok (Err e) f h = tt

@@ -20,6 +20,7 @@ use Rattle.llb_tree.specs.Within.{within_split, cmp-append}
 use Rattle.llb_tree.specs.Inside.{Pair, inside, get-tree_at}
 use Rattle.llb_tree.proofs.Entries.{entries-from_entries}
 
+-- where a directory stands at a path, the list is the last names of the paths that are one name below it
 pub list-Ok : (t : TreeMap) (p : List (List ℕ)) → dir_there t p ≡ Ok tt → list t p ≡ Ok (flat_map (name_below p) (finite.keys t))
 list-Ok t p there = ap (λ r. r >>= λ _. Ok (flat_map (name_below p) (finite.keys t))) there
 
@@ -86,6 +87,7 @@ tops_below k e rest is =
 tops-append : (es fs : List Pair) → tops (es ++ fs) ≡ tops es ++ tops fs
 tops-append es fs = ap (flat_map (name_below [])) (map-append (λ e. e.0) es fs) ∙ flat_map-append (name_below []) (map (λ e. e.0) es) (map (λ e. e.0) fs)
 
+-- the names at the top of the first children, and then the next child's name, are those of one child more
 pub tops_more : (ks : List Child) (i : ℕ) (k : Child) (e : Entry) (rest : List Pair) → i < length ks → k ≡ get_or ks i k
     → finite.entries k.node ≡ ([], e) ∷ rest
     → tops (flat (take i ks)) ++ name_of k ∷ [] ≡ tops (flat (take (suc i) ks))
@@ -101,5 +103,6 @@ pub listed : (t m : TreeMap) (p : List (List ℕ)) (e : Entry) (kids : List Chil
     → finite.entries m ≡ ([], e) ∷ flat kids → flat_map (name_below p) (finite.keys t) ≡ tops (flat kids)
 listed t m p e kids is es = names_inside p (finite.entries t) ∙ ap tops (sym (entries-inside t m p is) ∙ es)
 
+-- where nothing stands at a path, the list is refused as not found
 pub list-none : (t : TreeMap) (p : List (List ℕ)) → finite.get t p ≡ None → list t p ≡ Err NotFound
 list-none t p none = ap (λ o. all_dirs (o ∷ []) >>= λ _. Ok (flat_map (name_below p) (finite.keys t))) none

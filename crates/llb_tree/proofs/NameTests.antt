@@ -29,6 +29,7 @@ pub record PassesTests (name : List ℕ) : Type 0 where
   pub plain : list_all is_name_byte name ≡ true
   pub text : is_utf8 name ≡ true
 
+-- a name has passed each test by itself
 pub passes_tests : (name : List ℕ) → is_name name ≡ true → PassesTests name
 passes_tests name is =
     let text = and_parts _ (is_utf8 name) is in

@@ -14,6 +14,7 @@ use Rattle.llb_tree.specs.Inside.{walk-cons}
 pub alike : (p q x : List (List ℕ)) → path_cmp q x ≡ Equal → not (is_within p x) ≡ not (is_within p q)
 alike p q x tie = ap (λ y. not (is_within p y)) (sym (path_cmp-IsAntisymmetric q x tie))
 
+-- without what is at or below a path, nothing stands there, and all else is as it was
 pub get-without : (t : TreeMap) (p q : List (List ℕ)) → finite.get (without t p) q ≡ cond (not (is_within p q)) (finite.get t q) None
 get-without t p q = finite.get-retain_keys t (λ x. not (is_within p x)) q (alike p q)
 
@@ -62,6 +63,7 @@ pub remove-Ok : (t : TreeMap) (p : List (List ℕ)) → p ≢ [] → found (fini
 remove-Ok t [] named there = absurd (named refl)
 remove-Ok t (n ∷ p) named there = ap (λ r. r >>= λ _. Ok (without t (n ∷ p))) there
 
+-- without what is at or below a path that is not the root, a tree is still one
 pub IsTree-removed : (t : TreeMap) (p : List (List ℕ)) → IsTree t → p ≢ [] → IsTree (without t p)
 IsTree-removed t [] tree named = absurd (named refl)
 IsTree-removed t (n ∷ p) tree named = IsTree-without t tree n p

@@ -12,6 +12,7 @@ use Rattle.llb_tree.specs.Laying.{IsWay, owner_fits}
 use Rattle.llb_tree.specs.Inside.{map-map, walk-cons}
 use Rattle.llb_tree.proofs.Closed.{walk_more}
 
+-- a file is above a path where the root is one, or where one is above the rest below the first name
 pub below_file-cons : (look : Look) (n : List ℕ) (p : List (List ℕ)) → below_file look (n ∷ p) ≡ (is_file (look []) || below_file (λ q. look (n ∷ q)) p)
 below_file-cons look n p = ap (λ ys. list_any is_file (look [] ∷ ys)) (map-map look (λ q. n ∷ q) (parents p))
 

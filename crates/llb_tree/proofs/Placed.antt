@@ -13,6 +13,7 @@ use Rattle.llb_tree.specs.declared.node.Child.{Child}
 use Rattle.llb_tree.specs.Path.{name_cmp}
 use Rattle.std.specs.Cmp.Lexicographic.{nat_list_cmp_total}
 
+-- a place that is found and counted one further on is one more than the place that was found
 pub later_Ok : (r : Result ℕ ℕ) (i : ℕ) → later r ≡ Ok i → (j : ℕ) × (r ≡ Ok j) × (suc j ≡ i)
 later_Ok (Ok j) i e = (j, refl, sym (add-one j) ∙ cc)
 later_Ok (Err j) i e = absurd (cc)
@@ -28,6 +29,7 @@ pub record IsFound (p : List ℕ) (rows : List Child) (i : ℕ) : Type 0 where
   pub written : (d : Child) (r : Child) → (name_of r) ≡ (name_of (get_or rows i d))
       → map pair_of (set rows i r) ≡ finite.put name_cmp p (r.node) (map pair_of rows)
 
+-- where a place is found for a name, the child of that name is there, and writing it anew puts it under the name
 pub is_found : (p : List ℕ) (rows : List Child) (i : ℕ) → place p rows ≡ Ok i → IsFound p rows i
 is_found p [] i e = absurd (cc)
 is_found p (r ∷ rows) i e = by_cmp (λ j e. is_found p rows j e) (name_cmp p (name_of r)) refl e
@@ -60,6 +62,7 @@ pub record IsGap (p : List ℕ) (rows : List Child) (i : ℕ) : Type 0 where
   pub none : AreSorted rows → finite.find name_cmp p (map pair_of rows) ≡ None
   pub written : (r : Child) → (name_of r) ≡ p → map pair_of (insert rows i r) ≡ finite.put name_cmp p (r.node) (map pair_of rows)
 
+-- where a name would only go to a place, no child in order has it, and a child inserted there is put under the name
 pub is_gap : (p : List ℕ) (rows : List Child) (i : ℕ) → place p rows ≡ Err i → IsGap p rows i
 is_gap p [] i e =
     let at : 0 ≡ i = cc in

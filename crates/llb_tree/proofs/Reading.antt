@@ -30,10 +30,12 @@ follow_ends path parts i r ends so_far = sym so_far ∙ ap (follow path) (ap (λ
 
 -- ---- how many names there are
 
+-- a depth that is given is the count of the names of a path that is given
 pub depth_ok : (r : Result (List (List ℕ)) TreeFault) (n : ℕ) → depth r ≡ Ok n → (path : List (List ℕ)) × (r ≡ Ok path) × (length path ≡ n)
 depth_ok (Ok path) n e = (path, refl, cc)
 depth_ok (Err d) n e = absurd cc
 
+-- where no depth is given, there is no path, and for the same fault
 pub depth_err : (r : Result (List (List ℕ)) TreeFault) (e : TreeFault) → depth r ≡ Err e → r ≡ Err e
 depth_err (Ok path) e is = absurd cc
 depth_err (Err d) e is = let same : d ≡ e = cc in ap (λ x. Err x) same

@@ -124,15 +124,18 @@ flat_by : (ks : List Child) → flat ks ≡ flat_pairs (map pair_of ks)
 flat_by [] = refl
 flat_by (k ∷ ks) = ap (λ es. map (λ (e : Pair). (name_of k ∷ e.0, e.1)) (finite.entries k.node) ++ es) (flat_by ks)
 
+-- nodes with the same own entry, and children of the same names that stand for the same trees, have the same map
 pub same_dir : (k m : Kind) → own_entry m ≡ own_entry k → map pair_of (kids_of m) ≡ map pair_of (kids_of k) → map_of m ≡ map_of k
 same_dir k m own is = λ i. finite.from_entries (([], own i) ∷ (flat_by (kids_of m) ∙ ap flat_pairs is ∙ sym (flat_by (kids_of k))) i)
 
 -- ---- names, and what a call changes where it succeeds and where it fails
 
+-- a fact that holds where a call succeeds yields there what follows from it
 pub on_ok : {A E P Q : Type 0} (r : Result A E) → (P → Q) → OnOk r P → OnOk r Q
 on_ok (Ok x) f h = f h
 on_ok (Err e) f h = tt
 
+-- a fact that holds where a call fails yields there what follows from it
 pub on_err : {A E P Q : Type 0} (r : Result A E) → (P → Q) → OnErr r P → OnErr r Q
 on_err (Ok x) f h = tt
 on_err (Err e) f h = f h
@@ -147,19 +150,23 @@ pub split_names : (names : List (List ℕ)) (n : List ℕ) → 1 ≤ length name
 split_names [] n h is = absurd (omega arith)
 split_names (m ∷ p) n h is = (λ i. sym is i ∷ sym (take_whole p (suc (length p) - 1) (omega arith)) i)
 
+-- setting at the rest of a path below the child of its first name sets at the whole path from the directory
 pub node_set : (k m : Kind) (v : TreeMap) (names : List (List ℕ)) (n : List ℕ) (t : Option TreeMap) → map_of k ≡ v
     → own_entry m ≡ own_entry k → AreSorted (kids_of k) → 1 ≤ length names → n ≡ get_or names 0 n
     → Sets n (take (length names - 1) (drop 1 names)) t (map pair_of (kids_of k)) (map pair_of (kids_of m)) → (q : List (List ℕ))
     → finite.get (map_of m) q ≡ set_look names t (finite.get v) q
 node_set k m v names n t view own h some is g q = dir_set k m _ _ t own h g q ∙ (λ i. set_look (sym (split_names names n some is) i) t (finite.get (view i)) q)
 
+-- two equal answers that succeed have the same value
 pub same_Ok : {X : Type 0} (x y : X) → ◌≡◌ {A = Result X TreeFault} (Ok x) (Ok y) → x ≡ y
 same_Ok x y e = cc
 
+-- a fact of the value that a call gives, if it gives one, yields what follows from it
 pub if_ok : {A E : Type 0} {P Q : A → Type 0} (r : Result A E) → ((x : A) → P x → Q x) → IfOk r P → IfOk r Q
 if_ok (Ok x) f h = f x h
 if_ok (Err e) f h = tt
 
+-- the first i names, and then the next one before more names, are the first i + 1 before those
 pub take_next : (names : List (List ℕ)) (i : ℕ) (n : List ℕ) (q : List (List ℕ)) → i < length names → n ≡ get_or names i n
     → take i names ++ n ∷ q ≡ take (i + 1) names ++ q
 take_next names i n q lt is = go names i lt is ∙ ap (λ j. take j names ++ q) (sym (add-one i))

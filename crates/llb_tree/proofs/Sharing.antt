@@ -130,10 +130,12 @@ module _ (names path : List (List ℕ)) (part : List ℕ) (after : List (List �
 
 -- ---- all parts
 
+-- a path shares all its names with itself
 pub shared_by_itself : (path : List (List ℕ)) → shared path path ≡ length path
 shared_by_itself [] = refl
 shared_by_itself (p ∷ path) = ap (λ (b : Bool). if b then suc (shared path path) else 0) ((bytes_decides p p).1 refl) ∙ ap suc (shared_by_itself path)
 
+-- a path that shares all its names with one that has no more is that path
 pub shared_whole : (names path : List (List ℕ)) → shared names path ≡ length path → length path ≡ length names → names ≡ path
 shared_whole [] [] all len = refl
 shared_whole [] (p ∷ path) all len = absurd (omega (arith, len))

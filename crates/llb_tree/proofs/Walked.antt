@@ -70,6 +70,7 @@ pub record CameTo (p : List (List ℕ)) (ls : List (List Child)) (k : Child) (l 
   pub left : map (moved 0 q) (finite.entries m) ++ behind q new ≡ map (moved 0 p) (flat (k ∷ l)) ++ behind p ls
   pub on : AreBehind q new
 
+-- at the child that comes first, what is left is what was left before, and the rows after the longer path are in order
 pub came_to : (p : List (List ℕ)) (ls : List (List Child)) (k : Child) (l : List Child) (q : List (List ℕ)) (new : List (List Child)) (m : TreeMap)
     → AreBehind p ls → AreSorted (k ∷ l) → q ≡ p ++ name_of k ∷ [] → new ≡ ls ++ l ∷ [] → m ≡ k.node → CameTo p ls k l q new m
 came_to p ls k l q new m h sorted path levels node = record {
@@ -101,6 +102,7 @@ pub record Above (p : List (List ℕ)) (all ls : List (List Child)) (l : List Ch
   pub sorted : AreSorted l
   pub same : behind p all ≡ map (moved 0 up) (flat l) ++ behind up ls
 
+-- what is left after a path is the last row, whose entries lie below its parent, and then what is left after the parent
 pub above : (p : List (List ℕ)) (all ls : List (List Child)) (l : List Child) (q : List (List ℕ)) → all ≡ ls ++ l ∷ [] → q ≡ take (length p - 1) p
     → AreBehind p all → Above p all ls l q
 above p all ls l q whole path h =
@@ -184,6 +186,7 @@ module _ (p : List (List ℕ)) (ls : List (List Child)) (m : TreeMap) (e : Entry
 
 -- ---- no path is too long
 
+-- where no path that is left has too many names, neither has one after the present node
 pub short_behind : (p : List (List ℕ)) (ls : List (List Child)) (es : List Pair) → AreShort (map (moved 0 p) es ++ behind p ls) → AreShort (behind p ls)
 short_behind p ls es h =
     subst AreShort (drop_at (map (moved 0 p) es) (behind p ls) (length (map (moved 0 p) es)) refl)
@@ -205,11 +208,13 @@ short_most (e ∷ es) h =
     let rest : most (λ (x : Pair). length x.0 + 1) es ≤ 129 = omega arith in
     All-cons (λ (x : Pair). length x.0 ≤ 128) e es here (short_most es rest)
 
+-- no path of a whole tree has more than 128 names
 pub short_tree : (t : TreeMap) (depth : ℕ) → IsWhole t depth → AreShort (finite.entries t)
 short_tree t depth whole = short_most (finite.entries t) (omega (arith, whole.deep, whole.short))
 
 -- ---- at the root all is left
 
+-- at the root, with no rows after it, all entries of the tree are left
 pub whole_left : (p : List (List ℕ)) (ls : List (List Child)) (t : TreeMap) → p ≡ [] → ls ≡ []
     → map (moved 0 p) (finite.entries t) ++ behind p ls ≡ finite.entries t
 whole_left p ls t root none =

@@ -31,6 +31,7 @@ pub put_dir-Ok : (t : TreeMap) (p : List (List ℕ)) (m : MetaValue) → walk (f
 put_dir-Ok t p m walks fits = ap (λ r. r >>= λ _. dir_fits (finite.get t p) >>= λ _. Ok (finite.insert t p (Dir m))) walks
     ∙ ap (λ r. r >>= λ _. Ok (finite.insert t p (Dir m))) fits
 
+-- a file that may be put at a path that is not the root, with directories all the way to it, is inserted there
 pub put_file-Ok : (t : TreeMap) (p : List (List ℕ)) (m : MetaValue) (b : List ℕ) → (p ≢ []) → walk (finite.get t) p ≡ Ok tt
     → file_fits (finite.get t p) ≡ Ok tt → put_file t p m b ≡ Ok (finite.insert t p (File m b))
 put_file-Ok t [] m b named walks fits = absurd (named refl)

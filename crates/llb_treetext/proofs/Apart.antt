@@ -312,6 +312,7 @@ seen_none : {A B : Type 0} (f : A → B) (o : Option A) → option_map f o ≡ N
 seen_none f None is = refl
 seen_none f (Some x) is = absurd cc
 
+-- the parts that a line's text is taken apart into are its entry's, and where there are none the line is no entry's
 pub spells : (line text : List ℕ) (o : Option Parts) → text ≡ line → option_map parts_seen o ≡ parts_in text → Spells line o
 spells line text None same is = λ row stands own.
     let one : ◌≡◌ {A = Option Fields} None (Some (parts_from row)) = is ∙ ap parts_in (same ∙ own) ∙ parts_are row stands in absurd cc
@@ -319,6 +320,7 @@ spells line text (Some x) same is =
     let (row, stands, own, parts) = line_gives text (parts_seen x) (sym is) in
     (row, stands, sym same ∙ own, parts)
 
+-- bytes that are no row's line, whatever follows it, begin with no row
 pub begins_none : (bytes : List ℕ) → ((row : Pair) (later : List ℕ) → IsRow row → bytes ≢ line_of row ++ later) → (row : Pair) → ¬ Begins bytes row
 begins_none bytes none row begins = none row begins.1.0 begins.0 begins.1.1
 

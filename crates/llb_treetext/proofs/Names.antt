@@ -20,6 +20,7 @@ pub record PassesTests (name : List ℕ) : Type 0 where
   pub plain : list_all is_name_byte name ≡ true
   pub text : is_utf8 name ≡ true
 
+-- a name has passed each test by itself
 pub passes_tests : (name : List ℕ) → is_name name ≡ true → PassesTests name
 passes_tests name is =
     let text = and_parts _ (is_utf8 name) is in
@@ -74,6 +75,7 @@ module _ (text : List ℕ) (k : ℕ) (so_far : list_all is_name (drop k (parts_o
       ∙ ap (λ b. b && nat_le (length (parts_of text)) 128)
       (sym (ap (list_all is_name) (ap (λ j. drop j (parts_of text)) end ∙ drop_all (parts_of text))) ∙ so_far)
 
+-- a text that does not begin with a slash is not the text of a path
 pub no_path : (text : List ℕ) → ((names : List ℕ) → text ≡ 47 ∷ names → ⊥) → false ≡ is_path text
 no_path [] none = refl
 no_path (b ∷ names) none = go (b == 47) refl

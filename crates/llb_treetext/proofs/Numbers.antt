@@ -31,6 +31,7 @@ drop_end [] (suc k) le = refl
 drop_end (b ∷ text) zero le = absurd (omega arith)
 drop_end (b ∷ text) (suc k) le = drop_end text k (omega arith)
 
+-- where no digit is left, the number is the one so far
 pub number_end : (n k : ℕ) (text : List ℕ) → length text ≤ k → number_from n (drop k text) ≡ Some n
 number_end n k text le = ap (number_from n) (drop_end text k le) ∙ number_none n
 
@@ -75,6 +76,7 @@ number_written n small = decimal_by_steps (λ n ds. n < 2 ^ 32 → number_from 0
         let value : n / 10 * 10 + (48 + n % 10 - 48) ≡ n = omega arith in
         number_behind 0 (n / 10) ds (48 + n % 10) (omega (arith, value)) (rest (omega arith)) ∙ ap (λ v. Some v) value
 
+-- the digits that are written for a number of 32 bits are read as it
 pub decimal_written : (n : ℕ) → n < 2 ^ 32 → decimal_in (decimal n) ≡ Some n
 decimal_written n small = ap (λ o. on o (λ k. cond (pointwise nat_eq (decimal n) (decimal k)) (Some k) None)) (number_written n small)
     ∙ ap (λ t. cond t (Some n) None) ((bytes_decides (decimal n) (decimal n)).1 refl)
@@ -128,5 +130,6 @@ module _ (text front : List ℕ) (last n : ℕ) (is : text ≡ front ++ last ∷
   pub other_last : (last ≡ 48 + n % 10 → ⊥) → text ≡ decimal n → ⊥
   other_last other own = elim (cases_lt n 10) [ inl one ↦ one_other one other own | inr more ↦ more_other more other own ]
 
+-- a text without bytes is no number's
 pub no_text : (text : List ℕ) (n : ℕ) → length text ≡ 0 → n < 2 ^ 32 → text ≡ decimal n → ⊥
 no_text text n none small own = omega (arith, none, ap length own, decimal_nonempty n (omega arith))

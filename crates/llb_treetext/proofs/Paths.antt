@@ -35,6 +35,7 @@ by_byte : (name : List ℕ) → is_name name ≡ true → All (λ b. (b == 47) �
 by_byte name is = All-weaker (λ b. is_name_byte b ≡ true) (λ b. (b == 47) ≡ false) no_slash name
     (AllPass-from_list_all is_name_byte name (passes_tests name is).plain)
 
+-- the parts of names with `/` between them are the names
 pub parts_joined : (name : List ℕ) (names : List (List ℕ)) → All Named (name ∷ names) → parts_of (joined (name ∷ names)) ≡ name ∷ names
 parts_joined name [] all = slice_split_none (λ b. b == 47) name (by_byte name (All-head Named name [] all))
 parts_joined name (other ∷ names) all =
@@ -45,5 +46,6 @@ reads : (path : List (List ℕ)) → IsPath path → path_of (joined path) ≡ O
 reads [] is = refl
 reads (name ∷ names) is = ap (follow []) (parts_joined name names is.named) ∙ follow_names [] (name ∷ names) is.named (omega (arith, is.short))
 
+-- a path's names with `/` between them read as the path, with a `/` before them or without
 pub reads_back : (path : List (List ℕ)) → IsPath path → ReadsBack path
 reads_back path is = record { relative = reads path is; absolute = reads path is }

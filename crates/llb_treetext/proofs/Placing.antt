@@ -34,6 +34,7 @@ is_less Less h = refl
 is_less Equal h = absurd h
 is_less Greater h = absurd h
 
+-- what passes the test for less is Less
 pub less_true : (o : Ordering) → is_lt o ≡ true → o ≡ Less
 less_true Less is = refl
 less_true Equal is = absurd (true≢false (sym is))
@@ -56,6 +57,7 @@ first_less r [] p h next = less_true _ next
 first_less r (s ∷ rows) p h next = path_cmp-IsTotalOrder.trans r.0 s.0 p (is_less _ (and_first _ _ (and_first _ _ h)))
     (first_less s rows p (and_second _ _ h) next)
 
+-- a path that comes after the last of rows in order is none of theirs
 pub find_behind : (r : Pair) (rows : List Pair) (p : List (List ℕ)) → T (finite.is_sorted path_cmp (r ∷ rows))
     → comes_next (r ∷ rows) p ≡ true → finite.find path_cmp p (r ∷ rows) ≡ None
 find_behind r [] p h next = ap (λ o. cond (is_eq o) (Some r.1) None) (turned r.0 p (first_less r [] p h next))
@@ -77,6 +79,7 @@ tied Less t = absurd (true≢false (sym t))
 tied Equal t = refl
 tied Greater t = absurd (true≢false (sym t))
 
+-- a fact of what was at a path, and of the new entry if that is its path, holds of what is there after the insertion
 pub get-insert_cases : (P : Option Entry → Type 0) (t : TreeMap) (p : List (List ℕ)) (e : Entry) (q : List (List ℕ)) → (q ≡ p → P (Some e))
     → P (finite.get t q) → P (finite.get (finite.insert t p e) q)
 get-insert_cases P t p e q here there = subst P (sym (finite.get-insert path_cmp-IsTotalOrder t p e q)) (by_test (eq_by_cmp path_cmp q p) refl)
@@ -89,6 +92,7 @@ map-map : {A B C : Type 0} (g : B → C) (f : A → B) (xs : List A) → map g (
 map-map g f [] = refl
 map-map g f (x ∷ xs) = ap (λ ys. g (f x) ∷ ys) (map-map g f xs)
 
+-- a walk to a path looks at the root, and then goes on below the first name
 pub walk-cons : (look : Look) (n : List ℕ) (p : List (List ℕ)) → walk look (n ∷ p) ≡ all_dirs (look [] ∷ map (λ q. look (n ∷ q)) (parents p))
 walk-cons look n p = ap (λ ys. all_dirs (look [] ∷ ys)) (map-map look (λ q. n ∷ q) (parents p))
 
@@ -201,12 +205,14 @@ module _ (rows : List Pair) (rest : List ℕ) (sound : HasNoFault rows rest) whe
       go true next = refl
       go false next = absurd (sound (Order (length rows + 1)) (refl, (row, begins, next)))
 
+-- before any row the one path that comes next is the root
 pub is_first : (p : List (List ℕ)) → comes_next [] p ≡ true → p ≡ []
 is_first [] next = refl
 is_first (n ∷ p) next = absurd (true≢false (sym next))
 
 -- ---- the first line
 
+-- two equal answers that succeed have the same tree
 pub same_tree : (x y : TreeMap) → ◌≡◌ {A = Result TreeMap TreeFault} (Ok x) (Ok y) → x ≡ y
 same_tree x y is = cc
 
@@ -244,6 +250,7 @@ pub few_rows : (rows : List Pair) → length rows ≤ length (lines_of rows)
 few_rows [] = omega arith
 few_rows (r ∷ rows) = omega (arith, few_rows rows, length-append (line_of r) (lines_of rows), length-append (row_text r) (10 ∷ []))
 
+-- the first line of a tree's text is not faulty
 pub no_fault_first : (bytes : List ℕ) (t : TreeMap) → IsText bytes t → HasNoFault [] bytes
 no_fault_first bytes t is = λ e fault.
     (one_answer bytes).apart t e is (record { rows = []; rest = bytes; before = inl refl; split = refl; more = λ _. refl; fault = fault })

@@ -38,6 +38,7 @@ name_bytes name is = AllPass-from_list_all is_name_byte name (passes_tests name 
 not_slash : (b : ℕ) → (b == 47) ≡ false → b ≢ 47
 not_slash b is same = true≢false (sym (eq-eqb b 47 same) ∙ is)
 
+-- no byte of a name is a slash
 pub slashless : (name : List ℕ) → is_name name ≡ true → NoSlash name
 slashless name is = All-weaker (λ b. is_name_byte b ≡ true) (λ b. b ≢ 47) (λ b ok. not_slash b (no_slash b ok)) name (name_bytes name is)
 
@@ -45,9 +46,11 @@ pub names_tail : (p : List (List ℕ)) → IsTail (names_text p)
 names_tail [] = inl refl
 names_tail (n ∷ p) = inr (n ++ names_text p, refl)
 
+-- one name more is a slash and the name at the end of the text
 pub names_more : (d : List (List ℕ)) (n : List ℕ) → names_text (d ++ n ∷ []) ≡ names_text d ++ 47 ∷ n
 names_more d n = flat_map-append (λ name. 47 ∷ name) d (n ∷ []) ∙ ap (λ t. names_text d ++ 47 ∷ t) (append-nil n)
 
+-- names after names have the text of the first and then that of the others
 pub names_split : (d r : List (List ℕ)) → names_text (d ++ r) ≡ names_text d ++ names_text r
 names_split d r = flat_map-append (λ name. 47 ∷ name) d r
 
@@ -57,6 +60,7 @@ trail_is [] path = refl
 trail_is (n ∷ p) path = ap (λ t. cond t [] (names_text (n ∷ p)))
     (ne_eqb (length (names_text (n ∷ p))) 1 (λ e. omega (arith, e, long_path (n ∷ p) path (λ at. absurd cc))))
 
+-- where the text of names has no byte, there are no names
 pub no_names_left : (p : List (List ℕ)) → length (names_text p) ≡ 0 → p ≡ []
 no_names_left [] is = refl
 no_names_left (n ∷ p) is = absurd (omega (arith, is))
@@ -67,9 +71,11 @@ slash_inside : (a x : List ℕ) → NoSlash (a ++ 47 ∷ x) → ⊥
 slash_inside [] x none = All-head (λ b. b ≢ 47) 47 x none refl
 slash_inside (c ∷ a) x none = slash_inside a x (All-tail (λ b. b ≢ 47) c (a ++ 47 ∷ x) none)
 
+-- a text without a slash is not made of two texts with a slash between them
 pub none_inside : (a x whole : List ℕ) → NoSlash whole → whole ≡ a ++ 47 ∷ x → ⊥
 none_inside a x whole none same = slash_inside a x (subst NoSlash same none)
 
+-- the last slash of a text is at one place: what is before it is the same however it is found
 pub last_slash : (a b x y : List ℕ) → NoSlash x → NoSlash y → a ++ 47 ∷ x ≡ b ++ 47 ∷ y → a ≡ b
 last_slash [] [] x y nx ny same = refl
 last_slash [] (c ∷ b) x y nx ny same = absurd (none_inside b y x nx cc)
@@ -96,10 +102,12 @@ tail_more : (d : List (List ℕ)) (s : List ℕ) → IsTail s → IsTail (names_
 tail_more [] s tail = tail
 tail_more (n ∷ d) s tail = inr ((n ++ names_text d) ++ s, refl)
 
+-- what may follow the names of the last directory, or of one above it, is nothing or begins with a slash
 pub opens_tail : (s : List ℕ) (dir : Bool) → opens s dir ≡ true → IsTail s
 opens_tail [] dir is = inl refl
 opens_tail (b ∷ s) dir is = inr (s, ap (λ c. c ∷ s) (eqb-true b 47 is))
 
+-- names whose text is that of others and then ends, or goes on with a slash, begin with these others
 pub names_front : (q d : List (List ℕ)) (s : List ℕ) → Named q → Named d → IsTail s → names_text q ≡ names_text d ++ s → (r : List (List ℕ)) × (q ≡ d ++ r)
 names_front q [] s nq nd tail same = (q, refl)
 names_front [] (m ∷ d) s nq nd tail same = absurd cc
@@ -145,6 +153,7 @@ name_order (a ∷ n) (b ∷ m) s t rn rm ts tt' =
     (name_order n m s t (All-tail Ranks a n rn) (All-tail Ranks b m rm) ts tt' i))
     ∙ then_assoc (nat_cmp a b) (name_cmp n m) (trail_cmp s t)
 
+-- the texts of names, with a slash below all bytes of names, are in the order of the paths
 pub trail_order : (q p : List (List ℕ)) → Named q → Named p → trail_cmp (names_text q) (names_text p) ≡ path_cmp q p
 trail_order [] [] nq np = refl
 trail_order [] (m ∷ p) nq np = refl
@@ -178,23 +187,28 @@ module _ (first second : List ℕ) (k : ℕ) (so_far : trail_cmp first second �
         | inr past ↦ ap (λ x. is_lt (trail_cmp [] x)) (drop_past second k past) ∙ sym (le-ltb (length first) (length second) (omega (arith, end, past)))
       ]
 
+-- no bytes put before others leave these as they are
 pub no_bytes : (rest back : List ℕ) → length rest ≡ 0 → rest ++ back ≡ back
 no_bytes [] back is = refl
 no_bytes (x ∷ rest) back is = absurd (omega (arith, is))
 
 -- ---- what is after a prefix
 
+-- where the first bytes of names are a directory's, the names are the directory's and then what is left
 pub stripped : (names dir later : List ℕ) → pointwise nat_eq (take (length dir) names) dir ≡ true → later ≡ drop (length dir) names → names ≡ dir ++ later
 stripped names dir later same rest = sym (take-append-drop (length dir) names) ∙ (λ i. (bytes_decides (take (length dir) names) dir).0 same i ++ sym rest i)
 
+-- where the first bytes of names are not a directory's, the names are not the directory's and then more
 pub not_stripped : {A : Type 0} (names dir later : List ℕ) → pointwise nat_eq (take (length dir) names) dir ≡ false → names ≡ dir ++ later → A
 not_stripped names dir later other same =
     absurd (true≢false (sym ((bytes_decides (take (length dir) names) dir).1 (ap (take (length dir)) same ∙ take_at dir later (length dir) refl)) ∙ other))
 
+-- where nothing follows a directory's names in the last path, that is the directory itself, and it may hold more
 pub opens_nothing : (later : List ℕ) (dir : Bool) → None ≡ slice_get later 0 → dir ≡ true → opens later dir ≡ true
 opens_nothing [] dir is shows = shows
 opens_nothing (b ∷ later) dir is shows = absurd cc
 
+-- where a slash follows a directory's names in the last path, the directory is above that path, so it may hold more
 pub opens_byte : (later : List ℕ) (b : ℕ) (dir : Bool) → Some b ≡ slice_get later 0 → nat_eq b 47 ≡ true → opens later dir ≡ true
 opens_byte [] b dir is shows = absurd cc
 opens_byte (c ∷ later) b dir is shows = let same : b ≡ c = cc in ap (λ x. x == 47) (sym same) ∙ shows

@@ -131,6 +131,7 @@ last_before : (r : Pair) (rows : List Pair) (row : Pair) (more : List Pair) → 
 last_before r [] row more h = ap is_lt (is_less _ (and_first _ _ (and_first _ _ h)))
 last_before r (s ∷ rows) row more h = last_before s rows row more (and_second _ _ h)
 
+-- the row after some rows stands at the place that is their count
 pub at_end : (rows : List Pair) (row : Pair) (more : List Pair) → slice_get (rows ++ row ∷ more) (length rows) ≡ Some row
 at_end [] row more = refl
 at_end (r ∷ rows) row more = at_end rows row more
@@ -254,9 +255,11 @@ one_fault bytes e d s u =
       ]
     ]
 
+-- a text has one tree at most, or one first fault, and never both
 pub one_answer : (bytes : List ℕ) → HasOneAnswer bytes
 one_answer bytes = record { trees = one_tree bytes; apart = apart bytes; faults = one_fault bytes }
 
+-- an answer that is right for a tree's text is the tree, or out of memory
 pub reads_back : (t : TreeMap) → IsTree t → ReadsBack t
 reads_back t tree (Ok u) answer = one_tree (tree_text t) u t answer (record { tree = tree; text = refl })
 reads_back t tree (Err e) answer = go (is_memory e) refl

@@ -73,6 +73,7 @@ solid_plain w solid = All-weaker (λ b. 33 ≤ b) (λ b. 32 ≤ b) (λ b h. omeg
 no_space : (w : List ℕ) → Solid w → All (λ b. nat_eq b 32 ≡ false) w
 no_space w solid = All-weaker (λ b. 33 ≤ b) (λ b. nat_eq b 32 ≡ false) (λ b h. ne_eqb b 32 (λ e. omega arith)) w solid
 
+-- a text of bytes that are none below a space has no line end
 pub no_end : (w : List ℕ) → Plain w → All (λ b. nat_eq b 10 ≡ false) w
 no_end w plain = All-weaker (λ b. 32 ≤ b) (λ b. nat_eq b 10 ≡ false) (λ b h. ne_eqb b 10 (λ e. omega arith)) w plain
 
@@ -202,6 +203,7 @@ content_is (b ∷ content) bytes = ap (λ t. cond t (Some []) (result_ok (decode
 
 -- ---- the path
 
+-- a path's text is a slash and then the names with slashes between them
 pub path_joined : (p : List (List ℕ)) → path_text p ≡ 47 ∷ joined p
 path_joined [] = refl
 path_joined (n ∷ p) = go n p
@@ -266,6 +268,7 @@ some_name : (name : List ℕ) → is_name name ≡ true → 0 < length name
 some_name [] is = absurd (true≢false (sym (eq-eqb (length {A = ℕ} []) 0 refl) ∙ (passes_tests [] is).some))
 some_name (b ∷ name) is = omega arith
 
+-- the text of a path that is not the root has two bytes or more
 pub long_path : (p : List (List ℕ)) → IsPath p → p ≢ [] → 2 ≤ length (path_text p)
 long_path [] path named = absurd (named refl)
 long_path (n ∷ p) path named = omega (arith, some_name n (All-head (λ name. is_name name ≡ true) n p path.named), length-append n (names_text p))
@@ -341,6 +344,7 @@ meta_plain m rest is plain = subst Plain (sym (grouped m is rest))
     (words_plain (decimal m.uid) (decimal m.gid ++ 32 ∷ rest) (decimal_solid m.uid (omega (arith, is.uid)))
     (words_plain (decimal m.gid) rest (decimal_solid m.gid (omega (arith, is.gid))) plain)))
 
+-- no byte of an entry's line is below a space
 pub row_plain : (row : List (List ℕ) × Entry) → IsRow row → Plain (row_text row)
 row_plain (p, Dir m) is = words_plain (100 ∷ []) (meta_text m ++ path_text p) (one_solid 100 (omega arith))
     (meta_plain m (path_text p) is.stands.meta (path_plain p is.stands.path))
@@ -411,6 +415,7 @@ content_utf8 : (content : List ℕ) → AreBytes content → IsUtf8 (hex_text co
 content_utf8 [] bytes = one_text 45 (omega arith)
 content_utf8 (b ∷ content) bytes = IsUtf8-from_ascii (encode_lower (b ∷ content)) (IsAscii-encode_with lower_digits (b ∷ content) digit_ascii)
 
+-- the line of an entry is UTF-8
 pub row_utf8 : (row : List (List ℕ) × Entry) → IsRow row → IsUtf8 (row_text row)
 row_utf8 (p, Dir m) is = words_utf8 (100 ∷ []) (meta_text m ++ path_text p) (one_text 100 (omega arith))
     (meta_utf8 m (path_text p) is.stands.meta (path_utf8 p is.stands.path))

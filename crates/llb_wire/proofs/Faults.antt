@@ -10,6 +10,7 @@ use Rattle.llb_wire.specs.Reading.{varint_from, varint_at}
 use Rattle.llb_wire.specs.Spelling.{IsOpen, IsLong, VarintAt, VarintCause, CutVarint, AreBytes}
 use Rattle.llb_wire.specs.Laws.Varints.{varint_found}
 
+-- a number that is read at a place is spelled from there up to the end that is given
 pub at_varint : (bytes : List ℕ) (at : ℕ) (r : Result (ℕ × ℕ) WireFault) → AreBytes bytes → at ≤ length bytes → r ≡ varint_at bytes at
     → IfOk r (λ x. VarintAt bytes at x.0 x.1)
 at_varint bytes at (Err d) are le e = tt
@@ -67,6 +68,7 @@ cut_at bytes at e =
 abbrev err_of : WireFault → Result (ℕ × ℕ) WireFault
 err_of d = Err d
 
+-- where no number is read at a place, the cause of the fault that is given stands there
 pub at_faults : (bytes : List ℕ) (at : ℕ) (r : Result (ℕ × ℕ) WireFault) → r ≡ varint_at bytes at → IfErr r (VarintCause bytes at)
 at_faults bytes at (Ok x) e = tt
 at_faults bytes at (Err Truncated) e = cut_at bytes at (sym e)

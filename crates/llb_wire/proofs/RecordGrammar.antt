@@ -36,6 +36,7 @@ payload_is n wire.Len bytes at f num is h =
     let enough : ltb (length bytes - f.start) f.value ≡ false = le-ltb _ _ (omega (arith, h.1, h.2)) in
     rw (varint_only bytes at f.value f.start h.0, enough) (five_parts f n wire.Len f.start (f.start + f.value) num is refl h.1)
 
+-- a record that the grammar spells at a place is the one that is read there
 pub record_only : (bytes : List ℕ) (at : ℕ) (f : Field) → RecordAt bytes at f → field_at bytes at ≡ Ok f
 unfolding field_at
 record_only bytes at f h =

@@ -18,6 +18,7 @@ begins number w value payload = omega (arith, length-append (tag_text number w) 
   behind wire.Len value payload = length-append (varint_text (length payload)) payload
   behind wire.I32 value payload = omega arith
 
+-- a record that is written and then followed by anything is read as its own number, wire type and value
 pub record_again : (number : ℕ) (w : Wire) (value : ℕ) (payload rest : List ℕ) → IsFieldNumber number → value < 2 ^ 64
     → length payload < 2 ^ 64 → (w ≡ wire.I32 → value < 2 ^ 32)
     → field_at (record_text number w value payload ++ rest) 0 ≡ Ok (written_field number w value payload)

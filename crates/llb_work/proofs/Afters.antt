@@ -69,6 +69,7 @@ with_replies : (o : Option (State × List Reply)) (t : State) → option_map sta
 with_replies None t is = absurd cc
 with_replies (Some (s, rs)) t is = (rs, ap (λ (x : State). Some (x, rs)) (inside is))
 
+-- where an older record is a prefix of a newer one and what is after it leads to the newer state, the board has gone on
 pub goes_from : (s b : Seen) → IsAfter s b → GoesOn s b
 goes_from s b is =
     let led = with_replies (run s.build s.state (behind_front s b)) b.state is.leads in
@@ -85,6 +86,7 @@ is_after s c goes = record {
       ∙ ap (λ l. option_map state_in (run s.build s.state l)) (drop_length s.events goes.more) ∙ ap (option_map state_in) goes.leads;
 }
 
+-- a board is after itself, with nothing more in the record
 pub after_itself : (s b : Seen) → s ≡ b → IsAfter s b
 after_itself s b same = is_after s b (stays s b (sym same))
 
@@ -101,5 +103,6 @@ goes_further a b c one two = record {
   events = two.events ∙ ap (λ es. es ++ two.more) one.events ∙ append_assoc a.events one.more two.more;
 }
 
+-- what goes on from a board that is after the start is after the start too
 pub after_more : (s b c : Seen) → IsAfter s b → GoesOn b c → IsAfter s c
 after_more s b c is goes = is_after s c (goes_further s b c (goes_from s b is) goes)

@@ -26,9 +26,11 @@ use Rattle.llb_work.specs.contracts.noted.Tally as tally
 use Rattle.llb_work.specs.contracts.desk.Desk as desk
 use Rattle.llb_work.specs.contracts.worker.Kit as kit
 
+-- several threads may have the queue of the run at once
 pub queue_shared : IsSync queue.the_row
 queue_shared = queue_crosses.the_sync
 
+-- the number of a worker, one of 32 bits, may go to another thread
 pub number : IsSend u32
 number = search sendable
 

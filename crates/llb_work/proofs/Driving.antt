@@ -46,6 +46,7 @@ takes_of {C} {F} b e fault (Ok (s, q)) n r is given =
     let same : after_event b e s ≡ n = ap (λ (x : Seen × Reply). x.0) (inside {F = F} given) in
     subst (Takes b e) same (record { build = refl; opening = refl; first = refl; reply = q; given = is; events = refl })
 
+-- a driver that has done nothing has gone on by no event
 pub goes_nil : (b : Seen) → Goes b b
 unfolding run
 goes_nil b = record { build = refl; opening = refl; first = refl; more = []; replies = []; leads = refl; chosen = tt; events = sym (append-nil b.events) }
@@ -62,6 +63,7 @@ chosen_more b s t (x ∷ es) rs e leads all next =
           chosen_more b a.0 t es first.rest e (ap (λ (y : State × Reply). run b y.0 es) (sym same) ∙ first.goes_on) (all.1 a given) next,
     )
 
+-- a driver that has gone on goes further by a chosen event that is granted
 pub goes_on : (a b c : Seen) (e : Event) → Goes a b → chosen b.build b.state ≡ Some e → Takes b e c → Goes a c
 goes_on a b c e goes next takes = record {
   build = takes.build ∙ goes.build;
@@ -84,11 +86,13 @@ ascends_on b c e graph here is takes up =
     subst (λ x. Ascends x c.state c.events) (sym takes.build) (subst (Ascends b.build c.state) (sym takes.events)
     (alone_step b.build graph b.state c.state e takes.reply b.events here is takes.given up))
 
+-- an event makes the record longer by one
 pub longer : (b c : Seen) (e : Event) → Takes b e c → length c.events ≡ length b.events + 1
 longer b c e takes = ap length takes.events ∙ length-append b.events (e ∷ [])
 
 -- ---- the three calls
 
+-- a claim that is answered with a job is granted, and stands at the end of the record
 pub claim_takes : {J : Type 0} (reply : J → Reply) (b n : Seen) (w v : ℕ) (r : Result J ClaimFault)
     → GivesClaim (λ job. (n, reply job)) r (claim_of b w v) → is_ok r ≡ true
     → Takes b (Claim w v) n
@@ -96,11 +100,13 @@ unfolding table
 claim_takes reply b n w v (Ok job) gives ok = takes_of b (Claim w v) claim_fault (claim_grant b.build b.state w v) n (reply job) refl gives
 claim_takes reply b n w v (Err e) gives ok = absurd cc
 
+-- a step that is answered without a fault is granted, and stands at the end of the record
 pub step_takes : (b n : Seen) (w : ℕ) (r : Result Stepped StepFault) → GivesStep (λ s. (n, step_reply s)) r (step_of b w) → is_ok r ≡ true → Takes b (Step w) n
 unfolding table
 step_takes b n w (Ok s) gives ok = takes_of b (Step w) step_fault (step_grant b.build b.state w) n (step_reply s) refl gives
 step_takes b n w (Err e) gives ok = absurd cc
 
+-- a settle that is answered without a fault is granted, and stands at the end of the record
 pub settle_takes : (b n : Seen) (w : ℕ) (r : Result Settled SettleFault) → GivesSettle (λ s. (n, settle_reply s)) r (settle_of b w)
     → is_ok r ≡ true → Takes b (Settle w) n
 unfolding table
@@ -132,10 +138,12 @@ pub on_true : (b : Bool) (P : Type 0) → (b ≡ true → P) → OnTrue b P
 on_true true P f = f refl
 on_true false P f = tt
 
+-- what follows from a failed test may be promised where the test fails
 pub on_false : (b : Bool) (P : Type 0) → (b ≡ false → P) → OnFalse b P
 on_false true P f = tt
 on_false false P f = f refl
 
+-- what is promised where a test holds, of a test that has held
 pub when_true : (b : Bool) (P : Type 0) → OnTrue b P → b ≡ true → P
 when_true true P h is = h
 when_true false P h is = absurd cc
@@ -144,6 +152,7 @@ when_true false P h is = absurd cc
 pub goes_longer : (a b : Seen) → Goes a b → length a.events ≤ length b.events
 goes_longer a b goes = omega (arith, ap length goes.events, length-append a.events goes.more)
 
+-- at first no event is counted of any worker, and past the last worker there is nothing to count
 pub zeros : (k w : ℕ) → slice_index (replicate k 0) w ≡ 0
 zeros zero w = refl
 zeros (suc k) zero = refl

@@ -18,16 +18,19 @@ use Rattle.llb_work.specs.Crew.{GoesOn}
 use Rattle.llb_work.proofs.Driving.{claim_takes, step_takes, settle_takes}
 use Rattle.llb_work.proofs.Afters.{stays, takes_one}
 
+-- a claim adds its event to the record or changes nothing, so the board goes on either way
 pub claim_goes : {J : Type 0} (reply : J → Reply) (b n : Seen) (w v : ℕ) (r : Result J ClaimFault) → GivesClaim (λ job. (n, reply job)) r (claim_of b w v)
     → OnErr r (n ≡ b)
     → GoesOn b n
 claim_goes reply b n w v (Ok job) gives err = takes_one b n (Claim w v) (claim_takes reply b n w v (Ok job) gives refl)
 claim_goes reply b n w v (Err e) gives err = stays b n err
 
+-- a step adds its event to the record or changes nothing, so the board goes on either way
 pub step_goes : (b n : Seen) (w : ℕ) (r : Result Stepped StepFault) → GivesStep (λ s. (n, step_reply s)) r (step_of b w) → OnErr r (n ≡ b) → GoesOn b n
 step_goes b n w (Ok s) gives err = takes_one b n (Step w) (step_takes b n w (Ok s) gives refl)
 step_goes b n w (Err e) gives err = stays b n err
 
+-- a settle adds its event to the record or changes nothing, so the board goes on either way
 pub settle_goes : (b n : Seen) (w : ℕ) (r : Result Settled SettleFault) → GivesSettle (λ s. (n, settle_reply s)) r (settle_of b w) → OnErr r (n ≡ b)
     → GoesOn b n
 settle_goes b n w (Ok s) gives err = takes_one b n (Settle w) (settle_takes b n w (Ok s) gives refl)
@@ -45,6 +48,7 @@ land_leads b n w o reply lands = record {
   events = ap (λ (x : Seen). x.events) lands.recorded;
 }
 
+-- a landing adds its block of events to the record or changes nothing, so the board goes on either way
 pub land_goes : (b n : Seen) (w : ℕ) (o : OutcomeValue) (r : Result Settled LandFault) → IfOk r (λ s. Lands b w o n (settle_reply s)) → OnErr r (n ≡ b)
     → GoesOn b n
 land_goes b n w o (Ok s) gives err = land_leads b n w o (settle_reply s) gives

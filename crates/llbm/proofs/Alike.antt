@@ -51,6 +51,7 @@ one_text locals bytes other one two y z graphs = y.printed ∙ ap tree_text tree
     trees : y.tree ≡ z.tree
     trees = ap (some_of y.tree) results
 
+-- a text and any bytes with the entries that it stands for have one graph, so that both run to one text
 pub runs_alike : (text bytes : List ℕ) (entries : List (List ℕ)) → HasOneAnswer text → HasOneAnswerIn bytes → AreReadAgain entries → AreBytes bytes
     → RunsAlike text entries bytes
 runs_alike text bytes entries once graphs again are stands read locals definition one other assembled y z =

@@ -35,6 +35,7 @@ use Rattle.std.specs.Io.KnownBytes.{Keeps}
 use Rattle.std.proofs.KnownBytes.{Appends-kept, Keeps-refl, Keeps-trans}
 use Rattle.std.proofs.lemmas.List.{append-nil}
 
+-- where what is known has one fact, it has any that follows from it
 pub some_map : {A : Type 0} (P Q : A → Type 0) (o : Option A) → ((x : A) → P x → Q x) → IfSome o P → IfSome o Q
 some_map P Q None f h = tt
 some_map P Q (Some x) f h = f x h
@@ -135,6 +136,7 @@ pub tells_no_definition : (left left' : Option (List ℕ)) (r : Result (Vec ℕ 
     → r ≡ Err e → p ≡ unread_as e → ReadsAll 67108864 134217728 left left' r → TellsRefusal IsUnread left p
 tells_no_definition = tells_so IsUnread unread_long
 
+-- a reading without a fault gives all the bytes that were left
 pub all_read : (left left' : Option (List ℕ)) (r : Result (Vec ℕ Global) ReadFault) (bytes : Vec ℕ Global) → r ≡ Ok bytes
     → ReadsAll 67108864 134217728 left left' r → IfSome left (λ xs. bytes.items ≡ xs)
 all_read left left' r bytes is reads =

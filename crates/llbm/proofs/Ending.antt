@@ -163,6 +163,7 @@ module _ (b : Build) (graph : IsGraph b.graph) (s : State) (here : IsConsistent 
       (sym (edge_there b.graph (ending_at s.statuses) (done_count b graph s here) (length b.graph.vertices)
       (omega arith) b.graph.result graph.result) ∙ ap is_some none)
 
+-- on a complete board whose result is no tree, the result's vertex or one before it has failed
 pub result_fails : (b : Build) → IsGraph b.graph → (s : State) → IsConsistent b s → is_complete b s ≡ true
     → output_in (ending_at s.statuses b.graph.result.vertex) b.graph.result.index ≡ None → FailsBy s b.graph.result.vertex
 result_fails b graph s here complete none = no_result_fails b graph s here complete none

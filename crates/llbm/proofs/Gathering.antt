@@ -20,12 +20,14 @@ reads_told (Some xs) bytes (Ok t) same few answers last = (subst (λ ys. length 
 reads_told (Some xs) bytes (Err e) same few answers last =
     (subst (λ ys. length ys ≤ limit) same few, subst (λ ys. Answers ys (Err e)) same answers, subst (λ ys. MemoryIsLast ys (Err e)) same last)
 
+-- the next source's file is read, and the other files are read over the trees with its own
 pub gathers_more : (files : List ℕ → Option (List ℕ)) (ls : List Local) (i : ℕ) (d : Local) (trees : List given.Local) (t : TreeMap)
     (r : Result (List given.Local) SourceFault)
     → i < length ls → Reads (files (get_or ls i d).file.now) (Ok t)
     → Gathers files (drop (i + 1) ls) (with_local trees (get_or ls i d).name.now t) r → Gathers files (drop i ls) trees r
 gathers_more files ls i d trees t r lt reads rest = subst (λ xs. Gathers files xs trees r) (sym (drop_more ls i d lt)) (inr (t, reads, rest))
 
+-- the next source's file does not read as a tree, and its fault is the answer for all
 pub gathers_none : (files : List ℕ → Option (List ℕ)) (ls : List Local) (i : ℕ) (d : Local) (trees : List given.Local) (e : SourceFault)
     (r : Result (List given.Local) SourceFault)
     → i < length ls → Reads (files (get_or ls i d).file.now) (Err e) → r ≡ Err e → Gathers files (drop i ls) trees r

@@ -23,6 +23,7 @@ by_entries id (e ∷ es) =
       | false ↦ by_entries id es
     ]
 
+-- the words that the matches have for an argument are those that its row has
 pub words_in_rows : (f : Found) (id : Text) → option_map raw_values (matched_of f id) ≡ all_of id (rows_of f)
 words_in_rows f id = by_entries id f.entries.items
 

@@ -41,6 +41,7 @@ module _ (b : Build) (c : CachesValue) (workers : ℕ) (fault : OpenFault) (by_n
   by_missing (Some name) e = (name, refl)
   by_missing None e = absurd (by_workers (may_work workers) e)
 
+-- a board that is not opened since a local tree is missing is over a graph with a source that has none
 pub lacks : (locals : List Local) (g : Numbered) (c : CachesValue) (workers : ℕ) (fault : OpenFault) → missing_in fault ≡ true
     → open_of (build_of locals g) c workers ≡ Err fault → Lacks locals g
 lacks locals g c workers fault by_name e = by_missing (build_of locals g) c workers fault by_name (missing_local locals g.vertices) e

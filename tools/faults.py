@@ -1,0 +1,355 @@
+"""What docs/FAULTS.md says of a line of the program, `fault ..` or `failed ..`, and what a definition says besides.
+
+The page's tables are taken as they stand: that of all faults, those of names after a number, and that of failures.
+"""
+
+import pathlib
+import re
+from typing import NamedTuple
+
+import definition
+from common import printable
+
+PAGE = pathlib.Path(__file__).resolve().parent.parent / "docs" / "FAULTS.md"
+
+NUMBERS = {"k", "i", "N", "V", "C", "P"}
+NAMES = {"FEATURE", "RULE"}
+OPTIONAL = "[WORD]"
+FAULT = "FAULT"
+
+NUMBER = r"(0|[1-9][0-9]{0,19})"
+ACTION = re.compile(rf"failed {NUMBER} action {NUMBER}(?: fault)? {NUMBER}")
+COMMAND = re.compile(rf"failed {NUMBER} command {NUMBER}(?: status)? {NUMBER}")
+
+MOST_FAULTS = 8
+MOST_ACTIONS = 16
+
+
+class NoPage(Exception):
+    """The page is not there, or a table of it is missing."""
+
+
+class NoLine(Exception):
+    """A line is no fault and no failure of the program; the words tell why."""
+
+
+class Cause(NamedTuple):
+    """A row of the table of all faults."""
+
+    name: str
+    arguments: tuple[str, ...]
+    sentence: str
+    status: str
+    advice: str
+
+
+class Name(NamedTuple):
+    """A row of a table of names after a number."""
+
+    arguments: tuple[str, ...]
+    sentence: str
+    advice: str
+
+
+class Failure(NamedTuple):
+    """A row of the table of failures."""
+
+    line: str
+    name: str
+    sentence: str
+    advice: str
+
+
+class Place(NamedTuple):
+    """Where in a definition a line leads: a row and an input of it, or a vertex and an action or a command of it."""
+
+    row: int | None = None
+    input: int | None = None
+    vertex: int | None = None
+    action: int | None = None
+    command: int | None = None
+
+
+class Answer(NamedTuple):
+    """What a line means, a text for each fault in it, and where in a definition it leads."""
+
+    texts: list[str]
+    place: Place
+
+
+def cells_of(line: str) -> list[str]:
+    """The cells of a table's row."""
+    return [cell.strip() for cell in line.strip().strip("|").split(" | ")]
+
+
+def tables_in(text: str) -> list[tuple[list[str], list[list[str]]]]:
+    """The tables of a page, each with its head and its rows."""
+    tables = []
+    for block in re.findall(r"(?:^\|.*\n)+", text, re.MULTILINE):
+        head, _, *rows = map(cells_of, block.splitlines())
+        tables.append((head, rows))
+    return tables
+
+
+def bare(cell: str) -> str:
+    """A cell without the marks of code around it."""
+    return cell.strip("`")
+
+
+def words_of(cell: str) -> tuple[str, ...]:
+    """The words of a cell, none for a dash."""
+    return () if cell == "-" else tuple(bare(cell).split(" "))
+
+
+class Page:
+    """The tables of the page."""
+
+    def __init__(self, text: str) -> None:
+        self.causes: dict[int, list[Cause]] = {}
+        self.names: dict[int, dict[str, Name]] = {}
+        self.failures: list[Failure] = []
+        for head, rows in tables_in(text):
+            self.take(head[0], rows)
+        if not (self.causes and self.names and self.failures):
+            raise NoPage("a table of the faults is missing")
+
+    def take(self, head: str, rows: list[list[str]]) -> None:
+        """A table is taken by the first cell of its head; one with another head is passed over."""
+        after = re.fullmatch(r"Name after ([0-9]+)", head)
+        if after:
+            for words, *rest in rows:
+                name, *arguments = words_of(words)
+                self.names.setdefault(int(after[1]), {})[name] = Name(tuple(arguments), *rest)
+        elif head == "Failure":
+            self.failures += [Failure(bare(line), bare(name), *rest) for line, name, *rest in rows]
+        elif head == "Fault":
+            for number, name, arguments, *rest in rows:
+                self.causes.setdefault(int(number), []).append(Cause(bare(name), words_of(arguments), *rest))
+
+    def causes_of(self, number: int) -> list[Cause]:
+        """What a number means: its rows that the program prints, or else all of them, no sentence twice."""
+        rows = self.causes.get(number)
+        if rows is None:
+            raise NoLine(f"there is no fault {number}")
+        said = {}
+        for row in [row for row in rows if row.status != "-"] or rows:
+            said.setdefault(row.sentence, row)
+        return list(said.values())
+
+    def failure(self, prefix: str) -> Failure:
+        """The failure whose line begins so."""
+        for row in self.failures:
+            if row.line.startswith(prefix):
+                return row
+        raise NoPage(f"the page has no line {prefix}")
+
+
+def read_page() -> Page:
+    """The page beside this folder."""
+    try:
+        return Page(PAGE.read_text("utf-8"))
+    except (OSError, ValueError, TypeError) as fault:
+        raise NoPage(f"{PAGE}: {fault}") from fault
+
+
+def decimal(words: list[str]) -> str:
+    """The number that stands first; it is taken away."""
+    if not words:
+        raise NoLine("a number is missing")
+    if not re.fullmatch(NUMBER, words[0]):
+        raise NoLine(f"{words[0]!r} is no number")
+    return words.pop(0)
+
+
+class Reader:
+    """Reads the words of one line, which are taken away from left to right."""
+
+    def __init__(self, page: Page, words: list[str]) -> None:
+        self.page = page
+        self.words = words
+        self.place = Place()
+        self.count = 0
+
+    def fault(self) -> list[str]:
+        """What a fault means, and after it what the names and the faults in its arguments mean."""
+        self.count += 1
+        if self.count > MOST_FAULTS:
+            raise NoLine("no fault has that many inside it")
+        number = int(decimal(self.words))
+        first, *others = self.page.causes_of(number)
+        given, inside = self.arguments(number, first.arguments)
+        prefix = f"{number} ({', '.join(given)})" if given else f"{number}"
+        texts = [f"{prefix}: {first.sentence} {first.advice}"]
+        texts += [f"or {number}: {other.sentence} {other.advice}" for other in others]
+        return texts + inside
+
+    def arguments(self, number: int, arguments: tuple[str, ...]) -> tuple[list[str], list[str]]:
+        """How the arguments after a number are shown, and what they mean."""
+        given, inside = [], []
+        for argument in arguments:
+            shown, texts = self.argument(number, argument)
+            given += shown
+            inside += texts
+        return given, inside
+
+    def argument(self, number: int, argument: str) -> tuple[list[str], list[str]]:
+        """How an argument is shown, none for a fault, and what it means itself, none for a number or a text."""
+        if argument == FAULT:
+            return [], self.fault()
+        if argument in NAMES:
+            name, texts = self.name(number)
+            return [f"{argument} = {name}"], texts
+        if argument in NUMBERS:
+            return [f"{argument} = {self.number(argument)}"], []
+        if argument == OPTIONAL and not self.words:
+            return [], []
+        text = printable(" ".join(self.words))
+        self.words.clear()
+        return [f"{argument.strip('[]')} = {text}"], []
+
+    def number(self, argument: str) -> str:
+        """The number that stands first; those of a row and of an input are kept."""
+        value = decimal(self.words)
+        if argument == "k":
+            self.place = self.place._replace(row=int(value))
+        elif argument == "i":
+            self.place = self.place._replace(input=int(value))
+        return value
+
+    def name(self, number: int) -> tuple[str, list[str]]:
+        """A name that stands after a number, and what it and its arguments mean."""
+        known = self.page.names.get(number, {})
+        if not self.words:
+            raise NoLine(f"a name is missing after {number}")
+        name = self.words.pop(0)
+        if name not in known:
+            raise NoLine(f"{name!r} is no name after {number}")
+        _, inside = self.arguments(number, known[name].arguments)
+        return name, [f"{name}: {known[name].sentence} {known[name].advice}", *inside]
+
+
+def answer_to_action(page: Page, vertex: str, action: str, number: str) -> Answer:
+    """What it means that an action failed."""
+    row = page.failure("failed V action")
+    text = f"failed (V = {vertex}, A = {action}, N = {number}): {row.sentence} {row.advice}"
+    return Answer([text, *Reader(page, [number]).fault()], Place(vertex=int(vertex), action=int(action)))
+
+
+def answer_to_command(page: Page, vertex: str, command: str, status: str) -> Answer:
+    """What it means that a command failed."""
+    row = page.failure("failed V command")
+    text = f"failed (V = {vertex}, C = {command}, S = {status}): {row.sentence} {row.advice}"
+    return Answer([text], Place(vertex=int(vertex), command=int(command)))
+
+
+def answer_to(page: Page, line: str) -> Answer:
+    """What a line of the program means."""
+    action, command = ACTION.fullmatch(line), COMMAND.fullmatch(line)
+    if action:
+        return answer_to_action(page, *action.groups())
+    if command:
+        return answer_to_command(page, *command.groups())
+    first, *words = line.split(" ")
+    if first != "fault":
+        raise NoLine("neither a fault nor a failure")
+    reader = Reader(page, words)
+    texts = reader.fault()
+    if words:
+        raise NoLine(f"{' '.join(words)!r} is too much")
+    return Answer(texts, reader.place)
+
+
+def one(word: str, texts: list[str], number: int) -> list[str]:
+    """The text of that number, if there is one."""
+    return [f"{word} {number}: {text}" for text in texts[number : number + 1]]
+
+
+def first_actions(texts: list[str]) -> list[str]:
+    """A line for each of the first actions, and one for all others."""
+    lines = [f"action {number}: {text}" for number, text in enumerate(texts[:MOST_ACTIONS])]
+    left = len(texts) - MOST_ACTIONS
+    return [*lines, f"and {left} more"] if left > 0 else lines
+
+
+def told_by(op: dict, place: Place) -> list[str]:
+    """The input that the place has, and what the op does."""
+    inputs = [] if place.input is None else one("input", definition.inputs_of(op), place.input)
+    return [*inputs, *done_by(op, place)]
+
+
+def done_by(op: dict, place: Place) -> list[str]:
+    """What an op does: the action or the command where the place has one, else all."""
+    kind = op.get("kind")
+    if kind == "source":
+        return [f"identifier: {op['source'].get('identifier', '')}"]
+    if kind == "file":
+        actions = definition.actions_of(op)
+        return first_actions(actions) if place.action is None else one("action", actions, place.action)
+    if kind != "exec":
+        return []
+    commands = [] if place.command is None else one("command", definition.commands_of(op), place.command)
+    return [*commands, f"script: {definition.script_of(op)}"]
+
+
+class Told:
+    """A definition of which lines tell."""
+
+    def __init__(self, entries: list[bytes]) -> None:
+        self.entries = entries
+        self.rows: list[int] | None = None
+
+    def row_of(self, vertex: int) -> int:
+        """The row of a vertex."""
+        if self.rows is None:
+            self.rows = definition.graph_of(self.entries).rows
+        if vertex >= len(self.rows):
+            raise definition.Unreadable(f"it has no vertex {vertex}")
+        return self.rows[vertex]
+
+    def texts(self, place: Place) -> list[str]:
+        """What is at the place where a line leads, a text for each line."""
+        if place.vertex is not None:
+            row = self.row_of(place.vertex)
+            return self.entry(f"vertex {place.vertex}, row {row}", row, place)
+        return [] if place.row is None else self.entry(f"row {place.row}", place.row, place)
+
+    def entry(self, prefix: str, row: int, place: Place) -> list[str]:
+        """An entry's digest, its kind, and what it tells of the place."""
+        if row >= len(self.entries):
+            raise definition.Unreadable(f"it has no row {row}")
+        prefix = f"{prefix}: {definition.digest_of(self.entries[row])}"
+        try:
+            op = definition.read("Op", self.entries[row])
+        except definition.Unreadable as fault:
+            return [f"{prefix}, no op: {fault}"]
+        return [f"{prefix}, {op.get('kind', 'no kind')}", *map(printable, told_by(op, place))]
+
+
+class Explainer:
+    """Explains lines by the page and, where a file is given, by the definition in it."""
+
+    def __init__(self, page: Page, file: str | None = None) -> None:
+        self.page = page
+        self.told: Told | None = None
+        self.cause = ""
+        if file is not None:
+            self.read(file)
+
+    def read(self, file: str) -> None:
+        """The definition in a file; where it has no entries, why."""
+        try:
+            self.told = Told(definition.entries_in(file))
+        except definition.Unreadable as fault:
+            self.cause = str(fault)
+
+    def lines(self, line: str) -> list[str]:
+        """What a line means, and what the definition says of it."""
+        answer = answer_to(self.page, line)
+        if self.cause:
+            return [*answer.texts, f"the definition: {self.cause}"]
+        if self.told is None:
+            return answer.texts
+        try:
+            return answer.texts + self.told.texts(answer.place)
+        except definition.Unreadable as fault:
+            return [*answer.texts, f"the definition: {fault}"]

@@ -1,0 +1,1 @@
+"""The tests of the tools, which `test` beside this folder runs."""

@@ -1,0 +1,189 @@
+"""What the tests share: runs of the tools, temporary folders, and definitions that are made for a test."""
+
+import hashlib
+import os
+import pathlib
+import subprocess
+import sys
+import tempfile
+import unittest
+
+TOOLS = pathlib.Path(__file__).resolve().parent.parent
+ROOT = TOOLS.parent
+IS_ROOT = os.geteuid() == 0
+
+AS_NOBODY = """
+import argparse, os, re, stat, sys
+sys.argv = sys.argv[1:]
+sys.dont_write_bytecode = True
+sys.path.insert(0, os.path.dirname(sys.argv[0]))
+import collections, common, contextlib, typing
+program = compile(open(sys.argv[0]).read(), sys.argv[0], "exec")
+argparse.ArgumentParser().format_help()
+os.setgroups([])
+os.setgid(65534)
+os.setuid(65534)
+exec(program, {"__name__": "__main__", "__file__": sys.argv[0]})
+"""
+
+runs = 0
+llbm: str | None = None
+
+
+def command(tool, *words, before=()):
+    """The command of a run of a tool, which is counted."""
+    global runs
+    runs += 1
+    return [sys.executable, *before, TOOLS / tool, *words]
+
+
+def run(tool, *words, text=b"", before=(), **settings):
+    """A run of a tool with these words and this text on standard input."""
+    return subprocess.run(
+        command(tool, *words, before=before), input=text, capture_output=True, timeout=120, **settings
+    )
+
+
+def run_into(output, tool, *words):
+    """A run of a tool whose standard output is an open file."""
+    return subprocess.run(command(tool, *words), stdout=output, stderr=subprocess.PIPE, timeout=120)
+
+
+def run_closed(descriptor, tool, *words):
+    """A run of a tool for which a standard stream is closed."""
+    return subprocess.run(
+        command(tool, *words), capture_output=True, timeout=120, preexec_fn=lambda: os.close(descriptor)
+    )
+
+
+class Folder(unittest.TestCase):
+    """A test with a temporary folder."""
+
+    def setUp(self):
+        holder = tempfile.TemporaryDirectory(prefix="tools-test-")
+        self.addCleanup(holder.cleanup)
+        self.folder = os.fsencode(holder.name)
+        self.mine = b"%d %d" % (os.geteuid(), os.stat(self.folder).st_gid)
+
+    def place(self, *names):
+        """The path of these names below the folder."""
+        return os.path.join(self.folder, *names)
+
+    def file(self, name, content):
+        """The path of a new file with this content."""
+        place = self.place(name)
+        pathlib.Path(os.fsdecode(place)).write_bytes(content)
+        return place
+
+    def make(self, name, content=None, mode=None):
+        """A file with the content below `in`, or a directory for none."""
+        place = self.place(b"in", name)
+        os.makedirs(place if content is None else os.path.dirname(place), exist_ok=True)
+        if content is not None:
+            pathlib.Path(os.fsdecode(place)).write_bytes(content)
+        os.chmod(place, mode or (0o755 if content is None else 0o644))
+
+    def text(self, lines):
+        """The text of these lines, in which OWN is the owner of all that is made here."""
+        return "".join(line + "\n" for line in lines).encode().replace(b"OWN", self.mine)
+
+    def answers(self, done, status, output, told=b""):
+        """The run ended with this status and output, and with these words on standard error."""
+        self.assertEqual((done.returncode, done.stderr), (status, told))
+        if done.stdout != output:
+            self.fail(f"{done.stdout[:2000]} is not {output[:2000]}")
+
+    def passes(self, done, output=b"", told=b""):
+        """The run ended well."""
+        self.answers(done, 0, output, told)
+
+    def write(self, text, name=b"out", **settings):
+        """The run that makes a directory of a text."""
+        return run("directory-of-tree", self.place(name), text=text, **settings)
+
+    def read(self, name=b"out", *words):
+        """The run that makes a text of a directory."""
+        return run("tree-of-directory", *words, self.place(name))
+
+
+def varint(number):
+    """The bytes of a number, a negative one as of 64 bits."""
+    number %= 1 << 64
+    found = bytearray()
+    while number > 127:
+        found.append(number & 127 | 128)
+        number >>= 7
+    return bytes(found) + bytes([number])
+
+
+def number(field, value):
+    """The record of a number."""
+    return varint(field << 3) + varint(value)
+
+
+def part(field, value):
+    """The record of a string or of bytes, also those of a message."""
+    value = value.encode() if isinstance(value, str) else value
+    return varint(field << 3 | 2) + varint(len(value)) + value
+
+
+def digest(entry):
+    """The text by which inputs name an entry."""
+    return "sha256:" + hashlib.sha256(entry).hexdigest()
+
+
+def inputs(*named):
+    """The inputs of an op: entries, or entries with the number of an output."""
+    pairs = [one if isinstance(one, tuple) else (one, 0) for one in named]
+    return b"".join(part(1, part(1, digest(entry)) + number(2, output)) for entry, output in pairs)
+
+
+def source(identifier):
+    """A source op."""
+    return part(3, part(1, identifier))
+
+
+def file_op(*actions, on=()):
+    """A file op of these actions on these inputs."""
+    return inputs(*on) + part(4, b"".join(part(2, action) for action in actions))
+
+
+def copy(src, dest):
+    """A copy."""
+    return part(4, part(1, src) + part(2, dest))
+
+
+def mkfile(path):
+    """A mkfile of no bytes."""
+    return number(1, -1) + part(5, part(1, path))
+
+
+def mkdir(path):
+    """A mkdir."""
+    return number(1, -1) + part(6, part(1, path))
+
+
+def rm(path):
+    """An rm."""
+    return part(7, part(1, path))
+
+
+def exec_op(*args, on=()):
+    """An exec of these words on these inputs, with an empty tree at the root."""
+    meta = part(1, b"".join(part(1, arg) for arg in args))
+    return inputs(*on) + part(2, meta + part(2, number(1, -1) + part(3, "/")))
+
+
+def merge(*on):
+    """A merge of these inputs."""
+    return inputs(*on) + part(6, b"".join(part(1, number(1, place)) for place in range(len(on))))
+
+
+def definition(*entries):
+    """A definition of these entries."""
+    return b"".join(part(1, entry) for entry in entries)
+
+
+def ending(*entries):
+    """A definition of these entries, of which the last one gives the result, and of a terminal."""
+    return definition(*entries, inputs(entries[-1]))

@@ -1,0 +1,201 @@
+"""Tests of `build`, with a program of the tests' own in the place of llbm."""
+
+import os
+import pathlib
+import signal
+import stat
+import subprocess
+import sys
+
+from tests import base
+from tests.base import Folder, command, run
+
+FAKE = f"""#!{sys.executable}
+import os, signal, sys, time
+given = [word.partition("=") for word in sys.argv[1:] if "=" in word]
+with open("given", "wb") as file:
+    file.write(" ".join(name + equals for name, equals, _ in given).encode() + b"\\n")
+    file.write(" ".join(word for word in sys.argv[1:] if "=" not in word).encode() + b"\\n")
+    for _, _, text in given:
+        file.write(open(text, "rb").read())
+    file.write(b"%d" % len(sys.stdin.buffer.read()))
+exec(open("does").read())
+"""
+
+PRINTS = """
+sys.stdout.write("d 0755 0 0 /\\nd 0555 0 0 /b\\nf 0640 0 0 6869 /b/a\\n")
+"""
+FAILS = """
+sys.stdout.write("d 0755 0 0 /\\n")
+sys.stderr.write("failed 1 action 0 fault 21\\nsomething else\\n")
+sys.exit(1)
+"""
+WAITS = """
+sys.stderr.write("waiting\\n")
+sys.stderr.flush()
+time.sleep(60)
+"""
+
+
+class Build(Folder):
+    """A build from directories to a directory."""
+
+    def setUp(self):
+        super().setUp()
+        self.at = pathlib.Path(os.fsdecode(self.folder))
+        self.origin = base.source("local://src")
+        self.files = base.file_op(base.copy("/none", "/b"), on=[self.origin])
+        self.given = base.ending(self.origin, self.files)
+        self.file(b"definition", self.given)
+        self.llbm = self.at / "llbm"
+        self.llbm.write_text(FAKE)
+        self.llbm.chmod(0o755)
+        self.held = self.at / "held"
+        self.held.mkdir()
+        self.settings = {"cwd": self.at, "env": {**os.environ, "TMPDIR": str(self.held)}}
+
+    def does(self, text):
+        """The program does this."""
+        (self.at / "does").write_text(text)
+
+    def build(self, *words, llbm=None):
+        """A build with these words, in the test's folder."""
+        return run("build", "--llbm", llbm or self.llbm, *words, **self.settings)
+
+    def nothing_is_left(self, also=()):
+        """Neither a result nor a temporary file is there."""
+        self.assertEqual(os.listdir(self.held), [])
+        known = {"definition", "llbm", "held", "in", "does", "given", *also}
+        self.assertEqual(set(os.listdir(self.at)) - known, set())
+
+    def ends(self, done, status, *lines):
+        """The build ended with this status after these lines, and nothing is left."""
+        self.assertEqual((done.returncode, done.stdout), (status, b""))
+        self.assertEqual(done.stderr.decode().splitlines(), list(lines))
+        self.nothing_is_left()
+
+    def test_a_result(self):
+        self.make(b"a/x", b"x", mode=0o600)
+        self.make(b"b")
+        self.does(PRINTS)
+        done = self.build("--workers", "3", "definition", "out", "src=in/a", "b=in/b", "x=y=in/b")
+        self.assertEqual(done.returncode, 2)
+        done = self.build("--workers", "3", "definition", "out/", "src=in/a", "b=in/b", "src=in/a")
+        self.assertEqual((done.returncode, done.stdout), (0, b""))
+        lines = ["reading src from in/a", "left out: nothing", "reading b from in/b", "left out: nothing"]
+        lines += ["reading src from in/a", "left out: nothing", "running definition", "writing out", "out is written"]
+        self.assertEqual(done.stderr.decode().splitlines(), lines)
+        one, two = "d 0755 0 0 /\nf 0600 0 0 78 /x\n", "d 0755 0 0 /\n"
+        given = f"src= b= src=\nrun --workers 3\n{one}{two}{one}{len(self.given)}"
+        self.assertEqual((self.at / "given").read_text(), given)
+        self.nothing_is_left({"out"})
+        self.assertEqual((self.at / "out/b/a").read_text(), "hi")
+        for name, mode in [("out", 0o755), ("out/b", 0o555), ("out/b/a", 0o640)]:
+            self.assertEqual(stat.S_IMODE((self.at / name).stat().st_mode), mode)
+
+    def test_without_sources_and_workers_into_another_folder(self):
+        self.does(PRINTS)
+        (self.at / "in").mkdir()
+        done = self.build("definition", self.at / "in" / "out")
+        self.assertEqual(done.returncode, 0)
+        self.assertEqual((self.at / "given").read_text(), f"\nrun\n{len(self.given)}")
+        self.assertEqual(os.listdir(self.at / "in"), ["out"])
+        self.nothing_is_left()
+
+    def test_a_failure_is_explained(self):
+        self.does(FAILS)
+        done = self.build("definition", "out")
+        told = run("explain", "--definition", self.place(b"definition"), "failed", "1", "action", "0", "fault", "21")
+        meaning = [f"  {line}" for line in told.stdout.decode().splitlines()]
+        self.assertEqual(meaning[-1], "  action 0: copy /none -> /b")
+        prefix = ["running definition", "failed 1 action 0 fault 21"]
+        self.ends(done, 1, *prefix, *meaning, "something else", "nothing is written")
+
+    def test_the_status_of_the_program(self):
+        for status in [2, 3, 77]:
+            self.does(f"sys.exit({status})")
+            self.ends(self.build("definition", "out"), status, "running definition", "nothing is written")
+        self.does("os.kill(os.getpid(), signal.SIGKILL)")
+        self.ends(self.build("definition", "out"), 137, "running definition", "nothing is written")
+
+    def test_a_result_that_is_no_tree(self):
+        self.does('sys.stdout.write("d 0755 0 0 /\\nd 0555 0 0 /a\\nd 0555 0 0 /a/b\\nx\\n")')
+        line = "line 4: neither d MODE UID GID PATH nor f MODE UID GID CONTENT PATH"
+        done = self.build("definition", "out")
+        self.ends(done, 2, "running definition", "writing out", line, "nothing is written")
+
+    def test_a_result_that_comes_to_be_there_and_locked_directories_that_go(self):
+        self.does(PRINTS + 'os.mkdir("out")\nopen("out/mine", "w").close()\n')
+        done = self.build("definition", "out")
+        self.assertEqual(done.returncode, 2)
+        self.assertEqual(done.stderr.splitlines()[-1], b"out: is there already")
+        self.assertEqual(os.listdir(self.at / "out"), ["mine"])
+        self.nothing_is_left({"out"})
+
+    def test_what_is_not_there(self):
+        self.make(b"a", b"a")
+        self.does(PRINTS)
+        self.ends(self.build("none", "out"), 2, "none: no file is there")
+        self.ends(self.build("definition", "in"), 2, "in: is there already")
+        self.ends(self.build("definition", "in/a"), 2, "in/a: is there already")
+        self.ends(self.build("definition", "/"), 2, "/: is there already")
+        missing = "none: no program is there; --llbm PROGRAM names another one"
+        self.ends(self.build("definition", "out", llbm="none"), 2, missing)
+        for name, cause in [("none", "No such file or directory"), ("in/a", "Not a directory")]:
+            lines = [f"reading src from {name}", f"{name}: {cause}", "nothing is written"]
+            self.ends(self.build("definition", "out", f"src={name}"), 2, *lines)
+        self.ends(self.build("definition", "none/out"), 2, "none: no directory is there")
+        self.assertFalse((self.at / "given").exists())
+
+    def test_a_program_that_does_not_start(self):
+        self.llbm.write_text("#!/nowhere\n")
+        done = self.build("definition", "out")
+        self.assertEqual(done.returncode, 3)
+        self.assertEqual(done.stderr.splitlines()[0], b"running definition")
+        self.nothing_is_left()
+
+    def test_command_lines_are_refused(self):
+        for words in [[], ["definition"], ["definition", "out", "src"], ["definition", "out", "src="]]:
+            self.assertEqual(self.build(*words).returncode, 2, words)
+        self.nothing_is_left()
+
+    def start(self):
+        """A build that waits for its program."""
+        self.does(WAITS)
+        child = subprocess.Popen(
+            command("build", "--llbm", self.llbm, "definition", "out"), stderr=subprocess.PIPE, **self.settings
+        )
+        self.addCleanup(child.stderr.close)
+        self.addCleanup(child.wait)
+        while child.stderr.readline() not in (b"waiting\n", b""):
+            pass
+        self.assertEqual(len(os.listdir(self.held)), 1)
+        return child
+
+    def test_an_interrupt(self):
+        for number in [signal.SIGINT, signal.SIGTERM, signal.SIGHUP]:
+            child = self.start()
+            child.send_signal(number)
+            self.assertEqual(child.stderr.read(), b"interrupted: nothing is written\n")
+            self.assertEqual(child.wait(60), 128 + number)
+            self.nothing_is_left()
+
+    def test_many_interrupts(self):
+        child = self.start()
+        for number in [signal.SIGINT, signal.SIGTERM, signal.SIGINT]:
+            child.send_signal(number)
+        self.assertIn(child.wait(60), (128 + signal.SIGINT, 128 + signal.SIGTERM))
+        self.nothing_is_left()
+
+    def test_an_interrupt_that_is_ignored_before(self):
+        self.does('sys.stderr.write("waiting\\n")\nsys.stderr.flush()\ntime.sleep(1)\n' + PRINTS)
+        child = subprocess.Popen(
+            command("build", "--llbm", self.llbm, "definition", "out"), stderr=subprocess.PIPE, **self.settings,
+            preexec_fn=lambda: signal.signal(signal.SIGHUP, signal.SIG_IGN),
+        )
+        self.addCleanup(child.stderr.close)
+        while child.stderr.readline() not in (b"waiting\n", b""):
+            pass
+        child.send_signal(signal.SIGHUP)
+        self.assertEqual(child.wait(60), 0)
+        self.nothing_is_left({"out"})

@@ -1,0 +1,126 @@
+"""Tests of the tools together with the program llbm, left out where there is none."""
+
+import os
+import pathlib
+import subprocess
+import unittest
+
+from tests import base
+from tests.base import ROOT, Folder, run
+
+EXAMPLES = ROOT / "examples"
+
+
+class WithProgram(Folder):
+    """What the tools and the program make of each other's texts."""
+
+    def setUp(self):
+        if base.llbm is None:
+            raise unittest.SkipTest("the program is needed, which --llbm PROGRAM names")
+        super().setUp()
+        self.at = pathlib.Path(os.fsdecode(self.folder))
+
+    def llbm(self, *words, given):
+        """A run of the program on this input."""
+        return subprocess.run([base.llbm, *words], input=given, capture_output=True, timeout=120)
+
+    def output(self, *words, given):
+        """What the program prints, where it ends well."""
+        done = self.llbm(*words, given=given)
+        self.assertEqual((done.returncode, done.stderr), (0, b""), words)
+        return done.stdout
+
+    def definitions(self):
+        """The definitions of the examples, by their names."""
+        for place in sorted(EXAMPLES.glob("*.definition")):
+            yield place.stem, place.read_bytes()
+        for place in sorted(EXAMPLES.glob("*/definition.text")):
+            yield place.parent.name, self.output("asm", given=place.read_bytes())
+
+    def build(self, given, *words, result="out"):
+        """A build of a definition with these words after RESULT."""
+        options = [word for word in words if word.startswith("--")]
+        sources = [word for word in words if not word.startswith("--")]
+        place = self.file(b"definition", given)
+        return run("build", "--llbm", base.llbm, *options, place, self.at / result, *sources)
+
+    def text_of(self, name):
+        """The text of a directory, of which all is 0:0."""
+        done = run("tree-of-directory", "--owner", "0:0", self.at / name)
+        self.assertEqual(done.returncode, 0)
+        return done.stdout
+
+    def test_a_directory_goes_through_the_program(self):
+        self.make(b"a/b/c", bytes(range(256)), mode=0o6711)
+        self.make(b"a-b", b"", mode=0o400)
+        self.make("\N{GREEK SMALL LETTER ALPHA} b".encode(), b"x" * 10_000)
+        given = base.ending(base.source("local://src"))
+        text = self.text_of("in")
+        output = self.output("run", f"src={os.fsdecode(self.file(b'text', text))}", given=given)
+        self.assertEqual(output, text)
+        done = self.build(given, f"src={self.at / 'in'}")
+        self.assertEqual(done.returncode, 0, done.stderr)
+        self.assertEqual(self.text_of("out"), text)
+
+    def test_the_example_is_built(self):
+        tree = EXAMPLES / "source.tree"
+        given = (EXAMPLES / "execution.definition").read_bytes()
+        self.passes(run("directory-of-tree", self.at / "source", text=tree.read_bytes()))
+        text = self.output("run", f"source={tree}", given=given)
+        for workers in ["--workers=1", "--workers=4"]:
+            done = self.build(given, workers, f"source={self.at / 'source'}", result=workers)
+            self.assertEqual(done.returncode, 0, done.stderr)
+            self.assertEqual(self.text_of(workers), text)
+
+    def test_graphs_are_numbered_as_the_program_numbers_them(self):
+        for name, given in self.definitions():
+            text = self.output("show", given=given)
+            done = run("graph-of-show", "--definition", self.file(b"definition", given), text=text)
+            self.assertEqual((done.returncode, done.stderr), (0, b""), name)
+            self.assertEqual(done.stdout.count(b"shape="), text.count(b"\n"), name)
+
+    def test_a_graph_whose_entries_stand_in_another_order(self):
+        one, two, three = (base.source(f"local://{name}") for name in "abc")
+        lower = base.file_op(base.rm("/a"), on=[three])
+        upper = base.merge(two, lower, one)
+        given = base.definition(upper, three, two, lower, one, two, base.file_op(base.rm("/b")), base.inputs(upper))
+        text = self.output("show", given=given)
+        done = run("graph-of-show", "--definition", self.file(b"definition", given), text=text)
+        self.assertEqual((done.returncode, done.stderr), (0, b""))
+        labels = [r"0 source\nlocal://c", r"1 source\nlocal://b", r"2 file\nrm /a", r"3 source\nlocal://a", "4 merge"]
+        for label in labels:
+            self.assertIn(f'label="{label}"'.encode(), done.stdout)
+
+    def test_a_failure_is_explained(self):
+        folder = EXAMPLES / "failure"
+        given = self.output("asm", given=(folder / "definition.text").read_bytes())
+        (self.at / "empty").mkdir()
+        done = self.build(given, f"empty={self.at / 'empty'}")
+        self.assertEqual(done.returncode, 1)
+        lines = done.stderr.decode().splitlines()
+        place = lines.index((folder / "words").read_text().strip())
+        self.assertIn("  command 1: cp /none /b", lines[place:])
+        self.assertEqual(lines[-1], "nothing is written")
+        self.assertFalse((self.at / "out").exists())
+
+    def test_refusals_are_explained(self):
+        nameless = base.ending(base.file_op())
+        for given, words, line in [
+            (b"\x0a", [], "fault 81 1"), (b"", [], "fault 83"), (nameless, [], "fault 89 0 NoActions"),
+            (base.ending(base.source("local://src")), [], "fault 121 src"),
+            (base.ending(base.source("docker-image://a")), [], "fault 88 0 Source"),
+            (base.ending(base.exec_op("apk")), [], "fault 89 0 Script 71 apk"),
+            (base.ending(base.file_op(base.mkdir("/a"))), ["--workers=0"], "fault 122"),
+        ]:
+            done = self.build(given, *words)
+            self.assertEqual(done.returncode, 2)
+            told = run("explain", "--definition", self.place(b"definition"), *line.split(" "))
+            meaning = [f"  {text}" for text in told.stdout.decode().splitlines()]
+            self.assertEqual(done.stderr.decode().splitlines()[1:], [line, *meaning, "nothing is written"])
+
+    def test_a_text_that_is_too_long(self):
+        self.make(b"a", b"")
+        os.truncate(self.place(b"in", b"a"), 1 << 25)
+        done = self.build(base.ending(base.source("local://src")), f"src={self.at / 'in'}")
+        self.assertEqual(done.returncode, 2)
+        self.assertRegex(done.stderr, rb"\nthe text has [0-9,]+ bytes: .*\n(.*\n)*fault 185\n  185: ")

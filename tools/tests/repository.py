@@ -1,0 +1,212 @@
+"""Tests of the repository: docs/FAULTS.md says what the code says, and lines keep to their widths."""
+
+import os
+import pathlib
+import re
+import shutil
+import subprocess
+import unittest
+from typing import NamedTuple
+
+import faults
+from tests.base import ROOT, TOOLS, Folder, run
+
+CRATES = ROOT / "crates"
+MOST_OF_A_TOOL = 120
+
+ERROR = re.compile(r'#\[error\("(.*)"\)\]')
+HEAD = re.compile(r"pub (enum|struct) (\w+)")
+VARIANT = re.compile(r"(\w+)(\(.*\))?,")
+WRITTEN = re.compile(r'(\w+)::(\w+)\b[^\n=]* => write!\(f, "(.*?)"')
+NUMBERED = re.compile(r"([0-9]+)(?: [A-Za-z]+)*: (.*)")
+
+
+class Said(NamedTuple):
+    """A variant, or a type without variants: its docstring, and what it prints, in all its forms."""
+
+    crate: str
+    owner: str
+    name: str
+    sentence: str
+    forms: tuple[str, ...]
+
+
+def said_in(crate, text):
+    """What a source says of the variants and of the types that it declares."""
+    written = {}
+    for owner, variant, form in WRITTEN.findall(text):
+        written.setdefault((owner, variant), []).append(form)
+    owner, sentences, error = None, [], None
+    for line in text.split("\n"):
+        bare = line.strip()
+        attribute, head, variant = ERROR.fullmatch(bare), HEAD.match(bare), VARIANT.fullmatch(bare)
+        if bare.startswith("///"):
+            sentences.append(bare[3:].strip())
+        elif attribute:
+            error = attribute[1]
+        elif not bare.startswith("#["):
+            if head and head[1] == "enum":
+                owner = head[2]
+            elif head:
+                yield Said(crate, head[2], head[2], " ".join(sentences), (error,) if error else ())
+            elif variant and owner:
+                forms = (error,) if error else tuple(written.get((owner, variant[1]), ()))
+                yield Said(crate, owner, f"{owner}::{variant[1]}", " ".join(sentences), forms)
+            elif line == "}":
+                owner = None
+            sentences, error = [], None
+
+
+def code():
+    """What all sources say but those of the tests."""
+    for path in sorted(CRATES.glob("*/src/**/*.rt")):
+        if "tests" not in path.parts:
+            yield from said_in(path.relative_to(CRATES).parts[0], path.read_text("utf-8"))
+
+
+class Page(unittest.TestCase):
+    """The page of faults beside the code."""
+
+    @classmethod
+    def setUpClass(cls):
+        cls.said = list(code())
+        cls.page = faults.read_page()
+        cls.printed = [one for one in cls.said if one.forms and re.match("[0-9]", one.forms[0])]
+
+    def rows(self):
+        """Number and row of each cause of the page, in its order."""
+        return [(number, cause) for number, causes in self.page.causes.items() for cause in causes]
+
+    def name_of(self, said):
+        """The name by which the page has a variant or a type."""
+        return said.name if "::" in said.name else f"{said.crate}::{said.name}"
+
+    def test_the_code_is_read(self):
+        self.assertGreater(len(self.printed), 100)
+        said = {self.name_of(one): one for one in self.printed}
+        self.assertEqual(said["llb_wire::Memory"].sentence, "5: memory was refused.")
+        self.assertEqual(said["AsmFault::Line"].forms, ("161 {0} {1}",))
+        self.assertEqual(said["WordsFault::Words"].forms, ("183 {word}", "183"))
+
+    def test_numbers_are_those_of_the_code(self):
+        code = sorted((int(form.split(" ")[0]), self.name_of(one)) for one in self.printed for form in one.forms[:1])
+        self.assertEqual(sorted((number, cause.name) for number, cause in self.rows()), code)
+        attributes = set()
+        for path in CRATES.glob("*/src/**/*.rt"):
+            attributes |= set(re.findall(r'#\[error\("([0-9]+)', path.read_text("utf-8")))
+        self.assertLessEqual(set(map(int, attributes)), set(self.page.causes))
+
+    def test_numbers_ascend(self):
+        text = faults.PAGE.read_text("utf-8")
+        numbers = [int(number) for number in re.findall(r"^\| ([0-9]+) \|", text, re.MULTILINE)]
+        self.assertEqual(numbers, sorted(numbers))
+        self.assertEqual((numbers[0], numbers[-1]), (1, 185))
+
+    def test_causes_are_the_docstrings(self):
+        docstrings = {}
+        for one in self.printed:
+            number, sentence = NUMBERED.fullmatch(one.sentence).groups()
+            self.assertEqual(number, one.forms[0].split(" ")[0], one)
+            docstrings[int(number), self.name_of(one)] = sentence
+        self.assertEqual({(number, cause.name): cause.sentence for number, cause in self.rows()}, docstrings)
+
+    def test_arguments_are_as_many_as_are_printed(self):
+        printed = {self.name_of(one): {form.count("{") for form in one.forms} for one in self.printed}
+        for _, cause in self.rows():
+            most = len(cause.arguments)
+            self.assertEqual(printed[cause.name], {most, most - cause.arguments.count("[WORD]")}, cause.name)
+
+    def test_arguments_of_one_number_are_the_same(self):
+        known = faults.NUMBERS | faults.NAMES | {"FAULT", "WORD", "NAME", "ID", "[WORD]"}
+        for number, causes in self.page.causes.items():
+            self.assertEqual(len({cause.arguments for cause in causes}), 1, number)
+            self.assertLessEqual(set(causes[0].arguments), known)
+
+    def test_each_row_has_a_status_and_an_advice(self):
+        for number, cause in self.rows():
+            self.assertIn(cause.status, {"-", "0", "1", "2", "3"}, number)
+            self.assertTrue(cause.advice.endswith("."), number)
+
+    def test_names_are_those_of_the_code(self):
+        loader = "llb_loader"
+        for number, crate, owner in [(88, loader, "Feature"), (89, loader, "Rule"), (161, "llb_asm", "Rule")]:
+            declared = [one for one in self.said if (one.crate, one.owner) == (crate, owner)]
+            wanted = [(one.name.split("::")[1], one.sentence) for one in declared]
+            self.assertEqual([(name, row.sentence) for name, row in self.page.names[number].items()], wanted)
+
+    def test_failures_are_those_of_the_code(self):
+        forms = {one.name: one.forms[0] for one in self.said if one.owner == "VertexFault"}
+        self.assertEqual([row.name for row in self.page.failures], list(forms))
+        for row in self.page.failures:
+            words = "failed {v} " + forms[row.name]
+            self.assertEqual(re.sub(r"\{\w+\}", "", words), re.sub(r"\b[A-Z]\b", "", row.line))
+
+
+@unittest.skipUnless(shutil.which("git"), "there is no git")
+class Lines(Folder):
+    """The lines that are too long, in a repository of the test's own."""
+
+    def setUp(self):
+        super().setUp()
+        self.at = pathlib.Path(os.fsdecode(self.folder))
+        self.git("init")
+
+    def git(self, *words):
+        """A command of git in the repository."""
+        subprocess.run(["git", "-C", self.at, *words], check=True, capture_output=True)
+
+    def add(self, name, content):
+        """A file of the repository."""
+        (self.at / name).parent.mkdir(parents=True, exist_ok=True)
+        (self.at / name).write_bytes(content)
+        self.git("add", name)
+
+    def look(self):
+        """The run over the repository."""
+        return run("lines", "--repository", self.at)
+
+    def test_lines_that_are_too_long_are_named(self):
+        wide = "\N{GREEK SMALL LETTER ALPHA}".encode()
+        self.add("a/b", b"a" * 160 + b"\n" + wide * 160)
+        self.passes(self.look())
+        self.add("a/b", b"a" * 161 + b"\n\n" + wide * 200 + b"\n")
+        self.add("z", b"a" * 162)
+        (self.at / "untracked").write_bytes(b"a" * 161)
+        self.answers(self.look(), 1, b"a/b:1: 161 columns\na/b:3: 200 columns\nz:1: 162 columns\n")
+
+    def test_what_is_passed_over(self):
+        for name in ["crates.txt", "examples/a/printed", "examples/a/words", "crates/llbm/src/tests/definitions.rt"]:
+            self.add(name, b"a" * 161)
+        self.add("binary", b"\xff" * 161)
+        self.add("gone", b"a" * 161)
+        (self.at / "gone").unlink()
+        self.passes(self.look())
+        for name in ["a/crates.txt", "examples/a/run", "examples/printed", "crates/llbm/src/definitions.rt"]:
+            self.add(name, b"a" * 161)
+        self.assertEqual(self.look().stdout.count(b": 161 columns\n"), 4)
+
+    def test_no_repository(self):
+        done = run("lines", "--repository", self.at / "none")
+        self.assertEqual((done.returncode, done.stdout), (2, b""))
+
+
+class Widths(unittest.TestCase):
+    """The lines of this repository."""
+
+    @unittest.skipUnless((ROOT / ".git").exists() and shutil.which("git"), "there is no repository, or no git")
+    def test_no_line_of_this_repository_is_too_long(self):
+        done = run("lines")
+        self.assertEqual((done.returncode, done.stdout, done.stderr), (0, b"", b""))
+
+    def test_no_line_of_a_tool_is_too_long(self):
+        for path in [path for path in TOOLS.glob("**/*") if path.is_file()]:
+            longest = max(map(len, path.read_text("utf-8").split("\n")))
+            self.assertLessEqual(longest, MOST_OF_A_TOOL, path)
+
+
+class Proved(unittest.TestCase):
+    """The lists of docs/PROVED.md."""
+
+    def test_lists_are_those_of_the_sources(self):
+        done = run("proved", "--check")
+        self.assertEqual((done.returncode, done.stdout, done.stderr), (0, b"", b""))
