@@ -9,13 +9,13 @@ use thiserror::Error;
 /// Why a script is refused.
 #[derive(Debug, Drop, Error)]
 pub enum ScriptFault {
-    /// 71: a call's first word is no applet's name; that word.
+    /// 71 WORD: the first word of a call, WORD, is no applet's name.
     #[error("71 {0}")]
     NoApplet(Text),
-    /// 72: the words after an applet's name are none of its forms; the number of the call, from 0.
+    /// 72 N: in call N, from 0, the words after an applet's name are none of its forms.
     #[error("72 {0}")]
     Usage(usize),
-    /// 73: the text is no calls of words with `&&` between them; the place of the first bad byte, from 0.
+    /// 73 PLACE: the text is no calls of words with `&&` between them; its first bad byte is at PLACE, from 0.
     #[error("73 {0}")]
     ShellSyntax(usize),
     /// 74: memory was refused.

@@ -1,4 +1,5 @@
-//! Why a call on a board is refused. A fault prints its number. What comes back from a refused call is in its fault.
+//! Why a call on a board is refused. A fault prints its number, and after it the name of a missing
+//! tree or the ID of a held key. What comes back from a refused call is in its fault.
 
 ghost use Rattle.std.specs.Prelude.{Some};
 ghost use Rattle.llb_board.specs.Faults.{claim_text, step_text, settle_text, walk_text};

@@ -10,10 +10,10 @@ use thiserror::Error;
 /// Why an action is refused.
 #[derive(Clone, Copy, Debug, PartialEq, Eq, Error)]
 pub enum ActFault {
-    /// 51: a fault 21 to 26 of a path or a tree.
+    /// 51: a path does not read, or an edit of the tree is refused; its fault, 21 to 26, follows.
     #[error("51 {0}")]
     File(TreeFault),
-    /// 52: a text that is no pattern.
+    /// 52: a text is no pattern.
     #[error("52")]
     BadPattern,
     /// 53: memory was refused.

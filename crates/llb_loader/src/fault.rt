@@ -11,13 +11,13 @@ use thiserror::Error;
 /// Why rows are no graph: the first fault in this order, the least row, then the least input.
 #[derive(Debug, Drop, Error)]
 pub enum LoadFault {
-    /// 81: the definition is not readable.
+    /// 81: the definition is not readable; its fault follows.
     #[error("81 {0}")]
     Definition(OpFault),
-    /// 82: the bytes of row k are no op.
+    /// 82: the bytes of row k are no op; their fault follows.
     #[error("82 {0} {1}")]
     Entry(u32, OpFault),
-    /// 83: fewer than two distinct rows.
+    /// 83: there are fewer than two distinct rows.
     #[error("83")]
     TooFew,
     /// 84: row k has an earlier row's digest and other bytes.
@@ -26,19 +26,19 @@ pub enum LoadFault {
     /// 85: the terminal has no input.
     #[error("85")]
     NoResult,
-    /// 86: that input of row k names no row.
+    /// 86: input i of row k names no row.
     #[error("86 {0} {1}")]
     UnknownDigest(u32, u32),
     /// 87: the reached rows have a cycle.
     #[error("87")]
     Cycle,
-    /// 88: the op of row k has a feature that is not taken.
+    /// 88: the op of row k has a feature that is not taken; its name follows.
     #[error("88 {0} {1:?}")]
     Unsupported(u32, Feature),
-    /// 89: the op of row k breaks a rule.
+    /// 89: the op of row k breaks a rule; its name follows.
     #[error("89 {0} {1}")]
     Invalid(u32, Rule),
-    /// 90: that input of row k has the index of no output.
+    /// 90: input i of row k has the index of no output.
     #[error("90 {0} {1}")]
     BadIndex(u32, u32),
     /// 91: memory was refused.

@@ -10,9 +10,9 @@ use std::fmt;
 /// Why a vertex fails: its first micro-step that could not be done.
 #[derive(Clone, Copy, Debug, PartialEq, Eq)]
 pub enum VertexFault {
-    /// The number of the action, and that of its fault: 21 to 26, or 52 for a text that is no pattern.
+    /// An action was refused: its number, and that of its fault, 21 to 26, or 52 for a text that is no pattern.
     Action(u32, u32),
-    /// The number of the command, and its status.
+    /// A command ended with another status than 0: its number, and that status.
     Exit(u32, u32),
 }
 

@@ -16,7 +16,7 @@ pub enum OpFault {
     /// 12: the bytes of a string are not UTF-8.
     #[error("12")]
     NotUtf8,
-    /// 13: more bytes, entries or records of one field than the limits allow.
+    /// 13: there are more bytes, entries or records of one field than the limits allow.
     #[error("13")]
     OverLimit,
     /// 14: memory was refused.

@@ -14,7 +14,7 @@ pub enum SessionFault {
     /// 184: memory for a line was refused.
     #[error("184")]
     Memory,
-    /// 185: there were more bytes of commands than the limit.
+    /// 185: there were more bytes of commands than the limit that was given (67,108,864 in the program).
     #[error("185")]
     TooLong,
 }

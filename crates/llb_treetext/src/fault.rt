@@ -11,7 +11,7 @@ pub enum TextFault {
     /// 31 N: line N is no line of an entry, or it has no end.
     #[error("31 {0}")]
     BadLine(u64),
-    /// 32 N: the path of line N is not above that of the line before; that of line 1 is not the root.
+    /// 32 N: the path of line N is not above that of the line before, or line 1 is not that of the root.
     #[error("32 {0}")]
     Order(u64),
     /// 33 N: the directory that the path of line N is in does not stand before it.

@@ -20,7 +20,7 @@ pub enum OutputFault {
     /// 182: the writer failed.
     #[error("182")]
     Write,
-    /// 184: memory was refused.
+    /// 184: memory was refused for a line of the text.
     #[error("184")]
     Memory,
 }

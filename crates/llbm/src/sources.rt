@@ -20,19 +20,19 @@ use thiserror::Error;
 /// Why a local source has no tree.
 #[derive(Clone, Copy, Debug, Error)]
 pub enum SourceFault {
-    /// 181: its file was not opened, a read failed, or the bound on reads was met.
+    /// 181: the file of a local source was not opened, a read of it failed, or the bound on reads was met.
     #[error("181")]
     Read,
-    /// 185: its file has more than 67,108,864 bytes.
+    /// 185: the file of a local source has more than 67,108,864 bytes.
     #[error("185")]
     TooLong,
-    /// 31 to 34: its file is read as no tree.
+    /// 31 to 34: the file of a local source is read as no tree.
     #[error("{0}")]
     Text(TextFault),
-    /// 184: memory was refused while its file was read.
+    /// 184: memory was refused while the file of a local source was read.
     #[error("184")]
     Reading,
-    /// 92: memory was refused while its tree was kept.
+    /// 92: memory was refused while the tree of a local source was kept.
     #[error("92")]
     Adding,
 }

@@ -45,9 +45,9 @@ pub struct Line<'a> {
 /// Why words say nothing. A fault prints what stands after the word `fault`.
 #[derive(Clone, Copy, Debug)]
 pub enum WordsFault<'a> {
-    /// 183: that word is refused, since it has no `=`, or none by itself.
+    /// 183: the words are refused; a word that follows was to be a local source and has no `=`.
     Words(Option<&'a str>),
-    /// 184: memory was refused.
+    /// 184: memory was refused while the words were read.
     Memory,
 }
 
