@@ -20,7 +20,7 @@ use thiserror::Error;
 /// Why a local source has no tree.
 #[derive(Clone, Copy, Debug, Error)]
 pub enum SourceFault {
-    /// 181: the file of a local source was not opened, a read of it failed, or the bound on reads was met.
+    /// 181: a file of a local source was not opened, a read of it failed, or its bound on reads was met.
     #[error("181")]
     Read,
     /// 185: the file of a local source has more than 67,108,864 bytes.
