@@ -1,11 +1,18 @@
 //! Many workers, each in a thread of its own, that take their vertices from one queue.
 
-use super::written::{A_AND_B, MAKES_A, MAKES_B, NAMES_D, graph_of};
+use super::cached::{LOCKED_A, LOCKED_B, PRIVATE_A, PRIVATE_B, SHARED_A_B, SHARED_C_D};
+use super::definitions::{MAKES_A, MAKES_B, MERGES_0_1, RESULT_2};
+use super::written::{board_from, board_of};
 use llb_board::{Board, Gate, Stopped};
-use llb_cache::Caches;
-use llb_loader::Locals;
+use llb_stepper::{Break, Stepper, Stop};
+use llb_wire::Same;
 use llb_work::run_workers;
-use std::alloc::Global;
+use std::alloc::{AllocError, Global};
+use std::fmt::Write;
+use std::sync::Wait;
+use std::sync::atomic::{AtomicU64, Ordering};
+use std::thread;
+use std::thread::Threads;
 
 // Lets everybody pass.
 struct Open;
@@ -20,27 +27,115 @@ impl Gate for Open {
     }
 }
 
-fn opened(alloc: Global, workers: u32) -> Option<Board> {
-    let rows = [
-        ("A", MAKES_A),
-        ("B", MAKES_B),
-        ("D", A_AND_B),
-        ("T", NAMES_D),
-    ];
-    let graph = graph_of(alloc, &rows)?;
-    Board::open(
-        alloc,
-        graph,
-        Locals::new(alloc),
-        Caches::new(alloc),
-        workers,
-    )
-    .ok()
+// Holds each of the first vertices until so many have arrived, at most 1,000,000 turns.
+#[derive(Drop)]
+struct Gather {
+    count: u64,
+    arrived: AtomicU64,
+}
+
+impl Gate for Gather {
+    ghost use Rattle.std.specs.Prelude.{true};
+
+    ghost may_stop = { λ _ _. true };
+
+    fn pass(&self, _w: u32, v: u32) -> Result<(), Stopped> {
+        if u64::from(v) >= self.count {
+            return Ok(());
+        }
+        self.arrived.fetch_add(1, Ordering::SeqCst);
+        for _turn in 0..1_000_000u32 {
+            if self.arrived.load(Ordering::SeqCst) >= self.count {
+                return Ok(());
+            }
+            thread::yield_now();
+        }
+        Err(Stopped)
+    }
+}
+
+// Entries that make the files `/00`, `/01` and so on.
+fn push_files(text: &mut String, count: u32) -> Result<(), AllocError> {
+    for i in 0..count {
+        write!(
+            text,
+            "op {{\nfile {{\nactions {{\ninput -1\nmkfile {{\npath \"/{i:02}\"\nmode 420\n}}\n}}\n}}\n}}\n"
+        )?;
+    }
+    Ok(())
+}
+
+fn push_digests(text: &mut String, count: u32) -> Result<(), AllocError> {
+    for i in 0..count {
+        write!(text, "inputs {{\ndigest %{i}\n}}\n")?;
+    }
+    Ok(())
+}
+
+fn push_layers(text: &mut String, count: u32) -> Result<(), AllocError> {
+    text.push_str("merge {\ninputs {\n}\n")?;
+    for i in 1..count {
+        write!(text, "inputs {{\ninput {i}\n}}\n")?;
+    }
+    text.push_str("}\n")
+}
+
+// The merge of so many entries, which is the result.
+fn push_merge(text: &mut String, count: u32) -> Result<(), AllocError> {
+    text.push_str("op {\n")?;
+    push_digests(text, count)?;
+    push_layers(text, count)?;
+    write!(text, "}}\nop {{\ninputs {{\ndigest %{count}\n}}\n}}\n")?;
+    Ok(())
+}
+
+// So many entries that make a file each, and their merge.
+fn files_and_their_merge(alloc: Global, count: u32) -> Result<String, AllocError> {
+    let mut text = String::new(alloc);
+    push_files(&mut text, count)?;
+    push_merge(&mut text, count)?;
+    Ok(text)
+}
+
+fn merged(alloc: Global, count: u32, workers: u32) -> Option<Board> {
+    match files_and_their_merge(alloc, count) {
+        Ok(text) => board_from(alloc, text.as_str(), workers),
+        Err(_) => None,
+    }
+}
+
+// How many events were made in all, and by the worker that made the fewest of the first ones.
+fn counts(made: &[u64; 64], workers: usize) -> (u64, u64) {
+    let all = made.iter().fold(0u64, |sum, some| sum.wrapping_add(*some));
+    let least = made
+        .iter()
+        .take(workers)
+        .fold(u64::MAX, |least, some| least.min(*some));
+    (all, least)
 }
 
 #[test]
+fn sixty_four_workers_are_at_work_together(rt: HostRuntime) {
+    let gate = Gather {
+        count: 64,
+        arrived: AtomicU64::new(0),
+    };
+    match merged(rt.alloc(), 64, 64) {
+        None => panic!(rt; "no board"),
+        Some(board) => {
+            let end = run_workers(&rt, rt.alloc(), board, &gate);
+            let (all, least) = counts(&end.made, 64);
+            assert!(rt; end.fault.is_none() && end.board.is_complete());
+            assert!(rt; all == 258 && least >= 3);
+        }
+    }
+}
+
+const TWO_AND_THEIR_MERGE: [&str; 4] = [MAKES_A, MAKES_B, MERGES_0_1, RESULT_2];
+
+#[test]
 fn users_are_those_that_have_an_edge_to_a_vertex(rt: HostRuntime) {
-    match opened(rt.alloc(), 2) {
+    match board_of(rt.alloc(), &TWO_AND_THEIR_MERGE, &[], 2) {
         None => panic!(rt; "no board"),
         Some(board) => {
             assert!(rt; board.users(0) == [2].as_slice() && board.users(1) == [2].as_slice());
@@ -49,19 +144,106 @@ fn users_are_those_that_have_an_edge_to_a_vertex(rt: HostRuntime) {
     }
 }
 
-// How many events were made in all.
-fn sum_of(made: &[u64; 64]) -> u64 {
-    made.iter().fold(0u64, |sum, some| sum.wrapping_add(*some))
+// How many events a run has with so many workers, where it is complete and its result is that of the board given.
+fn made_by<R: Threads + Wait + Sync>(
+    rt: &R,
+    alloc: Global,
+    wanted: &Board,
+    workers: u32,
+) -> Option<u64> {
+    let board = board_of(alloc, &TWO_AND_THEIR_MERGE, &[], workers)?;
+    let end = run_workers(rt, alloc, board, &Open);
+    let tree = end.board.output(2, 0)?;
+    if end.fault.is_some() || !tree.same(wanted.output(2, 0)?) {
+        return None;
+    }
+    Some(counts(&end.made, 64).0)
 }
 
 #[test]
-fn sixty_four_workers_make_what_one_would(rt: HostRuntime) {
-    match opened(rt.alloc(), 64) {
+fn any_number_of_workers_leaves_one_tree(rt: HostRuntime) {
+    match board_of(rt.alloc(), &TWO_AND_THEIR_MERGE, &[], 1) {
         None => panic!(rt; "no board"),
         Some(board) => {
             let end = run_workers(&rt, rt.alloc(), board, &Open);
-            assert!(rt; end.fault.is_none() && end.board.is_complete());
-            assert!(rt; sum_of(&end.made) == 10);
+            for workers in [1, 2, 3, 64] {
+                assert!(rt;
+                    made_by(&rt, rt.alloc(), &end.board, workers) == Some(10),
+                    "{workers}"
+                );
+            }
+        }
+    }
+}
+
+// A record that threads have made: whether it is replayed on a new board to what they left.
+fn is_replayed(alloc: Global, left: &Board, opened: Board) -> bool {
+    let mut stepper = Stepper::new(alloc, opened);
+    stepper.replay(left.events().as_slice()).is_ok() && stepper.board().same(left)
+}
+
+// How many events are done where the record stops at the claim of the merge, and after two steps back; and that one of the files is made
+// then, and the other's worker has not settled.
+fn walked(alloc: Global, left: &Board, opened: Board) -> Option<(Stop, usize)> {
+    let mut stepper = Stepper::new(alloc, opened);
+    stepper.break_at(Break::Claims(2)).ok()?;
+    let stop = stepper.replay(left.events().as_slice()).ok()?;
+    stepper.back().ok()?;
+    stepper.back().ok()?;
+    Some((stop, stepper.board().events().len()))
+}
+
+#[test]
+fn a_record_of_threads_is_walked(rt: HostRuntime) {
+    let alloc = rt.alloc();
+    match board_of(alloc, &TWO_AND_THEIR_MERGE, &[], 2) {
+        None => panic!(rt; "no board"),
+        Some(board) => {
+            let end = run_workers(&rt, alloc, board, &Open);
+            let stop = Stop {
+                events: 7,
+                at_break: true,
+            };
+            let opened = board_of(alloc, &TWO_AND_THEIR_MERGE, &[], 2);
+            assert!(rt;
+                opened.and_then(|opened| walked(alloc, &end.board, opened)) == Some((stop, 5))
+            );
+        }
+    }
+}
+
+const ON_CACHES: [&str; 6] = [
+    LOCKED_A, LOCKED_B, PRIVATE_A, PRIVATE_B, SHARED_A_B, SHARED_C_D,
+];
+
+// Executions on a cache that is shared in each of the three ways, two of each, and the merge of what they give.
+fn on_caches(alloc: Global) -> Result<String, AllocError> {
+    let mut text = String::new(alloc);
+    for entry in ON_CACHES {
+        text.push_str(entry)?;
+        text.push_str("\n")?;
+    }
+    push_merge(&mut text, 6)?;
+    Ok(text)
+}
+
+fn on_caches_by(alloc: Global, workers: u32) -> Option<Board> {
+    match on_caches(alloc) {
+        Ok(text) => board_from(alloc, text.as_str(), workers),
+        Err(_) => None,
+    }
+}
+
+#[test]
+fn a_record_of_threads_on_caches_is_replayed(rt: HostRuntime) {
+    let alloc = rt.alloc();
+    match on_caches_by(alloc, 64) {
+        None => panic!(rt; "no board"),
+        Some(board) => {
+            let end = run_workers(&rt, alloc, board, &Open);
+            let opened = on_caches_by(alloc, 64);
+            assert!(rt; end.fault.is_none());
+            assert!(rt; opened.is_some_and(|opened| is_replayed(alloc, &end.board, opened)));
         }
     }
 }
