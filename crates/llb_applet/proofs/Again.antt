@@ -1,5 +1,6 @@
 -- A text with no bad place, and the text that its calls make.
-use Rattle.std.proofs.Common.{◌≡◌, ℕ, suc, ◌+◌, ◌==◌, nat_lt, Bool, true, false, not, cond, ◌&&◌, ◌||◌, List, [], ◌∷◌, ◌++◌, length, map, filter, Option, Some, None, option_map, refl, sym, ap, subst, ◌∙◌, true≢false, ne_eqb, arith}
+use Rattle.std.proofs.Common.{◌≡◌, ℕ, suc, ◌+◌, ◌==◌, nat_lt, Bool, true, false, not, cond, ◌&&◌, ◌||◌, List, [], ◌∷◌, ◌++◌, length, map}
+use Rattle.std.proofs.Common.{filter, Option, Some, None, option_map, refl, sym, ap, subst, ◌∙◌, true≢false, ne_eqb, arith}
 use Rattle.std.specs.List.{slice_split, onto_first, flat_map, list_all, join_with_byte, position, position_or_len, All}
 use Rattle.std.specs.Option.{option_or}
 use Rattle.std.specs.Cmp.Lexicographic.{bytes_decides}
@@ -53,13 +54,15 @@ all_calls : (calls : List (List (List ℕ))) → Front false calls → list_all 
 all_calls [] f = absurd f
 all_calls (c ∷ cs) f = (λ i. (f.1 i && f.0 i) && f.2 i)
 
-fronts : (end : ℕ) (called : Bool) (ws : List Word) → list_all is_word ws ≡ true → bad_place end called ws ≡ None → Front called (slice_split is_and (map (λ w. w.bytes) ws))
+fronts : (end : ℕ) (called : Bool) (ws : List Word) → list_all is_word ws ≡ true → bad_place end called ws ≡ None
+    → Front called (slice_split is_and (map (λ w. w.bytes) ws))
 fronts end true [] words none = (refl, refl, refl)
 fronts end false [] words none = absurd cc
 fronts end called (w ∷ ws) words none =
     let word = both (is_word w) (list_all is_word ws) words in
     let places = neither (option_map (λ k. w.place + k) (bad_in called w.bytes)) (bad_place end (not (is_and w.bytes)) ws) none in
-    first (is_and w.bytes) refl word.0 (no_place (λ k. w.place + k) (bad_in called w.bytes) places.0) (λ b is. fronts end (not b) ws word.1 (ap (λ a. bad_place end (not a) ws) (sym is) ∙ places.1))
+    first (is_and w.bytes) refl word.0 (no_place (λ k. w.place + k) (bad_in called w.bytes) places.0)
+    (λ b is. fronts end (not b) ws word.1 (ap (λ a. bad_place end (not a) ws) (sym is) ∙ places.1))
   where
     calls : List (List (List ℕ))
     calls = slice_split is_and (map (λ (w : Word). w.bytes) ws)
@@ -76,12 +79,15 @@ fronts end called (w ∷ ws) words none =
     in_call [] plain f = absurd f
     in_call (c ∷ cs) plain f = ((λ i. plain i && f.0 i), ap (λ b. called || not b) (ne_eqb (length (w.bytes ∷ c)) 0 (omega arith)) ∙ or_true called, f.2)
 
-    first : (b : Bool) → is_and w.bytes ≡ b → is_word w ≡ true → bad_in called w.bytes ≡ None → ((b : Bool) → is_and w.bytes ≡ b → Front (not b) calls) → Front called (slice_split is_and (w.bytes ∷ map (λ (w : Word). w.bytes) ws))
+    first : (b : Bool) → is_and w.bytes ≡ b → is_word w ≡ true → bad_in called w.bytes ≡ None
+        → ((b : Bool) → is_and w.bytes ≡ b → Front (not b) calls) → Front called (slice_split is_and (w.bytes ∷ map (λ (w : Word). w.bytes) ws))
     first true is word none rest =
         subst (Front called) (sym (slice_split-cons_yes is_and w.bytes (map (λ (w : Word). w.bytes) ws) is))
-        (after_and called (sym (ap (λ b. cond {A = Option ℕ} b (cond {A = Option ℕ} called None (Some 0)) (position (λ b. not (is_word_byte b)) w.bytes)) is) ∙ none) (rest true is))
+        (after_and called (sym (ap (λ b. cond {A = Option ℕ} b (cond {A = Option ℕ} called None (Some 0))
+        (position (λ b. not (is_word_byte b)) w.bytes)) is) ∙ none) (rest true is))
     first false is word none rest =
-        let bytes = all_bytes w.bytes (sym (ap (λ b. cond {A = Option ℕ} b (cond {A = Option ℕ} called None (Some 0)) (position (λ b. not (is_word_byte b)) w.bytes)) is) ∙ none) in
+        let bytes = all_bytes w.bytes
+        (sym (ap (λ b. cond {A = Option ℕ} b (cond {A = Option ℕ} called None (Some 0)) (position (λ b. not (is_word_byte b)) w.bytes)) is) ∙ none) in
         subst (Front called) (sym (slice_split-cons_no is_and w.bytes (map (λ (w : Word). w.bytes) ws) is))
         (in_call calls (λ i. word i && bytes i) (rest false is))
 
@@ -106,7 +112,8 @@ joined_again : (ws : List (List ℕ)) → with_ands (slice_split is_and ws) ≡ 
 joined_again [] = refl
 joined_again (w ∷ ws) = step (is_and w) refl (slice_split is_and ws) (split_some ws) (joined_again ws)
   where
-    step : (b : Bool) → is_and w ≡ b → (calls : List (List (List ℕ))) → HasFirst calls → with_ands calls ≡ ws → with_ands (cond b ([] ∷ calls) (onto_first w calls)) ≡ w ∷ ws
+    step : (b : Bool) → is_and w ≡ b → (calls : List (List (List ℕ))) → HasFirst calls → with_ands calls ≡ ws
+        → with_ands (cond b ([] ∷ calls) (onto_first w calls)) ≡ w ∷ ws
     step b is [] some e = absurd some
     step true is (c ∷ cs) some e = let same : w ≡ 38 ∷ 38 ∷ [] = (bytes_decides w (38 ∷ 38 ∷ [])).0 is in (λ i. sym same i ∷ e i)
     step false is (c ∷ []) some e = ap (λ r. w ∷ r) e
@@ -122,7 +129,8 @@ parts_lack : (text : List ℕ) → list_all lacks (slice_split (λ b. b == 32) t
 parts_lack [] = refl
 parts_lack (b ∷ bs) = step (b == 32) refl (slice_split (λ b. b == 32) bs) (parts_lack bs)
   where
-    step : (yes : Bool) → (b == 32) ≡ yes → (parts : List (List ℕ)) → list_all lacks parts ≡ true → list_all lacks (cond yes ([] ∷ parts) (onto_first b parts)) ≡ true
+    step : (yes : Bool) → (b == 32) ≡ yes → (parts : List (List ℕ)) → list_all lacks parts ≡ true
+        → list_all lacks (cond yes ([] ∷ parts) (onto_first b parts)) ≡ true
     step true is parts e = e
     step false is [] e = (λ i. (not (is i) && true) && true)
     step false is (p ∷ ps) e = let halves = both (lacks p) (list_all lacks ps) e in (λ i. (not (is i) && halves.0 i) && halves.1 i)
@@ -131,7 +139,8 @@ words_lack : (parts : List (List ℕ)) → list_all lacks parts ≡ true → lis
 words_lack [] e = refl
 words_lack (p ∷ ps) e = let halves = both (lacks p) (list_all lacks ps) e in step (length p == 0) halves.0 (words_lack ps halves.1)
   where
-    step : (none : Bool) → lacks p ≡ true → list_all lacks (flat_map some_word ps) ≡ true → list_all lacks (cond none [] (p ∷ []) ++ flat_map some_word ps) ≡ true
+    step : (none : Bool) → lacks p ≡ true → list_all lacks (flat_map some_word ps) ≡ true
+        → list_all lacks (cond none [] (p ∷ []) ++ flat_map some_word ps) ≡ true
     step true one rest = rest
     step false one rest = (λ i. one i && rest i)
 
@@ -139,7 +148,8 @@ words_have : (parts : List (List ℕ)) → list_all has_byte (flat_map some_word
 words_have [] = refl
 words_have (p ∷ ps) = step (length p == 0) refl (words_have ps)
   where
-    step : (none : Bool) → (length p == 0) ≡ none → list_all has_byte (flat_map some_word ps) ≡ true → list_all has_byte (cond none [] (p ∷ []) ++ flat_map some_word ps) ≡ true
+    step : (none : Bool) → (length p == 0) ≡ none → list_all has_byte (flat_map some_word ps) ≡ true
+        → list_all has_byte (cond none [] (p ∷ []) ++ flat_map some_word ps) ≡ true
     step true is rest = rest
     step false is rest = (λ i. not (is i) && rest i)
 
@@ -180,14 +190,16 @@ none_again end last called (w ∷ ws) (v ∷ vs) same none =
     let rest : map (λ (w : Word). w.bytes) ws ≡ map (λ (w : Word). w.bytes) vs = cc in
     let places = neither (option_map (λ k. w.place + k) (bad_in called w.bytes)) (bad_place end (not (is_and w.bytes)) ws) none in
     let here : bad_in called v.bytes ≡ None = ap (bad_in called) (sym bytes) ∙ no_place (λ k. w.place + k) (bad_in called w.bytes) places.0 in
-    let later : bad_place last (not (is_and v.bytes)) vs ≡ None = none_again end last (not (is_and v.bytes)) ws vs rest (ap (λ b. bad_place end (not (is_and b)) ws) (sym bytes) ∙ places.1) in
+    let later : bad_place last (not (is_and v.bytes)) vs ≡ None = none_again end last (not (is_and v.bytes)) ws vs rest
+    (ap (λ b. bad_place end (not (is_and b)) ws) (sym bytes) ∙ places.1) in
     (λ i. option_or (option_map (λ k. v.place + k) (here i)) (later i))
 
 filtered : (ws : List Word) → list_all is_word (filter is_word ws) ≡ true
 filtered [] = refl
 filtered (w ∷ ws) = step (is_word w) refl (filtered ws)
   where
-    step : (b : Bool) → is_word w ≡ b → list_all is_word (filter is_word ws) ≡ true → list_all is_word (cond b (w ∷ filter is_word ws) (filter is_word ws)) ≡ true
+    step : (b : Bool) → is_word w ≡ b → list_all is_word (filter is_word ws) ≡ true
+        → list_all is_word (cond b (w ∷ filter is_word ws) (filter is_word ws)) ≡ true
     step true is rest = (λ i. is i && rest i)
     step false is rest = rest
 
@@ -202,9 +214,11 @@ reads_again text none =
     let are : map (λ (w : Word). w.bytes) (words_of text) ≡ words = words_in 0 (parts_of text) in
     let some = has_words (length text) (words_of text) words are none in
     let printed = join_with_byte 32 words in
-    let prints : text_of (calls_of text) ≡ printed = ap (λ ws. join_with_byte 32 (with_ands (slice_split is_and ws))) are ∙ ap (join_with_byte 32) (joined_again words) in
+    let prints : text_of (calls_of text) ≡ printed = ap (λ ws. join_with_byte 32 (with_ands (slice_split is_and ws))) are
+    ∙ ap (join_with_byte 32) (joined_again words) in
     let parts : parts_of printed ≡ words = join_parts words some (words_lack (parts_of text) (parts_lack text)) in
-    let same : map (λ (w : Word). w.bytes) (words_of printed) ≡ words = words_in 0 (parts_of printed) ∙ ap (flat_map some_word) parts ∙ words_stay words (words_have (parts_of text)) in
+    let same : map (λ (w : Word). w.bytes) (words_of printed) ≡ words = words_in 0 (parts_of printed) ∙ ap (flat_map some_word) parts
+    ∙ words_stay words (words_have (parts_of text)) in
     let calls : calls_of printed ≡ calls_of text = ap (slice_split is_and) (same ∙ sym are) in
     let fine : bad_place_of printed ≡ None = none_again (length text) (length printed) false (words_of text) (words_of printed) (are ∙ sym same) none in
     record {

@@ -25,10 +25,12 @@ module _ (view : Mounts) (mount : ℕ) where
     back : new ≡ (mount_at view mount).tree → with_tree_of (with_tree_of view mount aside) mount new ≡ view
     back same = exchanged inside aside new ∙ ap (with_tree_of view mount) same ∙ unchanged
 
-    refused : (e : TreeFault) → rule ≡ Err e → new ≡ (mount_at view mount).tree → (with_change view mount rule ≡ None) × (with_tree_of (with_tree_of view mount aside) mount new ≡ view)
+    refused : (e : TreeFault) → rule ≡ Err e → new ≡ (mount_at view mount).tree → (with_change view mount rule ≡ None)
+        × (with_tree_of (with_tree_of view mount aside) mount new ≡ view)
     refused e is same = (ap (with_change view mount) is, back same)
 
-    does : (change : Result (Unit {0}) TreeFault) → Gives (λ _. new) change rule → OnErr change (new ≡ (mount_at view mount).tree) → Does (settled change) (with_change view mount rule) view (with_tree_of (with_tree_of view mount aside) mount new)
+    does : (change : Result (Unit {0}) TreeFault) → Gives (λ _. new) change rule → OnErr change (new ≡ (mount_at view mount).tree)
+        → Does (settled change) (with_change view mount rule) view (with_tree_of (with_tree_of view mount aside) mount new)
     does (Ok _) gives same =
         ap (with_change view mount) gives
         ∙ ap (λ b. cond b None (Some (with_tree_of view mount new))) writable

@@ -1,5 +1,6 @@
 -- Gathering the words of calls from a text, part by part: what a part changes of what becomes of the calls.
-use Rattle.std.proofs.Common.{◌≡◌, ℕ, ◌+◌, ◌==◌, Bool, true, false, cond, ◌||◌, List, [], ◌∷◌, ◌++◌, length, map, filter, not, Result, Ok, Err, is_ok, refl, sym, ap, ◌∙◌, append-nil, append_assoc, ne_eqb, arith}
+use Rattle.std.proofs.Common.{◌≡◌, ℕ, ◌+◌, ◌==◌, Bool, true, false, cond, ◌||◌, List, [], ◌∷◌, ◌++◌, length, map, filter, not, Result, Ok}
+use Rattle.std.proofs.Common.{Err, is_ok, refl, sym, ap, ◌∙◌, append-nil, append_assoc, ne_eqb, arith}
 use Rattle.std.specs.List.{slice_split, onto_first, flat_map}
 use Rattle.std.specs.Result.{OnOk}
 use Rattle.std.proofs.lemmas.List.{length_push}
@@ -25,7 +26,8 @@ words_in at (part ∷ parts) = first (length part == 0) ∙ ap (λ ws. some_word
     rest : List Word
     rest = filter is_word (placed (at + length part + 1) parts)
 
-    first : (none : Bool) → map (λ (w : Word). w.bytes) (cond (not none) (record { place = at; bytes = part } ∷ rest) rest) ≡ cond none [] (part ∷ []) ++ map (λ (w : Word). w.bytes) rest
+    first : (none : Bool) → map (λ (w : Word). w.bytes) (cond (not none) (record { place = at; bytes = part } ∷ rest) rest)
+        ≡ cond none [] (part ∷ []) ++ map (λ (w : Word). w.bytes) rest
     first true = refl
     first false = refl
 
@@ -56,7 +58,8 @@ front_word call w [] = refl
 front_word call w (c ∷ cs) = ap (λ d. d ∷ cs) (sym (append_assoc call (w ∷ []) c))
 
 -- a `&&` ends the call
-pub at_and : (call : List (List ℕ)) (part : List ℕ) (rest : List (List ℕ)) → is_and part ≡ true → front call (slice_split is_and (some_word part ++ rest)) ≡ call ∷ front [] (slice_split is_and rest)
+pub at_and : (call : List (List ℕ)) (part : List ℕ) (rest : List (List ℕ)) → is_and part ≡ true
+    → front call (slice_split is_and (some_word part ++ rest)) ≡ call ∷ front [] (slice_split is_and rest)
 at_and call part rest is =
     ap (λ ws. front call (slice_split is_and (ws ++ rest))) (some_and part is)
     ∙ ap (front call) (slice_split-cons_yes is_and part rest is)
@@ -64,7 +67,8 @@ at_and call part rest is =
     ∙ ap (λ calls. call ∷ calls) (sym (front_none rest))
 
 -- another word is one of it
-pub at_word : (call : List (List ℕ)) (part : List ℕ) (rest : List (List ℕ)) → is_and part ≡ false → (length part == 0) ≡ false → front call (slice_split is_and (some_word part ++ rest)) ≡ front (call ++ part ∷ []) (slice_split is_and rest)
+pub at_word : (call : List (List ℕ)) (part : List ℕ) (rest : List (List ℕ)) → is_and part ≡ false → (length part == 0) ≡ false
+    → front call (slice_split is_and (some_word part ++ rest)) ≡ front (call ++ part ∷ []) (slice_split is_and rest)
 at_word call part rest is some =
     ap (λ ws. front call (slice_split is_and (ws ++ rest))) (some_other part some)
     ∙ ap (front call) (slice_split-cons_no is_and part rest is)
@@ -94,7 +98,8 @@ verdict_more c (Ok cs) = refl
 verdict_more c (Err e) = refl
 
 module _ (number : ℕ) (call : List (List ℕ)) (part : List ℕ) (rest : List (List ℕ)) (is : is_and part ≡ true) where
-  ended : judged number call (some_word part ++ rest) ≡ verdict (command_of number call >>= λ c. commands_of (number + 1) (front [] (slice_split is_and rest)) >>= λ cs. Ok (c ∷ cs))
+  ended : judged number call (some_word part ++ rest) ≡ verdict (command_of number call
+      >>= λ c. commands_of (number + 1) (front [] (slice_split is_and rest)) >>= λ cs. Ok (c ∷ cs))
   ended = ap (λ calls. verdict (commands_of number calls)) (at_and call part rest is)
 
   pub judged_on : verdict (command_of number call) ≡ Ok tt → judged number call (some_word part ++ rest) ≡ judged (number + 1) [] rest
@@ -116,7 +121,8 @@ judged_last number call = ap (λ c. verdict (commands_of number (c ∷ []))) (ap
 
 -- ---- what becomes of them
 
-behind_one : (commands : List Command) (c : Command) (r : Result (List Command) ScriptFault) → behind commands (r >>= λ more. Ok (c ∷ more)) ≡ behind (commands ++ c ∷ []) r
+behind_one : (commands : List Command) (c : Command) (r : Result (List Command) ScriptFault)
+    → behind commands (r >>= λ more. Ok (c ∷ more)) ≡ behind (commands ++ c ∷ []) r
 behind_one commands c (Ok more) = ap Ok (sym (append_assoc commands (c ∷ []) more))
 behind_one commands c (Err e) = refl
 
@@ -125,7 +131,8 @@ behind_none (Ok more) = refl
 behind_none (Err e) = refl
 
 module _ (commands : List Command) (more : ℕ → Result (List Command) ScriptFault) where
-  goes_on : (r : Result Command ScriptFault) (next : List Command) → (r >>= λ c. Ok (commands ++ c ∷ [])) ≡ Ok next → behind commands (r >>= λ c. more (length commands + 1) >>= λ cs. Ok (c ∷ cs)) ≡ behind next (more (length next))
+  goes_on : (r : Result Command ScriptFault) (next : List Command) → (r >>= λ c. Ok (commands ++ c ∷ [])) ≡ Ok next
+      → behind commands (r >>= λ c. more (length commands + 1) >>= λ cs. Ok (c ∷ cs)) ≡ behind next (more (length next))
   goes_on (Ok c) next is =
       let same : commands ++ c ∷ [] ≡ next = cc in
       behind_one commands c (more (length commands + 1))
@@ -133,26 +140,32 @@ module _ (commands : List Command) (more : ℕ → Result (List Command) ScriptF
       ∙ ap (λ cs. behind cs (more (length cs))) same
   goes_on (Err e) next is = absurd cc
 
-  stops_there : (r : Result Command ScriptFault) (e : ScriptFault) → (r >>= λ c. Ok (commands ++ c ∷ [])) ≡ Err e → behind commands (r >>= λ c. more (length commands + 1) >>= λ cs. Ok (c ∷ cs)) ≡ Err e
+  stops_there : (r : Result Command ScriptFault) (e : ScriptFault) → (r >>= λ c. Ok (commands ++ c ∷ [])) ≡ Err e
+      → behind commands (r >>= λ c. more (length commands + 1) >>= λ cs. Ok (c ∷ cs)) ≡ Err e
   stops_there (Ok c) e is = absurd cc
   stops_there (Err d) e is = let same : d ≡ e = cc in ap (λ x. Err x) same
 
 module _ (old new : Reading) (part : List ℕ) (rest : List (List ℕ)) (is : is_and part ≡ true) where
-  ahead_and : ahead old (some_word part ++ rest) ≡ behind old.commands.items (command_of (length old.commands.items) old.words.items >>= λ c. commands_of (length old.commands.items + 1) (front [] (slice_split is_and rest)) >>= λ cs. Ok (c ∷ cs))
+  ahead_and : ahead old (some_word part ++ rest) ≡ behind old.commands.items (command_of (length old.commands.items) old.words.items
+      >>= λ c. commands_of (length old.commands.items + 1) (front [] (slice_split is_and rest)) >>= λ cs. Ok (c ∷ cs))
   ahead_and = ap (λ calls. behind old.commands.items (commands_of (length old.commands.items) calls)) (at_and old.words.items part rest is)
 
   -- a `&&` makes the call at hand into a command
-  pub reads_and : (r : Result (Unit {0}) ScriptFault) → Gives (λ _. new.commands.items) r (with_call old) → OnOk r (new.words.items ≡ []) → Reads r (ahead old (some_word part ++ rest)) (ahead new rest)
+  pub reads_and : (r : Result (Unit {0}) ScriptFault) → Gives (λ _. new.commands.items) r (with_call old) → OnOk r (new.words.items ≡ [])
+      → Reads r (ahead old (some_word part ++ rest)) (ahead new rest)
   reads_and (Ok _) gives none =
       ahead_and
-      ∙ goes_on old.commands.items (λ n. commands_of n (front [] (slice_split is_and rest))) (command_of (length old.commands.items) old.words.items) new.commands.items gives
+      ∙ goes_on old.commands.items (λ n. commands_of n (front [] (slice_split is_and rest)))
+      (command_of (length old.commands.items) old.words.items) new.commands.items gives
       ∙ ap (λ call. behind new.commands.items (commands_of (length new.commands.items) (front call (slice_split is_and rest)))) (sym none)
   reads_and (Err e) gives none =
-      λ known. ahead_and ∙ stops_there old.commands.items (λ n. commands_of n (front [] (slice_split is_and rest))) (command_of (length old.commands.items) old.words.items) e (gives known)
+      λ known. ahead_and ∙ stops_there old.commands.items (λ n. commands_of n (front [] (slice_split is_and rest)))
+      (command_of (length old.commands.items) old.words.items) e (gives known)
 
 -- the last call alone is left
 pub ahead_last : (reading : Reading) → ahead reading [] ≡ with_call reading
-ahead_last reading = ap (λ c. behind reading.commands.items (commands_of (length reading.commands.items) (c ∷ []))) (append-nil reading.words.items) ∙ single (command_of (length reading.commands.items) reading.words.items)
+ahead_last reading = ap (λ c. behind reading.commands.items (commands_of (length reading.commands.items) (c ∷ [])))
+    (append-nil reading.words.items) ∙ single (command_of (length reading.commands.items) reading.words.items)
   where
     single : (r : Result Command ScriptFault) → behind reading.commands.items (r >>= λ c. Ok (c ∷ [])) ≡ (r >>= λ c. Ok (reading.commands.items ++ c ∷ []))
     single (Ok c) = refl
@@ -162,7 +175,7 @@ or_right : (a b : Bool) → b ≡ true → (a || b) ≡ true
 or_right true b is = refl
 or_right false b is = is
 
--- a refusal of what is wrong is one of the text, and its want of memory comes last
+-- a refusal of what is wrong is one of the text, and its *out of memory* comes last
 pub refuses_last : (e : ScriptFault) (rule : Result (Unit {0}) ScriptFault) → Refuses e rule → is_memory e ≡ true → (is_ok rule || names_word rule) ≡ true
 refuses_last e rule refuses m = or_right (is_ok rule) (names_word rule) (refuses.last m)
 

@@ -1,5 +1,6 @@
 -- Looking a text through part by part: what its bytes are counted by, and where its first bad place is.
-use Rattle.std.proofs.Common.{◌≡◌, ℕ, suc, ◌+◌, ◌<◌, ◌==◌, Bool, true, false, not, cond, if◌then◌else◌, List, [], ◌∷◌, length, drop, get_or, filter, Some, None, option_map, refl, sym, ap, ◌∙◌, add-one, drop-cons, ne_eqb, arith}
+use Rattle.std.proofs.Common.{◌≡◌, ℕ, suc, ◌+◌, ◌<◌, ◌==◌, Bool, true, false, not, cond, if◌then◌else◌, List, [], ◌∷◌, length, drop, get_or}
+use Rattle.std.proofs.Common.{filter, Some, None, option_map, refl, sym, ap, ◌∙◌, add-one, drop-cons, ne_eqb, arith}
 use Rattle.std.specs.List.{slice_split, onto_first, position}
 use Rattle.std.specs.Option.{option_or}
 use Rattle.llb_applet.specs.Words.{Word, placed, is_word, is_word_byte, is_and, bad_in, called_after, bad_place}
@@ -8,7 +9,7 @@ use Rattle.llb_applet.specs.Words.{Word, placed, is_word, is_word_byte, is_and, 
 pub at_drop : {A : Type 0} (xs : List A) (i : ℕ) (x : A) → i < length xs → x ≡ get_or xs i x → drop i xs ≡ x ∷ drop (i + 1) xs
 at_drop xs i x inside is = rw add-one (drop-cons xs i x inside ∙ ap (λ y. y ∷ drop (suc i) xs) (sym is))
 
--- how many bytes parts have, with one more behind each
+-- how many bytes parts have, with one more after each
 
 abbrev pub spread : List (List ℕ) → ℕ
 spread [] = 0
@@ -31,7 +32,8 @@ spread-split p (b ∷ text) = first (p b) (slice_split p text) (spread-split p t
 pub at_part :
     (end : ℕ) (called : Bool) (at : ℕ) (part : List ℕ) (parts : List (List ℕ))
     → bad_place end called (filter is_word (placed at (part ∷ parts)))
-    ≡ option_or (option_map (λ k. at + k) (bad_in called part)) (bad_place end (called_after called part) (filter is_word (placed (at + length part + 1) parts)))
+    ≡ option_or (option_map (λ k. at + k) (bad_in called part))
+    (bad_place end (called_after called part) (filter is_word (placed (at + length part + 1) parts)))
 at_part end called at [] parts = refl
 at_part end called at (b ∷ bs) parts =
     let some : (length (b ∷ bs) == 0) ≡ false = ne_eqb _ _ (omega arith) in
@@ -48,11 +50,14 @@ pub bad_here :
     (end : ℕ) (called : Bool) (at : ℕ) (part : List ℕ) (parts : List (List ℕ)) (bad : ℕ)
     → bad_in called part ≡ Some bad
     → bad_place end called (filter is_word (placed at (part ∷ parts))) ≡ Some (at + bad)
-bad_here end called at part parts bad is = at_part end called at part parts ∙ ap (λ b. option_or (option_map (λ k. at + k) b) (bad_place end (called_after called part) (filter is_word (placed (at + length part + 1) parts)))) is
+bad_here end called at part parts bad is = at_part end called at part parts
+    ∙ ap (λ b. option_or (option_map (λ k. at + k) b) (bad_place end (called_after called part) (filter is_word (placed (at + length part + 1) parts)))) is
 
 -- no bad place is at hand
 pub bad_later :
     (end : ℕ) (called : Bool) (at : ℕ) (part : List ℕ) (parts : List (List ℕ))
     → bad_in called part ≡ None
-    → bad_place end called (filter is_word (placed at (part ∷ parts))) ≡ bad_place end (called_after called part) (filter is_word (placed (at + length part + 1) parts))
-bad_later end called at part parts is = at_part end called at part parts ∙ ap (λ b. option_or (option_map (λ k. at + k) b) (bad_place end (called_after called part) (filter is_word (placed (at + length part + 1) parts)))) is
+    → bad_place end called (filter is_word (placed at (part ∷ parts))) ≡ bad_place end (called_after called part)
+    (filter is_word (placed (at + length part + 1) parts))
+bad_later end called at part parts is = at_part end called at part parts
+    ∙ ap (λ b. option_or (option_map (λ k. at + k) b) (bad_place end (called_after called part) (filter is_word (placed (at + length part + 1) parts)))) is

@@ -1,5 +1,6 @@
 -- Which words make which command: an applet's name, and words in one of the applet's forms.
-use Rattle.std.specs.Prelude.{◌≡◌, ℕ, true, false, if◌then◌else◌, List, [], ◌∷◌, length, drop, Option, Some, None, option_map, option_and_then, Result, Err, codes, slice_index_or}
+use Rattle.std.specs.Prelude.{◌≡◌, ℕ, true, false, if◌then◌else◌, List, [], ◌∷◌, length, drop, Option, Some, None, option_map}
+use Rattle.std.specs.Prelude.{option_and_then, Result, Err, codes, slice_index_or}
 use Rattle.std.specs.Option.{ok_or, option_or}
 use Rattle.llb_applet.specs.declared.fault.ScriptFault.{ScriptFault}
 use Rattle.llb_applet.specs.declared.fault.ScriptFault.TheVariants.{NoApplet, Usage}
@@ -51,11 +52,12 @@ concat_of [] = None
 concat_of (out ∷ []) = None
 concat_of (out ∷ a ∷ ws) = Some (command.Concat out (a ∷ ws))
 
--- the command of an applet and the words behind its name, where they are one of its forms
+-- the command of an applet and the words after its name, where they are one of its forms
 abbrev pub form : Applet → List Word → Option Command
 form True ws = no_words ws command.True
 form False ws = no_words ws command.False
-form Mkdir ws = option_or (one_word ws (λ path. command.Mkdir false path)) (two_words ws (λ option path. if spells (codes "-p") option then Some (command.Mkdir true path) else None))
+form Mkdir ws = option_or (one_word ws (λ path. command.Mkdir false path))
+    (two_words ws (λ option path. if spells (codes "-p") option then Some (command.Mkdir true path) else None))
 form Rm ws = one_word ws (λ path. command.Rm path)
 form Write ws = two_words ws (λ path word. Some (command.Write path word))
 form Append ws = two_words ws (λ path word. Some (command.Append path word))
@@ -67,7 +69,7 @@ form Listing ws = two_words ws (λ path out. Some (command.Listing path out))
 form Envfile ws = one_word ws (λ out. command.Envfile out)
 form Sha256 ws = two_words ws (λ path out. Some (command.Sha256 path out))
 
--- a list has so many words, and this one first, where it has any
+-- a list has that many words, and this one first, where it has any
 pub record IsFront (words : List Word) (count : ℕ) (word : Word) : Type 0 where
   pub counted : count ≡ length words
   pub first : word ≡ slice_index_or words 0 []

@@ -1,6 +1,7 @@
 -- What a command leaves of a view, by cases on the applet: the view after it, with status 0, or nothing, and then the status is 1 and the
 -- view stays as it was.
-use Rattle.std.specs.Prelude.{ℕ, Bool, true, false, if◌then◌else◌, List, [], ◌∷◌, ◌++◌, length, ◌-◌, slice_get, Option, Some, None, is_some, option_map, option_and_then, unwrap_or, codes}
+use Rattle.std.specs.Prelude.{ℕ, Bool, true, false, if◌then◌else◌, List, [], ◌∷◌, ◌++◌, length, ◌-◌, slice_get, Option, Some, None, is_some}
+use Rattle.std.specs.Prelude.{option_map, option_and_then, unwrap_or, codes}
 use Rattle.std.specs.List.{flat_map}
 use Rattle.std.specs.Result.{result_ok}
 use Rattle.std.specs.FinMap as finite
@@ -76,7 +77,7 @@ copied setting view from to =
     target_of view source path >>= λ target.
     with_file view target file.0 file.1
 
--- the contents of files, one behind the other
+-- the contents of files, one after the other
 abbrev pub joined : Setting → Mounts → List (List ℕ) → Option (List ℕ)
 joined setting view [] = Some []
 joined setting view (word ∷ words) = file_by setting view word >>= λ file. joined setting view words >>= λ more. Some (file.1 ++ more)
@@ -93,7 +94,7 @@ is_kind Something e = is_some e
 is_kind File e = is_some (file_in e)
 is_kind Dir e = is_dir e
 
--- a name in a directory, with `/` behind where it is a directory's, and a line end
+-- a name in a directory, with `/` after where it is a directory's, and a line end
 abbrev pub line_of : TreeMap → List (List ℕ) → List ℕ → List ℕ
 line_of t p name = name ++ (if is_dir (finite.get t (p ++ name ∷ [])) then codes "/" else []) ++ 10 ∷ []
 

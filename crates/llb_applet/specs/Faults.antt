@@ -1,11 +1,11 @@
--- How the calls of this crate answer: what their rule gives, or the want of memory. A rule is a function into values
--- or faults that never gives the want of memory.
+-- How the calls of this crate answer: what their rule gives, or out of memory. A rule is a function into values
+-- or faults that never gives out of memory.
 use Rattle.std.specs.Prelude.{◌≡◌, Bool, true, false, ◌||◌, Result, Ok, Err, is_ok}
 use Rattle.llb_wire.specs.Answer as answer
 use Rattle.llb_applet.specs.declared.fault.ScriptFault.{ScriptFault}
 use Rattle.llb_applet.specs.declared.fault.ScriptFault.TheVariants.{NoApplet, Usage, ShellSyntax, Memory}
 
--- want of memory, which no rule gives
+-- out of memory, which no rule gives
 abbrev pub is_memory : ScriptFault → Bool
 is_memory Memory = true
 is_memory (NoApplet word) = false
@@ -24,7 +24,7 @@ names_word (Err (Usage number)) = false
 names_word (Err (ShellSyntax place)) = false
 names_word (Err Memory) = false
 
--- want of memory comes last: it is answered only where the rule has no refusal, or one that holds a text
+-- out of memory comes last: it is answered only where the rule has no refusal, or one that holds a text
 abbrev pub MemoryLast : {X Y : Type 0} → Result X ScriptFault → Result Y ScriptFault → Type 0
 MemoryLast (Ok x) rule = Unit {0}
 MemoryLast (Err e) rule = is_memory e ≡ true → (is_ok rule || names_word rule) ≡ true

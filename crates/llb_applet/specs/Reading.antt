@@ -15,12 +15,12 @@ use Rattle.llb_applet.specs.Scripts.{commands_of}
 abbrev pub some_word : List ℕ → List (List ℕ)
 some_word part = if length part == 0 then [] else part ∷ []
 
--- calls, where the first has these words in front
+-- calls, where the first has these words first
 abbrev pub front : List (List ℕ) → List (List (List ℕ)) → List (List (List ℕ))
 front call [] = call ∷ []
 front call (first ∷ calls) = (call ++ first) ∷ calls
 
--- commands, with these in front
+-- commands, with these first
 abbrev pub behind : List Command → Result (List Command) ScriptFault → Result (List Command) ScriptFault
 behind commands rest = rest >>= λ more. Ok (commands ++ more)
 
@@ -28,7 +28,7 @@ behind commands rest = rest >>= λ more. Ok (commands ++ more)
 abbrev pub ahead : Reading → List (List ℕ) → Result (List Command) ScriptFault
 ahead reading words = behind reading.commands.items (commands_of (length reading.commands.items) (front reading.words.items (slice_split is_and words)))
 
--- the commands with that of the call at hand behind them
+-- the commands with that of the call at hand after them
 abbrev pub with_call : Reading → Result (List Command) ScriptFault
 with_call reading = command_of (length reading.commands.items) reading.words.items >>= λ c. Ok (reading.commands.items ++ c ∷ [])
 
@@ -48,7 +48,7 @@ pub record IsBegun (call : List (List ℕ)) (begun : Begun) : Type 0 where
   pub named : begun.name.now ≡ slice_index_or call 0 []
   pub option : begun.first.now ≡ slice_index_or call 1 []
 
--- what is wrong with a call of this number that begins so, and with those behind it
+-- what is wrong with a call of this number that begins so, and with those after it
 abbrev pub judged : ℕ → List (List ℕ) → List (List ℕ) → Result (Unit {0}) ScriptFault
 judged number call words = verdict (commands_of number (front call (slice_split is_and words)))
 
@@ -59,7 +59,8 @@ pub record Refuses (e : ScriptFault) (rule : Result (Unit {0}) ScriptFault) : Ty
 
 -- a step changes nothing of what is wrong, or its refusal is that
 abbrev pub Judges : Result (Unit {0}) ScriptFault → List ℕ → List (List ℕ) → Begun → Begun → Type 0
-Judges (Ok _) part call old new = (next : List (List ℕ)) × IsBegun next new × ((rest : List (List ℕ)) → judged old.number call (some_word part ++ rest) ≡ judged new.number next rest)
+Judges (Ok _) part call old new = (next : List (List ℕ)) × IsBegun next new
+    × ((rest : List (List ℕ)) → judged old.number call (some_word part ++ rest) ≡ judged new.number next rest)
 Judges (Err e) part call old new = (rest : List (List ℕ)) → Refuses e (judged old.number call (some_word part ++ rest))
 
 -- the call at hand is judged

@@ -1,5 +1,6 @@
 -- What a path means on a view, and the changes of a view there. A view is the list of its mounts; a change that is refused gives nothing.
-use Rattle.std.specs.Prelude.{◌≡◌, ℕ, ◌<◌, ◌≤◌, ◌==◌, nat_lt, Bool, true, false, ◌||◌, ◌&&◌, not, if◌then◌else◌, List, [], ◌∷◌, ◌++◌, length, drop, Option, Some, None, is_some, Result, Ok, Err}
+use Rattle.std.specs.Prelude.{◌≡◌, ℕ, ◌<◌, ◌≤◌, ◌==◌, nat_lt, Bool, true, false, ◌||◌, ◌&&◌, not, if◌then◌else◌, List, [], ◌∷◌, ◌++◌}
+use Rattle.std.specs.Prelude.{length, drop, Option, Some, None, is_some, Result, Ok, Err}
 use Rattle.std.specs.FinMap as finite
 use Rattle.llb_wire.specs.Answer as answer
 use Rattle.llb_tree.specs.declared.fault.TreeFault.{TreeFault}
@@ -68,7 +69,8 @@ without_spot view spot = if is_dest spot then None else with_change view spot.mo
 
 -- a directory is made where nothing stands, below the dest
 abbrev pub with_new_dir : Mounts → Spot → Option Mounts
-with_new_dir view spot = if is_dest spot || is_some (entry_at view spot) then None else with_change view spot.mount (put_dir (tree_at view spot) spot.place new_dir_meta)
+with_new_dir view spot = if is_dest spot || is_some (entry_at view spot) then
+    None else with_change view spot.mount (put_dir (tree_at view spot) spot.place new_dir_meta)
 
 -- the tree with a directory at a path, made where none is there
 abbrev pub dir_at : TreeMap → List (List ℕ) → Result TreeMap TreeFault

@@ -204,7 +204,7 @@ fn pair(words: Vec<Text>) -> Option<(Text, Text)>
     Some((first, words.remove(0)))
 }
 
-// `mkdir` with these words behind it.
+// `mkdir` with these words after it.
 fn mkdir_of(words: Vec<Text>) -> Option<Command>
     ensures { result ≡ form Mkdir words.items }
 {
@@ -225,7 +225,7 @@ fn mkdir_of(words: Vec<Text>) -> Option<Command>
     })
 }
 
-// `concat` with these words behind it.
+// `concat` with these words after it.
 fn concat_of(words: Vec<Text>) -> Option<Command>
     ensures { result ≡ form Concat words.items }
 {
@@ -240,7 +240,7 @@ fn concat_of(words: Vec<Text>) -> Option<Command>
     })
 }
 
-// `chmod` with these words behind it.
+// `chmod` with these words after it.
 fn chmod_of(words: Vec<Text>) -> Option<Command>
     ensures { result ≡ form Chmod words.items }
 {
@@ -249,7 +249,7 @@ fn chmod_of(words: Vec<Text>) -> Option<Command>
     Some(Command::Chmod { mode, path })
 }
 
-// `test` with these words behind it.
+// `test` with these words after it.
 fn test_of(words: Vec<Text>) -> Option<Command>
     ensures { result ≡ form Test words.items }
 {
@@ -258,7 +258,7 @@ fn test_of(words: Vec<Text>) -> Option<Command>
     Some(Command::Test { kind, path })
 }
 
-// The command of an applet and the words behind its name.
+// The command of an applet and the words after its name.
 fn form(applet: Applet, words: Vec<Text>) -> Option<Command>
     ensures { result ≡ form applet words.items }
 {
@@ -319,7 +319,7 @@ pub fn command_of(alloc: Global, number: usize, words: Vec<Text>) -> Result<Comm
     }
 }
 
-/// Whether so many words behind an applet's name, with this one first, are one of the applet's forms.
+/// Whether that many words after an applet's name, with this one first, are one of the applet's forms.
 pub fn is_form(applet: Applet, count: usize, first: &str) -> bool
     ensures { (words : List (List ℕ)) → IsFront words count first.now → result ≡ is_some (form applet words) }
 {

@@ -17,7 +17,7 @@ use llb_wire::Text;
 use sha2::{Digest, Sha256};
 use std::alloc::Global;
 
-// Puts a word and a line end behind a content.
+// Puts a word and a line end after a content.
 fn push_line(content: &mut Vec<u8>, word: &str) -> Result<(), Memory>
     ensures { OnOk result (content.new.items ≡ content.old.items ++ line word.now) }
 {
@@ -63,7 +63,7 @@ fn content_by<'v>(
     }
 }
 
-/// The contents of the files that words mean, one behind the other; nothing where one is no file.
+/// The contents of the files that words mean, one after the other; nothing where one is no file.
 pub fn joined(
     alloc: Global,
     words: &[Text],

@@ -1,4 +1,4 @@
-//! Why a script is refused, and the want of memory of a command. A fault prints what stands behind the word `fault` in a
+//! Why a script is refused, and a command that is out of memory. A fault prints what stands after the word `fault` in a
 //! refusal: its number, and its argument. Refusals of memory of any kind become `Memory` by `?`.
 
 use llb_tree::TreeFault;
@@ -12,7 +12,7 @@ pub enum ScriptFault {
     /// 71: a call's first word is no applet's name; that word.
     #[error("71 {0}")]
     NoApplet(Text),
-    /// 72: the words behind an applet's name are none of its forms; the number of the call, from 0.
+    /// 72: the words after an applet's name are none of its forms; the number of the call, from 0.
     #[error("72 {0}")]
     Usage(usize),
     /// 73: the text is no calls of words with `&&` between them; the place of the first bad byte, from 0.

@@ -1,4 +1,4 @@
-//! Scripts. A text is looked through without memory first, so that a refusal is told from the want of memory, and then its
+//! Scripts. A text is looked through without memory first, so that a refusal is told apart from out of memory, and then its
 //! calls are made into commands.
 
 ghost use Rattle.std.specs.Prelude.{◌≡◌, ◌+◌, ◌≤◌, ◌<◌, ◌^◌, ◌++◌, ◌∷◌, [], List, ℕ, length, OnOk, IsTrue, slice_index_or, Ok};

@@ -14,7 +14,7 @@ use llb_tree::{Bytes, Entry, Meta, Name, Path, TreeFault};
 use llb_wire::Text;
 use std::alloc::Global;
 
-/// A place in a mount's tree; so many names of it are the mount's selector.
+/// A place in a mount's tree; that many names of it are the mount's selector.
 #[derive(Drop)]
 pub struct Spot {
     pub mount: u32,
@@ -49,7 +49,7 @@ pub fn spot_of(view: &View, path: &Path) -> Result<Option<Spot>, Memory>
     Ok(Some(Spot { mount, base, place }))
 }
 
-// A path with more names behind it.
+// A path with more names after it.
 fn extended(path: &Path, names: &[Name]) -> Result<Path, Memory>
     ensures { IfOk result (λ p. p ≡ path.now ++ names.now) }
 {

@@ -1,4 +1,4 @@
--- The record at the front of a message's canonical bytes: that of a named field, or an extra one.
+-- The record at the start of a message's canonical bytes: that of a named field, or an extra one.
 use Rattle.std.proofs.Common.{◌≡◌, refl, sym, ap, subst, ◌∙◌, ℕ, ◌+◌, ◌-◌, ◌*◌, ◌<◌, ◌≤◌, ◌^◌, Bool, true, false, cond, List, [], ◌∷◌, ◌++◌, length, take, drop}
 use Rattle.std.proofs.Common.{Some, None, Result, Ok, Err, arith, length-append, map}
 use Rattle.std.specs.Prelude.{◌==◌, ◌&&◌, nat_lt, nat_le, is_none, find, option_map}
@@ -25,7 +25,7 @@ use Rattle.llb_ops.specs.Writing.{set_number, set_bytes}
 use Rattle.llb_asm.specs.declared.print.Front.{Front}
 use Rattle.llb_asm.specs.Printing.{Finds, found}
 
--- ---- a record that stands at the front is found there
+-- ---- a record that stands at the start is found there
 
 some_bytes : (bytes : List ℕ) (n : ℕ) → Spells bytes n → 0 < length bytes
 some_bytes [] n h = absurd h
@@ -146,7 +146,7 @@ payload_fits n held rest =
 
 -- ---- the records of fields that the message doesn't name
 
--- the record at the front is of none
+-- the record at the start is of none
 pub record Unnamed (m : MessageName) (bytes : List ℕ) : Type 0 where
   pub field : Field
   pub next : next_field bytes 0 ≡ found field

@@ -1,4 +1,4 @@
--- The lines of a text that are left behind some of them, and what the next one does.
+-- The lines of a text that are left after some of them, and what the next one does.
 use Rattle.std.proofs.Common.{◌≡◌, ℕ, suc, ◌+◌, ◌<◌, true, false, List, [], ◌∷◌, length, drop, get_or, Result, Ok, Err, Option, Some, None, refl, sym}
 use Rattle.std.proofs.Common.{ap, ◌∙◌, arith}
 use Rattle.std.specs.Prelude.{nat_eq, not, filter}
@@ -19,7 +19,7 @@ pieces text = slice_split (λ b. nat_eq b 10) text
 abbrev pub kept_of : List Line → List Line
 kept_of lines = filter (λ l. not (is_dropped l.1)) lines
 
--- those behind the first n
+-- those after the first n
 abbrev pub kept_behind : ℕ → List ℕ → List Line
 kept_behind n text = kept_of (numbered (n + 1) (drop n (pieces text)))
 

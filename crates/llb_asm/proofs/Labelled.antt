@@ -26,7 +26,7 @@ module _ {A : Type 0} (p : A → Bool) where
   pub found_some : (xs : List A) → prefix_len (λ x. not (p x)) xs ≢ length xs → position p xs ≡ Some (prefix_len (λ x. not (p x)) xs)
   found_some xs other = let most = prefix_len-le-length (λ x. not (p x)) xs in found_at xs (prefix_len (λ x. not (p x)) xs) refl (omega arith)
 
-  -- it is found before the item behind, or there, or not at all
+  -- it is found before the item after, or there, or not at all
   pub found_before : (xs : List A) (x : A) → prefix_len (λ x. not (p x)) xs ≢ length xs → position p (xs ++ x ∷ []) ≡ position p xs
   found_before xs x other =
       let n = prefix_len (λ x. not (p x)) xs in
@@ -75,7 +75,7 @@ module _ (texts : List (List ℕ)) (t : List ℕ) where
   stays : (d : List ℕ) (k : ℕ) → label_for texts d ≡ Some k → label_for (texts ++ t ∷ []) d ≡ Some k
   stays d k is = found_before (is_text d) texts t (λ none. let no = nowhere_before (is_text d) texts t none in cc) ∙ is
 
-  -- and another text than the one behind
+  -- and another text than the one after
   apart : (d : List ℕ) → is_text d t ≡ false → label_for (texts ++ t ∷ []) d ≡ label_for texts d
   apart d other = elim (cases_eq (prefix_len (λ x. not (is_text d x)) texts) (length texts)) [
     | inl none ↦ found_nowhere (is_text d) texts t none other ∙ sym (nowhere_before (is_text d) texts t none)

@@ -10,7 +10,7 @@ use Rattle.llb_ops.specs.Writing.{set_number, set_bytes}
 use Rattle.llb_ops.specs.Fields.{Fields, extra, number, bytes, message, bytes_of, may_follow, AreFields, without_empty}
 use Rattle.llb_asm.proofs.Records.{bytes_spelled}
 
--- ---- what may stand behind a later field may stand behind an earlier one
+-- ---- what may stand after a later field may stand after an earlier one
 
 -- a later field is reached
 reached : (last n : ℕ) (repeated : Bool) → (nat_lt last n || (repeated && (last == n))) ≡ true → (last < n) ⊎ ((last ≡ n) × (repeated ≡ true))

@@ -58,7 +58,7 @@ module _ (earlier : List (List ℕ)) where
       let x = goes_from (item_in earlier here line) (λ i. amid earlier (with_item here i)) q (sym (step_other earlier here line apart) ∙ e) in
       first_held h b w line q x.0.next x.0.held x.1 x.2
 
-  -- what a closing line does behind whole items
+  -- what a closing line does after whole items
   pub step_closing : (h : Here) (b : List ℕ) (w : List Frame) (t : Items) (line : List ℕ) (r : Result Progress Refusal)
       → IsWhole t → line ≡ closing → step_in earlier (state_after h b w t) line ≡ r → closed_on earlier (b ++ records_of t) w ≡ r
   step_closing h b w t line r whole same e = sym (rw (same, state_whole h b w t whole) refl) ∙ e

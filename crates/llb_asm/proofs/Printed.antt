@@ -122,7 +122,7 @@ module _ (labels : List (List ℕ)) (depth : ℕ) where
       ap (λ l. line_text (item_line depth row.0 opening) ++ l)
       (flat_map-append line_text (field_lines labels (depth + 1) (without_empty inner)) (closing_line depth ∷ field_lines labels depth (without_empty rest)))
 
-  -- the first field's record, and the fields behind it
+  -- the first field's record, and the fields after it
   pub record Head (m : MessageName) (row : Row) (front : Front) (fs : Fields) : Type 0 where
     pub last : ℕ
     pub set : Bool

@@ -1,4 +1,4 @@
--- Where reading stands behind some items and behind some entries, and what each line does there.
+-- Where reading stands after some items and after some entries, and what each line does there.
 use Rattle.std.specs.Prelude.{position, nat_eq}
 use Rattle.std.specs.Str.{is_utf8}
 use Rattle.std.proofs.Common.{◌≡◌, ◌≢◌, refl, sym, ap, subst, ◌∙◌, ℕ, Bool, true, false, if◌then◌else◌, List, [], ◌∷◌, ◌++◌, append_assoc, append-nil}
@@ -18,7 +18,7 @@ use Rattle.llb_asm.specs.Reading.{Hand, Items, done, single, nested, unclosed, r
 use Rattle.llb_asm.specs.Reading.{Entries, none, raw, op, open_op, entries_of, AreClosed}
 use Rattle.llb_asm.specs.Running.{Seen, Progress, at_front, between, amid, hand_of, with_item, step_in}
 
--- ---- behind some items
+-- ---- after some items
 
 abbrev pub state : Here → List ℕ → List Frame → Seen
 state h b w = record { here = h; bytes = b; below = w }
@@ -32,7 +32,7 @@ state_after h b w (single line next bytes rest) = state_after next (b ++ bytes) 
 state_after h b w (nested line next number sub inner rest) = state_after next (b ++ set_bytes number (records_of inner)) w rest
 state_after h b w (unclosed line next number sub inner) = state_after (inside sub) [] (frame next number b ∷ w) inner
 
--- in an op at its front
+-- in an op at its start
 abbrev pub state_in_op : Items → Seen
 state_in_op t = state_after at_front.here [] [] t
 
@@ -40,14 +40,14 @@ state_in_op t = state_after at_front.here [] [] t
 abbrev pub FitsAt : List (List ℕ) → Seen → Items → Type 0
 FitsAt earlier s t = Fits (labels_of earlier) (hand_of (is_within earlier) s) t
 
--- where the next line stands behind whole items
+-- where the next line stands after whole items
 abbrev pub here_after : Here → Items → Here
 here_after h done = h
 here_after h (single line next bytes rest) = here_after next rest
 here_after h (nested line next number sub inner rest) = here_after next rest
 here_after h (unclosed line next number sub inner) = here_after (inside sub) inner
 
--- behind whole items nothing is open that was not
+-- after whole items nothing is open that was not
 pub state_whole : (h : Here) (b : List ℕ) (w : List Frame) (t : Items) → IsWhole t → state_after h b w t ≡ state (here_after h t) (b ++ records_of t) w
 state_whole h b w done whole = ap (λ x. state h x w) (sym (append-nil b))
 state_whole h b w (single line next bytes rest) whole =
@@ -89,7 +89,7 @@ below_open h b w (single line next bytes rest) not = below_open next (b ++ bytes
 below_open h b w (nested line next number sub inner rest) not = below_open next (b ++ set_bytes number (records_of inner)) w rest not
 below_open h b w (unclosed line next number sub inner) not = below_more (inside sub) [] w (frame next number b) inner
 
--- ---- behind some entries
+-- ---- after some entries
 
 abbrev pub progress_after : List (List ℕ) → Entries → Progress
 progress_after earlier none = between earlier
@@ -97,7 +97,7 @@ progress_after earlier (raw line bytes rest) = progress_after (earlier ++ bytes 
 progress_after earlier (op line items entry rest) = progress_after (earlier ++ entry ∷ []) rest
 progress_after earlier (open_op line items) = amid earlier (state_in_op items)
 
--- behind closed entries no op is open
+-- after closed entries no op is open
 pub progress_closed : (earlier : List (List ℕ)) (t : Entries) → AreClosed t → progress_after earlier t ≡ between (earlier ++ entries_of t)
 progress_closed earlier none closed = ap (λ x. between x) (sym (append-nil earlier))
 progress_closed earlier (raw line bytes rest) closed =

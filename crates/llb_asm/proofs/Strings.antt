@@ -1,4 +1,4 @@
--- How a string goes on behind its first byte, and how it ends.
+-- How a string goes on after its first byte, and how it ends.
 use Rattle.std.proofs.Common.{◌≡◌, ◌≢◌, ℕ, ◌+◌, ◌-◌, ◌<◌, ◌≤◌, ◌&&◌, ◌||◌, ◌==◌, nat_lt, nat_eq, Bool, true, false, cond, ◌⊎◌, inl, inr, List, [], ◌∷◌}
 use Rattle.std.proofs.Common.{◌++◌, length, get_or, take, drop, Option, Some, None, refl, sym, ap, ◌∙◌, arith, append_assoc, Bor}
 use Rattle.std.specs.Option.{option_map}
@@ -11,7 +11,7 @@ use Rattle.llb_wire.specs.Hexadecimal.{is_lower}
 use Rattle.llb_asm.specs.Values.{Escape, closed, backslash, first, digit_of, after_it, where_so, string_from, string_in, string_text, escaped}
 use Rattle.llb_asm.specs.Values.{escape_of, Continues, Leads}
 
--- ---- a text and what stands behind its front
+-- ---- a text and what stands after its prefix
 
 abbrev rest_of : ℕ → List ℕ → List ℕ
 rest_of n text = take (length text - n) (drop n text)
@@ -70,7 +70,7 @@ module _ (text : List ℕ) (long : 2 ≤ length text) where
       go true false s v r is = absurd cc
       go false k s v r is = absurd cc
 
--- ---- behind a backslash
+-- ---- after a backslash
 
 module _ (text : List ℕ) (long : 1 ≤ length text) where
   at_x : get_or text 0 0 ≡ 120 → string_from backslash text ≡ string_from first (rest_of 1 text)

@@ -51,7 +51,7 @@ module _ (earlier : List (List ℕ)) where
   unfolding steps
   steps_entry h b entry rest e = rw e refl
 
-  -- the lines of items lead to the state behind them
+  -- the lines of items lead to the state after them
   steps_items : (h : Here) (b : List ℕ) (w : List Frame) (t : Items) → FitsAt earlier (state h b w) t → (more : List (List ℕ))
       → steps (amid earlier (state h b w)) (lines_of t ++ more) ≡ steps (amid earlier (state_after h b w t)) more
   steps_items h b w done fits more = refl
@@ -70,7 +70,7 @@ module _ (earlier : List (List ℕ)) where
       steps_item (state h b w) line (item next (Opens number sub)) (lines_of inner ++ more) is
       ∙ steps_items (inside sub) [] (frame next number b ∷ w) inner within more
 
--- the lines of entries lead to where reading stands behind them
+-- the lines of entries lead to where reading stands after them
 steps_entries : (earlier : List (List ℕ)) (t : Entries) → AreEntries earlier t → (more : List (List ℕ))
     → steps (between earlier) (text_of t ++ more) ≡ steps (progress_after earlier t) more
 steps_entries earlier none are more = refl

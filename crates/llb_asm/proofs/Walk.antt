@@ -90,7 +90,7 @@ module _ (lines : List Line) where
         | inr x ↦ inr (record { before = x.front; line = x.line; split = x.split; parts = t; are = are; text = text; not_closed = not }, refl)
       ])
 
-  -- behind lines that are entries, the answer to the rest is the reading's
+  -- after lines that are entries, the answer to the rest is the reading's
   abbrev WalksOn : List Line → Type 0
   WalksOn rest =
       (before : List Line) (n : ℕ) (t : Entries) → AreEntries [] t → lines ≡ before ++ rest → map (λ l. l.1) before ≡ text_of t → EndsAt before n

@@ -86,11 +86,11 @@ held_in labels row text = held_by labels row row.1.kind text
 
 -- ---- where a line stands: the message, its last field, whether a member of its oneof is set, and how often the last field stood
 
--- at the front of a message
+-- at the start of a message
 abbrev pub inside : MessageName → Here
 inside m = record { message = m; last = 0; set = false; count = 0; ended = false }
 
--- behind one more field
+-- after one more field
 abbrev pub behind : Here → NamedField → Here
 behind here f = record {
   message = here.message;
@@ -100,7 +100,7 @@ behind here f = record {
   ended = false;
 }
 
--- behind the extra bytes, where nothing more may stand
+-- after the extra bytes, where nothing more may stand
 abbrev pub at_end : Here → Here
 at_end here = record { message = here.message; last = here.last; set = here.set; count = here.count; ended = true }
 

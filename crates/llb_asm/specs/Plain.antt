@@ -98,12 +98,12 @@ pub record AreFormed (entries : List (List ℕ)) (xs : List Formed) : Type 0 whe
   pub same : map (λ x. x.0) xs ≡ entries
   pub forms : HaveForms xs
 
--- each behind the labels of those before it
+-- each after the labels of those before it
 abbrev pub plain_lines : List (List ℕ) → List Formed → List PlainLine
 plain_lines labels [] = []
 plain_lines labels (x ∷ xs) = entry_lines labels x.0 x.1 ++ plain_lines (labels ++ digest_text x.0 ∷ []) xs
 
--- ---- the text: two spaces a level, and an end behind each line
+-- ---- the text: two spaces a level, and an end after each line
 
 abbrev pub line_text : PlainLine → List ℕ
 line_text l = replicate (2 * l.0) 32 ++ (l.1 ++ 10 ∷ [])

@@ -11,7 +11,7 @@ use Rattle.llb_asm.specs.declared.fault.AsmFault.TheVariants as fault
 use Rattle.llb_asm.specs.declared.print.Front.{Front}
 use Rattle.llb_asm.specs.Plain.{PlainLine, item_line, held_text}
 
--- the whole text is out; or a front of it, where memory was refused or the sink has failed
+-- the whole text is out; or a prefix of it, where memory was refused or the sink has failed
 abbrev pub Prints : Option (List ℕ) → Option (List ℕ) → Bool → List ℕ → Result (Unit {0}) AsmFault → Type 0
 Prints taken taken' failed' text (Ok u) = Appends taken taken' text
 Prints taken taken' failed' text (Err fault.Memory) = PartOut taken taken' text
@@ -24,7 +24,7 @@ Prints taken taken' failed' text (Err (fault.UnknownLabel n)) = ⊥
 abbrev pub found : Field → Result (Option Field) WireFault
 found f = Ok (Some f)
 
--- the record at the front of bytes, if there is one: its number, its value, its payload, and the bytes behind it
+-- the record at the start of bytes, if there is one: its number, its value, its payload, and the bytes after it
 abbrev pub Finds : List ℕ → Option Front → Type 0
 Finds bytes None = (f : Field) → next_field bytes 0 ≢ found f
 Finds bytes (Some front) =

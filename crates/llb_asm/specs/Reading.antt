@@ -35,13 +35,13 @@ use Rattle.llb_asm.specs.Line.{or_else, guard, parted, inside, line_in}
 abbrev pub record_length : ℕ → ℕ → ℕ
 record_length number size = length (tag_text number wire.Len) + (length (varint_text size) + size)
 
--- an entry of that length behind these is within the limits of a definition
+-- an entry of that length after these is within the limits of a definition
 abbrev pub is_within : List (List ℕ) → ℕ → Bool
 is_within earlier size = nat_le size entry_limit && nat_le (length (definition_bytes earlier) + record_length 1 size) definition_limit
 
 -- ---- the message at hand
 
--- where the next line stands in it, its bytes so far, and whether the entry is within the limits where it has so many, all messages closed
+-- where the next line stands in it, its bytes so far, and whether the entry is within the limits where it has that many, all messages closed
 pub record Hand : Type 0 where
   pub here : Here
   pub bytes : List ℕ
@@ -59,7 +59,7 @@ item_at labels hand line = do
   _ ← guard (Breaks OverLimit) (hand.room (length hand.bytes + added i.held))
   Ok i
 
--- behind some more bytes, and in a message
+-- after some more bytes, and in a message
 abbrev pub beyond : Hand → Here → List ℕ → Hand
 beyond hand next bytes = record { here = next; bytes = hand.bytes ++ bytes; room = hand.room }
 
@@ -111,7 +111,7 @@ Fits labels hand (nested line next number sub inner rest) =
 Fits labels hand (unclosed line next number sub inner) = (item_at labels hand line ≡ Ok (item next (Opens number sub)))
     × Fits labels (within hand number sub) inner
 
--- the message at hand behind some items
+-- the message at hand after some items
 abbrev pub at_hand : Hand → Items → Hand
 at_hand hand done = hand
 at_hand hand (single line next bytes rest) = at_hand (beyond hand next bytes) rest
@@ -161,7 +161,7 @@ pub record IsKept (entries labels : List (List ℕ)) (size : ℕ) : Type 0 where
   pub bytes : size ≡ length (definition_bytes entries)
   pub small : size ≤ definition_limit
 
--- an op at its front
+-- an op at its start
 abbrev pub outermost : List (List ℕ) → Hand
 outermost earlier = record { here = inside named.Op; bytes = []; room = is_within earlier }
 
@@ -190,7 +190,7 @@ AreClosed (raw line bytes rest) = AreClosed rest
 AreClosed (op line items entry rest) = AreClosed rest
 AreClosed (open_op line items) = ⊥
 
--- each line has its place behind the entries before it
+-- each line has its place after the entries before it
 abbrev pub AreEntries : List (List ℕ) → Entries → Type 0
 AreEntries earlier none = Unit {0}
 AreEntries earlier (raw line bytes rest) = (begun_in earlier line ≡ Ok (Raw bytes)) × AreEntries (earlier ++ bytes ∷ []) rest
@@ -215,7 +215,7 @@ IsRefusedIn earlier items line e =
     ((line ≡ closing) × IsWhole items × (entry_in earlier (records_of items) ≡ Err e))
     ⊎ ((line ≢ closing) × (item_at (labels_of earlier) (at_hand (outermost earlier) items) line ≡ Err e))
 
--- a line behind some entries is refused
+-- a line after some entries is refused
 abbrev pub IsRefused : List (List ℕ) → Entries → List ℕ → Refusal → Type 0
 IsRefused earlier none line e = begun_in earlier line ≡ Err e
 IsRefused earlier (raw l bytes rest) line e = IsRefused (earlier ++ bytes ∷ []) rest line e

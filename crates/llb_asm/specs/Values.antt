@@ -115,12 +115,12 @@ lower_digit b = where_so (is_lower b) (digit_of b)
 abbrev pub escape_of : ℕ → ℕ → Option ℕ
 escape_of a b = where_so (is_lower a && is_lower b && nat_lt (digit_of a) 8) (16 * digit_of a + digit_of b)
 
--- behind what stands before, a text goes on to the byte that is spelled there and the text behind it, or it spells no string
+-- after what stands before, a text goes on to the byte that is spelled there and the text after it, or it spells no string
 abbrev pub Continues : Escape → List ℕ → Option (ℕ × Bor (List ℕ)) → Type 0
 Continues e text None = string_from e text ≡ None
 Continues e text (Some x) = (string_from e text ≡ after_it x.0 (string_from closed x.1.now)) × (length x.1.now < length text)
 
--- a text leads to what its first byte is, as it is spelled, and the text behind it; or it spells no byte there
+-- a text leads to what its first byte is, as it is spelled, and the text after it; or it spells no byte there
 abbrev pub Leads : List ℕ → Option (ℕ × Bor (List ℕ)) → Type 0
 Leads text None = (text ≢ 34 ∷ []) → string_from closed text ≡ None
 Leads text (Some x) = (string_from closed text ≡ after_it x.0 (string_from closed x.1.now)) × (length x.1.now < length text)
@@ -165,7 +165,7 @@ pub record ValuesAreReadBack : Type 0 where
 
 -- ---- what is written stands on one line
 
--- a byte that is no blank stands at the front
+-- a byte that is no blank stands at the start
 pub record BeginsSolid (t : List ℕ) : Type 0 where
   pub byte : ℕ
   pub behind : List ℕ
@@ -179,7 +179,7 @@ pub record EndsSolid (t : List ℕ) : Type 0 where
   pub is : t ≡ before ++ byte ∷ []
   pub above : 33 ≤ byte
 
--- text without control characters, a line end among them, and without a blank at its front or its end
+-- text without control characters, a line end among them, and without a blank at its start or its end
 pub record IsSolid (t : List ℕ) : Type 0 where
   pub begins : BeginsSolid t
   pub ends : EndsSolid t

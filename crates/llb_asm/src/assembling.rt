@@ -67,7 +67,7 @@ fn close(
     }
 }
 
-/// A line in an op: the op that is open behind it, if any.
+/// A line in an op: the op that is open after it, if any.
 fn go_on(
     alloc: Global,
     earlier: &mut Earlier,
@@ -85,7 +85,7 @@ fn go_on(
     }
 }
 
-/// A line: the op that is open behind it, if any.
+/// A line: the op that is open after it, if any.
 fn step(
     alloc: Global,
     earlier: &mut Earlier,
@@ -100,7 +100,7 @@ fn step(
     }
 }
 
-/// The entries that the lines of a text lead to, behind those that are there.
+/// The entries that the lines of a text lead to, after those that are there.
 #[tactic(auto, unfolding(crate::specs::Running::run_from))]
 fn read_lines(alloc: Global, earlier: &mut Earlier, text: &[u8]) -> Result<(), AsmFault>
     ensures { Gives (reached earlier.new result) (run_from 0 (between earlier.old) (kept text.now)) }
@@ -139,7 +139,7 @@ fn run_lines(alloc: Global, text: &[u8]) -> Result<Entries, AsmFault>
 /// One item stands on a line; spaces, tabs and carriage returns at its ends, empty lines and lines that begin with `#` are dropped.
 /// An entry is `raw HEX`, or `op {`, items and `}`; docs/FORMATS.md has the grammar. The entry of an op is its canonical bytes. The
 /// first faulty line is answered, with the first of its faults in this order: `Line` (161) with `Syntax`, `UnknownField`, `Order` or
-/// `BadValue`, `UnknownLabel` (162), `Line` with `OverLimit`; and, behind all of these, `Line` with `Unclosed` and the last line that is
+/// `BadValue`, `UnknownLabel` (162), `Line` with `OverLimit`; and, after all of these, `Line` with `Unclosed` and the last line that is
 /// not dropped. `Memory` (163) where memory is refused.
 pub fn assemble(alloc: Global, text: &[u8]) -> Result<Entries, AsmFault>
     ensures { Assembles text.now result }

@@ -86,7 +86,7 @@ impl Earlier {
         size <= ENTRY_LIMIT && self.size + record_length(1, size) <= DEFINITION_LIMIT
     }
 
-    /// Puts an entry behind them.
+    /// Puts an entry after them.
     pub(crate) fn push(&mut self, alloc: Global, entry: Bytes) -> Result<(), Memory>
         requires { is_within self.old (length entry) ≡ true }
         ensures { OnOk result (self.new ≡ self.old ++ entry ∷ []) }

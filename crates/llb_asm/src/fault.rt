@@ -1,4 +1,4 @@
-//! Why a text is not assembled, or entries are not written. A fault prints what stands behind the word `fault` in a refusal: its
+//! Why a text is not assembled, or entries are not written. A fault prints what stands after the word `fault` in a refusal: its
 //! number, and then its arguments.
 
 use llb_wire::Memory;
@@ -13,7 +13,7 @@ pub enum Rule {
     /// The message at hand has no field of that name.
     #[error("UnknownField")]
     UnknownField,
-    /// The field may not stand behind the one before it.
+    /// The field may not stand after the one before it.
     #[error("Order")]
     Order,
     /// The field has no value that is spelled so.

@@ -18,7 +18,7 @@ pub(crate) fn digest_of(alloc: Global, entry: &[u8]) -> Result<Text, Memory>
     text_of_digest(alloc, &Sha256::digest(entry))
 }
 
-/// Puts a text behind those that an index finds, where it isn't one of them.
+/// Puts a text after those that an index finds, where it isn't one of them.
 fn learn(first: &mut IndexMap<String, u64>, texts: &[Text], text: &Text) -> Result<(), Memory>
     requires { IsIndex texts.now first.old }
     ensures learnt { OnOk result (IsIndex (texts.now ++ text.now ∷ []) first.new) }
@@ -67,7 +67,7 @@ impl Labels {
         self.first.get(digest).copied()
     }
 
-    /// Puts the label of an entry behind them.
+    /// Puts the label of an entry after them.
     pub(crate) fn push(&mut self, alloc: Global, entry: &[u8]) -> Result<(), Memory>
         ensures { OnOk result (self.new ≡ self.old ++ digest_text entry.now ∷ []) }
     {

@@ -46,14 +46,14 @@ pub enum Held {
     Opens(u32, MessageName),
 }
 
-/// What a line adds, and where the line behind it stands in the same message.
+/// What a line adds, and where the line after it stands in the same message.
 #[derive(Drop)]
 pub struct Item {
     pub next: Here,
     pub held: Held,
 }
 
-/// At the front of a message.
+/// At the start of a message.
 pub(crate) fn inside(message: MessageName) -> Here
     ensures { result ≡ inside message }
 {
@@ -67,7 +67,7 @@ pub(crate) fn inside(message: MessageName) -> Here
 }
 
 impl Here {
-    /// Behind one more field, which has room.
+    /// After one more field, which has room.
     fn behind(self, field: NamedField) -> Here
         requires { has_room self field ≡ true }
         ensures { result ≡ behind self field }
@@ -86,7 +86,7 @@ impl Here {
         }
     }
 
-    /// Behind the extra bytes.
+    /// After the extra bytes.
     fn at_end(self) -> Here
         ensures { result ≡ at_end self }
     {
@@ -99,7 +99,7 @@ impl Here {
         }
     }
 
-    /// Numbers ascend, a repeated field may stand again, one member of a oneof stands, and nothing behind the extra bytes.
+    /// Numbers ascend, a repeated field may stand again, one member of a oneof stands, and nothing after the extra bytes.
     fn is_followed_by(self, field: NamedField) -> bool
         ensures { result ≡ follows self field }
     {

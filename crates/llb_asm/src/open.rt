@@ -27,7 +27,7 @@ pub struct Open {
     pub below: Many<Frame>,
 }
 
-/// What is there behind a closing line: the records of a whole op, or a message that is still open.
+/// What is there after a closing line: the records of a whole op, or a message that is still open.
 #[derive(Drop)]
 pub enum Closed {
     Whole(Bytes),
@@ -35,7 +35,7 @@ pub enum Closed {
 }
 
 #[tactic(auto, using(crate::proofs::Lengths::no_room, crate::proofs::Lengths::turned_below))]
-/// Whether the entry is within the limits where the message at hand has so many bytes, all messages closed.
+/// Whether the entry is within the limits where the message at hand has that many bytes, all messages closed.
 fn has_room(earlier: &Earlier, below: &[Frame], size: usize) -> bool
     ensures { result ≡ room_in (is_within earlier.now) (reverse below.now) size }
 {
@@ -63,7 +63,7 @@ fn added(held: &Held) -> usize
 }
 
 impl Open {
-    /// An op at its front.
+    /// An op at its start.
     pub(crate) fn new(alloc: Global) -> Open
         ensures { seen result ≡ at_front }
     {

@@ -22,7 +22,7 @@ use llb_wire::{Bytes, Memory, Sink, next_record, write_all};
 use std::alloc::Global;
 use std::str::from_utf8;
 
-/// The record at the front of some bytes, and the bytes behind it.
+/// The record at the start of some bytes, and the bytes after it.
 #[derive(Clone, Copy)]
 struct Front<'a> {
     number: u32,
@@ -259,7 +259,7 @@ fn entry_text(alloc: Global, labels: &Labels, entry: &[u8]) -> Result<Vec<u8>, M
     Ok(text)
 }
 
-// The text of an entry, whose label is put behind those of the entries before.
+// The text of an entry, whose label is put after those of the entries before.
 fn labelled_text(alloc: Global, labels: &mut Labels, entry: &[u8]) -> Result<Vec<u8>, Memory>
     ensures text { (form : Form) → HasForm entry.now form → IfOk result (λ text. text.items ≡ text_of_lines (entry_lines labels.old entry.now form)) }
     ensures labels { OnOk result (labels.new ≡ labels.old ++ digest_text entry.now ∷ []) }
@@ -319,7 +319,7 @@ fn entries_have_forms(entries: &[Bytes])
 /// Writes the text of entries to a sink, one entry at a time: an entry that is the canonical bytes of an op as that op, field by field, else
 /// `raw` and its bytes.
 ///
-/// 163 where memory is refused, 164 where the sink failed: a front of the text is out then.
+/// 163 where memory is refused, 164 where the sink failed: a prefix of the text is out then.
 pub fn disassemble<W: Sink>(alloc: Global, entries: &Entries, out: &mut W) -> Result<(), AsmFault>
     ensures prints { (xs : List Formed) → AreFormed entries.now xs → Prints (W.taken out.old) (W.taken out.new) (W.failed out.new) (plain_text xs) result }
     ensures some { (xs : List Formed) × AreFormed entries.now xs }

@@ -110,7 +110,7 @@ fn escape_of(high: u8, low: u8) -> Option<u8>
     }
 }
 
-/// The byte, up to 7f, that the two digits are that a text begins with, and the text behind them.
+/// The byte, up to 7f, that the two digits are that a text begins with, and the text after them.
 fn two_digits(text: &[u8]) -> Option<(u8, &[u8])>
     ensures { Continues first text.now result }
 {
@@ -120,7 +120,7 @@ fn two_digits(text: &[u8]) -> Option<(u8, &[u8])>
     }
 }
 
-/// The byte that is spelled by a backslash and what a text begins with, and the text behind that.
+/// The byte that is spelled by a backslash and what a text begins with, and the text after that.
 fn behind_backslash(text: &[u8]) -> Option<(u8, &[u8])>
     ensures { Continues backslash text.now result }
 {
@@ -131,7 +131,7 @@ fn behind_backslash(text: &[u8]) -> Option<(u8, &[u8])>
     }
 }
 
-/// The byte that a text begins with, as it is spelled in a string, and the text behind it. A quote spells no byte.
+/// The byte that a text begins with, as it is spelled in a string, and the text after it. A quote spells no byte.
 fn next_byte(text: &[u8]) -> Option<(u8, &[u8])>
     ensures { Leads text.now result }
 {

@@ -64,7 +64,8 @@ pub record AreParts (b : Build) (c : CachesValue) (x : Vertex) (trees : List Tre
   pub taking : taken_with c trees (needs_of x) ≡ taking_of p
   pub outfit : outfit_of x ≡ p.outfit
 
-pub begun_of : (b : Build) (c : CachesValue) (w v : ℕ) (x : Vertex) (o : Option (List TreeMap)) (trees : List TreeMap) (p : Parts) → or_not_ready o ≡ Ok trees → AreParts b c x trees p
+pub begun_of : (b : Build) (c : CachesValue) (w v : ℕ) (x : Vertex) (o : Option (List TreeMap)) (trees : List TreeMap) (p : Parts)
+    → or_not_ready o ≡ Ok trees → AreParts b c x trees p
     → begun b c w v x o ≡ Ok (put_together w v p)
 begun_of b c w v x o trees p there are =
     ap (begun b c w v x) (are_ready o trees there)
@@ -80,7 +81,13 @@ begun_of b c w v x o trees p there are =
 
 pub supplied : (b : Build) (c : CachesValue) (x : Vertex) (trees : List TreeMap) (p : Parts) → AreParts b c x trees p
     → ◌≡◌ {A = Supplies}
-    (record { outputs = p.outfit.outputs; setting = p.outfit.setting; mounts = mounts_in p.own; shown = shown_in p.own; keys = map (λ (q : Place). q.key) p.places })
+    (record {
+      outputs = p.outfit.outputs;
+      setting = p.outfit.setting;
+      mounts = mounts_in p.own;
+      shown = shown_in p.own;
+      keys = map (λ (q : Place). q.key) p.places;
+    })
     (supplies_for (Some x))
 supplied b c x trees p are = λ i. record {
   outputs = (sym are.outfit i).outputs;

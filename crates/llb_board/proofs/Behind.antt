@@ -1,4 +1,4 @@
--- The lists of a graph over a board's statuses: what stays where no vertex is done anew, which inputs are there, and which vertices are behind one
+-- The lists of a graph over a board's statuses: what stays where no vertex is done anew, which inputs are there, and which vertices are after one
 -- that has failed.
 use Rattle.std.proofs.Common.{◌≡◌, ◌≢◌, ℕ, zero, suc, ◌+◌, ◌^◌, ◌<◌, ◌≤◌, Bool, true, false, ◌||◌, List, [], ◌∷◌, map, length, get_or, refl, sym, ap, subst}
 use Rattle.std.proofs.Common.{◌∙◌, arith, inl, inr}
@@ -238,7 +238,7 @@ linked_resumed b ss v w had was_done l m there low tells_done users raised same 
         subst (IsLinked b.graph.vertices (done_in (map status_of (slice_set ss v (stand.Running w))))) (sym (same is))
         (linked_set b ss v (stand.Running w) (status_of had) l at (sym (sym tells_done ∙ is)) so)
 
--- ---- what is behind a failed vertex
+-- ---- what is after a failed vertex
 
 stop_is : (b : Build) (S : List Status) (k : ℕ) → is_marked (stopped b S) k ≡ is_stopped b S k
 stop_is b S k = sym (unwrap_or-slice_get (stopped b S) k false)

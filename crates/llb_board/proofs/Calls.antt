@@ -6,7 +6,8 @@ use Rattle.std.specs.List.{find}
 use Rattle.llb_cache.specs.declared.key.Key.{Key}
 use Rattle.llb_cache.specs.declared.need.Need as cache_need
 use Rattle.llb_cache.specs.declared.fault.LeaseFault.{LeaseFault}
-use Rattle.llb_cache.specs.Caches.{CachesValue, Row, Leases, Taken, taken, place_for, free_lease, with_lease, made_all, is_shut, lease_by, trees_of, AreApart, AreThere}
+use Rattle.llb_cache.specs.Caches.{CachesValue, Row, Leases, Taken, taken, place_for, free_lease, with_lease, made_all, is_shut, lease_by}
+use Rattle.llb_cache.specs.Caches.{trees_of, AreApart, AreThere}
 use Rattle.llb_loader.specs.declared.graph.Vertex.{Vertex}
 use Rattle.llb_tree.specs.Tree.{TreeMap}
 use Rattle.llb_model.specs.Caches.{Place, Has, Distinct, put_all, trees_at}
@@ -29,7 +30,8 @@ use Rattle.llb_model.proofs.Leases.{refuses_alike, takes_alike, makes_alike, wri
 use Rattle.llb_execution.specs.Parts.{work_with}
 use Rattle.llb_board.specs.Caches.{shut_key, unless_shut, places_taken, some_lease, lease_if, written}
 use Rattle.llb_board.specs.Board.{Seen, recorded}
-use Rattle.llb_board.specs.Rules.{faulted, claim_fault, claim_of, step_fault, claim_may_want, Begun, begun_at, begun, Written, written_by, worked_in, worked_by, left_at}
+use Rattle.llb_board.specs.Rules.{faulted, claim_fault, claim_of, step_fault, claim_may_want, Begun, begun_at, begun, Written, written_by}
+use Rattle.llb_board.specs.Rules.{worked_in, worked_by, left_at}
 use Rattle.llb_board.specs.Views.{at_of, state_of}
 use Rattle.llb_board.specs.declared.stand.Desk.{Desk}
 use Rattle.llb_board.specs.declared.fault.ClaimFault.{ClaimFault}
@@ -110,7 +112,8 @@ can_claim b s w v x ok there =
     by_worker (Some Idle) is ok = by_ready is (start_from s.statuses (slice_get s.statuses v) (Some x)) refl ok
 
 -- what keys leases have shut, and what the running workers have
-pub shut_as_held : (c : CachesValue) (workers : List At) (inputs : List TreeMap) (x : Vertex) → HoldsAs c.out workers → shut_key c.out (needs_of x) ≡ held_key (held workers) (needs_of x)
+pub shut_as_held : (c : CachesValue) (workers : List At) (inputs : List TreeMap) (x : Vertex) → HoldsAs c.out workers
+    → shut_key c.out (needs_of x) ≡ held_key (held workers) (needs_of x)
 shut_as_held c workers inputs x same = sym (shut_first c.out inputs (needs_of x)) ∙ refuses_alike c.out workers inputs (needs_of x) same
 
 -- the first key that is shut is the fault
@@ -131,7 +134,8 @@ pub claim_held : (n : Seen) (w v : ℕ) (x : Vertex) (c : CachesValue) (e : Clai
 claim_held n w v x c e can same is =
     let h = shut_is (needs_of x) (shut_key c.out (needs_of x)) e is in
     ap (recorded n (Claim w v) claim_fault) can.grants
-    ∙ ap (λ o. recorded n (Claim w v) claim_fault (claim_unless n.build n.state w v (start_with x can.trees) o)) (sym (shut_as_held c n.state.workers can.trees x same) ∙ h.1)
+    ∙ ap (λ o. recorded n (Claim w v) claim_fault (claim_unless n.build n.state w v (start_with x can.trees) o))
+    (sym (shut_as_held c n.state.workers can.trees x same) ∙ h.1)
     ∙ ap (λ f. Err f) (sym h.2)
 
 -- memory may be wanted of a claim where it may be of the look at its keys
@@ -141,12 +145,15 @@ claim_wants n w v x c can same =
     ap (λ r. claim_may_want (recorded n (Claim w v) claim_fault r)) can.grants ∙ by_key (held_key (held n.state.workers) (needs_of x))
     ∙ ap (λ o. claim_may_want (unless_shut (needs_of x) o)) (sym (shut_as_held c n.state.workers can.trees x same))
   where
-    by_key : (o : Option Key) → claim_may_want (recorded n (Claim w v) claim_fault (claim_unless n.build n.state w v (start_with x can.trees) o)) ≡ claim_may_want (unless_shut (needs_of x) o)
+    by_key : (o : Option Key)
+        → claim_may_want (recorded n (Claim w v) claim_fault (claim_unless n.build n.state w v (start_with x can.trees) o))
+        ≡ claim_may_want (unless_shut (needs_of x) o)
     by_key None = refl
     by_key (Some k) = refl
 
 -- the instances that a lease gives
-pub taken_places : (out : Leases) (inputs : List TreeMap) (needs : List Need) → map (λ (t : Taken). t.0) (taken out (asked inputs needs)) ≡ places_taken out needs
+pub taken_places : (out : Leases) (inputs : List TreeMap) (needs : List Need)
+    → map (λ (t : Taken). t.0) (taken out (asked inputs needs)) ≡ places_taken out needs
 taken_places out inputs [] = refl
 taken_places out inputs (n ∷ needs) = ap (λ ps. place_for out n.key ∷ ps) (taken_places out inputs needs)
 
@@ -156,14 +163,15 @@ pub record Leased (c : CachesValue) (workers : List At) : Type 0 where
   pub apart : AreApart c.out
   pub there : AreThere c.rows c.out
 
-pub places_alike : (c : CachesValue) (workers : List At) (inputs : List TreeMap) (needs : List Need) → Leased c workers → places_taken c.out needs ≡ places_for (held workers) needs
+pub places_alike : (c : CachesValue) (workers : List At) (inputs : List TreeMap) (needs : List Need) → Leased c workers
+    → places_taken c.out needs ≡ places_for (held workers) needs
 places_alike c workers inputs needs l = sym (taken_places c.out inputs needs) ∙ takes_alike c.out workers inputs needs l.same l.apart
 
 -- what a lease of these instances leaves: it, where there are some
 abbrev pub LeasedNew : Leases → Option ℕ → List Place → Leases → Type 0
 LeasedNew out l ps new = ((l ≡ Some (free_lease out)) × (new ≡ with_lease out (free_lease out) ps)) ⊎ ((l ≡ None) × (ps ≡ []) × (new ≡ out))
 
--- the lease of what a vertex needs, and the caches behind it
+-- the lease of what a vertex needs, and the caches after it
 pub record Granted (c : CachesValue) (x : Vertex) (trees : List TreeMap) (l : Option ℕ) (new : CachesValue) : Type 0 where
   pub rows : new.rows ≡ made_all c.rows (taken c.out (asked trees (needs_of x)))
   pub leased : LeasedNew c.out l (places_taken c.out (needs_of x)) new.out
@@ -171,7 +179,8 @@ pub record Granted (c : CachesValue) (x : Vertex) (trees : List TreeMap) (l : Op
 lease_inside : {a b : Option ℕ × CachesValue} → ◌≡◌ {A = Result (Option ℕ × CachesValue) LeaseFault} (Ok a) (Ok b) → a ≡ b
 lease_inside e = cc
 
-pub granted_of : (c new : CachesValue) (x : Vertex) (trees : List TreeMap) (l : Option ℕ) (ns : List cache_need.Need) → ns ≡ asked trees (needs_of x) → lease_if c ns ≡ Ok (l, new)
+pub granted_of : (c new : CachesValue) (x : Vertex) (trees : List TreeMap) (l : Option ℕ) (ns : List cache_need.Need)
+    → ns ≡ asked trees (needs_of x) → lease_if c ns ≡ Ok (l, new)
     → Granted c x trees l new
 granted_of c new x trees l [] are is =
     let same = lease_inside is in
@@ -201,21 +210,31 @@ granted_of c new x trees l (n ∷ ns) are is = by_key (find (is_shut c.out) (n �
 
 -- what is begun where no key is shut is what the table gives
 pub record Claims (b : Build) (s : State) (w v : ℕ) (x : Vertex) (c new : CachesValue) (z : Execution) (r : Reply) : Type 0 where
-  pub grants : claim_grant b s w v ≡ Ok (record { statuses = slice_set s.statuses v (Running w); workers = slice_set s.workers w (Runs z); store = store_of new.rows }, r)
+  pub grants : claim_grant b s w v ≡ Ok (
+    record {
+      statuses = slice_set s.statuses v (Running w);
+      workers = slice_set s.workers w (Runs z);
+      store = store_of new.rows;
+    },
+    r,
+  )
   pub places : z.places ≡ places_taken c.out (needs_of x)
   pub vertex : z.vertex ≡ v
   pub rows : new.rows ≡ written (store_of new.rows) c.rows z.places
 
-begun_is : (b : Build) (c : CachesValue) (w v : ℕ) (x : Vertex) (trees : List TreeMap) (o : Option (List TreeMap)) (begun_so : Begun) → o ≡ Some trees → begun b c w v x o ≡ Ok begun_so
+begun_is : (b : Build) (c : CachesValue) (w v : ℕ) (x : Vertex) (trees : List TreeMap) (o : Option (List TreeMap)) (begun_so : Begun)
+    → o ≡ Some trees → begun b c w v x o ≡ Ok begun_so
     → begun_at b c w v x trees (places_taken c.out (needs_of x)) ≡ begun_so
 begun_is b c w v x trees o begun_so there is = inside_ok (ap (begun b c w v x) (sym there) ∙ is)
 
 -- what is leased is what the vertex needs
-pub needs_asked : (b : Build) (c : CachesValue) (w v : ℕ) (x : Vertex) (trees : List TreeMap) (o : Option (List TreeMap)) (begun_so : Begun) → o ≡ Some trees → begun b c w v x o ≡ Ok begun_so
+pub needs_asked : (b : Build) (c : CachesValue) (w v : ℕ) (x : Vertex) (trees : List TreeMap) (o : Option (List TreeMap))
+    (begun_so : Begun) → o ≡ Some trees → begun b c w v x o ≡ Ok begun_so
     → begun_so.needs ≡ asked trees (needs_of x)
 needs_asked b c w v x trees o begun_so there is = ap (λ (g : Begun). g.needs) (sym (begun_is b c w v x trees o begun_so there is))
 
-pub claims : (b : Build) (s : State) (w v : ℕ) (x : Vertex) (c new : CachesValue) (l : Option ℕ) (begun_so : Begun) (ns : List Need) (can : CanClaim b s w v x) → s.store ≡ store_of c.rows → Leased c s.workers
+pub claims : (b : Build) (s : State) (w v : ℕ) (x : Vertex) (c new : CachesValue) (l : Option ℕ) (begun_so : Begun) (ns : List Need)
+    (can : CanClaim b s w v x) → s.store ≡ store_of c.rows → Leased c s.workers
     → Distinct (map key_of (needs_of x)) → unless_shut (needs_of x) (shut_key c.out (needs_of x)) ≡ Ok ns
     → begun b c w v x (inputs_from (ending_at s.statuses) x.inputs) ≡ Ok begun_so
     → Granted c x can.trees l new → Claims b s w v x c new begun_so.execution begun_so.reply
@@ -286,7 +305,8 @@ stepped_as b ds rows w x there within =
     ap (λ o. faulted step_fault (stepped b (state_of [] ds rows) w o)) there ∙ by_next (next_step (program_in b x).steps x)
   where
     by_next : (o : Option MicroStep)
-        → faulted step_fault (step_with (state_of [] ds rows) w x o) ≡ granted_by ds w (written_by rows x.places (worked_by x (trees_at (store_of rows) x.places) o))
+        → faulted step_fault (step_with (state_of [] ds rows) w x o) ≡ granted_by ds w
+        (written_by rows x.places (worked_by x (trees_at (store_of rows) x.places) o))
     by_next None = refl
     by_next (Some m) =
         let left = step_on x.done (Some m) (work_with x.own (trees_at (store_of rows) x.places)) in

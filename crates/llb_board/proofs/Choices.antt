@@ -40,7 +40,7 @@ least_end p n k past here =
     let none_left : n - suc k ≡ 0 = omega (arith, past) in
     ap (least p (suc k)) none_left ∙ sym (ap (least p k) no) ∙ here
 
--- a search that begins behind numbers of which none passes finds what a search from 0 finds
+-- a search that begins after numbers of which none passes finds what a search from 0 finds
 pub least_from : (p : ℕ → Bool) (n k : ℕ) → ((v : ℕ) → v < k → p v ≡ false) → least p k (n - k) ≡ least p 0 n
 least_from p n zero none = ap (least p 0) (omega arith)
 least_from p n (suc k) none =
@@ -56,7 +56,7 @@ each_end p n k past here =
     let none_left : n - suc k ≡ 0 = omega (arith, past) in
     ap (each p (suc k)) none_left ∙ sym (ap (each p k) no) ∙ here
 
--- and one that begins behind numbers that all pass
+-- and one that begins after numbers that all pass
 pub each_from : (p : ℕ → Bool) (n k : ℕ) → ((v : ℕ) → v < k → p v ≡ true) → each p k (n - k) ≡ each p 0 n
 each_from p n zero all = ap (each p 0) (omega arith)
 each_from p n (suc k) all =

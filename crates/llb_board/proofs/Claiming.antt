@@ -34,7 +34,8 @@ abbrev pub data_of : List Stand → List Desk → CachesValue → List Bool → 
 data_of ss ds c stop_marks = record { stands = ss; desks = ds; rows = c.rows; out = c.out; stop_marks = stop_marks }
 
 -- a board whose worker w may claim vertex v, which is x
-pub record MayClaim (b : Build) (first : List Row) (ss : List Stand) (ds : List Desk) (c : CachesValue) (stop_marks : List Bool) (es : List Event) (capacity w v : ℕ) (x : Vertex) : Type 0 where
+pub record MayClaim (b : Build) (first : List Row) (ss : List Stand) (ds : List Desk) (c : CachesValue) (stop_marks : List Bool)
+    (es : List Event) (capacity w v : ℕ) (x : Vertex) : Type 0 where
   pub kept : Keeps b first (data_of ss ds c stop_marks) es capacity
   pub can : CanClaim b (state_as (data_of ss ds c stop_marks)) w v x
   pub graph : IsGraph b.graph
@@ -50,14 +51,17 @@ pub few_out : (b : Build) (first : List Row) (ss : List Stand) (ds : List Desk) 
     → Keeps b first (data_of ss ds c stop_marks) es capacity → leases c.out < 65536
 few_out b first ss ds c stop_marks es capacity kept = let few = few_leases c.out (map at_of ds) (map leased_by ds) kept.leased in omega (arith, few, kept.few)
 
-module _ (b : Build) (first : List Row) (ss : List Stand) (ds : List Desk) (c : CachesValue) (stop_marks : List Bool) (es : List Event) (capacity w v : ℕ) (x : Vertex)
-    (may : MayClaim b first ss ds c stop_marks es capacity w v x) (g : Begun) (begins : begun b c w v x (inputs_from (ending_at (map status_of ss)) x.inputs) ≡ Ok g) where
+module _ (b : Build) (first : List Row) (ss : List Stand) (ds : List Desk) (c : CachesValue) (stop_marks : List Bool) (es : List Event)
+    (capacity w v : ℕ) (x : Vertex)
+    (may : MayClaim b first ss ds c stop_marks es capacity w v x) (g : Begun)
+    (begins : begun b c w v x (inputs_from (ending_at (map status_of ss)) x.inputs) ≡ Ok g) where
   asked_so : g.needs ≡ asked may.can.trees (needs_of x)
   asked_so = needs_asked b c w v x may.can.trees (inputs_from (ending_at (map status_of ss)) x.inputs) g may.can.inputs begins
 
   -- the keys that are leased differ
   pub differ : AllPairs (λ (n m : cache_need.Need). n.key ≢ m.key) g.needs
-  differ = subst (AllPairs (λ (n m : cache_need.Need). n.key ≢ m.key)) (sym asked_so) (asked_differ may.can.trees (needs_of x) (graph_distinct b may.graph v x may.can.there))
+  differ = subst (AllPairs (λ (n m : cache_need.Need). n.key ≢ m.key)) (sym asked_so)
+      (asked_differ may.can.trees (needs_of x) (graph_distinct b may.graph v x may.can.there))
 
   -- what the board does
   pub record Did (l : Option ℕ) (own : own.Execution) (r : Reply) (new : CachesValue) : Type 0 where
@@ -67,7 +71,8 @@ module _ (b : Build) (first : List Row) (ss : List Stand) (ds : List Desk) (c : 
     pub low_v : v < length ss
     pub low_w : w < length ds
 
-  pub did : (l : Option ℕ) (own : own.Execution) (new : CachesValue) (ns : List Need) → unless_shut (needs_of x) (shut_key c.out (needs_of x)) ≡ Ok ns → execution_of own ≡ g.execution
+  pub did : (l : Option ℕ) (own : own.Execution) (new : CachesValue) (ns : List Need)
+      → unless_shut (needs_of x) (shut_key c.out (needs_of x)) ≡ Ok ns → execution_of own ≡ g.execution
       → lease_if c g.needs ≡ Ok (l, new) → supplies_of own ≡ supplies_for (Some x) → Did l own g.reply new
   did l own new ns admitted same leases supplies =
       let d = data_of ss ds c stop_marks in
@@ -75,7 +80,8 @@ module _ (b : Build) (first : List Row) (ss : List Stand) (ds : List Desk) (c : 
       let can = may.can in
       let held = same_held b first ss ds c stop_marks es capacity may.kept in
       let lease = granted_of c new x can.trees l g.needs asked_so leases in
-      let is = claims b s w v x c new l g ns can refl (record { same = held; apart = may.apart; there = may.there }) (graph_distinct b may.graph v x can.there) admitted begins lease in
+      let is = claims b s w v x c new l g ns can refl (record { same = held; apart = may.apart; there = may.there })
+      (graph_distinct b may.graph v x can.there) admitted begins lease in
       let so = subst (λ z. Claims b s w v x c new z g.reply) (sym same) is in
       let does = claim_does b d w v l x c new own g.reply so in
       let vertex : own.vertex ≡ v = so.vertex in

@@ -23,7 +23,7 @@ inputs_done : (E : ℕ → Option Ending) (es : List Edge) (i : ℕ) → length 
 unfolding inputs_from
 inputs_done E es i past = ap (inputs_from E) (drop_all i es past)
 
--- behind the trees gathered so far come those of the edges that are left
+-- after the trees gathered so far come those of the edges that are left
 pub record GatheredSoFar (E : ℕ → Option Ending) (es : List Edge) (i : ℕ) (trees : List TreeMap) (capacity : ℕ) : Type 0 where
   pub gathered : option_map (λ (more : List TreeMap). trees ++ more) (inputs_from E (drop i es)) ≡ inputs_from E es
   pub count : length trees ≡ i

@@ -12,7 +12,8 @@ use Rattle.llb_model.specs.State.{Status, Running, Settled, At, Idle, Runs, Stat
 use Rattle.llb_model.specs.State.{is_failed, ending_of}
 use Rattle.llb_model.specs.Kept.{store_of}
 use Rattle.llb_model.specs.Leases.{AreLeased}
-use Rattle.llb_model.specs.Table.{Event, Step, Reply, SettledDone, SettledFailed, settle_reply, worker_of, with_step, claim_grant, step_grant, settle_grant, table}
+use Rattle.llb_model.specs.Table.{Event, Step, Reply, SettledDone, SettledFailed, settle_reply, worker_of, with_step, claim_grant}
+use Rattle.llb_model.specs.Table.{step_grant, settle_grant, table}
 use Rattle.llb_model.specs.Outcome.{Ending, Done, Failed, ended}
 use Rattle.llb_model.specs.Run.{run}
 use Rattle.llb_model.proofs.Lists.{inside, get_set_same}
@@ -55,7 +56,8 @@ abbrev pub Keeps : Build → List Row → Data → List Event → ℕ → Type 0
 Keeps b first d es capacity = IsKept (seen_as b first d es) d.desks d.out d.stop_marks capacity
 
 -- there is room for an event that is granted
-pub has_room : (b : Seen) (desks : List Desk) (out : Leases) (stop_marks : List Bool) (capacity : ℕ) (e : Event) (a : Answer) → IsKept b desks out stop_marks capacity
+pub has_room : (b : Seen) (desks : List Desk) (out : Leases) (stop_marks : List Bool) (capacity : ℕ) (e : Event) (a : Answer)
+    → IsKept b desks out stop_marks capacity
     → table b.build b.state e ≡ Some a → length b.events < capacity
 has_room b desks out stop_marks capacity e a kept granted =
     let few = run_has_few b.build b.opening b.state b.events kept.replays.replies kept.replays.leads in
@@ -69,7 +71,7 @@ pub record Stays (b : Build) (w : ℕ) (d d' : Data) : Type 0 where
   pub supplies : map ready_made d'.desks ≡ map (needed b) (map at_of d'.desks)
   pub marks : d'.stop_marks ≡ stopped b (map status_of d'.stands)
 
--- the lists of instances behind one event more
+-- the lists of instances after one event more
 pub kept_more : (b : Build) (s : State) (first rows : List Row) (t u : State) (es : List Event) (e : Event) (r : Reply)
     → kept_along b s first es ≡ Some (t, rows)
     → table b t e ≡ Some (u, r) → kept_along b s first (es ++ e ∷ []) ≡ Some (u, rows_after rows u (worker_of e))
@@ -85,7 +87,8 @@ kept_after b first d d' es capacity e r kept granted stays =
     let leads : run b (opening b o) (es ++ e ∷ []) ≡ Some (state_as d', kept.replays.replies ++ r ∷ [])
     = run_more b (opening b o) (state_as d) (state_as d') es kept.replays.replies e r kept.replays.leads granted in
     let keeps : kept_along b (opening b o) first (es ++ e ∷ []) ≡ Some (state_as d', d'.rows)
-    = kept_more b (opening b o) first d.rows (state_as d) (state_as d') es e r kept.replays.keeps granted ∙ ap (λ rows. Some (state_as d', rows)) (sym stays.rows) in
+    = kept_more b (opening b o) first d.rows (state_as d) (state_as d') es e r kept.replays.keeps granted
+    ∙ ap (λ rows. Some (state_as d', rows)) (sym stays.rows) in
     let some = kept.some in
     let few = kept.few in
     let same = stays.same in
@@ -104,7 +107,8 @@ kept_after b first d d' es capacity e r kept granted stays =
     }
 
 -- what is recorded of an event that is granted
-pub recorded_as : {C F : Type 0} (b : Build) (first : List Row) (d d' : Data) (es : List Event) (e : Event) (fault : C → F) (answer : Result Answer C) (r : Reply)
+pub recorded_as : {C F : Type 0} (b : Build) (first : List Row) (d d' : Data) (es : List Event) (e : Event) (fault : C → F)
+    (answer : Result Answer C) (r : Reply)
     → answer ≡ Ok (state_as d', r) → length d'.desks ≡ length d.desks → d'.rows ≡ rows_after d.rows (state_as d') (worker_of e)
     → recorded (seen_as b first d es) e fault answer ≡ Ok (seen_as b first d' (es ++ e ∷ []), r)
 recorded_as b first d d' es e fault answer r is same rows =
@@ -127,7 +131,8 @@ whole_written n new old same is =
     ap (λ l. take n (new ++ l)) (drop_all (length new) old (omega (arith, same))) ∙ ap (take n) (append-nil new) ∙ take_all n new (omega (arith, same, is))
 
 -- the same where some of the data is written otherwise
-pub kept_written : (b : Build) (first : List Row) (d d' : Data) (es : List Event) (capacity : ℕ) → d' ≡ d → Keeps b first d es capacity → Keeps b first d' es capacity
+pub kept_written : (b : Build) (first : List Row) (d d' : Data) (es : List Event) (capacity : ℕ) → d' ≡ d → Keeps b first d es capacity
+    → Keeps b first d' es capacity
 kept_written b first d d' es capacity same kept = subst (λ (x : Data). Keeps b first x es capacity) (sym same) kept
 
 -- ---- a claim
@@ -144,7 +149,12 @@ claimed d w v l x new = record {
 
 pub state_claimed : (d : Data) (w v : ℕ) (l : Option ℕ) (x : own.Execution) (new : CachesValue)
     → state_as (claimed d w v l x new)
-    ≡ record { statuses = slice_set (map status_of d.stands) v (Running w); workers = slice_set (map at_of d.desks) w (Runs (execution_of x)); store = store_of new.rows }
+    ≡ record {
+      statuses = slice_set (map status_of d.stands) v (Running w);
+      workers =
+          slice_set (map at_of d.desks) w (Runs (execution_of x));
+      store = store_of new.rows;
+    }
 state_claimed d w v l x new =
     λ i. record { statuses = map_set status_of d.stands v (stand.Running w) i; workers = map_set at_of d.desks w (desk.Runs l x) i; store = store_of new.rows }
 
@@ -166,7 +176,8 @@ claim_rows b d w v l x c new own r idle same claims =
     ∙ (λ i. written (store_of new.rows) (sym same i) (places_at (sym (set_there (map at_of d.desks) w Idle (Runs (execution_of own)) idle) i)))
     ∙ ap (λ (ws : List At). written (store_of new.rows) d.rows (places_at (slice_get ws w))) (sym (map_set at_of d.desks w (desk.Runs l own)))
 
-pub leased_claimed : (d : Data) (w : ℕ) (l : Option ℕ) (own : own.Execution) (ps : List Place) (new : Leases) → AreLeased d.out (map at_of d.desks) (map leased_by d.desks)
+pub leased_claimed : (d : Data) (w : ℕ) (l : Option ℕ) (own : own.Execution) (ps : List Place) (new : Leases)
+    → AreLeased d.out (map at_of d.desks) (map leased_by d.desks)
     → slice_get (map at_of d.desks) w ≡ Some Idle → own.places.items ≡ ps → LeasedNew d.out l ps new
     → AreLeased new (map at_of (slice_set d.desks w (desk.Runs l own))) (map leased_by (slice_set d.desks w (desk.Runs l own)))
 leased_claimed d w l own ps new leased idle same is =
@@ -175,7 +186,8 @@ leased_claimed d w l own ps new leased idle same is =
       | inl h ↦
           let out : new ≡ with_lease d.out (free_lease d.out) own.places.items = h.1 ∙ ap (with_lease d.out (free_lease d.out)) (sym same) in
           subst (λ (n : Option ℕ). AreLeased new (slice_set (map at_of d.desks) w (Runs (execution_of own))) (slice_set (map leased_by d.desks) w n)) (sym h.0)
-          (subst (λ (o : Leases). AreLeased o (slice_set (map at_of d.desks) w (Runs (execution_of own))) (slice_set (map leased_by d.desks) w (Some (free_lease d.out)))) (sym out)
+          (subst (λ (o : Leases). AreLeased o (slice_set (map at_of d.desks) w (Runs (execution_of own)))
+          (slice_set (map leased_by d.desks) w (Some (free_lease d.out)))) (sym out)
           (claim_leases d.out (map at_of d.desks) (map leased_by d.desks) w (execution_of own) leased idle))
       | inr h ↦
           subst (λ (n : Option ℕ). AreLeased new (slice_set (map at_of d.desks) w (Runs (execution_of own))) (slice_set (map leased_by d.desks) w n)) (sym h.0)
@@ -183,7 +195,8 @@ leased_claimed d w l own ps new leased idle same is =
           (claim_without d.out (map at_of d.desks) (map leased_by d.desks) w (execution_of own) leased idle (same ∙ h.1)))
     ]))
 
-pub made_for : (b : Build) (x : Vertex) (v n : ℕ) → slice_get b.graph.vertices v ≡ Some x → n ≡ v → supplies_for (Some x) ≡ supplies_for (slice_get b.graph.vertices n)
+pub made_for : (b : Build) (x : Vertex) (v n : ℕ) → slice_get b.graph.vertices v ≡ Some x → n ≡ v
+    → supplies_for (Some x) ≡ supplies_for (slice_get b.graph.vertices n)
 made_for b x v n there same = sym (ap (λ k. supplies_for (slice_get b.graph.vertices k)) same ∙ ap supplies_for there)
 
 pub supplies_claimed : (b : Build) (ds : List Desk) (w : ℕ) (l : Option ℕ) (x : own.Execution) → map ready_made ds ≡ map (needed b) (map at_of ds)
@@ -308,8 +321,9 @@ pub marks_kept : (b : Build) (ss : List Stand) (v : ℕ) (s : Stand) (old : Stat
     → stopped b (map status_of (slice_set ss v s)) ≡ stopped b (map status_of ss)
 marks_kept b ss v s old at was is = ap (stopped b) (map_set status_of ss v s) ∙ marks_stay b.graph.vertices (map status_of ss) v old (status_of s) at was is
 
--- what is over stays so behind an event that is granted
-pub still_over : (b : Build) (first : List Row) (d d' : Data) (es : List Event) (capacity n : ℕ) (e : Event) (r : Reply) → IsGraph b.graph → Keeps b first d es capacity
+-- what is over stays so after an event that is granted
+pub still_over : (b : Build) (first : List Row) (d d' : Data) (es : List Event) (capacity n : ℕ) (e : Event) (r : Reply) → IsGraph b.graph
+    → Keeps b first d es capacity
     → table b (state_as d) e ≡ Some (state_as d', r) → AreOver b (map status_of d.stands) n → AreOver b (map status_of d'.stands) n
 still_over b first d d' es capacity n e r graph kept given over v low =
     over_after b graph (state_as d) (state_as d') e r (consistent (seen_as b first d es) kept.replays) given v (over v low)

@@ -1,4 +1,4 @@
--- A landing: the board's data behind the steps that an outcome counts, and the block of these and of the settle.
+-- A landing: the board's data after the steps that an outcome counts, and the block of these and of the settle.
 use Rattle.std.proofs.Common.{◌≡◌, ℕ, zero, suc, ◌+◌, ◌<◌, ◌≤◌, ◌^◌, List, [], ◌∷◌, ◌++◌, map, length, refl, sym, ap, subst, ◌∙◌, arith}
 use Rattle.std.proofs.Common.{length-append}
 use Rattle.std.specs.Prelude.{Bool, true, Option, Some, None, option_map, Result, Ok, Err, is_ok, is_some, slice_get, slice_set, fold}
@@ -49,7 +49,7 @@ use Rattle.llb_board.proofs.Sound.{consistent, reached}
 use Rattle.llb_board.proofs.Stepping.{Holding, holding, held_keys, places_are, leased_stepped}
 use Rattle.llb_board.proofs.Written.{written_each}
 
--- ---- the lists of instances behind the steps
+-- ---- the lists of instances after the steps
 
 rows_steps : (b : Build) (s : State) (rows : List Row) (w : ℕ) (x : Execution) (trees : List TreeMap) (n : ℕ) → s.store ≡ store_of rows
     → slice_get s.workers w ≡ Some (Runs x)
@@ -96,7 +96,7 @@ settles_if : (b : Build) (s : State) (w : ℕ) (x : Execution) → slice_get s.w
 unfolding settled_if
 settles_if b s w x at fin = ap (λ o. is_ok (settled b s w o)) at ∙ ap (λ f. is_ok (settled_if b s w x f)) fin
 
--- ---- what the board's type keeps behind the steps
+-- ---- what the board's type keeps after the steps
 
 module _ (b : Build) (first : List Row) (d : Data) (es : List Event) (capacity w : ℕ) (l : Option ℕ) (own : running.Execution) (o : OutcomeValue)
     (kept : Keeps b first d es capacity)
@@ -331,7 +331,7 @@ begun_of b store w x job is = record {
 inside_ok : {A E : Type 0} {x y : A} → ◌≡◌ {A = Result A E} (Ok x) (Ok y) → x ≡ y
 inside_ok e = cc
 
--- a settle behind the steps
+-- a settle after the steps
 pub settles : (b n m : Seen) (w : ℕ) (o : OutcomeValue) (reply : Reply) → CanLand b w o.job → IsThrough b w o.count n → settle_of n w ≡ Ok (m, reply)
     → Lands b w o m reply
 settles b n m w o reply can through is = by_grant (settle_grant n.build n.state w) refl is

@@ -1,5 +1,6 @@
 -- The instances of a lease, as a micro-step reads and writes them one after another, and workers whose leases are given back.
-use Rattle.std.proofs.Common.{◌≡◌, ℕ, zero, suc, ◌+◌, ◌<◌, ◌≤◌, List, [], ◌∷◌, drop, map, length, Option, Some, None, unwrap_or, inl, inr, refl, sym, ap, subst, ◌∙◌, add-one, arith}
+use Rattle.std.proofs.Common.{◌≡◌, ℕ, zero, suc, ◌+◌, ◌<◌, ◌≤◌, List, [], ◌∷◌, drop, map, length, Option, Some, None, unwrap_or, inl, inr}
+use Rattle.std.proofs.Common.{refl, sym, ap, subst, ◌∙◌, add-one, arith}
 use Rattle.std.specs.Prelude.{slice_get, slice_set, slice_index_or}
 use Rattle.std.proofs.Math.Seq.{drop-cons}
 use Rattle.llb_cache.specs.Caches as cache
@@ -42,13 +43,15 @@ put_none rows (p ∷ ps) = refl
 
 -- ---- a worker that leaves
 
-pub leased_settled : (c : CachesValue) (ds : List Desk) (w : ℕ) (l : Option ℕ) → AreLeased c.out (map at_of ds) (map leased_by ds) → slice_get (map leased_by ds) w ≡ Some l
+pub leased_settled : (c : CachesValue) (ds : List Desk) (w : ℕ) (l : Option ℕ) → AreLeased c.out (map at_of ds) (map leased_by ds)
+    → slice_get (map leased_by ds) w ≡ Some l
     → AreLeased (given_back c l).out (map at_of (slice_set ds w desk.Idle)) (map leased_by (slice_set ds w desk.Idle))
 leased_settled c ds w l leased at =
     subst (λ (ws : List At). AreLeased (given_back c l).out ws (map leased_by (slice_set ds w desk.Idle))) (sym (map_set at_of ds w desk.Idle))
     (subst (AreLeased (given_back c l).out (slice_set (map at_of ds) w Idle)) (sym (map_set leased_by ds w desk.Idle)) (by_lease l at))
   where
-    by_lease : (l : Option ℕ) → slice_get (map leased_by ds) w ≡ Some l → AreLeased (given_back c l).out (slice_set (map at_of ds) w Idle) (slice_set (map leased_by ds) w None)
+    by_lease : (l : Option ℕ) → slice_get (map leased_by ds) w ≡ Some l
+        → AreLeased (given_back c l).out (slice_set (map at_of ds) w Idle) (slice_set (map leased_by ds) w None)
     by_lease None at = settle_without c.out (map at_of ds) (map leased_by ds) w leased at
     by_lease (Some n) at = settle_gives_back c.out (map at_of ds) (map leased_by ds) w n leased at
 
@@ -59,7 +62,8 @@ lease_inside : {k n : ℕ} → ◌≡◌ {A = Option (Option ℕ)} (Some (Some k
 lease_inside e = cc
 
 -- its lease is out
-pub lease_out : (out : Leases) (workers : List At) (ls : List (Option ℕ)) (w : ℕ) (l : Option ℕ) → AreLeased out workers ls → slice_get ls w ≡ Some l → IsOutIf out l
+pub lease_out : (out : Leases) (workers : List At) (ls : List (Option ℕ)) (w : ℕ) (l : Option ℕ) → AreLeased out workers ls
+    → slice_get ls w ≡ Some l → IsOutIf out l
 lease_out out workers ls w None leased at = tt
 lease_out out workers ls w (Some l) leased at =
     let r = leased.runs w l at in
@@ -70,7 +74,7 @@ lease_out out workers ls w (Some l) leased at =
 
 -- ---- workers that were sent away one after another
 
--- the first so many are idle
+-- the first that many are idle
 abbrev pub idled : ℕ → List Desk → List Desk
 idled zero ds = ds
 idled (suc n) [] = []
@@ -108,7 +112,8 @@ leased_idle out n ds leased at =
     subst (λ (es : List Desk). AreLeased out (map at_of es) (map leased_by es)) (sym (ap (λ k. idled k ds) (add-one n) ∙ idled_same n ds at)) leased
 
 -- the lease of the next is out
-pub out_next : (out : Leases) (n : ℕ) (l : Option ℕ) (x : own.Execution) (ds : List Desk) → LeasedFrom out n ds → slice_get ds n ≡ Some (desk.Runs l x) → IsOutIf out l
+pub out_next : (out : Leases) (n : ℕ) (l : Option ℕ) (x : own.Execution) (ds : List Desk) → LeasedFrom out n ds
+    → slice_get ds n ≡ Some (desk.Runs l x) → IsOutIf out l
 out_next out n l x ds leased at =
     lease_out out (map at_of (idled n ds)) (map leased_by (idled n ds)) n l leased (get_map leased_by (idled n ds) n (desk.Runs l x) (idled_at n ds ∙ at))
 

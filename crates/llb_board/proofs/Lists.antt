@@ -8,7 +8,7 @@ use Rattle.std.specs.Prelude.{Option, Some, replicate, slice_get, slice_set, opt
 use Rattle.std.proofs.lemmas.Option.{slice_get-map, slice_get_within, get_or_from_slice_get}
 use Rattle.std.proofs.lemmas.List.{replicate-append-replicate}
 
--- so many equal items, and room for more
+-- that many equal items, and room for more
 pub record Replicated {A : Type 0} (x : A) (n : ℕ) (xs : List A) (last capacity : ℕ) : Type 0 where
   pub all : xs ≡ replicate n x
   pub reserved : last ≤ capacity

@@ -1,4 +1,4 @@
--- The vertices that have failed or are behind one that has.
+-- The vertices that have failed or are after one that has.
 use Rattle.std.proofs.Common.{◌≡◌, ℕ, zero, suc, ◌+◌, ◌<◌, ◌≤◌, List, [], ◌∷◌, ◌++◌, drop, take, length, get_or, refl, ap, sym, ◌∙◌, drop-cons}
 use Rattle.std.proofs.Common.{add-one, add-zero, zero-add, arith}
 use Rattle.std.specs.Prelude.{Bool, true, false, ◌||◌, slice_get, slice_set, Some, unwrap_or, replicate}

@@ -32,7 +32,8 @@ mounts_on locals v (Some (kind.Build b)) inputs = refl
 mounts_on locals v (Some (kind.Diff d)) inputs = refl
 mounts_on locals v None inputs = refl
 
-shown_of_kind : (locals : List Local) (v : Vertex) (k : Option Kind) (inputs : List TreeMap) → v.op.kind ≡ k → shown_in (view_on locals v k inputs) ≡ map mount_of (needs_of v)
+shown_of_kind : (locals : List Local) (v : Vertex) (k : Option Kind) (inputs : List TreeMap) → v.op.kind ≡ k
+    → shown_in (view_on locals v k inputs) ≡ map mount_of (needs_of v)
 shown_of_kind locals v (Some (kind.Source s)) inputs is = ap (λ o. map mount_of (needs_from v.op.inputs 0 (kind_mounts o))) (sym is)
 shown_of_kind locals v (Some (kind.File f)) inputs is = ap (λ o. map mount_of (needs_from v.op.inputs 0 (kind_mounts o))) (sym is)
 shown_of_kind locals v (Some (kind.Merge m)) inputs is = ap (λ o. map mount_of (needs_from v.op.inputs 0 (kind_mounts o))) (sym is)
@@ -55,7 +56,8 @@ needs_fewer : (inputs : List Input) (i : ℕ) (ms : List Mount) → length (need
 needs_fewer inputs i [] = omega arith
 needs_fewer inputs i (m ∷ ms) = by_key (mounts.key_of inputs m) (needs_fewer inputs (i + 1) ms)
   where
-    by_key : (o : Option CacheKey) → length (needs_from inputs (i + 1) ms) ≤ length ms → length (with_need i m o (needs_from inputs (i + 1) ms)) ≤ suc (length ms)
+    by_key : (o : Option CacheKey) → length (needs_from inputs (i + 1) ms) ≤ length ms
+        → length (with_need i m o (needs_from inputs (i + 1) ms)) ≤ suc (length ms)
     by_key None less = omega (arith, less)
     by_key (Some k) less = omega (arith, less)
 

@@ -9,10 +9,12 @@ use Rattle.llb_model.proofs.Events.{Answer, claim_places, claim_is, step_is, set
 use Rattle.llb_board.specs.Board.{Seen, Replays}
 use Rattle.llb_board.proofs.Sound.{consistent}
 
-pub others : (b : Build) (s : State) (e : Event) (a : Answer) → table b s e ≡ Some a → (u : ℕ) → u ≢ worker_of e → slice_get a.0.workers u ≡ slice_get s.workers u
+pub others : (b : Build) (s : State) (e : Event) (a : Answer) → table b s e ≡ Some a → (u : ℕ) → u ≢ worker_of e
+    → slice_get a.0.workers u ≡ slice_get s.workers u
 others b s (Claim w v) a given u apart =
     let c = claim_is b s w v a given in
-    ap (λ (t : Answer). slice_get t.0.workers u) c.gives ∙ get_set_other s.workers w (Runs (execution_on v (begin_at b s.store c.start (claim_places s c.start)) (claim_places s c.start))) u apart
+    ap (λ (t : Answer). slice_get t.0.workers u) c.gives
+    ∙ get_set_other s.workers w (Runs (execution_on v (begin_at b s.store c.start (claim_places s c.start)) (claim_places s c.start))) u apart
 others b s (Step w) a given u apart =
     let c = step_is b s w a given in
     ap (λ (t : Answer). slice_get t.0.workers u) c.gives

@@ -1,4 +1,4 @@
--- How many leases are out: none of a machine that nothing has happened on, one less behind a lease that is given back, and no
+-- How many leases are out: none of a machine that nothing has happened on, one less after a lease that is given back, and no
 -- more than workers.
 use Rattle.std.proofs.Common.{◌≡◌, ◌≢◌, ℕ, zero, suc, ◌+◌, ◌<◌, ◌≤◌, List, [], ◌∷◌, length, Option, Some, None, is_some, inl, inr, refl, sym, ◌∙◌, cond, arith}
 use Rattle.std.specs.Prelude.{slice_get, slice_set, replicate}
@@ -52,7 +52,8 @@ none_leased out n none = record {
   whose = λ l ps at. absurd (let some = some_out out l ps at in omega (arith, some, none));
 }
 
-pub none_out : (out : Leases) (workers : List At) (ls : List (Option ℕ)) → AreLeased out workers ls → ((w : ℕ) (l : ℕ) → slice_get ls w ≡ Some (Some l) → ⊥) → leases out ≡ 0
+pub none_out : (out : Leases) (workers : List At) (ls : List (Option ℕ)) → AreLeased out workers ls
+    → ((w : ℕ) (l : ℕ) → slice_get ls w ≡ Some (Some l) → ⊥) → leases out ≡ 0
 none_out out workers ls are idle = nothing_out out (λ l ps at. let w = are.whose l ps at in idle w.0 l w.1)
 
 -- the number of a lease stands in a list

@@ -26,7 +26,7 @@ module _ (b : Build) (first : List Row) (ss : List Stand) (ds : List Desk) (c : 
     : Option ℕ) (s : Stand)
     (kept : Keeps b first (data_of ss ds c stop_marks) es capacity) (left : left_at b (slice_get (map at_of ds) w) ≡ Ok (v, status_of s))
     (leased : slice_get (map leased_by ds) w ≡ Some l) where
-  -- the data behind it, with these marks
+  -- the data after it, with these marks
   abbrev pub after : List Bool → Data
   after marks = settled (data_of ss ds c stop_marks) w v s (given_back c l).out marks
 

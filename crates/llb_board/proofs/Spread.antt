@@ -1,4 +1,4 @@
--- Marks that spread from a vertex to all that are behind it.
+-- Marks that spread from a vertex to all that are after it.
 use Rattle.std.proofs.Common.{◌≡◌, ℕ, zero, suc, ◌+◌, ◌<◌, ◌≤◌, Bool, true, false, List, [], ◌∷◌, ◌++◌, length, map, drop, get_or, set, refl, sym, ap, subst}
 use Rattle.std.proofs.Common.{◌∙◌, arith, ◌⊎◌, inl, inr, drop-cons, add-one, append_assoc, length-append}
 use Rattle.std.specs.Prelude.{Contains}
@@ -125,7 +125,7 @@ visits_more us x m0 m1 m2 r0 r1 r2 a b = record {
   count = let one = a.count in let two = b.count in omega (arith, one, two, length-append a.more b.more);
 }
 
--- ---- and those behind them
+-- ---- and those after them
 
 -- as far as a loop has come, which has visited the users of the first reached ones
 pub record Spreading (users : List (List ℕ)) (v : ℕ) (old now : List Bool) (reached : List ℕ) (i : ℕ) : Type 0 where

@@ -1,5 +1,6 @@
 -- A micro-step over leased instances.
-use Rattle.std.proofs.Common.{◌≡◌, ◌≢◌, ℕ, zero, suc, ◌<◌, ◌≤◌, Bool, true, false, ◌||◌, List, [], ◌∷◌, length, map, get_or, Option, Some, None, inl, inr, refl, sym, ap, subst, ◌∙◌, arith}
+use Rattle.std.proofs.Common.{◌≡◌, ◌≢◌, ℕ, zero, suc, ◌<◌, ◌≤◌, Bool, true, false, ◌||◌, List, [], ◌∷◌, length, map, get_or, Option, Some}
+use Rattle.std.proofs.Common.{None, inl, inr, refl, sym, ap, subst, ◌∙◌, arith}
 use Rattle.std.specs.Prelude.{Result, Ok, Err, OnOk, is_ok, is_some, nat_le, slice_get, slice_set, unwrap_or, AllPairs, if◌then◌else◌}
 use Rattle.std.specs.List.{All}
 use Rattle.std.proofs.lemmas.Bool.{leb-true, le-leb}
@@ -40,7 +41,8 @@ pub last_of : {A B : Type 0} (r : Result A StepFault) (rule : Result B StepFault
 last_of (Ok x) rule ok = tt
 last_of (Err e) rule ok = λ memory. ok
 
-goes_by : (rows : List Row) (x : Execution) (trees : List TreeMap) (o : Option MicroStep) → is_some o ≡ true → is_ok (written_by rows x.places (worked_by x trees o)) ≡ true
+goes_by : (rows : List Row) (x : Execution) (trees : List TreeMap) (o : Option MicroStep) → is_some o ≡ true
+    → is_ok (written_by rows x.places (worked_by x trees o)) ≡ true
 goes_by rows x trees None some = absurd cc
 goes_by rows x trees (Some m) some = refl
 
@@ -55,13 +57,16 @@ there_by (m ∷ steps) false (suc k) is = there_by steps false k (less (length s
       where
         by_test : (b : Bool) → nat_le n k ≡ b → b ≡ false
         by_test false at = refl
-        by_test true at = let le : n ≤ k = leb-true n k at in absurd (let more : nat_le (suc n) (suc k) ≡ true = le-leb (suc n) (suc k) (omega (arith, le)) in cc)
+        by_test true at = let le : n ≤ k = leb-true n k at in absurd (let more : nat_le (suc n) (suc k) ≡ true =
+            le-leb (suc n) (suc k) (omega (arith, le)) in cc)
 
-pub goes_on : (b : Build) (rows : List Row) (x : Execution) {A : Type 0} (r : Result A StepFault) → is_finished (program_in b x).steps x ≡ false → MemoryLast step_memory r (worked_in b rows x)
+pub goes_on : (b : Build) (rows : List Row) (x : Execution) {A : Type 0} (r : Result A StepFault)
+    → is_finished (program_in b x).steps x ≡ false → MemoryLast step_memory r (worked_in b rows x)
 goes_on b rows x {A} r open_still =
     let steps = (program_in b x).steps in
     last_of r (worked_in b rows x)
-    (ap (λ (f : Bool). is_ok (written_by rows x.places (worked_by x (trees_at (store_of rows) x.places) (if f then None else slice_get steps x.done)))) open_still
+    (ap (λ (f : Bool). is_ok
+    (written_by rows x.places (worked_by x (trees_at (store_of rows) x.places) (if f then None else slice_get steps x.done)))) open_still
     ∙ goes_by rows x (trees_at (store_of rows) x.places) (slice_get steps x.done) (there_by steps (is_some x.fault) x.done open_still))
 
 -- ---- the instances of a lease
@@ -141,11 +146,13 @@ held_within rows out l ps there has = elim has [
   | inr h ↦ λ p held. absurd (subst (λ qs. Has qs p) h.1 held)
 ]
 
-pub holding : (rows : List Row) (out : Leases) (ds : List Desk) (w : ℕ) (l : Option ℕ) (x : own.Execution) → AreApart out → AreThere rows out → AreLeased out (map at_of ds) (map leased_by ds)
+pub holding : (rows : List Row) (out : Leases) (ds : List Desk) (w : ℕ) (l : Option ℕ) (x : own.Execution) → AreApart out
+    → AreThere rows out → AreLeased out (map at_of ds) (map leased_by ds)
     → slice_get ds w ≡ Some (desk.Runs l x) → Holding rows out ds w l x
 holding rows out ds w l x apart there leased at =
     let h = leased.has w (execution_of x) (get_map at_of ds w (desk.Runs l x) at) in
-    let has : HasLease out (Some l) x.places.items = subst (λ (o : Option (Option ℕ)). HasLease out o x.places.items) (get_map leased_by ds w (desk.Runs l x) at) h in
+    let has : HasLease out (Some l) x.places.items = subst (λ (o : Option (Option ℕ)). HasLease out o x.places.items)
+    (get_map leased_by ds w (desk.Runs l x) at) h in
     record {
       has = has;
       distinct = held_distinct out (Some l) x.places.items apart has;
@@ -154,7 +161,8 @@ holding rows out ds w l x apart there leased at =
 
 -- ---- from the execution to the worker
 
-pub gives_through : (ds : List Desk) (w : ℕ) (r : Result Stepped StepFault) (f : Stepped → Written) (rule : Result Written StepFault) (whole : Result (State × Reply) StepFault)
+pub gives_through : (ds : List Desk) (w : ℕ) (r : Result Stepped StepFault) (f : Stepped → Written) (rule : Result Written StepFault)
+    (whole : Result (State × Reply) StepFault)
     → whole ≡ granted_by ds w rule → GivesStep f r rule
     → GivesStep (λ s. (record { statuses = []; workers = slice_set (map at_of ds) w (Runs (f s).0); store = store_of (f s).1 }, (f s).2)) r whole
 gives_through ds w (Ok s) f rule whole is gives = is ∙ ap (granted_by ds w) gives
@@ -170,14 +178,16 @@ last_through ds w (Ok s) rule whole is last = tt
 last_through ds w (Err e) rule whole is last = λ memory. ap is_ok is ∙ granted_ok ds w rule ∙ last memory
 
 -- what is written back is what the contents have there
-written_back : (rows : List Row) (x z : Execution) (rows' : List Row) (r : Reply) (o : Option MicroStep) → Distinct x.places → ((p : Place) → Has x.places p → p.number < length (trees_of rows p.key))
+written_back : (rows : List Row) (x z : Execution) (rows' : List Row) (r : Reply) (o : Option MicroStep) → Distinct x.places
+    → ((p : Place) → Has x.places p → p.number < length (trees_of rows p.key))
     → written_by rows x.places (worked_by x (trees_at (store_of rows) x.places) o) ≡ Ok (z, rows', r) → rows' ≡ written (store_of rows') rows z.places
 written_back rows x z rows' r None distinct within is = absurd cc
 written_back rows x z rows' r (Some m) distinct within is =
     let trees = trees_at (store_of rows) x.places in
     let left = step_on x.done (Some m) (work_with x.own trees) in
     let whole : ◌≡◌ {A = Written} (with_step x left, put_each rows x.places left.work.trees, step_reply x.done m left.fault) (z, rows', r) = inside_ok is in
-    let count : length left.work.trees ≡ length x.places = step_keeps x.done (Some m) (work_with x.own trees) ∙ trees_count (store_of rows) x.places trees refl in
+    let count : length left.work.trees ≡ length x.places = step_keeps x.done (Some m) (work_with x.own trees)
+    ∙ trees_count (store_of rows) x.places trees refl in
     sym (ap (λ (p : Written). p.1) whole)
     ∙ sym (written_each rows x.places left.work.trees distinct count within)
     ∙ ap (λ s. written s rows x.places) (sym (writes_alike rows x.places left.work.trees within))
@@ -201,10 +211,12 @@ places_set ds w old l x at =
     ∙ ap places_at (get_set_same (map at_of ds) w (Runs (execution_of x)) (at_of old) (get_map at_of ds w old at))
 
 -- the lease stays
-pub leased_stepped : (out out' : Leases) (ds : List Desk) (w : ℕ) (l : Option ℕ) (x y : own.Execution) → AreLeased out (map at_of ds) (map leased_by ds) → slice_get ds w ≡ Some (desk.Runs l x)
+pub leased_stepped : (out out' : Leases) (ds : List Desk) (w : ℕ) (l : Option ℕ) (x y : own.Execution)
+    → AreLeased out (map at_of ds) (map leased_by ds) → slice_get ds w ≡ Some (desk.Runs l x)
     → out' ≡ out → y.places ≡ x.places → AreLeased out' (map at_of (slice_set ds w (desk.Runs l y))) (map leased_by (slice_set ds w (desk.Runs l y)))
 leased_stepped out out' ds w l x y leased at same places =
-    let kept = step_keeps_lease out (map at_of ds) (map leased_by ds) w (execution_of x) (execution_of y) leased (get_map at_of ds w (desk.Runs l x) at) (λ i. (places i).items) in
+    let kept = step_keeps_lease out (map at_of ds) (map leased_by ds) w (execution_of x) (execution_of y) leased
+    (get_map at_of ds w (desk.Runs l x) at) (λ i. (places i).items) in
     let ls : map leased_by (slice_set ds w (desk.Runs l y)) ≡ map leased_by ds
     = map_set leased_by ds w (desk.Runs l y) ∙ set_same (map leased_by ds) w l (get_map leased_by ds w (desk.Runs l x) at) in
     subst (λ (o : Leases). AreLeased o (map at_of (slice_set ds w (desk.Runs l y))) (map leased_by (slice_set ds w (desk.Runs l y)))) (sym same)

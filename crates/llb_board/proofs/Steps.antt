@@ -36,5 +36,6 @@ pub goes_to : (steps : List MicroStep) (x : Execution) (ts : List TreeMap) (m : 
     → worked steps x ts ≡ Ok (worked_to x m (step_on x.done (Some m) (work_with x.own ts)))
 goes_to steps x ts m clean at = ap (worked_by x ts) (next_clean steps x clean ∙ at)
 
-pub goes_nowhere : (steps : List MicroStep) (x : Execution) (ts : List TreeMap) → x.fault ≡ None → slice_get steps x.done ≡ None → worked steps x ts ≡ Err NothingLeft
+pub goes_nowhere : (steps : List MicroStep) (x : Execution) (ts : List TreeMap) → x.fault ≡ None → slice_get steps x.done ≡ None
+    → worked steps x ts ≡ Err NothingLeft
 goes_nowhere steps x ts clean at = ap (worked_by x ts) (next_clean steps x clean ∙ at)

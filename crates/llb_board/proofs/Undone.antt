@@ -305,7 +305,7 @@ resumed_marks b ss w v had false old new are at is anew same =
 
 -- ---- leases that are put back one after another
 
--- the leases of the first so many
+-- the leases of the first that many
 pub record PutSoFar (ds ds' : List Desk) (ls : List (Option ℕ)) (n : ℕ) : Type 0 where
   pub workers : map at_of ds' ≡ map at_of ds
   pub made : map ready_made ds' ≡ map ready_made ds

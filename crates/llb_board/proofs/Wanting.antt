@@ -1,5 +1,6 @@
 -- The caches that a vertex shows, one mount after another, and what a claim takes of them.
-use Rattle.std.proofs.Common.{◌≡◌, ◌≢◌, ◌<◌, ◌≤◌, ◌+◌, ℕ, zero, suc, Bool, true, false, cond, List, [], ◌∷◌, ◌++◌, length, map, take, drop, get_or, refl, sym, ap, subst, ◌∙◌, arith, pos, add-one, inl, inr}
+use Rattle.std.proofs.Common.{◌≡◌, ◌≢◌, ◌<◌, ◌≤◌, ◌+◌, ℕ, zero, suc, Bool, true, false, cond, List, [], ◌∷◌, ◌++◌, length, map, take, drop}
+use Rattle.std.proofs.Common.{get_or, refl, sym, ap, subst, ◌∙◌, arith, pos, add-one, inl, inr}
 use Rattle.std.specs.Prelude.{Option, Some, None, option_map, unwrap_or, slice_get, slice_index_or}
 use Rattle.std.specs.List.{find, All, AllPairs}
 use Rattle.std.proofs.lemmas.Option.{get_or_from_slice_get}
@@ -35,13 +36,15 @@ edges_of vertices v has i input there =
       e.0,
       e.1,
       subst (λ (x : Input). x.index ≡ pos e.0.index) (get_or_from_slice_get v.op.inputs i input input there)
-          (subst (λ (x : Edge). StandsFor vertices (slice_index_or v.op.inputs i input) x) (get_or_from_slice_get v.inputs i e.0 e.0 e.1) (has.each i input e.0 within)).index,
+          (subst (λ (x : Edge). StandsFor vertices (slice_index_or v.op.inputs i input) x) (get_or_from_slice_get v.inputs i e.0 e.0 e.1)
+          (has.each i input e.0 within)).index,
     )
 
 pub graph_edges : (g : Numbered) (k : ℕ) (v : Vertex) → IsGraph g → slice_get g.vertices k ≡ Some v → HasEdges v
 graph_edges g k v graph there =
     edges_of g.vertices v
-    (subst (HasInputs g.vertices) (get_or_from_slice_get g.vertices k v v there) (All-get_or (HasInputs g.vertices) g.vertices k v (got_within g.vertices k v there) graph.inputs))
+    (subst (HasInputs g.vertices) (get_or_from_slice_get g.vertices k v v there)
+    (All-get_or (HasInputs g.vertices) g.vertices k v (got_within g.vertices k v there) graph.inputs))
 
 -- ---- the mounts that are left
 
@@ -55,8 +58,10 @@ map_take zero ws = refl
 map_take (suc i) [] = refl
 map_take (suc i) (w ∷ ws) = ap (λ ns. need_of w ∷ ns) (map_take i ws)
 
-first_suc : (s : Store) (inputs : List TreeMap) (i : ℕ) (ps : List Place) (ns : List Need) (p : Place) (n : Need) → slice_get ps i ≡ Some p → slice_get ns i ≡ Some n
-    → first_trees s inputs (take i ps) (take i ns) ++ unwrap_or (content s p) (base_in n.input inputs) ∷ [] ≡ first_trees s inputs (take (suc i) ps) (take (suc i) ns)
+first_suc : (s : Store) (inputs : List TreeMap) (i : ℕ) (ps : List Place) (ns : List Need) (p : Place) (n : Need) → slice_get ps i ≡ Some p
+    → slice_get ns i ≡ Some n
+    → first_trees s inputs (take i ps) (take i ns) ++ unwrap_or (content s p) (base_in n.input inputs) ∷ []
+    ≡ first_trees s inputs (take (suc i) ps) (take (suc i) ns)
 first_suc s inputs i [] ns p n at need = absurd cc
 first_suc s inputs i (q ∷ ps) [] p n at need = absurd cc
 first_suc s inputs zero (q ∷ ps) (m ∷ ns) p n at need =
@@ -66,8 +71,10 @@ first_suc s inputs zero (q ∷ ps) (m ∷ ns) p n at need =
 first_suc s inputs (suc i) (q ∷ ps) (m ∷ ns) p n at need =
     ap (λ ts. unwrap_or (content s q) (base_in m.input inputs) ∷ ts) (first_suc s inputs i ps ns p n at need)
 
-pub first_more : (s : Store) (inputs : List TreeMap) (i : ℕ) (ps : List Place) (ws : List Wanted) (p : Place) (w : Wanted) → slice_get ps i ≡ Some p → slice_get ws i ≡ Some w
-    → first_trees s inputs (take i ps) (map need_of (take i ws)) ++ unwrap_or (content s p) (base_in w.input inputs) ∷ [] ≡ first_trees s inputs (take (i + 1) ps) (map need_of (take (i + 1) ws))
+pub first_more : (s : Store) (inputs : List TreeMap) (i : ℕ) (ps : List Place) (ws : List Wanted) (p : Place) (w : Wanted)
+    → slice_get ps i ≡ Some p → slice_get ws i ≡ Some w
+    → first_trees s inputs (take i ps) (map need_of (take i ws)) ++ unwrap_or (content s p) (base_in w.input inputs) ∷ []
+    ≡ first_trees s inputs (take (i + 1) ps) (map need_of (take (i + 1) ws))
 first_more s inputs i ps ws p w at want =
     ap (λ ns. first_trees s inputs (take i ps) ns ++ unwrap_or (content s p) (base_in w.input inputs) ∷ []) (map_take i ws)
     ∙ first_suc s inputs i ps (map need_of ws) p (need_of w) at (get_map need_of ws i w want)
@@ -77,7 +84,8 @@ first_more s inputs i ps ws p w at want =
 -- ---- the needs of a vertex
 
 -- a lease is refused for the first key that is shut
-pub shut_first : (out : Leases) (inputs : List TreeMap) (needs : List Need) → option_map (λ (n : cache_need.Need). n.key) (find (cache.is_shut out) (asked inputs needs)) ≡ shut_key out needs
+pub shut_first : (out : Leases) (inputs : List TreeMap) (needs : List Need)
+    → option_map (λ (n : cache_need.Need). n.key) (find (cache.is_shut out) (asked inputs needs)) ≡ shut_key out needs
 shut_first out inputs [] = refl
 shut_first out inputs (n ∷ needs) = go (is_shut out n.key) (shut_first out inputs needs)
   where
@@ -85,7 +93,8 @@ shut_first out inputs (n ∷ needs) = go (is_shut out n.key) (shut_first out inp
     need = record { key = n.key; tree = base_in n.input inputs }
 
     go : (b : Bool) → option_map (λ (n : cache_need.Need). n.key) (find (cache.is_shut out) (asked inputs needs)) ≡ shut_key out needs
-        → option_map (λ (n : cache_need.Need). n.key) (cond b (Some need) (find (cache.is_shut out) (asked inputs needs))) ≡ cond b (Some n.key) (shut_key out needs)
+        → option_map (λ (n : cache_need.Need). n.key) (cond b (Some need) (find (cache.is_shut out) (asked inputs needs)))
+        ≡ cond b (Some n.key) (shut_key out needs)
     go true rest = refl
     go false rest = rest
 
@@ -120,7 +129,8 @@ apart_from : (inputs : List Input) (i : ℕ) (ms : List Mount) → Distinct (map
 apart_from inputs i [] = tt
 apart_from inputs i (m ∷ ms) = by_key (mounts.key_of inputs m) (apart_from inputs (i + 1) ms)
   where
-    by_key : (o : Option CacheKey) → Distinct (map mount_of (needs_from inputs (i + 1) ms)) → Distinct (map mount_of (with_need i m o (needs_from inputs (i + 1) ms)))
+    by_key : (o : Option CacheKey) → Distinct (map mount_of (needs_from inputs (i + 1) ms))
+        → Distinct (map mount_of (with_need i m o (needs_from inputs (i + 1) ms)))
     by_key None rest = rest
     by_key (Some k) rest = (λ h. let past = (needs_past inputs (i + 1) i ms h).0 in absurd (omega (arith, past)), rest)
 

@@ -1,5 +1,6 @@
--- The lists of instances behind an event: what is written there is what a step puts, and what a claim makes.
-use Rattle.std.proofs.Common.{◌≡◌, ℕ, zero, suc, ◌<◌, ◌≤◌, Bool, true, false, List, [], ◌∷◌, ◌++◌, length, map, Some, unwrap_or, inl, inr, refl, sym, ap, subst, ◌∙◌, cond, arith, lt-ltb}
+-- The lists of instances after an event: what is written there is what a step puts, and what a claim makes.
+use Rattle.std.proofs.Common.{◌≡◌, ℕ, zero, suc, ◌<◌, ◌≤◌, Bool, true, false, List, [], ◌∷◌, ◌++◌, length, map, Some, unwrap_or, inl, inr}
+use Rattle.std.proofs.Common.{refl, sym, ap, subst, ◌∙◌, cond, arith, lt-ltb}
 use Rattle.std.specs.Prelude.{slice_get, slice_set, nat_lt}
 use Rattle.std.specs.Map.{lookup}
 use Rattle.std.proofs.lemmas.Bool.{ltb-true, ltb-false}
@@ -30,7 +31,8 @@ put_shown rows p t within =
     ap (λ b. with_trees rows p.key (cond b (slice_set (trees_of rows p.key) p.number t) (trees_of rows p.key ++ t ∷ [])))
     (lt-ltb p.number (length (trees_of rows p.key)) within)
 
-each_written : (s : Store) (rows : List Row) (ps : List Place) (ts : List TreeMap) → Hold s ps ts → ((p : Place) → Has ps p → p.number < length (trees_of rows p.key))
+each_written : (s : Store) (rows : List Row) (ps : List Place) (ts : List TreeMap) → Hold s ps ts
+    → ((p : Place) → Has ps p → p.number < length (trees_of rows p.key))
     → written s rows ps ≡ put_each rows ps ts
 each_written s rows [] ts hold within = refl
 each_written s rows (p ∷ ps) [] hold within = absurd hold
@@ -38,7 +40,8 @@ each_written s rows (p ∷ ps) (t ∷ ts) hold within =
     ap (λ r. written s r ps) (ap (λ o. showing rows p (unwrap_or o empty_tree)) hold.0 ∙ put_shown rows p t (within p (inl refl)))
     ∙ each_written s (cache.put rows p t) ps ts hold.1 (λ q h. let same = put_counts rows p t q.key in let low = within q (inr h) in omega (arith, low, same))
 
-pub written_each : (rows : List Row) (ps : List Place) (ts : List TreeMap) → Distinct ps → length ts ≡ length ps → ((p : Place) → Has ps p → p.number < length (trees_of rows p.key))
+pub written_each : (rows : List Row) (ps : List Place) (ts : List TreeMap) → Distinct ps → length ts ≡ length ps
+    → ((p : Place) → Has ps p → p.number < length (trees_of rows p.key))
     → written (put_all (store_of rows) ps ts) rows ps ≡ put_each rows ps ts
 written_each rows ps ts apart count within = each_written (put_all (store_of rows) ps ts) rows ps ts (hold_all (store_of rows) ps ts apart count) within
 
@@ -49,8 +52,10 @@ pub same_rows : (rows : List Row) (k : Key) → 0 < length (trees_of rows k) →
 same_rows [] k some = absurd (omega (arith, some))
 same_rows (r ∷ rows) k some = go (same_key k r.0) some (same_rows rows k)
   where
-    go : (b : Bool) → 0 < length (unwrap_or (cond b (Some r.1) (lookup (same_key k) rows)) []) → (0 < length (trees_of rows k) → with_trees rows k (trees_of rows k) ≡ rows)
-        → cond b ((r.0, unwrap_or (cond b (Some r.1) (lookup (same_key k) rows)) []) ∷ rows) (r ∷ with_trees rows k (unwrap_or (cond b (Some r.1) (lookup (same_key k) rows)) [])) ≡ r ∷ rows
+    go : (b : Bool) → 0 < length (unwrap_or (cond b (Some r.1) (lookup (same_key k) rows)) [])
+        → (0 < length (trees_of rows k) → with_trees rows k (trees_of rows k) ≡ rows)
+        → cond b ((r.0, unwrap_or (cond b (Some r.1) (lookup (same_key k) rows)) []) ∷ rows)
+        (r ∷ with_trees rows k (unwrap_or (cond b (Some r.1) (lookup (same_key k) rows)) [])) ≡ r ∷ rows
     go true some rest = refl
     go false some rest = ap (λ rs. r ∷ rs) (rest some)
 
@@ -64,7 +69,8 @@ made_shown : (rows : List Row) (p : Place) (t : TreeMap) → showing rows p (unw
 made_shown rows p t = go (nat_lt p.number (length (trees_of rows p.key))) refl
   where
     go : (b : Bool) → nat_lt p.number (length (trees_of rows p.key)) ≡ b
-        → with_trees rows p.key (cond b (slice_set (trees_of rows p.key) p.number (unwrap_or (content (store_of rows) p) t)) (trees_of rows p.key ++ unwrap_or (content (store_of rows) p) t ∷ []))
+        → with_trees rows p.key (cond b (slice_set (trees_of rows p.key) p.number (unwrap_or (content (store_of rows) p) t))
+        (trees_of rows p.key ++ unwrap_or (content (store_of rows) p) t ∷ []))
         ≡ cond b rows (with_trees rows p.key (trees_of rows p.key ++ t ∷ []))
     go true is =
         let within : p.number < length (trees_of rows p.key) = ltb-true p.number (length (trees_of rows p.key)) is in
@@ -74,7 +80,8 @@ made_shown rows p t = go (nat_lt p.number (length (trees_of rows p.key))) refl
         ∙ same_rows rows p.key (omega (arith, within))
     go false is =
         let past : length (trees_of rows p.key) ≤ p.number = ltb-false p.number (length (trees_of rows p.key)) is in
-        let new : unwrap_or (content (store_of rows) p) t ≡ t = ap (λ o. unwrap_or o t) (shows_instances rows p ∙ get_past (trees_of rows p.key) p.number past) in
+        let new : unwrap_or (content (store_of rows) p) t ≡ t = ap (λ o. unwrap_or o t)
+        (shows_instances rows p ∙ get_past (trees_of rows p.key) p.number past) in
         ap (λ u. with_trees rows p.key (trees_of rows p.key ++ u ∷ [])) new
 
 all_shown : (s : Store) (rows : List Row) (out : Leases) (inputs : List TreeMap) (needs : List Need) → Distinct (places_taken out needs)
@@ -92,18 +99,23 @@ all_shown s rows out inputs (n ∷ needs) apart reached hold =
     let trees : first_trees (store_of next) inputs ps needs ≡ first_trees (store_of rows) inputs ps needs =
     ap (λ r. first_trees r inputs ps needs) one ∙ first_same (store_of rows) p u inputs ps needs apart.0 in
     ap (λ r. written s r ps) (ap (λ o. showing rows p (unwrap_or o empty_tree)) hold.0 ∙ made_shown rows p t)
-    ∙ all_shown s next out inputs needs apart.1 (λ q h. let grows = (makes rows p t).grows q.key in let low = reached q (inr h) in omega (arith, low, grows)) (subst (Hold s ps) (sym trees) hold.1)
+    ∙ all_shown s next out inputs needs apart.1 (λ q h. let grows = (makes rows p t).grows q.key in let low =
+    reached q (inr h) in omega (arith, low, grows)) (subst (Hold s ps) (sym trees) hold.1)
 
-taken_places : (out : Leases) (inputs : List TreeMap) (needs : List Need) → places_taken out needs ≡ map (λ (t : Taken). t.0) (cache.taken out (asked inputs needs))
+taken_places : (out : Leases) (inputs : List TreeMap) (needs : List Need)
+    → places_taken out needs ≡ map (λ (t : Taken). t.0) (cache.taken out (asked inputs needs))
 taken_places out inputs [] = refl
 taken_places out inputs (n ∷ needs) = ap (λ ps. cache.place_for out n.key ∷ ps) (taken_places out inputs needs)
 
-pub written_made : (rows : List Row) (out : Leases) (workers : List At) (inputs : List TreeMap) (needs : List Need) → HoldsAs out workers → cache.AreApart out → cache.AreThere rows out
+pub written_made : (rows : List Row) (out : Leases) (workers : List At) (inputs : List TreeMap) (needs : List Need) → HoldsAs out workers
+    → cache.AreApart out → cache.AreThere rows out
     → Distinct (map key_of needs)
-    → written (put_all (store_of rows) (places_for (held workers) needs) (first_trees (store_of rows) inputs (places_for (held workers) needs) needs)) rows (places_for (held workers) needs)
+    → written (put_all (store_of rows) (places_for (held workers) needs)
+    (first_trees (store_of rows) inputs (places_for (held workers) needs) needs)) rows (places_for (held workers) needs)
     ≡ made_all rows (cache.taken out (asked inputs needs))
 written_made rows out workers inputs needs same apart there differ =
-    subst (λ ps. written (put_all (store_of rows) ps (first_trees (store_of rows) inputs ps needs)) rows ps ≡ made_all rows (cache.taken out (asked inputs needs))) alike
+    subst (λ ps. written (put_all (store_of rows) ps (first_trees (store_of rows) inputs ps needs)) rows ps
+    ≡ made_all rows (cache.taken out (asked inputs needs))) alike
     (all_shown (put_all (store_of rows) taken (first_trees (store_of rows) inputs taken needs)) rows out inputs needs distinct reached
     (hold_all (store_of rows) taken (first_trees (store_of rows) inputs taken needs) distinct (first_length (store_of rows) inputs taken needs count)))
   where

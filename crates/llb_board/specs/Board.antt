@@ -1,5 +1,6 @@
 -- A board as contracts see it: what it was opened with, the machine's state, and the record of events; and what a call did.
-use Rattle.std.specs.Prelude.{◌≡◌, ◌≢◌, ℕ, List, [], ◌∷◌, ◌++◌, fold, option_map, slice_get, Option, Some, None, Result, Ok, Err, Bool, true, is_some, ◌||◌, ◌&&◌}
+use Rattle.std.specs.Prelude.{◌≡◌, ◌≢◌, ℕ, List, [], ◌∷◌, ◌++◌, fold, option_map, slice_get, Option, Some, None, Result, Ok, Err, Bool}
+use Rattle.std.specs.Prelude.{true, is_some, ◌||◌, ◌&&◌}
 use Rattle.std.specs.List.{list_any, list_all}
 use Rattle.llb_loader.specs.declared.graph.Edge.{Edge}
 use Rattle.llb_loader.specs.declared.graph.Vertex.{Vertex}
@@ -22,7 +23,7 @@ pub record Seen : Type 0 where
   pub rows : List Row
   pub events : List Event
 
--- so many workers, and the caches that are handed in
+-- that many workers, and the caches that are handed in
 abbrev pub opening_with : ℕ → List Row → Opening
 opening_with workers rows = record { workers = workers; store = store_of rows }
 
@@ -31,12 +32,12 @@ abbrev pub opened : Build → ℕ → List Row → Seen
 opened b workers rows =
     record { build = b; opening = opening_with workers rows; first = rows; state = opening b (opening_with workers rows); rows = rows; events = [] }
 
--- behind an event that is granted: the state, and the lists of instances
+-- after an event that is granted: the state, and the lists of instances
 abbrev pub kept_next : Build → Option (State × List Row) → Event → Option (State × List Row)
 kept_next b None e = None
 kept_next b (Some (s, rows)) e = option_map (λ (a : State × Reply). (a.0, rows_after rows a.0 (worker_of e))) (table b s e)
 
--- and behind events, each of which is granted
+-- and after events, each of which is granted
 abbrev pub kept_along : Build → State → List Row → List Event → Option (State × List Row)
 kept_along b s rows es = fold (kept_next b) (Some (s, rows)) es
 
@@ -65,7 +66,8 @@ ChosenIsGranted b = (e : Event) → chosen b.build b.state ≡ Some e → is_som
 
 -- an event that is granted leaves what the workers other than its own do as it is
 abbrev pub OthersKeep : Seen → Type 0
-OthersKeep b = (e : Event) (a : State × Reply) → table b.build b.state e ≡ Some a → (u : ℕ) → u ≢ worker_of e → slice_get a.0.workers u ≡ slice_get b.state.workers u
+OthersKeep b = (e : Event) (a : State × Reply) → table b.build b.state e ≡ Some a → (u : ℕ) → u ≢ worker_of e
+    → slice_get a.0.workers u ≡ slice_get b.state.workers u
 
 -- no two workers run one vertex
 abbrev pub OneWorkerEach : Seen → Type 0

@@ -1,5 +1,6 @@
--- The caches of a board: what a claim takes, in words of leases, and the lists of instances behind an event.
-use Rattle.std.specs.Prelude.{◌≡◌, pos, ℕ, Bool, ◌&&◌, List, [], ◌∷◌, ◌++◌, length, map, Option, Some, None, unwrap_or, slice_get, slice_set, nat_lt, Result, Ok, Err, if◌then◌else◌}
+-- The caches of a board: what a claim takes, in words of leases, and the lists of instances after an event.
+use Rattle.std.specs.Prelude.{◌≡◌, pos, ℕ, Bool, ◌&&◌, List, [], ◌∷◌, ◌++◌, length, map, Option, Some, None, unwrap_or, slice_get}
+use Rattle.std.specs.Prelude.{slice_set, nat_lt, Result, Ok, Err, if◌then◌else◌}
 use Rattle.llb_cache.specs.declared.key.Key.{Key}
 use Rattle.llb_cache.specs.Caches as cache
 use Rattle.llb_cache.specs.Caches.{Row, Leases, trees_of, with_trees, is_held, is_locked}
@@ -114,6 +115,6 @@ places_at (Some (Runs x)) = x.places
 places_at (Some Idle) = []
 places_at None = []
 
--- behind an event of a worker: no other instances are written or made than those that it has then
+-- after an event of a worker: no other instances are written or made than those that it has then
 abbrev pub rows_after : List Row → State → ℕ → List Row
 rows_after rows s w = written s.store rows (places_at (slice_get s.workers w))

@@ -1,4 +1,4 @@
--- What stands behind the word `fault` where a board refuses an event: the number, and the key of a cache that is held.
+-- What stands after the word `fault` where a board refuses an event: the number, and the key of a cache that is held.
 use Rattle.std.specs.Prelude.{ℕ, List, ◌++◌, codes}
 use Rattle.llb_board.specs.declared.fault.ClaimFault.{ClaimFault}
 use Rattle.llb_board.specs.declared.fault.ClaimFault.TheVariants as claim

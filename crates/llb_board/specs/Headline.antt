@@ -24,7 +24,8 @@ HeldOnce b = (w u : ℕ) (p : Place) → HasPlace b w p → HasPlace b u p → I
 
 -- an event of another worker leaves such an instance as it is
 abbrev pub OthersLeave : Seen → Type 0
-OthersLeave b = (w : ℕ) (p : Place) → HasPlace b w p → IsExclusive p.key.mode → (e : Event) (t : State) (r : Reply) → worker_of e ≢ w → table b.build b.state e ≡ Some (t, r)
+OthersLeave b = (w : ℕ) (p : Place) → HasPlace b w p → IsExclusive p.key.mode → (e : Event) (t : State) (r : Reply) → worker_of e ≢ w
+    → table b.build b.state e ≡ Some (t, r)
     → content t.store p ≡ content b.state.store p
 
 -- and would have the same reply, and the same effect elsewhere, whatever tree it were

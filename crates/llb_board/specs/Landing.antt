@@ -108,12 +108,12 @@ pub record Lands (b : Seen) (w : ℕ) (o : OutcomeValue) (new : Seen) (reply : R
   pub rows : kept_along b.build b.state b.rows (landing w o.count) ≡ Some (new.state, new.rows)
   pub recorded : new ≡ record b { state = new.state; rows = new.rows; events = b.events ++ landing w o.count }
 
--- behind the steps, what the worker runs is finished
+-- after the steps, what the worker runs is finished
 pub record IsThrough (b : Seen) (w : ℕ) (count : ℕ) (new : Seen) : Type 0 where
   pub steps : Steps b w count new
   pub finished : is_ok (settle_grant new.build new.state w) ≡ true
 
--- the desk of a worker that has done so many micro-steps more, which left this
+-- the desk of a worker that has done that many micro-steps more, which left this
 abbrev pub desk_left : ℕ → Option VertexFault → View → Option Desk → Desk
 desk_left n fault view (Some (desk.Runs l x)) = desk.Runs l (record x { done = x.done + n; fault = fault; view = view })
 desk_left n fault view (Some desk.Idle) = desk.Idle

@@ -1,4 +1,4 @@
--- Which vertices have an edge to which, how many inputs of each are not done, and what is behind a vertex.
+-- Which vertices have an edge to which, how many inputs of each are not done, and what is after a vertex.
 use Rattle.std.specs.Prelude.{◌≡◌, ℕ, zero, suc, ◌+◌, ◌-◌, ◌<◌, ◌≤◌, ◌==◌, Bool, true, false, ◌&&◌, not, List, [], ◌∷◌, ◌++◌, length, get_or}
 use Rattle.std.specs.Prelude.{◌⊎◌, All, Contains, Some, is_some, slice_get, if◌then◌else◌}
 use Rattle.std.specs.List.{list_any}
@@ -42,7 +42,7 @@ open_inputs vs done x = count_below (waits_for done x) (length vs)
 abbrev pub AreBelow : List Vertex → Type 0
 AreBelow vs = (v : ℕ) (x : Vertex) → slice_get vs v ≡ Some x → All (λ (e : Edge). e.vertex < v) x.inputs
 
--- vertex v is entered at the end of the list of each vertex to which one of the edges leads, and these are so many
+-- vertex v is entered at the end of the list of each vertex to which one of the edges leads, and these are that many
 pub record IsEntered (edges : List Edge) (v : ℕ) (old new : List (List ℕ)) (count : ℕ) : Type 0 where
   pub same : length new ≡ length old
   pub lists : (u : ℕ) → u < length old → get_or new u [] ≡ (if leads edges u then get_or old u [] ++ v ∷ [] else get_or old u [])
@@ -57,7 +57,7 @@ pub record Linked : Type 0 where
   pub users : List (List ℕ)
   pub counts : List ℕ
 
--- nothing is reached, and there is room for so many
+-- nothing is reached, and there is room for that many
 pub record HasRoom (count : ℕ) (reached : List ℕ) (room : ℕ) : Type 0 where
   pub none : reached ≡ []
   pub fits : count ≤ room
@@ -91,7 +91,7 @@ AreLowered users old new = (length new ≡ length old) × ((x : ℕ) → get_or 
 abbrev pub AreRaised : List ℕ → List ℕ → List ℕ → Type 0
 AreRaised users old new = (length new ≡ length old) × ((x : ℕ) → x < length old → get_or new x 0 ≡ get_or old x 0 + times x users)
 
--- ---- marks that spread from a vertex to those behind it
+-- ---- marks that spread from a vertex to those after it
 
 abbrev pub is_marked : List Bool → ℕ → Bool
 is_marked marks x = get_or marks x false

@@ -35,7 +35,13 @@ pub record Supplies : Type 0 where
   pub keys : List Key
 
 abbrev pub supplies_of : own.Execution → Supplies
-supplies_of x = record { outputs = x.outputs.items; setting = x.setting; mounts = mounts_in x.view; shown = shown_in x.view; keys = map (λ (p : Place). p.key) x.places.items }
+supplies_of x = record {
+  outputs = x.outputs.items;
+  setting = x.setting;
+  mounts = mounts_in x.view;
+  shown = shown_in x.view;
+  keys = map (λ (p : Place). p.key) x.places.items;
+}
 
 -- the mounts that a vertex shows, and the caches that it needs
 abbrev pub mounts_at : Option Vertex → List Mount

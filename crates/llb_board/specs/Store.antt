@@ -45,7 +45,8 @@ pub unpacked-packed : (p : Place) → unpacked (packed p) ≡ p
 unpacked-packed p = λ i. record { number = p.number; key = record { id = p.key.id; seed = seed_back p.key.seed i; mode = mode_back p.key.mode i } }
 
 abbrev pub coded_place : Coded Place
-coded_place = code_by Packed (coded× (coded× coded_ℕ coded_ℕ) (coded× (coded_list coded_ℕ) (coded_option (coded× (coded_list coded_ℕ) coded_ℕ)))) packed unpacked unpacked-packed
+coded_place = code_by Packed
+    (coded× (coded× coded_ℕ coded_ℕ) (coded× (coded_list coded_ℕ) (coded_option (coded× (coded_list coded_ℕ) coded_ℕ)))) packed unpacked unpacked-packed
 
 abbrev pub coded_store : Coded Store
 coded_store = finite.code coded_place coded_tree

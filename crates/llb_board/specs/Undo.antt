@@ -1,4 +1,4 @@
--- An event as a walker does it, what it displaces, and the board behind the event taken back.
+-- An event as a walker does it, what it displaces, and the board after the event taken back.
 use Rattle.std.specs.Prelude.{◌≡◌, ℕ, ◌-◌, Bool, true, false, List, [], length, take, Option, Some, None, Result, Ok, Err, slice_get, slice_set}
 use Rattle.llb_wire.specs.Answer as answer
 use Rattle.llb_cache.specs.Caches.{CachesValue, Row}

@@ -15,7 +15,7 @@ KeepsIf needed b (Some c) = KeepsCaches b c
 KeepsIf true b None = ⊥
 KeepsIf false b None = Unit {0}
 
--- want of memory is one fault, whoever has it
+-- out of memory is one fault, whoever has it
 abbrev pub claim_refused : ClaimFault → WalkFault
 claim_refused claim.Memory = walk.Memory
 claim_refused claim.NoWorker = walk.Claim claim.NoWorker

@@ -15,7 +15,8 @@ ghost use Rattle.llb_wire.specs.Answer.{MemoryLast};
 ghost use Rattle.llb_cache.specs.Caches.{leases};
 ghost use Rattle.llb_model.specs.Kept.{store_of};
 ghost use Rattle.llb_model.specs.Leases.{HoldsAs};
-ghost use Rattle.llb_board.specs.Rules.{may_work, open_memory, claim_memory, step_memory, claim_may_want, GivesOpen, open_of, open_with, returned, may_want_memory};
+ghost use Rattle.llb_board.specs.Rules.{may_work, open_memory, claim_memory, step_memory, claim_may_want, GivesOpen, open_of, open_with};
+ghost use Rattle.llb_board.specs.Rules.{returned, may_want_memory};
 ghost use Rattle.llb_board.specs.Rules.{GivesClaim, claim_of, GivesStep, step_of, GivesSettle, settle_of};
 ghost use Rattle.llb_board.specs.Views.{event_of, claim_reply, step_reply, settle_reply, status_of, look, look_at, worker_look};
 
@@ -73,7 +74,7 @@ impl Model for Board {
 
 impl Board {
     /// A board on which nothing has happened. In this order: 121 with the name of the least vertex's local source that
-    /// no tree is given for, 122 where the number of workers is 0 or more than 64; 123 is want of memory. The graph, the local trees and
+    /// no tree is given for, 122 where the number of workers is 0 or more than 64; 123 is out of memory. The graph, the local trees and
     /// the caches come back in the fault. No lease of the caches is out.
     pub fn open(
         alloc: Global,
@@ -287,7 +288,7 @@ impl Board {
         all_settled(&self.build, &self.stands, &self.stop_marks, self.first_open)
     }
 
-    /// The caches as they are now: each key in the order in which the first claim took it, behind those that were handed in, with its
+    /// The caches as they are now: each key in the order in which the first claim took it, after those that were handed in, with its
     /// instances. The leases that are out have the instances of the running workers. No memory.
     pub fn caches(&self) -> &Caches
         ensures rows { result.now.rows ≡ self.now.rows }
@@ -337,7 +338,7 @@ impl Board {
     }
 }
 
-// Whether there may be so many workers.
+// Whether there may be that many workers.
 fn may_work(workers: u32) -> bool
     ensures { result ≡ may_work workers }
 {

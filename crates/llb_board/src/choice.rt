@@ -72,7 +72,7 @@ pub(crate) fn all_settled(
     true
 }
 
-/// The first vertex from one on that is not done, failed or blocked; where there is none, the number behind the last. All are below
+/// The first vertex from one on that is not done, failed or blocked; where there is none, the number after the last. All are below
 /// the one that the search begins at.
 pub(crate) fn first_open(build: &Build, stands: &[Stand], stop_marks: &[bool], from: u32) -> u32
     requires marks { stop_marks.now ≡ stopped build.now (map status_of stands.now) }

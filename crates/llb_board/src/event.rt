@@ -42,7 +42,7 @@ pub enum Status {
     Waiting,
     /// All inputs are done.
     Ready,
-    /// It waits behind a vertex that has failed.
+    /// It waits after a vertex that has failed.
     Blocked,
     /// By the worker of that number.
     Running(u32),

@@ -26,7 +26,7 @@ impl Model for Events {
 }
 
 impl Events {
-    /// None yet, with room for so many.
+    /// None yet, with room for that many.
     pub(crate) fn with_room(alloc: Global, room: usize) -> Result<Events, AllocError>
         ensures none { IfOk result (λ e. e.list ≡ []) }
         ensures room { IfOk result (λ e. room ≤ e.room) }
@@ -53,7 +53,7 @@ impl Events {
         let _last = self.items.pop();
     }
 
-    /// The same events, with room for so many.
+    /// The same events, with room for that many.
     pub(crate) fn with_same(&self, alloc: Global, room: usize) -> Result<Events, Memory>
         ensures list { IfOk result (λ e. e.list ≡ self.now.list) }
         ensures room { IfOk result (λ e. room ≤ e.room) }

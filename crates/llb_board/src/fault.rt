@@ -159,7 +159,7 @@ impl fmt::Display for SettleFault {
 
 impl error::Error for SettleFault {}
 
-/// Why an event of a walk is refused: the fault of the claim, the step or the settle, or want of memory, whoever has it.
+/// Why an event of a walk is refused: the fault of the claim, the step or the settle, or out of memory, whoever has it.
 #[derive(Debug, Drop)]
 pub enum WalkFault {
     /// 131 to 135.

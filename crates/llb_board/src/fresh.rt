@@ -27,7 +27,7 @@ pub(crate) struct Fresh {
     pub events: Events,
 }
 
-/// For a graph, caches and so many workers.
+/// For a graph, caches and that many workers.
 pub(crate) fn opening(
     alloc: Global,
     build: &Build,

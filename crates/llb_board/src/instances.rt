@@ -1,4 +1,4 @@
-//! The instances of caches that a worker has: their lease, their trees for a micro-step and behind it, and the lease given back. A
+//! The instances of caches that a worker has: their lease, their trees for a micro-step and after it, and the lease given back. A
 //! worker whose vertex shows no cache has no lease.
 
 ghost use Rattle.std.specs.Prelude.{◌≡◌, ◌≢◌, ◌<◌, ◌^◌, map, length, AllPairs, IfOk, IfErr, OnErr, true};

@@ -139,7 +139,7 @@ fn is_run_of(build: &Build, caches: &Caches, w: u32, execution: &Execution, job:
         && has_numbers(&execution.places, job.instances.as_slice())
 }
 
-// Whether a job is a worker's, of this vertex and with so many micro-steps done, none of which has faulted.
+// Whether a job is a worker's, of this vertex and with that many micro-steps done, none of which has faulted.
 fn is_begun(w: u32, execution: &Execution, job: &Job) -> bool
     ensures { IsTrue result ↔ IsBegun w (execution_of execution.now) job.now }
 {
@@ -202,7 +202,7 @@ fn has_numbers(places: &[Place], numbers: &[u32]) -> bool
     true
 }
 
-// A worker has done so many micro-steps more, and this is what they left; its lease.
+// A worker has done that many micro-steps more, and this is what they left; its lease.
 fn put_left(
     desks: &mut Vec<Desk>,
     w: u32,

@@ -95,7 +95,7 @@ pub fn claims_least(board: &Board)
     let _ = board;
 }
 
-/// The instances of a key are a list: no number is left out, on this board, and behind all events where none is left out at first.
+/// The instances of a key are a list: no number is left out, on this board, and after all events where none is left out at first.
 pub fn stays_dense(board: &Board)
     ensures here { machine.IsDense board.now.state.store }
     ensures after { machine.StaysDense board.now.build }

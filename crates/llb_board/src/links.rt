@@ -116,7 +116,7 @@ impl Links {
         raise(counts, &users[v as usize]);
     }
 
-    /// Marks a vertex, and all that are behind it.
+    /// Marks a vertex, and all that are after it.
     pub(crate) fn spread(&mut self, marks: &mut [bool], v: u32)
         requires count { (length self.old.users ≡ length marks.old) × (length self.old.counts ≡ length marks.old) }
         requires low { v < length marks.old }
@@ -144,7 +144,7 @@ fn empty(alloc: Global, count: usize) -> Result<Vec<Vec<u32>>, AllocError>
 }
 
 // Vertex v, which is above all that are listed, stands at the end of the list of each vertex to which one of the edges leads, and
-// these are so many.
+// these are that many.
 fn enter(users: &mut Vec<Vec<u32>>, v: u32, edges: &[Edge]) -> Result<u32, AllocError>
     requires below { All (λ (e : edge.Edge). e.vertex < length users.old.items) edges.now }
     requires few { length users.old.items < 2 ^ 32 }

@@ -30,7 +30,8 @@ pub(crate) fn step(
     requires count { length trees.old.items ≡ length execution.old.places.items }
     ensures gives { GivesStep (λ r. record { execution = execution_of execution.new; trees = trees.new.items; reply = step_reply r }) result
         (worked (program_at (option_map (λ v. v.now) vertex.entry)).steps (execution_of execution.old) trees.old.items) }
-    ensures last { MemoryLast step_memory result (worked (program_at (option_map (λ v. v.now) vertex.entry)).steps (execution_of execution.old) trees.old.items) }
+    ensures last { MemoryLast step_memory result (worked (program_at (option_map (λ v. v.now) vertex.entry)).steps
+        (execution_of execution.old) trees.old.items) }
     ensures supplies { supplies_of execution.new ≡ supplies_of execution.old }
     ensures places { execution.new.places ≡ execution.old.places }
     ensures count { length trees.new.items ≡ length trees.old.items }

@@ -49,7 +49,8 @@ pub(crate) fn wanted_by(
     requires seeds { HasEdges vertex.now }
     requires few { length (kind_mounts vertex.now.op.kind) < 2 ^ 32 }
     ensures gives { GivesClaim (λ ws. map need_of ws.items) result (unless_shut (needs_of vertex.now) (shut_key caches.now.out (needs_of vertex.now))) }
-    ensures last { IfErr result (λ e. claim_memory e ≡ true → claim_may_want (unless_shut (needs_of vertex.now) (shut_key caches.now.out (needs_of vertex.now))) ≡ true) }
+    ensures last { IfErr result (λ e. claim_memory e ≡ true
+        → claim_may_want (unless_shut (needs_of vertex.now) (shut_key caches.now.out (needs_of vertex.now))) ≡ true) }
 {
     match first_shut(caches, vertex) {
         Some(key) => Err(ClaimFault::Held(key.to_key(alloc)?)),
@@ -149,14 +150,15 @@ pub(crate) fn mount_numbers(alloc: Global, wanted: &[Wanted]) -> Result<Vec<u32>
     Ok(numbers)
 }
 
-/// What a claim of these caches takes, with the trees of the inputs. Want of memory alone refuses it.
+/// What a claim of these caches takes, with the trees of the inputs. Out of memory alone refuses it.
 pub(crate) fn taking_for(
     alloc: Global,
     caches: &Caches,
     inputs: &[Tree],
     wanted: Vec<Wanted>,
 ) -> Result<Taking, ClaimFault>
-    ensures { GivesClaim (λ t. (t.places.items, t.instances.items, t.trees.items, t.needs.items)) result (Ok (taken_with caches.now inputs.now (map need_of wanted.items))) }
+    ensures { GivesClaim (λ t. (t.places.items, t.instances.items, t.trees.items, t.needs.items)) result
+        (Ok (taken_with caches.now inputs.now (map need_of wanted.items))) }
 {
     let places = places_taken(alloc, caches, &wanted)?;
     let instances = instance_numbers(alloc, &places)?;

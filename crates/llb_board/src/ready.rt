@@ -1,4 +1,4 @@
-//! Looks on what stands at the vertices: which vertices are ready, and which are behind one that
+//! Looks on what stands at the vertices: which vertices are ready, and which are after one that
 //! has failed.
 
 ghost use Rattle.std.specs.Prelude.{◌≡◌, [], map, length, option_map, slice_get, false, unwrap_or, ◌&&◌};
@@ -64,7 +64,7 @@ pub(crate) fn gathered(
     Ok(trees)
 }
 
-/// Marks each vertex that has failed, or is behind one that has.
+/// Marks each vertex that has failed, or is after one that has.
 pub(crate) fn mark_stopped(stop_marks: &mut [bool], stands: &[Stand], vertices: &[Vertex])
     requires { length stop_marks.old ≡ length vertices.now }
     ensures { stop_marks.new ≡ by_number (next_stopped (map status_of stands.now)) [] vertices.now }

@@ -1,4 +1,4 @@
-//! Marks that spread from a vertex to all that are behind it.
+//! Marks that spread from a vertex to all that are after it.
 
 ghost use Rattle.std.specs.Prelude.{◌≡◌, ◌<◌, ◌≤◌, ◌+◌, [], ◌∷◌, length, map, vec_capacity};
 ghost use Rattle.std.specs.List.{All};

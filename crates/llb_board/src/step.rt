@@ -60,7 +60,8 @@ pub(crate) fn claimable<'a>(
     ensures graph { IfOk result (λ _. IsGraph build.now.graph) }
     ensures first { MatchResult result
         (λ _. is_ok (claim_start (map status_of stands.now) v (slice_get (map at_of desks.now) w) (slice_get build.now.graph.vertices v)) ≡ true)
-        (λ e. faulted claim_fault (claim_start (map status_of stands.now) v (slice_get (map at_of desks.now) w) (slice_get build.now.graph.vertices v)) ≡ Err e) }
+        (λ e. faulted claim_fault (claim_start (map status_of stands.now) v (slice_get (map at_of desks.now) w)
+        (slice_get build.now.graph.vertices v)) ≡ Err e) }
 {
     match desk_at(desks, w) {
         None => return Err(ClaimFault::NoWorker),

@@ -184,7 +184,7 @@ fn put_lease(desk: &mut Desk, lease: Option<Lease>)
     }
 }
 
-// Marks each vertex that has failed or is behind one that has, where the marks may have changed.
+// Marks each vertex that has failed or is after one that has, where the marks may have changed.
 fn mark_anew(stop_marks: &mut Vec<bool>, stands: &[Stand], vertices: &[Vertex], changed: bool)
     requires { length stop_marks.old.items ≡ length vertices.now }
     ensures anew { OnTrue changed (stop_marks.new.items ≡ by_number (next_stopped (map status_of stands.now)) [] vertices.now) }

@@ -1,5 +1,6 @@
 -- Keys that are copied in their order stay in it, and rows that are the same at each index are the same.
-use Rattle.std.proofs.Common.{◌≡◌, ℕ, zero, suc, ◌+◌, ◌<◌, List, [], ◌∷◌, ◌++◌, length, take, drop, Some, slice_get, IfSome, unwrap_or, refl, sym, ap, ◌∙◌, subst, arith}
+use Rattle.std.proofs.Common.{◌≡◌, ℕ, zero, suc, ◌+◌, ◌<◌, List, [], ◌∷◌, ◌++◌, length, take, drop, Some, slice_get, IfSome, unwrap_or}
+use Rattle.std.proofs.Common.{refl, sym, ap, ◌∙◌, subst, arith}
 use Rattle.std.specs.List.{IsDistinct}
 use Rattle.std.specs.Map.{keys_of}
 use Rattle.indexmap.specs.IndexMap.{insert_entry}
@@ -7,7 +8,7 @@ use Rattle.indexmap.proofs.MapLemmas.{absent_before, absent_from_lookup, insert_
 use Rattle.llb_cache.specs.Key.{same_key, key_equiv}
 use Rattle.llb_cache.specs.Caches.{Row}
 
--- a row, and those before and behind it
+-- a row, and those before and after it
 record Split (es : List Row) (i : ℕ) : Type 0 where
   row : Row
   at : slice_get es i ≡ Some row

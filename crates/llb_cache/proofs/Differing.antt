@@ -1,5 +1,6 @@
 -- Whether the keys of needs differ: one more that is among those before, and one that is not.
-use Rattle.std.proofs.Common.{◌≡◌, ◌≢◌, ℕ, ◌+◌, ◌<◌, Bool, true, false, ◌||◌, List, [], ◌∷◌, ◌++◌, length, take, get_or, AllPairs, refl, sym, ap, ◌∙◌, subst, arith, inl, inr, true≢false, length-take-le}
+use Rattle.std.proofs.Common.{◌≡◌, ◌≢◌, ℕ, ◌+◌, ◌<◌, Bool, true, false, ◌||◌, List, [], ◌∷◌, ◌++◌, length, take, get_or, AllPairs, refl}
+use Rattle.std.proofs.Common.{sym, ap, ◌∙◌, subst, arith, inl, inr, true≢false, length-take-le}
 use Rattle.std.specs.List.{list_any}
 use Rattle.std.proofs.lemmas.List.{take_more, get_or-take, get_or_default}
 use Rattle.std.proofs.lemmas.List.Quantifiers.{all_pairs_push}
@@ -32,7 +33,8 @@ none_of key (m ∷ needs) e n h = go (same_key key m.key) refl e (none_of key ne
     go false is e rest (inr later) = rest e n later
 
 -- the key of the need at hand is among those before
-pub twice : (needs : List Need) (i : ℕ) (x : Need) → i < length needs → x ≡ get_or needs i x → list_any (λ (n : Need). same_key x.key n.key) (take i needs) ≡ true → Differ needs → ⊥
+pub twice : (needs : List Need) (i : ℕ) (x : Need) → i < length needs → x ≡ get_or needs i x
+    → list_any (λ (n : Need). same_key x.key n.key) (take i needs) ≡ true → Differ needs → ⊥
 twice needs i x below read e differ =
     let n = same_of x.key (take i needs) e in
     let at = contained_in (take i needs) n.0 n.1 in
@@ -44,8 +46,10 @@ twice needs i x below read e differ =
     differ at.0 i n.0 before below (ap (λ (m : Need). m.key) first ∙ sym n.2 ∙ ap (λ (m : Need). m.key) (sym second))
 
 -- it is not
-pub one_more : (needs : List Need) (i : ℕ) (x : Need) → i < length needs → x ≡ get_or needs i x → list_any (λ (n : Need). same_key x.key n.key) (take i needs) ≡ false → Differ (take i needs) → Differ (take (i + 1) needs)
+pub one_more : (needs : List Need) (i : ℕ) (x : Need) → i < length needs → x ≡ get_or needs i x
+    → list_any (λ (n : Need). same_key x.key n.key) (take i needs) ≡ false → Differ (take i needs) → Differ (take (i + 1) needs)
 one_more needs i x below read e differ =
     let more : take i needs ++ x ∷ [] ≡ take (i + 1) needs = ap (λ (n : Need). take i needs ++ n ∷ []) read ∙ sym (take_more needs i x below) in
     subst Differ more (all_pairs_push (λ n m. n.key ≢ m.key) (take i needs) x differ
-    (λ k d within. none_of x.key (take i needs) e (get_or (take i needs) k d) (in_contained (take i needs) (get_or (take i needs) k d) (Contains-get_or (take i needs) k d within))))
+    (λ k d within. none_of x.key (take i needs) e (get_or (take i needs) k d)
+    (in_contained (take i needs) (get_or (take i needs) k d) (Contains-get_or (take i needs) k d within))))

@@ -4,7 +4,8 @@ use Rattle.llb_cache.specs.declared.need.Need.{Need}
 use Rattle.llb_cache.specs.declared.need.Place.{Place}
 use Rattle.llb_cache.specs.declared.growing.Ready.{Ready}
 use Rattle.llb_cache.specs.Growing.{shown}
-use Rattle.llb_cache.specs.Caches.{CachesValue, Row, Leases, Taken, taken, made_all, is_shut, free_lease, with_lease, granted, lease_by, lease_of, places_of, place_for}
+use Rattle.llb_cache.specs.Caches.{CachesValue, Row, Leases, Taken, taken, made_all, is_shut, free_lease, with_lease, granted, lease_by}
+use Rattle.llb_cache.specs.Caches.{lease_of, places_of, place_for}
 use Rattle.llb_cache.specs.Leased.{lease_has}
 
 places_shown : (readies : List Ready) → map (λ (r : Ready). r.place) readies ≡ map (λ (t : Taken). t.0) (map shown readies)
@@ -19,7 +20,8 @@ is_granted c needs left readies places rows out lease same takes has makes puts 
     let all : taken c.out needs ≡ map shown readies = ap (taken c.out) (sym same) ∙ sym takes in
     let firsts : map (λ (t : Taken). t.0) (taken c.out needs) ≡ places = ap (λ ts. map (λ (t : Taken). t.0) ts) all ∙ sym (has ∙ places_shown readies) in
     let made_is : made_all c.rows (taken c.out needs) ≡ rows = ap (made_all c.rows) all ∙ sym makes in
-    let out_is : with_lease c.out (free_lease c.out) (map (λ (t : Taken). t.0) (taken c.out needs)) ≡ out = ap (with_lease c.out (free_lease c.out)) firsts ∙ sym puts in
+    let out_is : with_lease c.out (free_lease c.out) (map (λ (t : Taken). t.0) (taken c.out needs)) ≡ out =
+    ap (with_lease c.out (free_lease c.out)) firsts ∙ sym puts in
     λ i. (sym number i, record { rows = made_is i; out = out_is i })
 
 -- where no need is refused
@@ -27,7 +29,8 @@ pub not_refused : (c : CachesValue) (needs : List Need) → find (is_shut c.out)
 not_refused c needs none = ap (lease_by c needs) none
 
 -- a lease has an instance for each need
-pub granted_has : (c : CachesValue) (needs : List Need) → places_of (granted c needs).1.out (granted c needs).0 ≡ map (λ (n : Need). place_for c.out n.key) needs
+pub granted_has : (c : CachesValue) (needs : List Need) → places_of (granted c needs).1.out (granted c needs).0
+    ≡ map (λ (n : Need). place_for c.out n.key) needs
 granted_has c needs =
     ap (λ o. unwrap_or (unwrap_or o None) []) (lease_has c.out (map (λ (t : Taken). t.0) (taken c.out needs))) ∙ firsts needs
   where

@@ -1,12 +1,14 @@
--- What holds of caches holds behind each call.
-use Rattle.std.proofs.Common.{◌≡◌, ◌≢◌, ℕ, ◌<◌, ◌≤◌, Bool, true, false, cond, List, [], ◌∷◌, length, map, get_or, Some, None, refl, sym, ap, ◌∙◌, subst, arith, inl, inr, true≢false, find}
+-- What holds of caches holds after each call.
+use Rattle.std.proofs.Common.{◌≡◌, ◌≢◌, ℕ, ◌<◌, ◌≤◌, Bool, true, false, cond, List, [], ◌∷◌, length, map, get_or, Some, None, refl, sym, ap}
+use Rattle.std.proofs.Common.{◌∙◌, subst, arith, inl, inr, true≢false, find}
 use Rattle.std.specs.List.{All, AllPairs, AllByRecursion, Contains}
 use Rattle.std.proofs.lemmas.List.Elements.{All-from_recursion}
 use Rattle.llb_tree.specs.Tree.{TreeMap}
 use Rattle.llb_cache.specs.declared.key.Key.{Key}
 use Rattle.llb_cache.specs.declared.need.Need.{Need}
 use Rattle.llb_cache.specs.declared.need.Place.{Place}
-use Rattle.llb_cache.specs.Caches.{CachesValue, Row, Leases, Taken, place_for, taken, made_all, is_shut, is_held, leases, granted, free_lease, put, given_back, trees_of, IsCaches, IsExclusive, Has, AreApart, AreThere}
+use Rattle.llb_cache.specs.Caches.{CachesValue, Row, Leases, Taken, place_for, taken, made_all, is_shut, is_held, leases, granted}
+use Rattle.llb_cache.specs.Caches.{free_lease, put, given_back, trees_of, IsCaches, IsExclusive, Has, AreApart, AreThere}
 use Rattle.llb_cache.specs.Members.{In, in_contained, in_map, pairs_map}
 use Rattle.llb_cache.specs.Leased.{held_by, lease_cases, lease_short, back_cases, back_short}
 use Rattle.llb_cache.specs.Numbers.{number_within, number_free, number_next}
@@ -37,7 +39,8 @@ need_of : (out : Leases) (needs : List Need) (p : Place) → Contains (places ou
 need_of out needs p h = in_map (λ (n : Need). place_for out n.key) needs p (subst (λ ps. In ps p) (places_are out needs) (in_contained (places out needs) p h))
 
 -- no lease has what a lease takes for itself
-taken_free : (out : Leases) (needs : List Need) → AreApart out → find (is_shut out) needs ≡ None → (p : Place) → Contains (places out needs) p → IsExclusive p.key.mode → is_held out p ≡ false
+taken_free : (out : Leases) (needs : List Need) → AreApart out → find (is_shut out) needs ≡ None → (p : Place)
+    → Contains (places out needs) p → IsExclusive p.key.mode → is_held out p ≡ false
 taken_free out needs apart none p h alone =
     let n = need_of out needs p h in
     let mode = ap (λ (q : Place). q.key.mode) n.2 in
@@ -59,7 +62,8 @@ first_of_each P (t ∷ ts) all = (all.0, first_of_each P ts all.1)
 -- ---- a lease
 
 -- two leases of which one is the new one
-pub lease_keeps : (c : CachesValue) (needs : List Need) → IsCaches c → leases c.out < 65536 → AllPairs (λ n m. n.key ≢ m.key) needs → find (is_shut c.out) needs ≡ None
+pub lease_keeps : (c : CachesValue) (needs : List Need) → IsCaches c → leases c.out < 65536 → AllPairs (λ n m. n.key ≢ m.key) needs
+    → find (is_shut c.out) needs ≡ None
     → IsCaches (granted c needs).1
 unfolding places
 lease_keeps c needs is few differ none =
@@ -82,13 +86,17 @@ lease_keeps c needs is few differ none =
         ]
       ];
       apart = λ a ps at. elim (cases a ps at) [
-        | inl x ↦ subst (λ l. AllPairs (λ p q. p.key ≢ q.key) l) (sym (places_are out needs) ∙ x.1) (pairs_map (λ p q. p.key ≢ q.key) (λ (n : Need). place_for out n.key) needs differ)
+        | inl x ↦ subst (λ l. AllPairs (λ p q. p.key ≢ q.key) l) (sym (places_are out needs) ∙ x.1)
+            (pairs_map (λ p q. p.key ≢ q.key) (λ (n : Need). place_for out n.key) needs differ)
         | inr x ↦ is.apart a ps x
       ];
       there = λ a ps at. elim (cases a ps at) [
         | inl x ↦ subst (λ l. All (λ p. p.number < length (trees_of rows p.key)) l) x.1
-            (All-from_recursion (λ p. p.number < length (trees_of rows p.key)) new (first_of_each (λ p. p.number < length (trees_of rows p.key)) (taken out needs) (all_there c.rows (taken out needs) (next_all c.rows out needs is.there))))
-        | inr x ↦ λ k d below. let old = is.there a ps x k d below in let more = all_grow c.rows (taken out needs) (get_or ps k d).key in omega (arith, old, more)
+            (All-from_recursion (λ p. p.number < length (trees_of rows p.key)) new
+            (first_of_each (λ p. p.number < length (trees_of rows p.key)) (taken out needs)
+            (all_there c.rows (taken out needs) (next_all c.rows out needs is.there))))
+        | inr x ↦ λ k d below. let old = is.there a ps x k d below in let more = all_grow c.rows (taken out needs) (get_or ps k d).key in
+            omega (arith, old, more)
       ];
       few = all_few c.rows (taken out needs) is.few (small_all out needs few);
       short = lease_short out new is.short few;

@@ -1,6 +1,8 @@
 -- Caches and the leases of them: for each key the list of its instances, and for each lease the instances that it has. What
 -- a lease takes depends on what other leases have alone, and on the modes of the keys.
-use Rattle.std.specs.Prelude.{◌≡◌, ◌≢◌, ℕ, zero, suc, ◌+◌, ◌<◌, ◌≤◌, ◌==◌, Bool, true, false, not, ◌&&◌, nat_lt, if◌then◌else◌, List, [], ◌∷◌, ◌++◌, length, map, fold, count_by, slice_get, slice_set, slice_index_or, Option, Some, None, is_some, unwrap_or, Result, Ok, Err}
+use Rattle.std.specs.Prelude.{◌≡◌, ◌≢◌, ℕ, zero, suc, ◌+◌, ◌<◌, ◌≤◌, ◌==◌, Bool, true, false, not, ◌&&◌, nat_lt, if◌then◌else◌, List, []}
+use Rattle.std.specs.Prelude.{◌∷◌, ◌++◌, length, map, fold, count_by, slice_get, slice_set, slice_index_or, Option, Some, None, is_some}
+use Rattle.std.specs.Prelude.{unwrap_or, Result, Ok, Err}
 use Rattle.std.specs.List.{list_any, find, position_or_len, All, AllPairs, Contains}
 use Rattle.std.specs.Map.{lookup}
 use Rattle.indexmap.specs.IndexMap.{insert_entry}
@@ -36,7 +38,7 @@ place key number = record { key = key; number = number }
 abbrev pub trees_of : List Row → Key → List TreeMap
 trees_of rows key = unwrap_or (lookup (same_key key) rows) []
 
--- a key has these trees, in the place of those that it had; a new key stands behind all others
+-- a key has these trees, in the place of those that it had; a new key stands after all others
 abbrev pub with_trees : List Row → Key → List TreeMap → List Row
 with_trees rows key trees = insert_entry same_key rows key trees
 
@@ -48,7 +50,7 @@ tree_at rows p = slice_get (trees_of rows p.key) p.number
 abbrev pub put : List Row → Place → TreeMap → List Row
 put rows p tree = with_trees rows p.key (slice_set (trees_of rows p.key) p.number tree)
 
--- an instance that is not there is made with a tree, behind the others of its key
+-- an instance that is not there is made with a tree, after the others of its key
 abbrev pub made : List Row → Place → TreeMap → List Row
 made rows p tree = if nat_lt p.number (length (trees_of rows p.key)) then rows else with_trees rows p.key (trees_of rows p.key ++ tree ∷ [])
 
@@ -84,12 +86,12 @@ place_at out lease i = slice_index_or (places_of out lease) i (place (record { i
 
 -- ---- what a lease takes
 
--- the least number from n on whose instance no lease has, where it is among so many or the one behind them
+-- the least number from n on whose instance no lease has, where it is among that many or the one after them
 unfoldable pub first_free : Leases → Key → ℕ → ℕ → ℕ
 first_free out key n zero = n
 first_free out key n (suc more) = if is_held out (place key n) then first_free out key (n + 1) more else n
 
--- the number of the instance that a key gives: of a private one the least that no lease has, where so many are out
+-- the number of the instance that a key gives: of a private one the least that no lease has, where that many are out
 abbrev pub number_for : Leases → Key → Mode → ℕ
 number_for out key Shared = 0
 number_for out key Locked = 0
@@ -156,7 +158,7 @@ abbrev pub before : Leases → Leases
 before [] = []
 before (o ∷ out) = None ∷ o ∷ out
 
--- behind the last lease that is out there is nothing
+-- after the last lease that is out there is nothing
 unfoldable pub trimmed : Leases → Leases
 trimmed [] = []
 trimmed (Some ps ∷ out) = Some ps ∷ trimmed out

@@ -1,5 +1,7 @@
--- Which leases have an instance, and who has what behind a lease and behind its end.
-use Rattle.std.proofs.Common.{slice_get, ◌≡◌, ℕ, zero, suc, ◌+◌, ◌<◌, ◌≤◌, Bool, true, false, cond, ◌&&◌, ◌||◌, List, [], ◌∷◌, ◌++◌, length, Option, Some, None, is_some, slice_set, get_or, take, unwrap_or, nat_lt, refl, sym, ap, ◌∙◌, arith, inl, inr, ◌⊎◌, length-append}
+-- Which leases have an instance, and who has what after a lease and after its end.
+use Rattle.std.proofs.Common.{slice_get, ◌≡◌, ℕ, zero, suc, ◌+◌, ◌<◌, ◌≤◌, Bool, true, false, cond, ◌&&◌, ◌||◌, List, [], ◌∷◌, ◌++◌, length}
+use Rattle.std.proofs.Common.{Option, Some, None, is_some, slice_set, get_or, take, unwrap_or, nat_lt, refl, sym, ap, ◌∙◌, arith, inl, inr}
+use Rattle.std.proofs.Common.{◌⊎◌, length-append}
 use Rattle.std.specs.List.{list_any}
 use Rattle.std.proofs.lemmas.Bool.{eqb-true, eq-eqb, ltb-false, ltb-true}
 use Rattle.std.proofs.lemmas.List.{length-set, take_more}
@@ -100,7 +102,7 @@ some_same ps qs e = ap (λ o. unwrap_or o ps) e
 pub free_within : (out : Leases) → free_lease out ≤ length out
 free_within out = prefix_len-le-length _ out
 
--- where all numbers are taken, so many leases are out
+-- where all numbers are taken, that many leases are out
 all_out : (out : Leases) → length out ≤ free_lease out → leases out ≡ length out
 all_out [] h = refl
 all_out (None ∷ out) h = absurd (omega (arith, h))
@@ -110,17 +112,20 @@ all_out (Some ps ∷ out) h =
     let rest = all_out out (omega (arith, h, first)) in
     omega (arith, rest, one)
 
--- who has what behind a lease
-pub lease_cases : (out : Leases) (ps : List Place) (a : ℕ) (qs : List Place) → Has (with_lease out (free_lease out) ps) a qs → ((a ≡ free_lease out) × (ps ≡ qs)) ⊎ Has out a qs
+-- who has what after a lease
+pub lease_cases : (out : Leases) (ps : List Place) (a : ℕ) (qs : List Place) → Has (with_lease out (free_lease out) ps) a qs
+    → ((a ≡ free_lease out) × (ps ≡ qs)) ⊎ Has out a qs
 lease_cases out ps a qs = go (nat_lt (free_lease out) (length out)) refl
   where
-    go : (b : Bool) → nat_lt (free_lease out) (length out) ≡ b → Has (cond b (slice_set out (free_lease out) (Some ps)) (out ++ Some ps ∷ [])) a qs → ((a ≡ free_lease out) × (ps ≡ qs)) ⊎ Has out a qs
+    go : (b : Bool) → nat_lt (free_lease out) (length out) ≡ b
+        → Has (cond b (slice_set out (free_lease out) (Some ps)) (out ++ Some ps ∷ [])) a qs → ((a ≡ free_lease out) × (ps ≡ qs)) ⊎ Has out a qs
     go true is at = elim (set_cases out (free_lease out) (Some ps) a qs at) [
       | inl h ↦ inl (h.0, some_same ps qs h.1)
       | inr h ↦ inr h
     ]
     go false is at = elim (push_cases out (Some ps) a qs at) [
-      | inl h ↦ let past = ltb-false (free_lease out) (length out) is in let within = free_within out in let n = h.0 in inl (omega (arith, n, past, within), some_same ps qs h.1)
+      | inl h ↦ let past = ltb-false (free_lease out) (length out) is in let within = free_within out in let n =
+          h.0 in inl (omega (arith, n, past, within), some_same ps qs h.1)
       | inr h ↦ inr h
     ]
 
@@ -159,7 +164,7 @@ trimmed_short [] = omega arith
 trimmed_short (Some ps ∷ out) = let rest = trimmed_short out in omega (arith, rest)
 trimmed_short (None ∷ out) = let rest = trimmed_short out in let one = before_short (trimmed out) in omega (arith, rest, one)
 
--- who has what behind the end of a lease
+-- who has what after the end of a lease
 pub back_cases : (out : Leases) (n : ℕ) (a : ℕ) (qs : List Place) → Has (trimmed (slice_set out n None)) a qs → Has out a qs
 back_cases out n a qs at = elim (set_cases out n None a qs (trimmed_has (slice_set out n None) a qs at)) [
   | inl h ↦ absurd (let e = h.1 in cc)
@@ -169,7 +174,7 @@ back_cases out n a qs at = elim (set_cases out n None a qs (trimmed_has (slice_s
 pub back_short : (out : Leases) (n : ℕ) → length (trimmed (slice_set out n None)) ≤ length out
 back_short out n = let less = trimmed_short (slice_set out n None) in let same = length-set out n None in omega (arith, less, same)
 
--- behind the last lease that is out
+-- after the last lease that is out
 pub trimmed_some : (out : Leases) (ps : List Place) → trimmed (out ++ Some ps ∷ []) ≡ out ++ Some ps ∷ []
 unfolding trimmed
 trimmed_some [] ps = refl
@@ -191,19 +196,21 @@ unfolding trimmed
 trimmed_nothing = refl
 
 -- one number more, of a lease that is out, and of one that is not
-pub trimmed_at_some : (out : Leases) (i : ℕ) (o : Option (List Place)) → i < length out → o ≡ get_or out i o → is_some o ≡ true → trimmed (take (i + 1) out) ≡ take (i + 1) out
+pub trimmed_at_some : (out : Leases) (i : ℕ) (o : Option (List Place)) → i < length out → o ≡ get_or out i o → is_some o ≡ true
+    → trimmed (take (i + 1) out) ≡ take (i + 1) out
 trimmed_at_some out i None below read is = absurd cc
 trimmed_at_some out i (Some ps) below read is =
     let more : take (i + 1) out ≡ take i out ++ Some ps ∷ [] = take_more out i (Some ps) below ∙ ap (λ o. take i out ++ o ∷ []) (sym read) in
     ap trimmed more ∙ trimmed_some (take i out) ps ∙ sym more
 
-pub trimmed_at_none : (out : Leases) (i : ℕ) (o : Option (List Place)) → i < length out → o ≡ get_or out i o → is_some o ≡ false → trimmed (take (i + 1) out) ≡ trimmed (take i out)
+pub trimmed_at_none : (out : Leases) (i : ℕ) (o : Option (List Place)) → i < length out → o ≡ get_or out i o → is_some o ≡ false
+    → trimmed (take (i + 1) out) ≡ trimmed (take i out)
 trimmed_at_none out i (Some ps) below read is = absurd cc
 trimmed_at_none out i None below read is =
     let more : take (i + 1) out ≡ take i out ++ None ∷ [] = take_more out i None below ∙ ap (λ o. take i out ++ o ∷ []) (sym read) in
     ap trimmed more ∙ trimmed_none (take i out)
 
--- what a lease has behind its grant
+-- what a lease has after its grant
 set_here : (out : Leases) (n : ℕ) (x : Option (List Place)) → n < length out → slice_get (slice_set out n x) n ≡ Some x
 set_here [] n x below = absurd (omega (arith, below))
 set_here (o ∷ out) zero x below = refl
@@ -216,7 +223,8 @@ push_here (o ∷ out) x = push_here out x
 pub lease_has : (out : Leases) (ps : List Place) → Has (with_lease out (free_lease out) ps) (free_lease out) ps
 lease_has out ps = go (nat_lt (free_lease out) (length out)) refl
   where
-    go : (b : Bool) → nat_lt (free_lease out) (length out) ≡ b → Has (cond b (slice_set out (free_lease out) (Some ps)) (out ++ Some ps ∷ [])) (free_lease out) ps
+    go : (b : Bool) → nat_lt (free_lease out) (length out) ≡ b
+        → Has (cond b (slice_set out (free_lease out) (Some ps)) (out ++ Some ps ∷ [])) (free_lease out) ps
     go true is = set_here out (free_lease out) (Some ps) (ltb-true (free_lease out) (length out) is)
     go false is =
         let past = ltb-false (free_lease out) (length out) is in

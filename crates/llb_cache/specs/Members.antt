@@ -1,5 +1,6 @@
 -- Members of lists by recursion, and that numbers below a bound that are all in a list are no more than its items.
-use Rattle.std.proofs.Common.{◌≡◌, ◌≢◌, ℕ, zero, suc, ◌+◌, ◌<◌, ◌≤◌, Bool, true, false, cond, List, [], ◌∷◌, length, map, get_or, eqb, refl, sym, ◌∙◌, subst, arith, inl, inr, ◌⊎◌}
+use Rattle.std.proofs.Common.{◌≡◌, ◌≢◌, ℕ, zero, suc, ◌+◌, ◌<◌, ◌≤◌, Bool, true, false, cond, List, [], ◌∷◌, length, map, get_or, eqb, refl}
+use Rattle.std.proofs.Common.{sym, ◌∙◌, subst, arith, inl, inr, ◌⊎◌}
 use Rattle.std.specs.List.{Contains, AllPairs, AllByRecursion}
 use Rattle.std.proofs.lemmas.Bool.{eqb-true, eq-eqb}
 use Rattle.std.proofs.lemmas.List.Elements.{Contains-get_or}
@@ -24,7 +25,7 @@ holds_in P [] y all h = absurd h
 holds_in P (x ∷ xs) y all (inl is) = subst P (sym is) all.0
 holds_in P (x ∷ xs) y all (inr h) = holds_in P xs y all.1 h
 
--- each of a list is apart from those behind it
+-- each of a list is apart from those after it
 pub pairs_head : {A : Type 0} (R : A → A → Type 0) (x : A) (xs : List A) → AllPairs R (x ∷ xs) → (y : A) → In xs y → R x y
 pairs_head R x xs all y h =
     let at = contained_in xs y h in

@@ -1,5 +1,6 @@
 -- The number of a private instance: no lease has it, leases have all below it, and it is at most the number of leases.
-use Rattle.std.proofs.Common.{◌≡◌, ◌≢◌, ℕ, zero, suc, ◌+◌, ◌<◌, ◌≤◌, Bool, true, false, cond, ◌&&◌, List, [], ◌∷◌, length, Option, Some, None, is_some, refl, sym, ap, ◌∙◌, arith, inl, inr, ◌⊎◌, true≢false}
+use Rattle.std.proofs.Common.{◌≡◌, ◌≢◌, ℕ, zero, suc, ◌+◌, ◌<◌, ◌≤◌, Bool, true, false, cond, ◌&&◌, List, [], ◌∷◌, length, Option, Some}
+use Rattle.std.proofs.Common.{None, is_some, refl, sym, ap, ◌∙◌, arith, inl, inr, ◌⊎◌, true≢false}
 use Rattle.std.specs.List.{AllPairs}
 use Rattle.std.proofs.lemmas.List.Elements.{All-contains}
 use Rattle.std.proofs.lemmas.List.Sums.{sum_by-cons}
@@ -116,7 +117,8 @@ number_within out key Locked = omega arith
 number_within out key Private = let w = (least out key 0 (leases out)).within in omega (arith, w)
 
 -- no lease has the instance that a private or a locked key gives
-pub number_free : (out : Leases) (key : Key) (m : Mode) → AreApart out → (is_locked m && is_held out (place key 0)) ≡ false → IsExclusive m → is_held out (place key (number_for out key m)) ≡ false
+pub number_free : (out : Leases) (key : Key) (m : Mode) → AreApart out → (is_locked m && is_held out (place key 0)) ≡ false → IsExclusive m
+    → is_held out (place key (number_for out key m)) ≡ false
 number_free out key Shared apart unheld alone = absurd alone
 number_free out key Locked apart unheld alone = unheld
 number_free out key Private apart unheld alone = private_free out key apart

@@ -1,5 +1,7 @@
--- The trees of a key, behind a write of a key's trees, and behind the making of instances.
-use Rattle.std.proofs.Common.{◌≡◌, ℕ, zero, suc, ◌+◌, ◌<◌, ◌≤◌, Bool, true, false, cond, List, [], ◌∷◌, ◌++◌, length, Some, None, position, slice_get, slice_set, unwrap_or, nat_lt, refl, sym, ap, ◌∙◌, arith, inl, inr, ◌⊎◌, length-append, le-ltb, lt-ltb}
+-- The trees of a key, after a write of a key's trees, and after the making of instances.
+use Rattle.std.proofs.Common.{◌≡◌, ℕ, zero, suc, ◌+◌, ◌<◌, ◌≤◌, Bool, true, false, cond, List, [], ◌∷◌, ◌++◌, length, Some, None, position}
+use Rattle.std.proofs.Common.{slice_get, slice_set, unwrap_or, nat_lt, refl, sym, ap, ◌∙◌, arith, inl, inr, ◌⊎◌, length-append, le-ltb}
+use Rattle.std.proofs.Common.{lt-ltb}
 use Rattle.std.specs.Prelude.{if◌then◌else◌}
 use Rattle.std.specs.List.{AllByRecursion}
 use Rattle.std.specs.Map.{keys_of, values_of, lookup}
@@ -21,14 +23,16 @@ some_value (e ∷ es) zero w at = let same : e.1 ≡ w = ap (λ o. unwrap_or o w
 some_value (e ∷ es) (suc i) w at = ap (λ rows. e ∷ rows) (some_value es i w at)
 
 -- what stands at the place of a key are its trees
-pub trees_there : (es : List Row) (k : Key) (i : ℕ) (old : List TreeMap) → position (same_key k) (keys_of es) ≡ Some i → slice_get (values_of es) i ≡ Some old → trees_of es k ≡ old
+pub trees_there : (es : List Row) (k : Key) (i : ℕ) (old : List TreeMap) → position (same_key k) (keys_of es) ≡ Some i
+    → slice_get (values_of es) i ≡ Some old → trees_of es k ≡ old
 trees_there es k i old place at = ap (λ o. unwrap_or o []) ((Found-position (same_key k) es i place).value ∙ at)
 
 pub trees_written : (es : List Row) (k : Key) (i : ℕ) (w : List TreeMap) → position (same_key k) (keys_of es) ≡ Some i → set_value_at es i w ≡ with_trees es k w
 trees_written es k i w place = sym (insert_entry-first same_key k w es i (Found-position (same_key k) es i place).first)
 
 -- a new instance
-pub instance_made : (es : List Row) (p : Place) (tree : TreeMap) (i : ℕ) (old w : List TreeMap) → position (same_key p.key) (keys_of es) ≡ Some i → slice_get (values_of es) i ≡ Some old
+pub instance_made : (es : List Row) (p : Place) (tree : TreeMap) (i : ℕ) (old w : List TreeMap)
+    → position (same_key p.key) (keys_of es) ≡ Some i → slice_get (values_of es) i ≡ Some old
     → length old ≤ p.number → w ≡ old ++ tree ∷ [] → set_value_at es i w ≡ made es p tree
 instance_made es p tree i old w place at past is =
     let old_is : trees_of es p.key ≡ old = trees_there es p.key i old place at in
@@ -37,7 +41,8 @@ instance_made es p tree i old w place at past is =
     ∙ sym (ap (λ b. cond b es (with_trees es p.key (trees_of es p.key ++ tree ∷ []))) test)
 
 -- an instance that is there
-pub instance_there : (es : List Row) (p : Place) (tree : TreeMap) (i : ℕ) (old : List TreeMap) → position (same_key p.key) (keys_of es) ≡ Some i → slice_get (values_of es) i ≡ Some old
+pub instance_there : (es : List Row) (p : Place) (tree : TreeMap) (i : ℕ) (old : List TreeMap)
+    → position (same_key p.key) (keys_of es) ≡ Some i → slice_get (values_of es) i ≡ Some old
     → p.number < length old → set_value_at es i old ≡ made es p tree
 instance_there es p tree i old place at below =
     let old_is : trees_of es p.key ≡ old = trees_there es p.key i old place at in
@@ -45,27 +50,31 @@ instance_there es p tree i old place at below =
     some_value es i old at ∙ sym (ap (λ b. cond b es (with_trees es p.key (trees_of es p.key ++ tree ∷ []))) test)
 
 -- another tree in an instance
-pub tree_put : (es : List Row) (p : Place) (tree : TreeMap) (i : ℕ) (old w : List TreeMap) → position (same_key p.key) (keys_of es) ≡ Some i → slice_get (values_of es) i ≡ Some old
+pub tree_put : (es : List Row) (p : Place) (tree : TreeMap) (i : ℕ) (old w : List TreeMap)
+    → position (same_key p.key) (keys_of es) ≡ Some i → slice_get (values_of es) i ≡ Some old
     → w ≡ slice_set old p.number tree → set_value_at es i w ≡ put es p tree
 tree_put es p tree i old w place at is =
     trees_written es p.key i w place
     ∙ ap (with_trees es p.key) (is ∙ ap (λ ts. slice_set ts p.number tree) (sym (trees_there es p.key i old place at)))
 
--- ---- look-ups behind a write
+-- ---- look-ups after a write
 
 found_again : (rows : List Row) (k : Key) (ts : List TreeMap) → lookup (same_key k) (insert_entry same_key rows k ts) ≡ Some ts
 found_again [] k ts = ap (λ b. cond b (Some ts) None) (key_itself k)
 found_again (r ∷ rows) k ts = go (same_key k r.0) refl (found_again rows k ts)
   where
-    go : (b : Bool) → same_key k r.0 ≡ b → lookup (same_key k) (insert_entry same_key rows k ts) ≡ Some ts → lookup (same_key k) (if b then (r.0, ts) ∷ rows else r ∷ insert_entry same_key rows k ts) ≡ Some ts
+    go : (b : Bool) → same_key k r.0 ≡ b → lookup (same_key k) (insert_entry same_key rows k ts) ≡ Some ts
+        → lookup (same_key k) (if b then (r.0, ts) ∷ rows else r ∷ insert_entry same_key rows k ts) ≡ Some ts
     go true is rest = ap (λ b. cond b (Some ts) (lookup (same_key k) rows)) is
     go false is rest = ap (λ b. cond b (Some r.1) (lookup (same_key k) (insert_entry same_key rows k ts))) is ∙ rest
 
-found_before : (rows : List Row) (k l : Key) (ts : List TreeMap) → same_key l k ≡ false → lookup (same_key l) (insert_entry same_key rows k ts) ≡ lookup (same_key l) rows
+found_before : (rows : List Row) (k l : Key) (ts : List TreeMap) → same_key l k ≡ false
+    → lookup (same_key l) (insert_entry same_key rows k ts) ≡ lookup (same_key l) rows
 found_before [] k l ts apart = ap (λ b. cond b (Some ts) None) apart
 found_before (r ∷ rows) k l ts apart = go (same_key k r.0) refl (found_before rows k l ts apart)
   where
-    go : (b : Bool) → same_key k r.0 ≡ b → lookup (same_key l) (insert_entry same_key rows k ts) ≡ lookup (same_key l) rows → lookup (same_key l) (if b then (r.0, ts) ∷ rows else r ∷ insert_entry same_key rows k ts) ≡ lookup (same_key l) (r ∷ rows)
+    go : (b : Bool) → same_key k r.0 ≡ b → lookup (same_key l) (insert_entry same_key rows k ts) ≡ lookup (same_key l) rows
+        → lookup (same_key l) (if b then (r.0, ts) ∷ rows else r ∷ insert_entry same_key rows k ts) ≡ lookup (same_key l) (r ∷ rows)
     go true is rest =
         let none : same_key l r.0 ≡ false = ap (same_key l) (sym (same_keys k r.0 is)) ∙ apart in
         ap (λ b. cond b (Some ts) (lookup (same_key l) rows)) none ∙ sym (ap (λ b. cond b (Some r.1) (lookup (same_key l) rows)) none)
@@ -77,7 +86,7 @@ same_trees rows k ts = ap (λ o. unwrap_or o []) (found_again rows k ts)
 pub other_trees : (rows : List Row) (k l : Key) (ts : List TreeMap) → same_key l k ≡ false → trees_of (with_trees rows k ts) l ≡ trees_of rows l
 other_trees rows k l ts apart = ap (λ o. unwrap_or o []) (found_before rows k l ts apart)
 
--- how many a key has behind a write of a key
+-- how many a key has after a write of a key
 abbrev pub Counts : List Row → List Row → Key → ℕ → Key → Type 0
 Counts rows new k n l = ((l ≡ k) × (length (trees_of new l) ≡ n)) ⊎ (length (trees_of new l) ≡ length (trees_of rows l))
 
@@ -97,13 +106,14 @@ put_counts rows p tree l = elim (counted rows p.key (slice_set (trees_of rows p.
 
 -- ---- what is made
 
--- how many a key has behind the making of an instance
+-- how many a key has after the making of an instance
 pub record Makes (rows : List Row) (p : Place) (new : List Row) : Type 0 where
   pub grows : (k : Key) → length (trees_of rows k) ≤ length (trees_of new k)
   pub there : p.number ≤ length (trees_of rows p.key) → p.number < length (trees_of new p.key)
   pub few : AreFew rows → p.number < 65536 → AreFew new
 
-one_more : (rows : List Row) (p : Place) (tree : TreeMap) → length (trees_of rows p.key) ≤ p.number → Makes rows p (with_trees rows p.key (trees_of rows p.key ++ tree ∷ []))
+one_more : (rows : List Row) (p : Place) (tree : TreeMap) → length (trees_of rows p.key) ≤ p.number
+    → Makes rows p (with_trees rows p.key (trees_of rows p.key ++ tree ∷ []))
 one_more rows p tree past =
     let more : List TreeMap = trees_of rows p.key ++ tree ∷ [] in
     let new : List Row = with_trees rows p.key more in
@@ -143,7 +153,8 @@ still_next : (rows : List Row) (p : Place) (tree : TreeMap) (ts : List Taken) �
 still_next rows p tree [] all = tt
 still_next rows p tree (t ∷ ts) all = (let h = all.0 in let more = (makes rows p tree).grows t.0.key in omega (arith, h, more), still_next rows p tree ts all.1)
 
-pub all_there : (rows : List Row) (ts : List Taken) → AllByRecursion (IsNext rows) ts → AllByRecursion (λ t. t.0.number < length (trees_of (made_all rows ts) t.0.key)) ts
+pub all_there : (rows : List Row) (ts : List Taken) → AllByRecursion (IsNext rows) ts
+    → AllByRecursion (λ t. t.0.number < length (trees_of (made_all rows ts) t.0.key)) ts
 all_there rows [] all = tt
 all_there rows (t ∷ ts) all = (
   let one = (makes rows t.0 t.1).there all.0 in let more = all_grow (made rows t.0 t.1) ts t.0.key in omega (arith, one, more),

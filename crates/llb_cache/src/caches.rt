@@ -3,7 +3,8 @@
 
 ghost use Rattle.std.specs.Prelude.{◌≡◌, ◌≢◌, ◌↔◌, IsTrue, ◌<◌, ◌&&◌, length, map, slice_get, option_map, AllPairs, OnErr, IfOk, Some, []};
 ghost use Rattle.std.specs.Map.{keys_of};
-ghost use Rattle.llb_cache.specs.Caches.{IsOut, place_for, AreExclusive, IsCaches, leases, lease_of, place_at, places_of, trees_of, tree_at, with_content, given_back, is_locked, is_held, number_for, place};
+ghost use Rattle.llb_cache.specs.Caches.{IsOut, place_for, AreExclusive, IsCaches, leases, lease_of, place_at, places_of, trees_of};
+ghost use Rattle.llb_cache.specs.Caches.{tree_at, with_content, given_back, is_locked, is_held, number_for, place};
 ghost use Rattle.llb_cache.specs.Faults.{Gives, MemoryLast};
 
 use crate::copying::{copied_leases, copied_rows, same_rows};

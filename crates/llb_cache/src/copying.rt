@@ -12,7 +12,7 @@ use indexmap::IndexMap;
 use llb_wire::{Many, Same};
 use std::alloc::Global;
 
-// Puts a copy of the row at an index behind the copies.
+// Puts a copy of the row at an index after the copies.
 fn copy_row(
     copies: &mut IndexMap<Key, Trees>,
     rows: &IndexMap<Key, Trees>,

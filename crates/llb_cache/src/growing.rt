@@ -3,7 +3,8 @@
 ghost use Rattle.std.specs.Prelude.{◌≡◌, ◌<◌, ◌≤◌, ◌+◌, map, slice_set, length, vec_len, vec_capacity, IfOk, MatchResult, Some, None, [], ◌∷◌, ◌++◌};
 ghost use Rattle.std.specs.List.{All, find};
 ghost use Rattle.indexmap.specs.IndexMap.{spare};
-ghost use Rattle.llb_cache.specs.Caches.{Taken, place, leases, is_shut, taken, made, made_all, free_lease, with_lease, places_of, place_at, put, trees_of, trimmed};
+ghost use Rattle.llb_cache.specs.Caches.{Taken, place, leases, is_shut, taken, made, made_all, free_lease, with_lease, places_of, place_at};
+ghost use Rattle.llb_cache.specs.Caches.{put, trees_of, trimmed};
 ghost use Rattle.llb_cache.specs.Growing.{shown, FitsIn, IsRefusal};
 
 use crate::fault::{LeaseFault, Memory};
@@ -28,7 +29,8 @@ pub(crate) fn admitted(
     out: &[Option<Many<Place>>],
     needs: Vec<Need>,
 ) -> Result<Vec<Need>, LeaseFault>
-    ensures { MatchResult result (λ ns. (find (is_shut out.now) needs.items ≡ None) × (ns.items ≡ needs.items)) (IsRefusal (find (is_shut out.now) needs.items)) }
+    ensures { MatchResult result (λ ns. (find (is_shut out.now) needs.items ≡ None) × (ns.items ≡ needs.items))
+        (IsRefusal (find (is_shut out.now) needs.items)) }
 {
     match first_shut(out, &needs) {
         Some(i) => {
@@ -157,7 +159,7 @@ pub(crate) fn set_at(rows: &mut IndexMap<Key, Trees>, place: &Place, tree: Tree)
     }
 }
 
-// Drops what is behind the last lease that is out.
+// Drops what is after the last lease that is out.
 fn trim(out: &mut Vec<Option<Many<Place>>>)
     ensures { out.new.items ≡ trimmed out.old.items }
 {

@@ -98,7 +98,7 @@ fn is_seed(parts: Option<(&str, u32)>, seed: &Option<Seed>) -> bool
     }
 }
 
-// A text of its own. Only one with a byte wants memory.
+// A text of its own. Only one with a byte needs memory.
 fn owned(alloc: Global, text: &str) -> Result<Text, Memory>
     ensures ok { IfOk result (λ t. t ≡ text.now) }
     ensures memory { IfErr result (λ _. not (length text.now == 0) ≡ true) }

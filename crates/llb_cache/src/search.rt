@@ -63,7 +63,7 @@ fn first_free(out: &[Option<Many<Place>>], key: &KeyRef<'_>, count: u32) -> u32
     count
 }
 
-// The number of the instance that a key gives, where so many leases are out.
+// The number of the instance that a key gives, where that many leases are out.
 pub(crate) fn number_for(out: &[Option<Many<Place>>], key: &KeyRef<'_>, count: u32) -> u32
     requires { count ≡ leases out.now }
     ensures { result ≡ number_for out.now key.now key.now.mode }

@@ -1,5 +1,5 @@
 //! Scripts that are run on views. A story is told in a line: the statuses of a script's commands, up to the first that is not 0, and
-//! then each mount's tree behind a bar.
+//! then each mount's tree after a bar.
 
 use super::scripts::texts;
 use super::told::{Row, is_told, push_tree, tree_of};

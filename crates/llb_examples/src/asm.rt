@@ -11,7 +11,7 @@ fn only_answer(text: &[u8]) {
     one_answer(text);
 }
 
-// The entries that a text stands for, each in hexadecimal with a space behind it; or the fault.
+// The entries that a text stands for, each in hexadecimal with a space after it; or the fault.
 fn answer(alloc: Global, text: &str) -> Result<String, AllocError> {
     only_answer(text.as_bytes());
     match assemble(alloc, text.as_bytes()) {

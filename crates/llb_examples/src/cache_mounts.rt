@@ -147,7 +147,7 @@ fn that_words_are_a_script_comes_behind_the_caches(rt: HostRuntime) {
     assert!(rt; is_told(alloc, told, "89 0 Script 71 nosuch"));
 }
 
-// The op that runs `true` on some mounts, behind its inputs.
+// The op that runs `true` on some mounts, after its inputs.
 fn true_op(alloc: Global, inputs: &str, mounts: &[Shown<'_>]) -> Result<String, AllocError> {
     let inside = exec_text(alloc, TRUE, "", mounts, "")?;
     format!(in alloc; "op {{\n{inputs}{inside}}}")

@@ -5,11 +5,11 @@ use super::told::is_told;
 use llb_loader::LoadFault;
 use std::alloc::{AllocError, Global};
 
-// A mount: its input, the line of its selector if there is one, its dest, and the lines behind that. Texts are as the assembler
+// A mount: its input, the line of its selector if there is one, its dest, and the lines after that. Texts are as the assembler
 // takes them.
 pub(crate) type Shown<'a> = (i64, &'a str, &'a str, &'a str);
 
-// Words, the lines of the meta behind them, mounts, the lines behind those, and what is said of it all.
+// Words, the lines of the meta after them, mounts, the lines after those, and what is said of it all.
 type Case = (
     &'static [&'static str],
     &'static str,

@@ -1,4 +1,4 @@
-//! What faults print: what stands behind the word `fault` in a refusal.
+//! What faults print: what stands after the word `fault` in a refusal.
 
 use llb_applet::ScriptFault;
 use llb_glob::PatternFault;

@@ -308,7 +308,7 @@ fn files_and_directories_are_made_copied_and_removed(rt: HostRuntime) {
     assert_eq!(rt; first_wrong(rt.alloc(), STORIES), STORIES.len());
 }
 
-// What is told of a directory of so many names that is made with its parents: how long it is, or its front.
+// What is told of a directory of that many names that is made with its parents: how long it is, or its prefix.
 fn depth(alloc: Global, names: usize) -> Result<String, ActFault> {
     let mut path = String::new(alloc);
     for _ in 0..names {

@@ -81,7 +81,7 @@ fn repeated(alloc: Global, text: &str, count: usize, rest: &str) -> Result<Strin
     Ok(all)
 }
 
-// A pattern and a path that are texts so many times over, and then a rest.
+// A pattern and a path that are texts that many times over, and then a rest.
 fn long(
     alloc: Global,
     pattern: (&str, usize, &str),

@@ -44,7 +44,7 @@ fn prints(alloc: Global, tree: &Tree, others: &str, of_500: &str) -> Result<bool
     Ok(text.as_slice() == wanted.as_bytes())
 }
 
-// One file of a tree gets one byte, and the tree goes before its copy of before, or behind it. Whether what is looked at then
+// One file of a tree gets one byte, and the tree goes before its copy of before, or after it. Whether what is looked at then
 // has the text that it should: the tree another one in one line, and its copy the old one.
 fn one_byte(alloc: Global, first_goes: bool) -> Result<bool, TreeFault> {
     let mut first = many(alloc)?;

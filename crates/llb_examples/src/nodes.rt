@@ -44,7 +44,7 @@ fn push_nodes(alloc: Global, text: &mut String, root: &Node) -> Result<(), Alloc
     Ok(())
 }
 
-// What is told by the nodes, and behind a bar by a walk.
+// What is told by the nodes, and after a bar by a walk.
 fn told(alloc: Global, rows: &[Row<'_>]) -> Result<String, TreeFault> {
     let tree = tree_of(alloc, rows)?;
     let mut text = String::new(alloc);
@@ -89,7 +89,7 @@ fn push_place(text: &mut String, walk: &Walk<'_>) -> Result<(), AllocError> {
     text.push_str("|")
 }
 
-// Goes on, `a` to the next entry and `s` behind what is below.
+// Goes on, `a` to the next entry and `s` after what is below.
 fn go(walk: &mut Walk<'_>, step: char) -> Result<(), TreeFault> {
     match step {
         'a' => walk.advance(),
@@ -142,7 +142,7 @@ fn a_walk_goes_on_and_skips_and_stays_at_its_end(rt: HostRuntime) {
     assert_eq!(rt; first_other_walk(rt.alloc(), WALKED), WALKED.len());
 }
 
-// The path of the name `a` so many times over.
+// The path of the name `a` that many times over.
 fn deep_path(alloc: Global, names: usize) -> Result<Path, TreeFault> {
     let mut text = String::new(alloc);
     for _ in 0..names {
@@ -160,7 +160,7 @@ fn deep_tree(alloc: Global, names: usize) -> Result<Tree, TreeFault> {
     Ok(tree)
 }
 
-// Whether a tree of so many levels, of which those from a number on are gone again, fits below a path of so many names.
+// Whether a tree of that many levels, of which those from a number on are gone again, fits below a path of that many names.
 fn fits(alloc: Global, levels: usize, cut: Option<usize>, names: usize) -> Result<(), TreeFault> {
     let mut tree = deep_tree(alloc, levels)?;
     if let Some(cut) = cut {

@@ -44,7 +44,7 @@ const MOUNT: &[u8] = b"\x12\x25\x12\x23\x08\x01\x12\x02/s\x1A\x02/d\x20\x02\x28\
 const COPY: &[u8] = b"\x22\x27\x12\x25\x10\x01\x22\x21\x0A\x02/f\x12\x03/d/\x20\
     \xFF\xFF\xFF\xFF\xFF\xFF\xFF\xFF\xFF\x01\x58\xFF\xFF\xFF\xFF\xFF\xFF\xFF\xFF\xFF\x01\x70\x01";
 
-// `/bin/sh -c true` with one variable and a root mount, in `/`, on the entry above; behind it a platform and constraints.
+// `/bin/sh -c true` with one variable and a root mount, in `/`, on the entry above; after it a platform and constraints.
 const RUNS_TRUE: &[u8] = b"\x0A\x49\x0A\x47\
     sha256:e00d65597895790f7dc26dbf724a411bd83c8e15881ab3eea18ea75095782dab\
     \x12\x28\x0A\x21\x0A\x07/bin/sh\x0A\x02-c\x0A\x04true\x12\x09PATH=/bin\x1A\x01/\x12\x03\x1A\x01/\
@@ -88,7 +88,7 @@ const ENTRIES: &[(&[u8], Result<&[u8], OpFault>)] = &[
         b"\x22\x0C\x12\x0A\x2A\x08\x22\x02\x0A\x00\x22\x02\x12\x00",
         Ok(b"\x22\x0A\x12\x08\x2A\x06\x22\x04\x0A\x00\x12\x00"),
     ),
-    // The last member holds, with what stands behind the others.
+    // The last member holds, with what stands after the others.
     (
         b"\x22\x02\x12\x00\x3A\x00\x22\x02\x12\x00",
         Ok(b"\x22\x02\x12\x00"),
@@ -107,7 +107,7 @@ const ENTRIES: &[(&[u8], Result<&[u8], OpFault>)] = &[
         b"\x32\x02\x0A\x00\x3A\x00\x32\x0D\x0A\x0B\x08\xFF\xFF\xFF\xFF\xFF\xFF\xFF\xFF\xFF\x01",
         Ok(b"\x32\x0D\x0A\x0B\x08\xFF\xFF\xFF\xFF\xFF\xFF\xFF\xFF\xFF\x01"),
     ),
-    // Fields without a name are kept behind the others.
+    // Fields without a name are kept after the others.
     (
         b"\x52\x01a\x0A\x02\x10\x02\x5A\x00",
         Ok(b"\x0A\x02\x10\x02\x52\x01a\x5A\x00"),

@@ -1,5 +1,5 @@
-//! Plain outcomes. A graph is told by the outcomes of its vertices, each with a `;` behind it, and one that is done by the trees of
-//! its outputs, each behind a bar; or by what the evaluation is refused by.
+//! Plain outcomes. A graph is told by the outcomes of its vertices, each with a `;` after it, and one that is done by the trees of
+//! its outputs, each after a bar; or by what the evaluation is refused by.
 
 use super::graphs::{Given, graph_of};
 use super::plain_ops::{

@@ -33,7 +33,7 @@ fn told(alloc: Global, words: &[&str]) -> Result<String, ScriptFault> {
     Ok(script_text(alloc, &script)?)
 }
 
-// Texts behind `/bin/sh -c`.
+// Texts after `/bin/sh -c`.
 const TEXTS: &[(&str, &str)] = &[
     // A text is calls with two ampersands between.
     ("true", "1"),

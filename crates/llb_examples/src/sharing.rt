@@ -36,7 +36,7 @@ fn taken(alloc: Global, tree: &Tree, taking: Taking) -> Result<Tree, TreeFault> 
     }
 }
 
-// A tree, and behind a bar one that was taken from it, once each was edited.
+// A tree, and after a bar one that was taken from it, once each was edited.
 fn told(
     alloc: Global,
     taking: Taking,

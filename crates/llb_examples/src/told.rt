@@ -1,5 +1,5 @@
 //! Trees by their rows, the steps of a story of a tree, and how both are told in a line of text: of each entry a `d` or an `f` and
-//! its path, its mode and owner where they are not those of a new one, and the content of a file behind `=`.
+//! its path, its mode and owner where they are not those of a new one, and the content of a file after `=`.
 
 use llb_tree::{Bytes, Entry, Meta, Node, Path, Tree, TreeFault};
 use std::alloc::{AllocError, Global};
@@ -79,14 +79,14 @@ fn push_meta(text: &mut String, meta: Meta, new: u16) -> Result<(), AllocError> 
     write!(text, "({mode:o} {uid}:{gid})")
 }
 
-// What stands behind the path of a file.
+// What stands after the path of a file.
 fn push_file(text: &mut String, meta: Meta, content: &[u8]) -> Result<(), AllocError> {
     push_meta(text, meta, 0o644)?;
     text.push_str("=")?;
     text.push_str(str::from_utf8(content).unwrap_or("not UTF-8"))
 }
 
-// What stands behind the path of an entry.
+// What stands after the path of an entry.
 pub(crate) fn push_rest(text: &mut String, entry: &Entry<'_>) -> Result<(), AllocError> {
     match entry {
         Entry::Dir(meta) => push_meta(text, *meta, 0o755),
@@ -94,7 +94,7 @@ pub(crate) fn push_rest(text: &mut String, entry: &Entry<'_>) -> Result<(), Allo
     }
 }
 
-/// What stands at a node, behind its path.
+/// What stands at a node, after its path.
 pub(crate) fn push_node(text: &mut String, names: &str, node: &Node) -> Result<(), AllocError> {
     match node.entry() {
         Entry::Dir(meta) => {

@@ -1,4 +1,4 @@
-//! Names, paths and trees. A story is told in a line of text: a `;` behind each step, what was asked for or the step's fault before
+//! Names, paths and trees. A story is told in a line of text: a `;` after each step, what was asked for or the step's fault before
 //! it, and then the entries.
 
 use super::told::{Row, Step, file, is_told, push_path, push_tree, take_step, tree_of};

@@ -137,7 +137,7 @@ fn a_late_fault_is_told_without_memory(rt: HostRuntime) {
     assert_eq!(rt; first_other_late_fault(rt.alloc(), LATE), LATE.len());
 }
 
-// A root, so many files, and then a path below the last of them.
+// A root, that many files, and then a path below the last of them.
 fn long_text(alloc: Global, files: usize) -> Result<String, AllocError> {
     let mut text = String::from_str(alloc, "d 0755 0 0 /\n")?;
     for at in 0..files {

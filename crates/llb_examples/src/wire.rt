@@ -156,7 +156,7 @@ fn a_record_has_its_first_fault(rt: HostRuntime) {
     assert_eq!(rt; first_other_fault(FAULTY), FAULTY.len());
 }
 
-// A number, and behind it four records.
+// A number, and after it four records.
 fn spelled(alloc: Global) -> Result<Vec<u8>, Memory> {
     let mut out = Vec::new(alloc);
     write_varint(300, &mut out)?;
@@ -224,7 +224,7 @@ fn texts_byte_strings_and_lists_own_what_they_were_given(rt: HostRuntime) -> Res
     Ok(())
 }
 
-// A writer that takes one byte a write, and fails after so many.
+// A writer that takes one byte a write, and fails after that many.
 #[derive(Drop)]
 struct Narrow {
     room: usize,

@@ -1,5 +1,6 @@
 -- All micro-steps that are left of a program: those that are done so far, and where no more are left.
-use Rattle.std.proofs.Common.{◌≡◌, ℕ, zero, suc, ◌+◌, ◌-◌, ◌<◌, ◌≤◌, ◌||◌, true, false, List, length, Option, Some, None, refl, sym, ap, subst, ◌∙◌, arith, Bool}
+use Rattle.std.proofs.Common.{◌≡◌, ℕ, zero, suc, ◌+◌, ◌-◌, ◌<◌, ◌≤◌, ◌||◌, true, false, List, length, Option, Some, None, refl, sym, ap}
+use Rattle.std.proofs.Common.{subst, ◌∙◌, arith, Bool}
 use Rattle.std.specs.Prelude.{slice_get, nat_le, is_some}
 use Rattle.std.specs.List.{All}
 use Rattle.std.proofs.lemmas.Bool.{leb-true, le-leb}
@@ -21,7 +22,8 @@ pub record AreDone (steps : List MicroStep) (done : ℕ) (first : View) (trees :
   pub shown : shown_in view ≡ shown_in first
   pub count : length now ≡ length (shown_in first)
 
-pub none_done : (steps : List MicroStep) (done : ℕ) (first : View) (trees : List TreeMap) → length trees ≡ length (shown_in first) → AreDone steps done first trees done first trees
+pub none_done : (steps : List MicroStep) (done : ℕ) (first : View) (trees : List TreeMap) → length trees ≡ length (shown_in first)
+    → AreDone steps done first trees done first trees
 none_done steps done first trees count =
     let none : zero ≡ done - done = omega arith in
     record {
@@ -41,7 +43,8 @@ pub record Fits (view : View) : Type 0 where
 pub still_fits : (first view : View) → Fits first → mounts_in view ≡ mounts_in first → shown_in view ≡ shown_in first → Fits view
 still_fits first view fits mounts shown = record {
   apart = subst Distinct (sym shown) fits.apart;
-  within = subst (λ (n : ℕ). All (λ m. m < n) (shown_in view)) (sym mounts) (subst (λ (ms : List ℕ). All (λ m. m < mounts_in first) ms) (sym shown) fits.within);
+  within = subst (λ (n : ℕ). All (λ m. m < n) (shown_in view)) (sym mounts)
+      (subst (λ (ms : List ℕ). All (λ m. m < mounts_in first) ms) (sym shown) fits.within);
 }
 
 inside : {A : Type 0} {x y : A} → ◌≡◌ {A = Option A} (Some x) (Some y) → x ≡ y
@@ -54,7 +57,8 @@ within_not n k low = go (nat_le n k) refl
     go false is = refl
     go true is = let le : n ≤ k = leb-true n k is in absurd (omega (arith, le, low))
 
-module _ (steps : List MicroStep) (done : ℕ) (first : View) (trees : List TreeMap) (k : ℕ) (view : View) (now : List TreeMap) (are : AreDone steps done first trees k view now) where
+module _ (steps : List MicroStep) (done : ℕ) (first : View) (trees : List TreeMap) (k : ℕ) (view : View) (now : List TreeMap)
+    (are : AreDone steps done first trees k view now) where
   begun : Left
   begun = left_with first trees None
 
@@ -77,8 +81,10 @@ module _ (steps : List MicroStep) (done : ℕ) (first : View) (trees : List Tree
     pub one_more : AreThere steps done (left_with first trees None) (k + 1 - done)
     one_more =
         let more : is_over steps (done + (k - done)) (further steps done (left_with first trees None) (k - done)) ≡ false
-        = ap (λ (l : Left). is_over steps (done + (k - done)) l) (sym are.left) ∙ ap (nat_le (length steps)) place ∙ within_not (length steps) k (slice_get_within steps k m at) in
-        subst (λ (n : ℕ). AreThere steps done (left_with first trees None) n) next (one_more_there steps done (left_with first trees None) (k - done) are.there more)
+        = ap (λ (l : Left). is_over steps (done + (k - done)) l) (sym are.left) ∙ ap (nat_le (length steps)) place
+        ∙ within_not (length steps) k (slice_get_within steps k m at) in
+        subst (λ (n : ℕ). AreThere steps done (left_with first trees None) n) next
+        (one_more_there steps done (left_with first trees None) (k - done) are.there more)
 
     pub leaves : left_with view' now' fault ≡ further steps done (left_with first trees None) (k + 1 - done)
     leaves =
@@ -89,7 +95,8 @@ module _ (steps : List MicroStep) (done : ℕ) (first : View) (trees : List Tree
         ∙ sym (further_last steps done (left_with first trees None) (k - done))
         ∙ ap (further steps done (left_with first trees None)) next
 
-    pub goes_on : fault ≡ None → mounts_in view' ≡ mounts_in view → shown_in view' ≡ shown_in view → length now' ≡ length now → AreDone steps done first trees (k + 1) view' now'
+    pub goes_on : fault ≡ None → mounts_in view' ≡ mounts_in view → shown_in view' ≡ shown_in view → length now' ≡ length now
+        → AreDone steps done first trees (k + 1) view' now'
     goes_on clean mounts shown count = record {
       low = let low = are.low in omega (arith, low);
       there = one_more;

@@ -116,7 +116,7 @@ module _ (mounts : List Shown) (ms : List ℕ) (ts : List TreeMap) (apart : Dist
 pub within_as_many : (before after : List Shown) (ms : List ℕ) → All (λ n. n < length before) ms → length after ≡ length before → All (λ n. n < length after) ms
 within_as_many before after ms within same = subst (λ (k : ℕ). All (λ n. n < k) ms) (sym same) within
 
--- trees that are exchanged with those of mounts, before a command and behind it
+-- trees that are exchanged with those of mounts, before a command and after it
 pub record ThereAndBack (mounts : List Shown) (ms : List ℕ) (ts : List TreeMap) (next : List Shown) (left : List TreeMap)
     (view last : List Shown) (back : List TreeMap) : Type 0 where
   apart : Distinct ms

@@ -17,7 +17,7 @@ copied_more f xs n ys x is at =
 pub copied_all : {A B : Type 0} (f : A → B) (xs : List A) (n : ℕ) (ys : List B) → Copied f xs n ys → length xs ≤ n → ys ≡ map f xs
 copied_all f xs n ys is past = is ∙ ap (map f) (take_all n xs past)
 
--- the item at a place, in front of those behind it
+-- the item at a place, before those after it
 pub drop_at : {A : Type 0} (xs : List A) (i : ℕ) (x : A) → slice_get xs i ≡ Some x → drop i xs ≡ x ∷ drop (i + 1) xs
 drop_at xs i x at = drop-cons xs i x (slice_get_within xs i x at) ∙ (λ j. get_or_from_slice_get xs i x x at j ∷ drop (sym (add-one i) j) xs)
 

@@ -35,7 +35,8 @@ pub laid_by : (inputs : List MergeInput) → map LayInput (map (λ (i : MergeInp
 laid_by [] = refl
 laid_by (i ∷ inputs) = ap (λ steps. LayInput i.input ∷ steps) (laid_by inputs)
 
-pub layings_same : (numbers : List ℤ) (inputs : List MergeInput) → (numbers ≡ map (λ (i : MergeInput). i.input) inputs) ↔ (map LayInput numbers ≡ map (λ (i : MergeInput). LayInput i.input) inputs)
+pub layings_same : (numbers : List ℤ) (inputs : List MergeInput)
+    → (numbers ≡ map (λ (i : MergeInput). i.input) inputs) ↔ (map LayInput numbers ≡ map (λ (i : MergeInput). LayInput i.input) inputs)
 layings_same numbers inputs = (
   λ e. ap (map LayInput) e ∙ laid_by inputs,
   λ e. same_made LayInput (λ x y e. cc) numbers (map (λ (i : MergeInput). i.input) inputs) (e ∙ sym (laid_by inputs)),

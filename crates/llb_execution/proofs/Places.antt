@@ -75,7 +75,7 @@ placed_start ns all outs is =
       front = ap (λ l. all ++ l) (drop_all (length all) all (omega arith)) ∙ append-nil all;
     }
 
--- the last of the results that are left, and those behind it
+-- the last of the results that are left, and those after it
 last_of : (all rs : List TreeMap) (t : TreeMap) → (rs ++ t ∷ []) ++ drop (length (rs ++ t ∷ [])) all ≡ all → rs ++ t ∷ drop (length rs + 1) all ≡ all
 last_of all rs t e = ap (λ n. rs ++ t ∷ drop n all) (sym (length_push rs t)) ∙ sym (append_assoc rs (t ∷ []) (drop (length (rs ++ t ∷ [])) all)) ∙ e
 
@@ -182,7 +182,7 @@ by_kind i (Some (kind.Build b)) script rs = refl
 by_kind i (Some (kind.Diff d)) script rs = refl
 by_kind i None script rs = refl
 
--- the program of a vertex, with so many outputs
+-- the program of a vertex, with that many outputs
 abbrev pub program_with : Vertex → ℕ → Program
 program_with v n = record (program_of v) { outputs = n }
 
@@ -199,7 +199,7 @@ pub outputs_of_mounts : (v : Vertex) (mounts : List Shown) (caches : List ℕ) (
 unfolding outputs_of
 outputs_of_mounts v mounts caches given outs n same is = is ∙ ap (λ l. map (λ i. tree_for i l mounts) (range_with_len 0 n)) same
 
--- behind the first output all are empty
+-- after the first output all are empty
 behind_first : (f : ℕ → TreeMap) → ((i : ℕ) → f (suc i) ≡ empty_tree) → (n a : ℕ) → map f (range_with_len (a + 1) n) ≡ replicate n empty_tree
 behind_first f rest zero a = refl
 behind_first f rest (suc n) a = λ j. (ap f (add-one a) ∙ rest a) j ∷ behind_first f rest n (a + 1) j

@@ -17,7 +17,7 @@ use llb_wire::Memory;
 use std::alloc::Global;
 use std::mem;
 
-/// As many empty trees. `Memory` is the want of memory, and the one refusal.
+/// As many empty trees. `Memory`: out of memory, the one refusal.
 pub fn empty_trees(alloc: Global, count: u32) -> Result<Vec<Tree>, Memory>
     ensures { IfOk result (λ v. v.items ≡ replicate count empty_tree) }
 {

@@ -1,4 +1,4 @@
-//! What a micro-step can change of a view, kept before it and put back behind it.
+//! What a micro-step can change of a view, kept before it and put back after it.
 
 ghost use Rattle.std.specs.Prelude.{◌≡◌, IfOk};
 ghost use Rattle.llb_execution.specs.Marks.{mark_in, mark_of, put_back, PutsBack};
@@ -40,7 +40,7 @@ impl Model for Mark {
 
 impl View {
     /// What the next micro-step can change, and no more of the view: no input of a file op or of a merge. Trees are shared. `Memory` is
-    /// the want of memory, and the one refusal.
+    /// out of memory, and the one refusal.
     pub fn mark(&self) -> Result<Mark, Memory>
         ensures is { IfOk result (λ m. m ≡ mark_of self.now) }
         ensures back { IfOk result (λ m. PutsBack self.now m) }

@@ -18,7 +18,7 @@ use llb_wire::{Many, Memory, Text};
 use std::alloc::Global;
 
 /// Where the commands of a vertex run: an exec's cwd and env, and of any other vertex, which has no commands, the root and no env.
-/// `Memory` is the want of memory, and the one refusal.
+/// `Memory`: out of memory, the one refusal.
 pub fn setting_of(alloc: Global, vertex: &Vertex) -> Result<Setting, Memory>
     ensures { IfOk result (λ s. s ≡ kind_setting vertex.now.op.kind) }
 {

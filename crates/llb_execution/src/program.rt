@@ -45,7 +45,7 @@ impl Model for Program {
 }
 
 impl Program {
-    /// The program of a vertex. Actions are shared with the vertex; `Memory` is the want of memory, and the one refusal.
+    /// The program of a vertex. Actions are shared with the vertex; `Memory`: out of memory, the one refusal.
     pub fn of(alloc: Global, vertex: &Vertex) -> Result<Program, Memory>
         ensures { IfOk result (λ p. p ≡ program_of vertex.now) }
     {

@@ -1,4 +1,4 @@
-//! The want of memory, as all calls of lower crates that are made here can refuse it: each of their refusals is one.
+//! Out of memory, as all calls of lower crates that are made here can refuse it: each of their refusals is one.
 
 use llb_applet::ScriptFault;
 use llb_tree::TreeFault;

@@ -61,7 +61,7 @@ impl Model for View {
 
 impl View {
     /// Before the first micro-step of a vertex: on the trees of its inputs, with the numbers of the mounts that show caches, in the
-    /// order of the needs. `Memory` is the want of memory, and the one refusal.
+    /// order of the needs. `Memory`: out of memory, the one refusal.
     pub fn on(
         alloc: Global,
         locals: &Locals,
@@ -77,7 +77,7 @@ impl View {
         Ok(View { own })
     }
 
-    /// An equal second owner, whose trees are shared. `Memory` is the want of memory, and the one refusal.
+    /// An equal second owner, whose trees are shared. `Memory`: out of memory, the one refusal.
     pub fn copy(&self) -> Result<View, Memory>
         ensures { IfOk result (λ v. v ≡ self.now) }
     {
@@ -87,7 +87,7 @@ impl View {
 
     /// Does micro-step k; that number stands in its fault. The trees are those of the instances of the caches that the view shows,
     /// in the order of the needs, and a command leaves them as it changes them. The answer is the fault, where there is one, and
-    /// then the view and the trees are as they were. `Memory` is the want of memory, and the one refusal; then they are so too.
+    /// then the view and the trees are as they were. `Memory`: out of memory, the one refusal; then they are so too.
     pub fn step(
         &mut self,
         alloc: Global,
@@ -213,7 +213,7 @@ impl View {
         }
     }
 
-    // The first so many results of a file op.
+    // The first that many results of a file op.
     pub(crate) fn keep_results(&mut self, count: usize)
         ensures { self.new ≡ put_back (Results count) self.old }
     {

@@ -1,5 +1,6 @@
 -- A granted copy of one source, path by path.
-use Rattle.std.proofs.Common.{◌≡◌, ℕ, Bool, true, false, cond, ◌⊎◌, List, [], ◌∷◌, ◌++◌, map, length, Option, Some, None, Ok, refl, sym, ap, subst, ◌∙◌, inl, inr, arith, length-append}
+use Rattle.std.proofs.Common.{◌≡◌, ℕ, Bool, true, false, cond, ◌⊎◌, List, [], ◌∷◌, ◌++◌, map, length, Option, Some, None, Ok, refl, sym, ap}
+use Rattle.std.proofs.Common.{subst, ◌∙◌, inl, inr, arith, length-append}
 use Rattle.std.specs.Ordering.{eq_by_cmp}
 use Rattle.std.specs.FinMap as finite
 use Rattle.llb_wire.specs.Answer.{◌>>=◌, bind_ok}
@@ -28,7 +29,8 @@ find_target second s goal q =
     ∙ get-tree_at second s q
 
 none_beside : (second : TreeMap) (s goal q : List (List ℕ)) → is_within goal q ≡ false → finite.find path_cmp q (at_target second s goal) ≡ None
-none_beside second s goal q beside = ap (finite.find path_cmp q) (sym (target_dir second s goal)) ∙ find_beside goal q (finite.entries (tree_at second s)) beside
+none_beside second s goal q beside = ap (finite.find path_cmp q) (sym (target_dir second s goal))
+    ∙ find_beside goal q (finite.entries (tree_at second s)) beside
 
 -- ---- the parents that were made
 
@@ -124,11 +126,13 @@ module _ (c : CopyFile) (second t u : TreeMap) (s goal : List (List ℕ)) (grant
       let laid_is : laid_on given v es ≡ u = same_Ok (bind_ok (all_land v es) (λ _. Ok (laid_on given v es)) u on.2).2 in
       by_look v (lands_on c.create_dest_path goal t v on.1) (λ q. ap (λ x. finite.get x q) (sym laid_is) ∙ get-laid_on given v es q)
     where
-      by_look : (v : TreeMap) → LandsOn t v goal → ((q : List (List ℕ)) → finite.get u q ≡ laid given (finite.get v q) (finite.find path_cmp q es)) → IsCopied c second t u s goal
+      by_look : (v : TreeMap) → LandsOn t v goal
+          → ((q : List (List ℕ)) → finite.get u q ≡ laid given (finite.get v q) (finite.find path_cmp q es)) → IsCopied c second t u s goal
       by_look v on look =
           let at : (q : List (List ℕ)) → finite.get u (goal ++ q) ≡ laid given (finite.get t (goal ++ q)) (finite.get second (s ++ q)) =
           λ q. look (goal ++ q) ∙ (λ i. laid given (on.below q i) (find_target second s goal q i)) in
-          let files : (q : List (List ℕ)) (m : MetaValue) (bytes : List ℕ) → finite.get second (s ++ q) ≡ Some (File m bytes) → finite.get u (goal ++ q) ≡ Some (File (given m) bytes) =
+          let files : (q : List (List ℕ)) (m : MetaValue) (bytes : List ℕ) → finite.get second (s ++ q) ≡ Some (File m bytes)
+          → finite.get u (goal ++ q) ≡ Some (File (given m) bytes) =
           λ q m bytes is. at q ∙ ap (laid given (finite.get t (goal ++ q))) is ∙ over_file (finite.get t (goal ++ q)) m bytes in
           record {
             files = files;

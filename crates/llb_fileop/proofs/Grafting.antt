@@ -1,5 +1,6 @@
 -- A copy at its place: the merged part takes the place of what was there, and a file is put.
-use Rattle.std.proofs.Common.{◌≡◌, ℕ, zero, suc, ◌+◌, ◌≤◌, Bool, true, false, cond, ◌&&◌, List, [], ◌∷◌, ◌++◌, map, length, drop, Option, Some, None, IsSome, is_some, Result, Ok, Err, T, refl, sym, ap, subst, ◌∙◌, true≢false, arith, length-append}
+use Rattle.std.proofs.Common.{◌≡◌, ℕ, zero, suc, ◌+◌, ◌≤◌, Bool, true, false, cond, ◌&&◌, List, [], ◌∷◌, ◌++◌, map, length, drop, Option}
+use Rattle.std.proofs.Common.{Some, None, IsSome, is_some, Result, Ok, Err, T, refl, sym, ap, subst, ◌∙◌, true≢false, arith, length-append}
 use Rattle.std.proofs.lemmas.List.{append-nil}
 use Rattle.std.proofs.lemmas.Bool.{le-ltb}
 use Rattle.std.specs.Prelude.{slice_get}
@@ -10,7 +11,8 @@ use Rattle.llb_wire.specs.Answer.{◌>>=◌, bind_ok}
 use Rattle.llb_tree.specs.Path.{path_cmp, is_within}
 use Rattle.llb_tree.specs.PathOrder.{path_cmp-IsTotalOrder, path_cmp-IsAntisymmetric}
 use Rattle.llb_tree.specs.Meta.{MetaValue, new_dir_meta}
-use Rattle.llb_tree.specs.Tree.{TreeMap, Entry, Dir, File, moved, with_tree, graft, subtree, tree_at, dir_there, places_fit, parents, all_dirs, walk, dir_fits, file_fits, not_root, put_dir, IsDirAt, IsTree, is_dir}
+use Rattle.llb_tree.specs.Tree.{TreeMap, Entry, Dir, File, moved, with_tree, graft, subtree, tree_at, dir_there, places_fit, parents}
+use Rattle.llb_tree.specs.Tree.{all_dirs, walk, dir_fits, file_fits, not_root, put_dir, IsDirAt, IsTree, is_dir}
 use Rattle.llb_tree.specs.declared.fault.TreeFault.{TreeFault}
 use Rattle.llb_tree.specs.declared.fault.TreeFault.TheVariants.{BadName, Conflict}
 use Rattle.llb_tree.specs.Inside.{IsTree-tree_at}
@@ -36,7 +38,8 @@ pub each_lands : (t : TreeMap) (goal : List (List ℕ)) (es : List Pair) → all
     → (q : List (List ℕ)) (e : Entry) → finite.find path_cmp q es ≡ Some e → Lands t (goal ++ q) e
 each_lands t goal [] all q e is = absurd cc
 each_lands t goal (f ∷ es) all q e is =
-    let first = bind_ok (fits (goal ++ f.0)) (λ _. meets (finite.get t (goal ++ f.0)) f.1 >>= λ _. all_land t (map (moved 0 goal) es)) tt (grouped (fits (goal ++ f.0)) all) in
+    let first = bind_ok (fits (goal ++ f.0)) (λ _. meets (finite.get t (goal ++ f.0)) f.1 >>= λ _. all_land t (map (moved 0 goal) es)) tt
+    (grouped (fits (goal ++ f.0)) all) in
     let second = bind_ok (meets (finite.get t (goal ++ f.0)) f.1) (λ _. all_land t (map (moved 0 goal) es)) tt first.2 in
     by_tie (eq_by_cmp path_cmp q f.0) refl first.1 second.1 (each_lands t goal es second.2 q e) is
   where
@@ -55,7 +58,8 @@ each_lands t goal (f ∷ es) all q e is =
 
 -- ---- the merged part in place of what was there
 
-places-Ok : (p : List (List ℕ)) (qs : List (List (List ℕ))) → ((i : ℕ) (q : List (List ℕ)) → slice_get qs i ≡ Some q → length p + length q ≤ 128) → places_fit p qs ≡ Ok tt
+places-Ok : (p : List (List ℕ)) (qs : List (List (List ℕ)))
+    → ((i : ℕ) (q : List (List ℕ)) → slice_get qs i ≡ Some q → length p + length q ≤ 128) → places_fit p qs ≡ Ok tt
 places-Ok p [] short = refl
 places-Ok p (q ∷ qs) short =
     ap (λ b. cond b (Err BadName) (places_fit p qs)) (le-ltb 128 (length p + length q) (short 0 q refl))
@@ -97,28 +101,32 @@ module _ (given : MetaValue → MetaValue) (here source t : TreeMap) (goal : Lis
   laid_there : (q : List (List ℕ)) → finite.get (with_tree t goal both) q ≡ finite.get (laid_on given t (map (moved 0 goal) (finite.entries source))) q
   laid_there q = by_test (is_within goal q) refl
     where
-      below : (r : List (List ℕ)) → finite.get (with_tree t goal both) (goal ++ r) ≡ finite.get (laid_on given t (map (moved 0 goal) (finite.entries source))) (goal ++ r)
+      below : (r : List (List ℕ)) → finite.get (with_tree t goal both) (goal ++ r)
+          ≡ finite.get (laid_on given t (map (moved 0 goal) (finite.entries source))) (goal ++ r)
       below r =
           get_inside t both goal r
           ∙ get-laid_on given here (finite.entries source) r
           ∙ (λ i. laid given (same r i) (sym (find_moved goal r (finite.entries source)) i))
           ∙ sym (get-laid_on given t (map (moved 0 goal) (finite.entries source)) (goal ++ r))
 
-      by_test : (b : Bool) → is_within goal q ≡ b → finite.get (with_tree t goal both) q ≡ finite.get (laid_on given t (map (moved 0 goal) (finite.entries source))) q
+      by_test : (b : Bool) → is_within goal q ≡ b → finite.get (with_tree t goal both) q
+          ≡ finite.get (laid_on given t (map (moved 0 goal) (finite.entries source))) q
       by_test true is =
           ap (finite.get (with_tree t goal both)) (within_split goal q is)
           ∙ below (drop (length goal) q)
           ∙ ap (finite.get (laid_on given t (map (moved 0 goal) (finite.entries source)))) (sym (within_split goal q is))
       by_test false is =
           get_outside t both goal q is
-          ∙ sym (get-laid_on given t (map (moved 0 goal) (finite.entries source)) q ∙ ap (laid given (finite.get t q)) (find_beside goal q (finite.entries source) is))
+          ∙ sym (get-laid_on given t (map (moved 0 goal) (finite.entries source)) q
+          ∙ ap (laid given (finite.get t q)) (find_beside goal q (finite.entries source) is))
 
   -- the graft of the merged part is the landing
   pub graft_lands : IsDirAt (finite.get t) goal → graft t goal both ≡ land given (map (moved 0 goal) (finite.entries source)) t
   graft_lands dir =
       ap (λ r. r >>= λ _. places_fit goal (finite.keys both) >>= λ _. Ok (with_tree t goal both)) (tree.closed goal (ap is_some dir.1))
       ∙ ap (λ r. r >>= λ _. Ok (with_tree t goal both)) fit
-      ∙ ap (λ u. Ok u) (finite.same_map path_cmp-IsTotalOrder path_cmp-IsAntisymmetric (with_tree t goal both) (laid_on given t (map (moved 0 goal) (finite.entries source))) laid_there)
+      ∙ ap (λ u. Ok u) (finite.same_map path_cmp-IsTotalOrder path_cmp-IsAntisymmetric (with_tree t goal both)
+      (laid_on given t (map (moved 0 goal) (finite.entries source))) laid_there)
       ∙ sym (ap (λ r. r >>= λ _. Ok (laid_on given t (map (moved 0 goal) (finite.entries source)))) all)
 
 -- ---- a directory
@@ -166,7 +174,8 @@ module _ (given : MetaValue → MetaValue) (source t : TreeMap) (goal : List (Li
   pub dir_refused : IsTree t → IsSome (finite.get t goal) → is_dir (finite.get t goal) ≡ false → land_at given es' goal t ≡ Err Conflict
   dir_refused tree there not_dir =
       ap (λ r. r >>= λ _. land given es' t) (tree.closed goal there)
-      ∙ ap (λ r. r >>= λ _. Ok (laid_on given t es')) (first_lands ∙ ap (λ r. r >>= λ _. all_land t (map (moved 0 goal) (drop 1 (finite.entries source)))) (refused (finite.get t goal) there not_dir))
+      ∙ ap (λ r. r >>= λ _. Ok (laid_on given t es')) (first_lands
+      ∙ ap (λ r. r >>= λ _. all_land t (map (moved 0 goal) (drop 1 (finite.entries source)))) (refused (finite.get t goal) there not_dir))
     where
       refused : (o : Option Entry) → IsSome o → is_dir o ≡ false → meets o (Dir dir.0) ≡ Err Conflict
       refused None there not_dir = absurd (true≢false (sym there))
@@ -227,11 +236,14 @@ module _ (given : MetaValue → MetaValue) (source t : TreeMap) (goal : List (Li
         first_lands_u : all_land u es' ≡ (meets (finite.get u goal) (Dir dir.0) >>= λ _. all_land u (map (moved 0 goal) (drop 1 (finite.entries source))))
         first_lands_u =
             ap (λ l. all_land u (map (moved 0 goal) l)) entries_are
-            ∙ ap (λ p. fits p >>= λ _. meets (finite.get u p) (Dir dir.0) >>= λ _. all_land u (map (moved 0 goal) (drop 1 (finite.entries source)))) (append-nil goal)
-            ∙ ap (λ r. r >>= λ _. meets (finite.get u goal) (Dir dir.0) >>= λ _. all_land u (map (moved 0 goal) (drop 1 (finite.entries source)))) (fits-Ok goal low)
+            ∙ ap (λ p. fits p >>= λ _. meets (finite.get u p) (Dir dir.0)
+            >>= λ _. all_land u (map (moved 0 goal) (drop 1 (finite.entries source)))) (append-nil goal)
+            ∙ ap (λ r. r >>= λ _. meets (finite.get u goal) (Dir dir.0)
+            >>= λ _. all_land u (map (moved 0 goal) (drop 1 (finite.entries source)))) (fits-Ok goal low)
 
     root_found : finite.find path_cmp goal es' ≡ Some (Dir dir.0)
-    root_found = ap (λ p. finite.find path_cmp p es') (sym (append-nil goal)) ∙ find_moved goal [] (finite.entries source) ∙ sym (finite.get-entries source []) ∙ dir.1
+    root_found = ap (λ p. finite.find path_cmp p es') (sym (append-nil goal)) ∙ find_moved goal [] (finite.entries source)
+        ∙ sym (finite.get-entries source []) ∙ dir.1
 
     laid_same : (q : List (List ℕ)) → laid given (finite.get u q) (finite.find path_cmp q es') ≡ laid given (finite.get t q) (finite.find path_cmp q es')
     laid_same q = by_tie (eq_by_cmp path_cmp q goal) refl
@@ -239,17 +251,20 @@ module _ (given : MetaValue → MetaValue) (source t : TreeMap) (goal : List (Li
         at_goal : laid given (finite.get u goal) (finite.find path_cmp goal es') ≡ laid given (finite.get t goal) (finite.find path_cmp goal es')
         at_goal = (λ i. laid given (u_goal i) (root_found i)) ∙ sym (λ i. laid given (none i) (root_found i))
 
-        by_tie : (b : Bool) → eq_by_cmp path_cmp q goal ≡ b → laid given (finite.get u q) (finite.find path_cmp q es') ≡ laid given (finite.get t q) (finite.find path_cmp q es')
+        by_tie : (b : Bool) → eq_by_cmp path_cmp q goal ≡ b → laid given (finite.get u q) (finite.find path_cmp q es')
+            ≡ laid given (finite.get t q) (finite.find path_cmp q es')
         by_tie true tie =
             let same = same_path q goal tie in
-            ap (λ k. laid given (finite.get u k) (finite.find path_cmp k es')) same ∙ at_goal ∙ ap (λ k. laid given (finite.get t k) (finite.find path_cmp k es')) (sym same)
+            ap (λ k. laid given (finite.get u k) (finite.find path_cmp k es')) same ∙ at_goal
+            ∙ ap (λ k. laid given (finite.get t k) (finite.find path_cmp k es')) (sym same)
         by_tie false tie = ap (λ o. laid given o (finite.find path_cmp q es')) (u_other q tie)
 
     pub dir_made : land given es' u ≡ land_at given es' goal t
     dir_made =
         ap (λ r. r >>= λ _. Ok (laid_on given u es')) all_same
         ∙ ap (λ x. all_land t es' >>= λ _. Ok x)
-        (finite.same_map path_cmp-IsTotalOrder path_cmp-IsAntisymmetric (laid_on given u es') (laid_on given t es') (λ q. get-laid_on given u es' q ∙ laid_same q ∙ sym (get-laid_on given t es' q)))
+        (finite.same_map path_cmp-IsTotalOrder path_cmp-IsAntisymmetric (laid_on given u es') (laid_on given t es')
+        (λ q. get-laid_on given u es' q ∙ laid_same q ∙ sym (get-laid_on given t es' q)))
         ∙ sym (ap (λ r. r >>= λ _. land given es' t) walks)
 
     pub dir_is_made : is_dir (finite.get u goal) ≡ true
@@ -299,7 +314,8 @@ module _ (given : MetaValue → MetaValue) (t : TreeMap) (goal : List (List ℕ)
   pub file_lands : is_dir (finite.get t goal) ≡ false → land_at given one goal t ≡ put (File (given m) b) t goal
   file_lands not_dir =
       ap (λ x. walk (finite.get t) goal >>= λ _. x) (lands_one ∙ sym fits_one)
-      ∙ sym (ap (λ r. r >>= λ _. walk (finite.get t) goal >>= λ _. file_fits (finite.get t goal) >>= λ _. Ok (finite.insert t goal (File (given m) b))) (named goal refl))
+      ∙ sym (ap (λ r. r >>= λ _. walk (finite.get t) goal >>= λ _. file_fits (finite.get t goal)
+      >>= λ _. Ok (finite.insert t goal (File (given m) b))) (named goal refl))
     where
       meets_one : (o : Option Entry) → is_dir o ≡ false → meets o (File m b) ≡ Ok tt
       meets_one None is = refl
@@ -326,7 +342,8 @@ module _ (given : MetaValue → MetaValue) (t : TreeMap) (goal : List (List ℕ)
 
 -- ---- the parents that are made
 
-keeps_dir : (m : MetaValue) (p : List (List ℕ)) (t u : TreeMap) → kept_or_made m p (finite.get t p) t ≡ Ok u → (q : List (List ℕ)) → IsDirAt (finite.get t) q → IsDirAt (finite.get u) q
+keeps_dir : (m : MetaValue) (p : List (List ℕ)) (t u : TreeMap) → kept_or_made m p (finite.get t p) t ≡ Ok u → (q : List (List ℕ))
+    → IsDirAt (finite.get t) q → IsDirAt (finite.get u) q
 keeps_dir m p t u is q dir = by_there (finite.get t p) is
   where
     by_there : (o : Option Entry) → kept_or_made m p o t ≡ Ok u → IsDirAt (finite.get u) q
@@ -335,7 +352,8 @@ keeps_dir m p t u is q dir = by_there (finite.get t p) is
     by_there None is =
         let walks = bind_ok (walk (finite.get t) p) (λ _. dir_fits (finite.get t p) >>= λ _. Ok (finite.insert t p (Dir m))) u is in
         let fit = bind_ok (dir_fits (finite.get t p)) (λ _. Ok (finite.insert t p (Dir m))) u walks.2 in
-        subst (λ x. IsDirAt (finite.get x) q) (same_Ok fit.2) (get-insert_cases (λ o. (n : MetaValue) × (o ≡ Some (Dir n))) t p (Dir m) q (λ same. (m, refl)) dir)
+        subst (λ x. IsDirAt (finite.get x) q) (same_Ok fit.2)
+        (get-insert_cases (λ o. (n : MetaValue) × (o ≡ Some (Dir n))) t p (Dir m) q (λ same. (m, refl)) dir)
 
 makes_dir : (m : MetaValue) (p : List (List ℕ)) (t u : TreeMap) → kept_or_made m p (finite.get t p) t ≡ Ok u → IsDirAt (finite.get u) p
 makes_dir m p t u is = by_there (finite.get t p) refl is
@@ -349,7 +367,8 @@ makes_dir m p t u is = by_there (finite.get t p) refl is
         subst (λ x. IsDirAt (finite.get x) p) (same_Ok fit.2)
         (m, finite.get-insert path_cmp-IsTotalOrder t p (Dir m) p ∙ ap (λ b. cond b (Some (Dir m)) (finite.get t p)) (ties_itself p))
 
-all_keep : (m : MetaValue) (ps : List (List (List ℕ))) (t u : TreeMap) → make_all m ps t ≡ Ok u → (q : List (List ℕ)) → IsDirAt (finite.get t) q → IsDirAt (finite.get u) q
+all_keep : (m : MetaValue) (ps : List (List (List ℕ))) (t u : TreeMap) → make_all m ps t ≡ Ok u → (q : List (List ℕ))
+    → IsDirAt (finite.get t) q → IsDirAt (finite.get u) q
 all_keep m [] t u is q dir = subst (λ x. IsDirAt (finite.get x) q) (same_Ok is) dir
 all_keep m (p ∷ ps) t u is q dir =
     let step = bind_ok (kept_or_made m p (finite.get t p) t) (make_all m ps) u is in
@@ -394,7 +413,8 @@ module _ (c : CopyFile) (second : TreeMap) (s place goal : List (List ℕ)) (t :
       ap (λ p. copy_to c second s p t) place_is
       ∙ ap (λ r. r >>= λ _. parents_for c.create_dest_path goal t >>= land given (at_target second s goal)) (fits-Ok goal place_short)
 
-  pub copy_made : (u : TreeMap) → c.create_dest_path ≡ true → make_all new_dir_meta (parents goal) t ≡ Ok u → copy_to c second s place t ≡ land_at given (at_target second s goal) goal u
+  pub copy_made : (u : TreeMap) → c.create_dest_path ≡ true → make_all new_dir_meta (parents goal) t ≡ Ok u
+      → copy_to c second s place t ≡ land_at given (at_target second s goal) goal u
   copy_made u create made =
       fits_place
       ∙ ap (λ b. parents_for b goal t >>= land given (at_target second s goal)) create
@@ -404,6 +424,7 @@ module _ (c : CopyFile) (second : TreeMap) (s place goal : List (List ℕ)) (t :
   pub copy_kept : c.create_dest_path ≡ false → copy_to c second s place t ≡ land_at given (at_target second s goal) goal t
   copy_kept create = fits_place ∙ ap (λ b. parents_for b goal t >>= land given (at_target second s goal)) create ∙ by_walk (walk (finite.get t) goal)
     where
-      by_walk : (r : Result (Unit {0}) TreeFault) → ((r >>= λ _. Ok t) >>= land given (at_target second s goal)) ≡ (r >>= λ _. land given (at_target second s goal) t)
+      by_walk : (r : Result (Unit {0}) TreeFault) → ((r >>= λ _. Ok t) >>= land given (at_target second s goal))
+          ≡ (r >>= λ _. land given (at_target second s goal) t)
       by_walk (Ok x) = refl
       by_walk (Err e) = refl

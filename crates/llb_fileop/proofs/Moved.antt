@@ -1,5 +1,6 @@
 -- Entries at other places: below a path, and taken from below one.
-use Rattle.std.proofs.Common.{◌≡◌, ◌≢◌, ℕ, Bool, true, false, cond, not, ◌&&◌, List, [], ◌∷◌, ◌++◌, map, length, take, drop, Option, Some, None, is_some, T, refl, sym, ap, subst, ◌∙◌, true≢false, take-append-drop}
+use Rattle.std.proofs.Common.{◌≡◌, ◌≢◌, ℕ, Bool, true, false, cond, not, ◌&&◌, List, [], ◌∷◌, ◌++◌, map, length, take, drop, Option, Some}
+use Rattle.std.proofs.Common.{None, is_some, T, refl, sym, ap, subst, ◌∙◌, true≢false, take-append-drop}
 use Rattle.std.proofs.lemmas.List.{append-nil, take_at}
 use Rattle.std.specs.Ordering.{is_lt, is_eq, eq_by_cmp, ordering_then}
 use Rattle.std.specs.Cmp.{tied_itself}
@@ -26,9 +27,10 @@ and_both : (a b : Bool) → T a → T b → T (a && b)
 and_both true b p q = q
 and_both false b p q = absurd p
 
--- what is at or below a path has it in front
+-- what is at or below a path has it as a prefix
 pub within_split : (p q : List (List ℕ)) → is_within p q ≡ true → q ≡ p ++ drop (length p) q
-within_split p q is = sym (take-append-drop (length p) q) ∙ ap (λ x. x ++ drop (length p) q) (sym ((pointwise_decides bytes_decides p (take (length p) q)).0 is))
+within_split p q is = sym (take-append-drop (length p) q)
+    ∙ ap (λ x. x ++ drop (length p) q) (sym ((pointwise_decides bytes_decides p (take (length p) q)).0 is))
 
 pub within-append : (p q : List (List ℕ)) → is_within p (p ++ q) ≡ true
 within-append p q = (pointwise_decides bytes_decides p (take (length p) (p ++ q))).1 (sym (take_at p q (length p) refl))
@@ -36,7 +38,7 @@ within-append p q = (pointwise_decides bytes_decides p (take (length p) (p ++ q)
 pub within_itself : (p : List (List ℕ)) → is_within p p ≡ true
 within_itself p = ap (is_within p) (sym (append-nil p)) ∙ within-append p []
 
--- what is in front of both decides nothing
+-- what is before both decides nothing
 cmp-append : (p q r : List (List ℕ)) → path_cmp (p ++ q) (p ++ r) ≡ path_cmp q r
 cmp-append [] q r = refl
 cmp-append (n ∷ p) q r = ap (λ o. ordering_then o (path_cmp (p ++ q) (p ++ r))) (tied_itself nat_list_cmp_total n) ∙ cmp-append p q r
@@ -51,7 +53,8 @@ pub find_beside : (p q : List (List ℕ)) (es : List Pair) → is_within p q ≡
 find_beside p q [] beside = refl
 find_beside p q (e ∷ es) beside = by_tie (eq_by_cmp path_cmp q (p ++ e.0)) refl (find_beside p q es beside)
   where
-    by_tie : (b : Bool) → eq_by_cmp path_cmp q (p ++ e.0) ≡ b → finite.find path_cmp q (map (moved 0 p) es) ≡ None → cond b (Some e.1) (finite.find path_cmp q (map (moved 0 p) es)) ≡ None
+    by_tie : (b : Bool) → eq_by_cmp path_cmp q (p ++ e.0) ≡ b → finite.find path_cmp q (map (moved 0 p) es) ≡ None
+        → cond b (Some e.1) (finite.find path_cmp q (map (moved 0 p) es)) ≡ None
     by_tie true t rest = absurd (true≢false (sym (within-append p e.0) ∙ ap (is_within p) (sym (same_path q (p ++ e.0) t)) ∙ beside))
     by_tie false t rest = rest
 
@@ -72,7 +75,8 @@ find_over q (e ∷ es) fs = by_tie (eq_by_cmp path_cmp q e.0) (find_over q es fs
 pub get-without : (t : TreeMap) (p q : List (List ℕ)) → finite.get (without t p) q ≡ cond (not (is_within p q)) (finite.get t q) None
 get-without t p q = finite.get-retain_keys t (λ x. not (is_within p x)) q (λ x tie. ap (λ y. not (is_within p y)) (sym (path_cmp-IsAntisymmetric q x tie)))
 
-get-with_tree : (t other : TreeMap) (p q : List (List ℕ)) → finite.get (with_tree t p other) q ≡ or_else (finite.find path_cmp q (map (moved 0 p) (finite.entries other))) (finite.get (without t p) q)
+get-with_tree : (t other : TreeMap) (p q : List (List ℕ)) → finite.get (with_tree t p other) q
+    ≡ or_else (finite.find path_cmp q (map (moved 0 p) (finite.entries other))) (finite.get (without t p) q)
 get-with_tree t other p q =
     finite.get-from_entries path_cmp-IsTotalOrder (map (moved 0 p) (finite.entries other) ++ finite.entries (without t p)) q
     ∙ find_over q (map (moved 0 p) (finite.entries other)) (finite.entries (without t p))
@@ -120,7 +124,8 @@ sorted_inside p (e ∷ es) h = by_test (is_within p e.0) refl (sorted_inside p e
   where
     by_test : (b : Bool) → is_within p e.0 ≡ b → T (finite.is_sorted path_cmp (inside p es))
         → T (finite.is_sorted path_cmp (map (moved (length p) []) (cond b (e ∷ where_key path_cmp (is_within p) es) (where_key path_cmp (is_within p) es))))
-    by_test true is rest = and_both _ _ (below_inside p (drop (length p) e.0) es (subst (λ k. T (below_all path_cmp k es)) (within_split p e.0 is) (and_first _ _ h))) rest
+    by_test true is rest = and_both _ _ (below_inside p (drop (length p) e.0) es
+        (subst (λ k. T (below_all path_cmp k es)) (within_split p e.0 is) (and_first _ _ h))) rest
     by_test false is rest = rest
 
 entries_from : (es : List Pair) → T (finite.is_sorted path_cmp es) → finite.entries (finite.from_entries {R = path_cmp} es) ≡ es
@@ -140,9 +145,11 @@ target_dir second s goal =
     ∙ moved_again (length s) goal (where_key path_cmp (is_within s) (finite.entries second))
 
 -- at and below a file there is the file alone
-pub target_file : (second : TreeMap) (s goal : List (List ℕ)) (m : MetaValue) (b : List ℕ) → IsTree second → finite.get second s ≡ Some (File m b) → at_target second s goal ≡ (goal, File m b) ∷ []
+pub target_file : (second : TreeMap) (s goal : List (List ℕ)) (m : MetaValue) (b : List ℕ) → IsTree second
+    → finite.get second s ≡ Some (File m b) → at_target second s goal ≡ (goal, File m b) ∷ []
 target_file second s goal m b tree is =
-    ap (map (moved (length s) goal)) (same_entries path_cmp path_cmp-IsTotalOrder path_cmp-IsAntisymmetric (where_key path_cmp (is_within s) (finite.entries second)) ((s, File m b) ∷ [])
+    ap (map (moved (length s) goal)) (same_entries path_cmp path_cmp-IsTotalOrder path_cmp-IsAntisymmetric
+    (where_key path_cmp (is_within s) (finite.entries second)) ((s, File m b) ∷ [])
     (is_sorted-where_key path_cmp (is_within s) (finite.entries second) (finite.entries_sorted second)) tt same)
     ∙ ap (λ p. (p, File m b) ∷ []) (ap (λ l. goal ++ l) (drop_itself s) ∙ append-nil goal)
   where
@@ -159,13 +166,15 @@ target_file second s goal m b tree is =
         let no : Some (File m b) ≡ Some (Dir dir.0) = sym is ∙ dir.1 in
         absurd cc
 
-    by_tie : (q : List (List ℕ)) (t w : Bool) → eq_by_cmp path_cmp q s ≡ t → is_within s q ≡ w → cond w (finite.find path_cmp q (finite.entries second)) None ≡ cond t (Some (File m b)) None
+    by_tie : (q : List (List ℕ)) (t w : Bool) → eq_by_cmp path_cmp q s ≡ t → is_within s q ≡ w
+        → cond w (finite.find path_cmp q (finite.entries second)) None ≡ cond t (Some (File m b)) None
     by_tie q true true tie in_it = sym (finite.get-entries second q) ∙ ap (finite.get second) (same_path q s tie) ∙ is
     by_tie q true false tie in_it = absurd (true≢false (sym (ap (is_within s) (same_path q s tie) ∙ within_itself s) ∙ in_it))
     by_tie q false false tie in_it = refl
     by_tie q false true tie in_it =
         sym (finite.get-entries second q)
-        ∙ none_below q (drop (length s) q) (within_split s q in_it) (λ same. true≢false (sym (ap (λ x. eq_by_cmp path_cmp x s) same ∙ ties_itself s) ∙ tie)) (finite.get second q) refl
+        ∙ none_below q (drop (length s) q) (within_split s q in_it)
+        (λ same. true≢false (sym (ap (λ x. eq_by_cmp path_cmp x s) same ∙ ties_itself s) ∙ tie)) (finite.get second q) refl
 
     same : (q : List (List ℕ)) → finite.find path_cmp q (where_key path_cmp (is_within s) (finite.entries second)) ≡ finite.find path_cmp q ((s, File m b) ∷ [])
     same q =

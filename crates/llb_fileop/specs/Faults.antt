@@ -8,7 +8,7 @@ use Rattle.llb_glob.specs.declared.fault.PatternFault.TheVariants as pattern
 use Rattle.llb_fileop.specs.declared.fault.ActFault.{ActFault}
 use Rattle.llb_fileop.specs.declared.fault.ActFault.TheVariants.{File, BadPattern, Memory}
 
--- want of memory, which no rule gives
+-- out of memory, which no rule gives
 abbrev pub is_memory : ActFault → Bool
 is_memory Memory = true
 is_memory (File f) = false
@@ -18,7 +18,7 @@ is_memory BadPattern = false
 abbrev pub Gives : {X Y : Type 0} → (X → Y) → Result X ActFault → Result Y ActFault → Type 0
 Gives = answer.Gives is_memory
 
--- want of memory comes last
+-- out of memory comes last
 abbrev pub MemoryLast : {X Y : Type 0} → Result X ActFault → Result Y ActFault → Type 0
 MemoryLast = answer.MemoryLast is_memory
 

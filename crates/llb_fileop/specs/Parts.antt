@@ -22,7 +22,7 @@ abbrev pub all_meet : TreeMap → List (List (List ℕ) × Entry) → Result (Un
 all_meet here [] = Ok tt
 all_meet here (e ∷ es) = meets (finite.get here e.0) e.1 >>= λ _. all_meet here es
 
--- the first that can't land below a path of so many names, where the tree has this at it
+-- the first that can't land below a path of that many names, where the tree has this at it
 abbrev pub all_below : TreeMap → ℕ → List (List (List ℕ) × Entry) → Result (Unit {0}) TreeFault
 all_below here depth [] = Ok tt
 all_below here depth (e ∷ es) =

@@ -143,7 +143,8 @@ fn land(
 ) -> Result<(), TreeFault>
     requires short { length goal.now ≤ 128 }
     requires there { IsSome (finite.get second.now source.now) }
-    ensures { trees.Gives (λ _. tree.new) result (land_at (copied action.now.mode action.now.owner) (at_target second.now source.now goal.now) goal.now tree.old) }
+    ensures { trees.Gives (λ _. tree.new) result (land_at (copied action.now.mode action.now.owner)
+        (at_target second.now source.now goal.now) goal.now tree.old) }
 {
     if second.is_dir(source) {
         let from = second.subtree(source)?;

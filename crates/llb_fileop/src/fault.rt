@@ -1,4 +1,4 @@
-//! Why an action is refused. A fault prints what stands behind the word `fault` in a refusal: its number, and that of a
+//! Why an action is refused. A fault prints what stands after the word `fault` in a refusal: its number, and that of a
 //! fault of the tree. Refusals of memory of any kind become `Memory` by `?`.
 
 use llb_glob::PatternFault;

@@ -45,7 +45,8 @@ pub fn land_dir(
 ) -> Result<(), TreeFault>
     requires short { length goal.now ≤ 128 }
     requires dir { IsDirAt (finite.get source.now) [] }
-    ensures { Gives (λ _. tree.new) result (land_at (copied action.now.mode action.now.owner) (map (moved 0 goal.now) (finite.entries source.now)) goal.now tree.old) }
+    ensures { Gives (λ _. tree.new) result (land_at (copied action.now.mode action.now.owner)
+        (map (moved 0 goal.now) (finite.entries source.now)) goal.now tree.old) }
 {
     if !is_there(tree, goal) {
         copy_from(action, source, &Path::root(alloc), goal, tree)?;

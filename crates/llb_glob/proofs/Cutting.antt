@@ -43,7 +43,7 @@ is_none_from (Some x) false e = refl
 
 -- ---- a part
 
--- what characters spell, behind a `\` or not
+-- what characters spell, after a `\` or not
 abbrev pub items_from : Bool → List ℕ → Result (List Item) PatternFault
 items_from quoted letters = if quoted then items_of (92 ∷ letters) else items_of letters
 
@@ -57,7 +57,8 @@ plain_first c [] is = ap (λ b. if b then Err BadPattern else (item_of c >>= λ 
 plain_first c (d ∷ letters) is =
     ap (λ b. if b then behind (One (Only d) ∷ []) (items_of letters) else (item_of c >>= λ item. behind (item ∷ []) (items_of (d ∷ letters)))) is
 
-plain_says : (r : Result Item PatternFault) (letters : List ℕ) → (r >>= λ item. behind (item ∷ []) (items_of letters)) ≡ (r >>= (λ item. Ok (Some item)) >>= and_then letters)
+plain_says : (r : Result Item PatternFault) (letters : List ℕ) → (r >>= λ item. behind (item ∷ []) (items_of letters))
+    ≡ (r >>= (λ item. Ok (Some item)) >>= and_then letters)
 plain_says (Ok item) letters = refl
 plain_says (Err e) letters = refl
 
@@ -126,7 +127,8 @@ module _ (names : List (List ℕ)) (i : ℕ) (name : List ℕ) (inside : i < len
       let here : drop i names ≡ name ∷ drop (i + 1) names = at_drop names i name inside is in
       ap each_cut here
 
-  name_says : (r : Result (List Item) PatternFault) → items_of (chars name) ≡ r → each_cut (drop i names) ≡ (r >>= λ part. behind (part ∷ []) (each_cut (drop (i + 1) names)))
+  name_says : (r : Result (List Item) PatternFault) → items_of (chars name) ≡ r
+      → each_cut (drop i names) ≡ (r >>= λ part. behind (part ∷ []) (each_cut (drop (i + 1) names)))
   name_says r says = at_name ∙ ap (λ r. r >>= λ part. behind (part ∷ []) (each_cut (drop (i + 1) names))) says
 
   pub part_more :

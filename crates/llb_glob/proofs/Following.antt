@@ -1,5 +1,7 @@
 -- A text that is looked through part by part: where it leads, and how many of the names are parts of a pattern.
-use Rattle.std.proofs.Common.{◌≡◌, ℕ, suc, ◌+◌, ◌-◌, ◌<◌, ◌==◌, Bool, true, false, cond, if◌then◌else◌, ◌||◌, nat_lt, zero, List, [], ◌∷◌, ◌++◌, length, take, drop, get_or, min, Result, Ok, Err, is_ok, refl, sym, ap, ◌∙◌, inl, inr, eq-eqb, ne_eqb, arith}
+use Rattle.std.proofs.Common.{◌≡◌, ℕ, suc, ◌+◌, ◌-◌, ◌<◌, ◌==◌, Bool, true, false, cond, if◌then◌else◌, ◌||◌, nat_lt, zero, List, [], ◌∷◌}
+use Rattle.std.proofs.Common.{◌++◌, length, take, drop, get_or, min, Result, Ok, Err, is_ok, refl, sym, ap, ◌∙◌, inl, inr, eq-eqb, ne_eqb}
+use Rattle.std.proofs.Common.{arith}
 use Rattle.std.specs.List.{prefix_len}
 use Rattle.std.specs.Str.{chars}
 use Rattle.std.proofs.lemmas.Bool.{cases_eq, false≢true}

@@ -1,5 +1,6 @@
 -- How an item moves the set of places of a name.
-use Rattle.std.proofs.Common.{◌≡◌, ◌↔◌, ℕ, suc, ◌+◌, ◌-◌, ◌<◌, ◌≤◌, Bool, true, false, List, [], ◌∷◌, length, get_or, drop, sym, ap, ◌∙◌, subst, inl, inr, set, replicate, add-one, drop-cons, arith}
+use Rattle.std.proofs.Common.{◌≡◌, ◌↔◌, ℕ, suc, ◌+◌, ◌-◌, ◌<◌, ◌≤◌, Bool, true, false, List, [], ◌∷◌, length, get_or, drop, sym, ap, ◌∙◌}
+use Rattle.std.proofs.Common.{subst, inl, inr, set, replicate, add-one, drop-cons, arith}
 use Rattle.std.proofs.Math.Seq.{drop-length}
 use Rattle.std.proofs.lemmas.Bool.{cases_lt, false≢true}
 use Rattle.std.proofs.lemmas.List.{drop-drop, drop_all, get_or-set_same, get_or-set_other, get_or-replicate, length-replicate}
@@ -36,7 +37,7 @@ module _ (items : List Item) (name : List ℕ) (old new : List Bool) (starts : A
     );
   }
     where
-      -- the rest of the name behind a run begins at a place of the name, at its end where the run goes past it
+      -- the rest of the name after a run begins at a place of the name, at its end where the run goes past it
       reaches : (i : ℕ) → i ≤ length name → (n : ℕ) → MatchesName items (drop (i + n) name) → Reaches old (length name) i
       reaches i within n matched =
           elim (cases_lt (length name) (i + n)) [
@@ -99,7 +100,7 @@ first_starts name n fits =
     (λ i inside in_set. false≢true (sym (outside i inside) ∙ in_set))
     (get_or-set_same none (length name) true false (rw length-replicate fits))
 
--- one more item in front of the items that are left
+-- one more item before the items that are left
 pub starts_back :
     (items : List Item) (k : ℕ) (d : Item) (name : List ℕ) (old new : List Bool)
     → 0 < k

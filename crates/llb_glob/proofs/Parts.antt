@@ -23,7 +23,8 @@ module _
     at_hand =
         let here : drop i parts ≡ part ∷ drop (i + 1) parts = at_drop parts i part in_parts is_part in
         let there : drop i path ≡ name ∷ drop (i + 1) path = at_drop path i name in_path is_name in
-        subst (λ ps. Matches ps (name ∷ drop (i + 1) path) ↔ Matches parts path) here (subst (λ ns. Matches (drop i parts) ns ↔ Matches parts path) there so_far)
+        subst (λ ps. Matches ps (name ∷ drop (i + 1) path) ↔ Matches parts path) here
+        (subst (λ ns. Matches (drop i parts) ns ↔ Matches parts path) there so_far)
 
     pub matches_more : MatchesName part (chars name) → Matches (drop (i + 1) parts) (drop (i + 1) path) ↔ Matches parts path
     matches_more m = (λ rest. at_hand.0 (m, rest), λ all. (at_hand.1 all).1)

@@ -1,4 +1,4 @@
--- How the calls of this crate answer: what their rule gives, or the want of memory.
+-- How the calls of this crate answer: what their rule gives, or out of memory.
 use Rattle.std.specs.Prelude.{Bool, true, false, Result}
 use Rattle.llb_wire.specs.Answer as answer
 use Rattle.llb_tree.specs.declared.fault.TreeFault.{TreeFault}
@@ -6,7 +6,7 @@ use Rattle.llb_tree.specs.declared.fault.TreeFault.TheVariants as tree
 use Rattle.llb_glob.specs.declared.fault.PatternFault.{PatternFault}
 use Rattle.llb_glob.specs.declared.fault.PatternFault.TheVariants.{BadPattern, Memory}
 
--- want of memory, which no rule gives
+-- out of memory, which no rule gives
 abbrev pub is_memory : PatternFault → Bool
 is_memory Memory = true
 is_memory BadPattern = false
@@ -15,7 +15,7 @@ is_memory BadPattern = false
 abbrev pub Gives : {X Y : Type 0} → (X → Y) → Result X PatternFault → Result Y PatternFault → Type 0
 Gives = answer.Gives is_memory
 
--- want of memory comes last
+-- out of memory comes last
 abbrev pub MemoryLast : {X Y : Type 0} → Result X PatternFault → Result Y PatternFault → Type 0
 MemoryLast = answer.MemoryLast is_memory
 

@@ -59,7 +59,8 @@ path_matches-tells (part ∷ parts) (name ∷ path) = both _ _ _ _ (name_matches
 
 -- what tells whether a path matches is the test
 pub is_the_test : (b : Bool) (parts : List (List Item)) (path : List (List ℕ)) → (IsTrue b ↔ Matches parts path) → b ≡ path_matches parts path
-is_the_test b parts path tells = same b (path_matches parts path) (λ e. (path_matches-tells parts path).1 (tells.0 e)) (λ e. tells.1 ((path_matches-tells parts path).0 e))
+is_the_test b parts path tells = same b (path_matches parts path) (λ e. (path_matches-tells parts path).1 (tells.0 e))
+    (λ e. tells.1 ((path_matches-tells parts path).0 e))
   where
     same : (a b : Bool) → (IsTrue a → IsTrue b) → (IsTrue b → IsTrue a) → a ≡ b
     same true b there back = sym (there refl)

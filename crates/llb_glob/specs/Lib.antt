@@ -1,3 +1,5 @@
+-- Read first Matching (when a path matches a pattern) and Pattern (what a text reads as) with Items, then Faults and Laws. Places and Walk are the code's
+-- own way.
 pub mod Faults
 pub mod Items
 pub mod Matching

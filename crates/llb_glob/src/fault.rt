@@ -1,4 +1,4 @@
-//! Why a pattern is refused. A fault prints what stands behind the word `fault` in a refusal: its number.
+//! Why a pattern is refused. A fault prints what stands after the word `fault` in a refusal: its number.
 //! Refusals of memory of any kind become `Memory` by `?`.
 
 use llb_tree::TreeFault;
@@ -8,7 +8,7 @@ use thiserror::Error;
 /// Why a pattern is refused.
 #[derive(Clone, Copy, Debug, PartialEq, Eq, Error)]
 pub enum PatternFault {
-    /// 41: a part is no name, is the 129th, ends in a lone `\`, or has a `[` that is not behind a `\`.
+    /// 41: a part is no name, is the 129th, ends in a lone `\`, or has a `[` that is not after a `\`.
     #[error("41")]
     BadPattern,
     /// 42: memory was refused.

@@ -36,7 +36,7 @@ impl Letter {
     }
 }
 
-/// What the next character of a part says, behind a `\` or not: an item, or nothing where it is a `\` itself.
+/// What the next character of a part says, after a `\` or not: an item, or nothing where it is a `\` itself.
 pub fn cut(quoted: bool, letter: char) -> Result<Option<Item>, PatternFault>
     ensures { result ≡ cut quoted letter }
 {

@@ -1,5 +1,5 @@
 //! Patterns. A text is read as that of a path is, and then each part is cut into items. Reading looks the text through
-//! once without memory, so that a bad pattern is told from the want of memory, and then makes the pattern.
+//! once without memory, so that a bad pattern is told apart from out of memory, and then makes the pattern.
 
 ghost use Rattle.std.specs.Prelude.{◌≡◌, ◌↔◌, List, ℕ, [], length, take, is_ok, IsTrue};
 ghost use Rattle.llb_tree.specs.Path.{enter};
@@ -33,7 +33,7 @@ impl Pattern {
     /// part and stops at the root, and each part that is left is cut into items: `*` any run of characters, `?` any one
     /// character, `\c` the character c, any other character itself. 41 `BadPattern` at a part that is no name or is the
     /// 129th, also where a later `..` would remove it, and where a part that is left ends in a lone `\` or has a `[` that
-    /// is not behind a `\`; 42 `Memory`, where there is no other fault.
+    /// is not after a `\`; 42 `Memory`, where there is no other fault.
     pub fn read(alloc: Global, text: &str) -> Result<Pattern, PatternFault>
         ensures gives { Gives (λ p. p) result (pattern_of text.now) }
         ensures last { MemoryLast result (pattern_of text.now) }

@@ -1,5 +1,6 @@
 -- Values at the places of a list, and whether two places share one.
-use Rattle.std.proofs.Common.{◌≡◌, ℕ, ◌+◌, ◌<◌, ◌≤◌, List, Option, Some, None, ◌⊎◌, inl, inr, length, get_or, sym, ◌∙◌, ap, subst, arith, Bool, true, false, not, cond, refl, []}
+use Rattle.std.proofs.Common.{◌≡◌, ℕ, ◌+◌, ◌<◌, ◌≤◌, List, Option, Some, None, ◌⊎◌, inl, inr, length, get_or, sym, ◌∙◌, ap, subst, arith}
+use Rattle.std.proofs.Common.{Bool, true, false, not, cond, refl, []}
 use Rattle.std.specs.BTreeSet.{BTreeSet, contains}
 use Rattle.std.specs.List.{list_any}
 use Rattle.std.specs.Ordering.{is_eq}
@@ -28,7 +29,11 @@ ApartBelow values n = (a b : ℕ) → a < b → b < n → ¬ Share (value_at val
 pub apart_more : {X : Type 0} (values : List (Option X)) (n : ℕ) → ¬ IsAmong values n (value_at values n) → ApartBelow values n → ApartBelow values (n + 1)
 apart_more {X} values n fresh s a b l h e = elim (at_or_below b n h) [
   | inl m ↦ s a b l m e
-  | inr q ↦ fresh (record { place = a; below = (let k : a < n = omega (arith, l, q) in k); shared = subst (λ (i : ℕ). Share (value_at values a) (value_at values i)) q e })
+  | inr q ↦ fresh (record {
+    place = a;
+    below = (let k : a < n = omega (arith, l, q) in k);
+    shared = subst (λ (i : ℕ). Share (value_at values a) (value_at values i)) q e;
+  })
 ]
 
 pub apart_end : {X : Type 0} (values : List (Option X)) (n : ℕ) → length values ≤ n → ApartBelow values n → AreApart values
@@ -79,7 +84,8 @@ seen_skip {X} values n held none s = record {
   ];
 }
 
-pub seen_more : {X : Type 0} (cmp : X → X → Ordering) → IsTotalOrder cmp → IsAntisymmetric cmp → (values : List (Option X)) (n : ℕ) (p : X) (held next : X → Bool) → value_at values n ≡ Some p
+pub seen_more : {X : Type 0} (cmp : X → X → Ordering) → IsTotalOrder cmp → IsAntisymmetric cmp
+    → (values : List (Option X)) (n : ℕ) (p : X) (held next : X → Bool) → value_at values n ≡ Some p
     → ((q : X) → next q ≡ cond (is_eq (cmp p q)) true (held q)) → IsSeen values n held → IsSeen values (n + 1) next
 seen_more {X} cmp total only values n p held next here added s = record {
   among = λ q h. elim (cases_Bool (is_eq (cmp p q))) [
@@ -113,12 +119,14 @@ when_not_true true e = absurd (let x : false ≡ true = e in cc)
 when_not_true false e = refl
 
 -- a value that the test does not hold of is at no earlier place
-pub not_seen : {X : Type 0} (values : List (Option X)) (n : ℕ) (p : X) (held : X → Bool) → value_at values n ≡ Some p → held p ≡ false → IsSeen values n held → ¬ IsAmong values n (value_at values n)
+pub not_seen : {X : Type 0} (values : List (Option X)) (n : ℕ) (p : X) (held : X → Bool) → value_at values n ≡ Some p → held p ≡ false
+    → IsSeen values n held → ¬ IsAmong values n (value_at values n)
 not_seen {X} values n p held here none s m =
     let h = s.all p (subst (λ (o : Option X). IsAmong values n o) here m) in
     let x : true ≡ false = sym h ∙ none in cc
 
-pub already_seen : {X : Type 0} (values : List (Option X)) (n : ℕ) (p : X) (held : X → Bool) → value_at values n ≡ Some p → held p ≡ true → IsSeen values n held → ¬ AreApart values
+pub already_seen : {X : Type 0} (values : List (Option X)) (n : ℕ) (p : X) (held : X → Bool) → value_at values n ≡ Some p → held p ≡ true
+    → IsSeen values n held → ¬ AreApart values
 already_seen {X} values n p held here some s = among_not_apart values n (subst (λ (o : Option X). IsAmong values n o) (sym here) (s.among p some))
 
 -- no value stands where there is none
@@ -127,5 +135,6 @@ apart_skip {X} values n none s = apart_more values n (λ m. let e = m.shared in 
 
 -- ---- keys
 
-pub key_read : (inputs : List Input) (mounts : List Mount) (i : ℕ) (x : Mount) → i < length mounts → x ≡ get_or mounts i x → value_at (keys_of inputs mounts) i ≡ key_of inputs x
+pub key_read : (inputs : List Input) (mounts : List Mount) (i : ℕ) (x : Mount) → i < length mounts → x ≡ get_or mounts i x
+    → value_at (keys_of inputs mounts) i ≡ key_of inputs x
 key_read inputs mounts i x h e = get_or-map (key_of inputs) mounts i x None h ∙ ap (key_of inputs) (sym e)

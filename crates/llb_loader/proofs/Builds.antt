@@ -19,7 +19,8 @@ pub built_push : (rows : List Row) (ops : List Op) (links : List (List ℕ)) (ra
     → AreBuilt rows ops links ranks order (vs ++ v ∷ []) (n + 1)
 unfolding no_vertex
 built_push rows ops links ranks order vs v n len old new =
-    below_step (λ j. IsBuilt (row_at rows (get_or order j 0)).digest (op_at ops (get_or order j 0)) (inputs links (get_or order j 0)) ranks (vertex_at (vs ++ v ∷ []) j)) n
+    below_step (λ j. IsBuilt (row_at rows (get_or order j 0)).digest (op_at ops (get_or order j 0)) (inputs links (get_or order j 0)) ranks
+    (vertex_at (vs ++ v ∷ []) j)) n
     (λ j l. subst (λ (x : Vertex). IsBuilt (row_at rows (get_or order j 0)).digest (op_at ops (get_or order j 0)) (inputs links (get_or order j 0)) ranks x)
     (sym (get_or_append_left vs (v ∷ []) no_vertex j (omega (arith, l, len)))) (old j l))
     (subst (λ (x : Vertex). IsBuilt (row_at rows (get_or order n 0)).digest (op_at ops (get_or order n 0)) (inputs links (get_or order n 0)) ranks x)
@@ -29,5 +30,6 @@ pub kept_step : (first ops : List Op) (order : List ℕ) (n : ℕ) (moved : Op) 
     → ((i : ℕ) → n ≤ i → i < length order → op_at ops (get_or order i 0) ≡ op_at first (get_or order i 0))
     → (i : ℕ) → n + 1 ≤ i → i < length order → op_at (set ops (get_or order n 0) moved) (get_or order i 0) ≡ op_at first (get_or order i 0)
 kept_step first ops order n moved once kept i l h =
-    get_or-set_other ops (get_or order n 0) (get_or order i 0) moved (record { inputs = []; kind = None; extra = [] }) (λ e. once i n h (omega (arith, l)) (sym e))
+    get_or-set_other ops (get_or order n 0) (get_or order i 0) moved (record { inputs = []; kind = None; extra = [] })
+    (λ e. once i n h (omega (arith, l)) (sym e))
     ∙ kept i (omega (arith, l)) h

@@ -1,5 +1,6 @@
 -- The vertex of an exec: what its rules and the features that it has not leave of it.
-use Rattle.std.proofs.Common.{◌≡◌, ◌⊎◌, inl, inr, zero, suc, ℤ, pos, negsuc, true, false, List, [], Option, Some, None, IsSome, Result, Ok, Err, length, unwrap_or, get_or, refl, ◌∙◌, ap, subst, arith}
+use Rattle.std.proofs.Common.{◌≡◌, ◌⊎◌, inl, inr, zero, suc, ℤ, pos, negsuc, true, false, List, [], Option, Some, None, IsSome, Result, Ok}
+use Rattle.std.proofs.Common.{Err, length, unwrap_or, get_or, refl, ◌∙◌, ap, subst, arith}
 use Rattle.std.proofs.lemmas.Int.{ints}
 use Rattle.std.specs.List.{All}
 use Rattle.std.specs.Result.{result_ok}

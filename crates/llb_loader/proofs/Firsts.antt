@@ -1,5 +1,6 @@
 -- The first row with a digest text, among all rows and among the first n.
-use Rattle.std.proofs.Common.{◌≡◌, ◌≢◌, ℕ, zero, suc, ◌+◌, ◌-◌, ◌<◌, Bool, true, false, cond, List, [], ◌⊎◌, inl, inr, Option, Some, None, length, get_or, refl, sym, ◌∙◌, ap, subst, ltb, arith}
+use Rattle.std.proofs.Common.{◌≡◌, ◌≢◌, ℕ, zero, suc, ◌+◌, ◌-◌, ◌<◌, Bool, true, false, cond, List, [], ◌⊎◌, inl, inr, Option, Some, None}
+use Rattle.std.proofs.Common.{length, get_or, refl, sym, ◌∙◌, ap, subst, ltb, arith}
 use Rattle.std.proofs.lemmas.Bool.{cases_eq, cases_lt, cases_Bool}
 use Rattle.std.proofs.lemmas.List.{get_or_read}
 use Rattle.std.proofs.lemmas.List.Sums.{position_or_len_is}
@@ -49,7 +50,8 @@ first_update rows n d look fresh f = elim (cases_Bool (bytes_eq (row_at rows n).
       let none : IsFirst rows n d None = subst (λ (o : Option ℕ). IsFirst rows n d o) (ap look (sym e) ∙ fresh) (f d) in
       subst (λ (b : Bool). IsFirst rows (n + 1) d (cond b (Some n) (look d))) (sym t) (first_new rows n d e none))
   | inr t ↦ (
-      let x : (row_at rows n).digest ≢ d = λ e. (let y : bytes_eq (row_at rows n).digest d ≡ true = (bytes_eq-Decides _ d).1 e in let z : true ≡ false = sym y ∙ t in cc) in
+      let x : (row_at rows n).digest ≢ d = λ e. (let y : bytes_eq (row_at rows n).digest d ≡ true =
+      (bytes_eq-Decides _ d).1 e in let z : true ≡ false = sym y ∙ t in cc) in
       subst (λ (b : Bool). IsFirst rows (n + 1) d (cond b (Some n) (look d))) (sym t) (first_other rows n d (look d) x (f d)))
 ]
 
@@ -63,15 +65,18 @@ first_again rows n k d look there f = elim (cases_bytes (row_at rows n).digest d
 
 pub first_is : (rows : List Row) (d : List ℕ) (o : Option ℕ) → IsFirst rows (length rows) d o → o ≡ first_with rows d
 first_is rows d None f =
-    let e = position_or_len_is (λ (r : Row). bytes_eq d r.digest) rows (length rows) (record { digest = []; bytes = [] }) (omega arith) (λ k l. bytes_other d _ (λ x. f k l (sym x))) (λ l. absurd (omega (arith, l))) in
+    let e = position_or_len_is (λ (r : Row). bytes_eq d r.digest) rows (length rows) (record { digest = []; bytes = [] }) (omega arith)
+    (λ k l. bytes_other d _ (λ x. f k l (sym x))) (λ l. absurd (omega (arith, l))) in
     sym (rw e (let n : ltb (length rows) (length rows) ≡ false = grind (arith) in rw n))
 first_is rows d (Some k) f =
-    let e = position_or_len_is (λ (r : Row). bytes_eq d r.digest) rows k (record { digest = []; bytes = [] }) (omega (arith, f.0)) (λ j l. bytes_other d _ (λ x. f.2 j l (sym x))) (λ l. (bytes_eq-Decides d _).1 (sym f.1)) in
+    let e = position_or_len_is (λ (r : Row). bytes_eq d r.digest) rows k (record { digest = []; bytes = [] }) (omega (arith, f.0))
+    (λ j l. bytes_other d _ (λ x. f.2 j l (sym x))) (λ l. (bytes_eq-Decides d _).1 (sym f.1)) in
     sym (rw e (let n : ltb k (length rows) ≡ true = grind (arith, f.0) in rw n))
 
 -- ---- collisions
 
-pub collides_with : (rows : List Row) (j k : ℕ) → k < length rows → IsFirst rows k (row_at rows k).digest (Some j) → (row_at rows j).bytes ≢ (row_at rows k).bytes → Collides rows k
+pub collides_with : (rows : List Row) (j k : ℕ) → k < length rows → IsFirst rows k (row_at rows k).digest (Some j)
+    → (row_at rows j).bytes ≢ (row_at rows k).bytes → Collides rows k
 collides_with rows j k h f n = record { here = h; earlier = (j, f.0, f.1, n) }
 
 pub fresh_apart : (rows : List Row) (k : ℕ) → IsFirst rows k (row_at rows k).digest None → ¬ Collides rows k
@@ -87,7 +92,10 @@ equal_apart rows j k f e apart c =
         | inl l ↦ f.2 i l c.earlier.2
         | inr g ↦ elim (cases_bytes (row_at rows j).bytes (row_at rows i).bytes) [
           | inl y ↦ c.earlier.3 (sym y ∙ e)
-          | inr y ↦ apart i c.earlier.1 (record { here = (let h = c.here in let l = c.earlier.1 in omega (arith, h, l)); earlier = (j, (let m : j < i = omega (arith, g, x) in m), f.1 ∙ sym c.earlier.2, y) })
+          | inr y ↦ apart i c.earlier.1 (record {
+            here = (let h = c.here in let l = c.earlier.1 in omega (arith, h, l));
+            earlier = (j, (let m : j < i = omega (arith, g, x) in m), f.1 ∙ sym c.earlier.2, y);
+          })
         ]
       ]
     ]
@@ -107,7 +115,10 @@ below_step P n below here j l = elim (cases_lt j n) [ inl b ↦ below j b | inr 
 
 -- an answer for one row more
 one_more : (rows : List Row) (n : ℕ) (d : List ℕ) (o : Option ℕ) → IsFirst rows n d o → (p : Option ℕ) × IsFirst rows (n + 1) d p
-one_more rows n d None f = elim (cases_bytes (row_at rows n).digest d) [ inl e ↦ (Some n, first_new rows n d e f) | inr x ↦ (None, first_other rows n d None x f) ]
+one_more rows n d None f = elim (cases_bytes (row_at rows n).digest d) [
+  | inl e ↦ (Some n, first_new rows n d e f)
+  | inr x ↦ (None, first_other rows n d None x f)
+]
 one_more rows n d (Some k) f = (Some k, first_there rows n d k f)
 
 -- there is an answer
@@ -123,9 +134,11 @@ first_cases rows d o e =
     subst (λ (p : Option ℕ). IsFirst rows (length rows) d p) (first_is rows d f.0 f.1 ∙ e) f.1
 
 same_row : (a b : Row) → a.digest ≡ b.digest → a.bytes ≡ b.bytes → a ≡ b
-same_row a b p q = ap (λ (x : List ℕ). let r : Row = record { digest = x; bytes = a.bytes } in r) p ∙ ap (λ (x : List ℕ). let r : Row = record { digest = b.digest; bytes = x } in r) q
+same_row a b p q = ap (λ (x : List ℕ). let r : Row = record { digest = x; bytes = a.bytes } in r) p
+    ∙ ap (λ (x : List ℕ). let r : Row = record { digest = b.digest; bytes = x } in r) q
 
-pub terminal_is : (rows : List Row) (t : ℕ) → 0 < length rows → ((k : ℕ) → ¬ Collides rows k) → first_with rows (row_at rows (length rows - 1)).digest ≡ Some t → IsTerminal rows t
+pub terminal_is : (rows : List Row) (t : ℕ) → 0 < length rows → ((k : ℕ) → ¬ Collides rows k)
+    → first_with rows (row_at rows (length rows - 1)).digest ≡ Some t → IsTerminal rows t
 terminal_is rows t some apart e =
     let f = first_cases rows (row_at rows (length rows - 1)).digest (Some t) e in
     let bytes : (row_at rows t).bytes ≡ (row_at rows (length rows - 1)).bytes = elim (cases_bytes (row_at rows t).bytes (row_at rows (length rows - 1)).bytes) [

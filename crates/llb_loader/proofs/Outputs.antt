@@ -1,5 +1,6 @@
 -- Output numbers, of which some are taken one after another.
-use Rattle.std.proofs.Common.{◌≡◌, ◌≢◌, ℕ, zero, suc, ◌+◌, ◌<◌, ◌≤◌, Bool, true, false, List, [], ◌∷◌, ◌⊎◌, inl, inr, length, take, map, get_or, set, replicate, refl, sym, ◌∙◌, ap, arith, ℤ, pos, negsuc, IsTrue, ◌↔◌}
+use Rattle.std.proofs.Common.{◌≡◌, ◌≢◌, ℕ, zero, suc, ◌+◌, ◌<◌, ◌≤◌, Bool, true, false, List, [], ◌∷◌, ◌⊎◌, inl, inr, length, take, map}
+use Rattle.std.proofs.Common.{get_or, set, replicate, refl, sym, ◌∙◌, ap, arith, ℤ, pos, negsuc, IsTrue, ◌↔◌}
 use Rattle.std.proofs.lemmas.Int.{ints}
 use Rattle.std.proofs.lemmas.Bool.{cases_lt}
 use Rattle.std.proofs.lemmas.List.{get_or-map, get_or_past, length-map, length-set, get_or-set_same, length-replicate, take_all}
@@ -21,11 +22,13 @@ output_read output xs i x h e = get_or-map output xs i x none h ∙ ap output (s
 
 pub count_more_yes : {X : Type 0} (output : X → ℤ) (xs : List X) (i : ℕ) (x : X) → i < length xs → x ≡ get_or xs i x → is_output (output x) ≡ true
     → count_outputs (take (i + 1) (map output xs)) ≡ count_outputs (take i (map output xs)) + 1
-count_more_yes output xs i x h e t = more_yes (map output xs) i (let l = length-map xs output in omega (arith, l, h)) (ap is_output (output_read output xs i x h e) ∙ t)
+count_more_yes output xs i x h e t = more_yes (map output xs) i (let l = length-map xs output in omega (arith, l, h))
+    (ap is_output (output_read output xs i x h e) ∙ t)
 
 pub count_more_no : {X : Type 0} (output : X → ℤ) (xs : List X) (i : ℕ) (x : X) → i < length xs → x ≡ get_or xs i x → is_output (output x) ≡ false
     → count_outputs (take (i + 1) (map output xs)) ≡ count_outputs (take i (map output xs))
-count_more_no output xs i x h e t = more_no (map output xs) i (let l = length-map xs output in omega (arith, l, h)) (ap is_output (output_read output xs i x h e) ∙ t)
+count_more_no output xs i x h e t = more_no (map output xs) i (let l = length-map xs output in omega (arith, l, h))
+    (ap is_output (output_read output xs i x h e) ∙ t)
 
 -- the first i numbers are taken: each marks its place
 pub record IsTaking (os : List ℤ) (seen : List Bool) (i : ℕ) : Type 0 where
@@ -60,7 +63,8 @@ taking_start os n e = record {
   left = (let u = unmarked-none n in omega (arith, u, e));
 }
 
-pub taking_skip : (os : List ℤ) (seen : List Bool) (i : ℕ) → output_at os i ≡ none → count_outputs (take (i + 1) os) ≡ count_outputs (take i os) → IsTaking os seen i → IsTaking os seen (i + 1)
+pub taking_skip : (os : List ℤ) (seen : List Bool) (i : ℕ) → output_at os i ≡ none
+    → count_outputs (take (i + 1) os) ≡ count_outputs (take i os) → IsTaking os seen i → IsTaking os seen (i + 1)
 taking_skip os seen i e n s = record {
   len = s.len;
   passed = λ a l o. elim (at_or_below a i l) [ inl b ↦ s.passed a b o | inr q ↦ absurd (o (ap (output_at os) q ∙ e)) ];
@@ -74,10 +78,12 @@ taking_skip os seen i e n s = record {
 }
 
 pub taking_mark : (os : List ℤ) (seen : List Bool) (i j : ℕ) → output_at os i ≡ pos j → j < count_outputs os → get_or seen j false ≡ false
-    → IsBelow (count_outputs os) (output_at os i) → count_outputs (take (i + 1) os) ≡ count_outputs (take i os) + 1 → IsTaking os seen i → IsTaking os (set seen j true) (i + 1)
+    → IsBelow (count_outputs os) (output_at os i) → count_outputs (take (i + 1) os) ≡ count_outputs (take i os) + 1 → IsTaking os seen i
+    → IsTaking os (set seen j true) (i + 1)
 taking_mark os seen i j e h fresh below n s =
     let k : j < length seen = omega (arith, h, s.len) in
-    let fresh_at : (a : ℕ) → a < i → output_at os a ≡ output_at os i → ⊥ = λ a l q. (let m = s.marks a j l (q ∙ e) in let x : true ≡ false = sym m ∙ fresh in cc) in
+    let fresh_at : (a : ℕ) → a < i → output_at os a ≡ output_at os i
+    → ⊥ = λ a l q. (let m = s.marks a j l (q ∙ e) in let x : true ≡ false = sym m ∙ fresh in cc) in
     record {
       len = length-set seen j true ∙ s.len;
       passed = λ a l o. elim (at_or_below a i l) [ inl b ↦ s.passed a b o | inr q ↦ rw q below ];

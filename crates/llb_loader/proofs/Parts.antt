@@ -10,4 +10,5 @@ op_read ops k x h e = sym (get_or_read ops k x h e (record { inputs = []; kind =
 
 pub input_read : (op : Op) (xs : List Input) (i : ℕ) (x : Input) → xs ≡ op.inputs → i < length xs → x ≡ get_or xs i x → input_at op i ≡ x
 input_read op xs i x same h e =
-    ap (λ (ys : List Input). get_or ys i (record { digest = []; index = pos 0; extra = [] })) (sym same) ∙ sym (get_or_read xs i x h e (record { digest = []; index = pos 0; extra = [] }))
+    ap (λ (ys : List Input). get_or ys i (record { digest = []; index = pos 0; extra = [] })) (sym same)
+    ∙ sym (get_or_read xs i x h e (record { digest = []; index = pos 0; extra = [] }))

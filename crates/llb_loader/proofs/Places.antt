@@ -10,7 +10,8 @@ use Rattle.llb_loader.specs.Rows.{lists, inputs}
 use Rattle.llb_loader.specs.Placing.{IsMarked, IsChecked, GoesToWaiting}
 use Rattle.llb_loader.proofs.Rows.{list_at}
 
-pub goes_to_waiting : (g : List (List ℕ)) (done : List Bool) (w : Waiter) (r : ℕ → Bool) (named : List ℕ) (at : ℕ) (items : List (Vec Waiter)) (old next : Vec Waiter)
+pub goes_to_waiting : (g : List (List ℕ)) (done : List Bool) (w : Waiter) (r : ℕ → Bool) (named : List ℕ) (at : ℕ)
+    (items : List (Vec Waiter)) (old next : Vec Waiter)
     → named ≡ inputs g w.row → IsChecked g done w → at < length named
     → ((i : ℕ) → w.checked ≤ i → i < at → IsMarked done (get_or named i 0)) → get_or done (get_or named at 0) false ≡ false
     → get_or named at 0 < length items → old ≡ get_or items (get_or named at 0) old → next.items ≡ old.items ++ record { row = w.row; checked = at } ∷ []

@@ -1,5 +1,6 @@
 -- The rows that inputs name, by their places.
-use Rattle.std.proofs.Common.{◌≡◌, ◌≢◌, ℕ, zero, suc, ◌<◌, ◌≤◌, Bool, true, false, cond, eqb, List, [], ◌∷◌, ◌⊎◌, inl, inr, Option, Some, None, length, get_or, refl, sym, ◌∙◌, ap, subst, arith, ℤ, pos, negsuc, nat_abs}
+use Rattle.std.proofs.Common.{◌≡◌, ◌≢◌, ℕ, zero, suc, ◌<◌, ◌≤◌, Bool, true, false, cond, eqb, List, [], ◌∷◌, ◌⊎◌, inl, inr, Option, Some}
+use Rattle.std.proofs.Common.{None, length, get_or, refl, sym, ◌∙◌, ap, subst, arith, ℤ, pos, negsuc, nat_abs}
 use Rattle.std.proofs.lemmas.Int.{ints}
 use Rattle.std.proofs.lemmas.Bool.{cases_lt, cases_Bool, cases_order, eq-eqb}
 use Rattle.std.proofs.lemmas.List.{get_or-map, get_or_past, length-map}
@@ -16,7 +17,8 @@ use Rattle.llb_loader.specs.Linking.{op_at}
 use Rattle.llb_loader.proofs.Firsts.{first_cases}
 use Rattle.llb_loader.proofs.Outputs.{below_at}
 
-all_cons_option : {X : Type 0} (h : X → Option ℕ) (P : ℕ → Type 0) → ((x : X) (y : ℕ) → h x ≡ Some y → P y) → (x : X) (ys : List ℕ) (o : Option ℕ) → h x ≡ o → All P ys → All P (cons_option o ys)
+all_cons_option : {X : Type 0} (h : X → Option ℕ) (P : ℕ → Type 0) → ((x : X) (y : ℕ) → h x ≡ Some y → P y)
+    → (x : X) (ys : List ℕ) (o : Option ℕ) → h x ≡ o → All P ys → All P (cons_option o ys)
 all_cons_option h P f x ys None e all = all
 all_cons_option h P f x ys (Some y) e all = All-cons P y ys (f x y e) all
 
@@ -58,7 +60,8 @@ same_first rows a b f g e = elim (cases_order a b) [
 
 pub in_range : (rows : List Row) (t : ℕ) (ops : List Op) → InRange (graph_of rows t ops) (length rows)
 in_range rows t ops = All-map (λ (r : List ℕ). All (λ b. b < length rows) r) (rows_named rows t) ops
-    (λ k d h. all_filter_map (λ (i : Input). row_named rows t i.digest) (λ b. b < length rows) (λ x y e. named_below rows t x.digest y e) (get_or ops k d).inputs)
+    (λ k d h. all_filter_map (λ (i : Input). row_named rows t i.digest) (λ b. b < length rows) (λ x y e. named_below rows t x.digest y e)
+    (get_or ops k d).inputs)
 
 pub graph_at : (rows : List Row) (t : ℕ) (ops : List Op) (k : ℕ) → inputs (graph_of rows t ops) k ≡ rows_named rows t (op_at ops k)
 graph_at rows t ops k = elim (cases_lt k (length ops)) [
@@ -98,11 +101,13 @@ reached_first rows t ops s k f r = walk_first rows t ops s k r.0 f r.1
 abbrev pub NamedAt : {X : Type 0} → (X → Option ℕ) → List X → X → ℕ → Type 0
 NamedAt h xs d n = (n ≤ length (filter_map h xs)) × ((i : ℕ) → i < n → get_or (filter_map h xs) i 0 ≡ unwrap_or (h (get_or xs i d)) 0)
 
-head_or_tail : {X : Type 0} (h : X → Option ℕ) (x : X) (xs : List X) (d : X) (n y : ℕ) → h x ≡ Some y → NamedAt h xs d n → (i : ℕ) → i < suc n → get_or (y ∷ filter_map h xs) i 0 ≡ unwrap_or (h (get_or (x ∷ xs) i d)) 0
+head_or_tail : {X : Type 0} (h : X → Option ℕ) (x : X) (xs : List X) (d : X) (n y : ℕ) → h x ≡ Some y → NamedAt h xs d n → (i : ℕ)
+    → i < suc n → get_or (y ∷ filter_map h xs) i 0 ≡ unwrap_or (h (get_or (x ∷ xs) i d)) 0
 head_or_tail h x xs d n y e r zero l = sym (ap (λ (o : Option ℕ). unwrap_or o 0) e)
 head_or_tail h x xs d n y e r (suc i) l = r.1 i (omega (arith, l))
 
-named_cons : {X : Type 0} (h : X → Option ℕ) (x : X) (xs : List X) (d : X) (n : ℕ) (o : Option ℕ) → h x ≡ o → h x ≢ None → NamedAt h xs d n → NamedAt h (x ∷ xs) d (suc n)
+named_cons : {X : Type 0} (h : X → Option ℕ) (x : X) (xs : List X) (d : X) (n : ℕ) (o : Option ℕ) → h x ≡ o → h x ≢ None → NamedAt h xs d n
+    → NamedAt h (x ∷ xs) d (suc n)
 named_cons h x xs d n None e f r = absurd (f e)
 named_cons h x xs d n (Some y) e f r =
     let same : filter_map h (x ∷ xs) ≡ y ∷ filter_map h xs = ap (λ (o : Option ℕ). cons_option o (filter_map h xs)) e in
@@ -111,7 +116,8 @@ named_cons h x xs d n (Some y) e f r =
 pub named_at : {X : Type 0} (h : X → Option ℕ) (xs : List X) (d : X) (n : ℕ) → n ≤ length xs → ((i : ℕ) → i < n → h (get_or xs i d) ≢ None) → NamedAt h xs d n
 named_at h [] d n l f = (l, λ i m. absurd (omega (arith, l, m)))
 named_at h (x ∷ xs) d zero l f = (omega arith, λ i m. absurd (omega (arith, m)))
-named_at h (x ∷ xs) d (suc n) l f = named_cons h x xs d n (h x) refl (f 0 (omega arith)) (named_at h xs d n (omega (arith, l)) (λ i m. f (suc i) (omega (arith, m))))
+named_at h (x ∷ xs) d (suc n) l f = named_cons h x xs d n (h x) refl (f 0 (omega arith))
+    (named_at h xs d n (omega (arith, l)) (λ i m. f (suc i) (omega (arith, m))))
 
 -- ---- numbers below a bound
 

@@ -1,5 +1,6 @@
 -- From what the checks find among the marked rows to the refusals of the plan.
-use Rattle.std.proofs.Common.{◌≡◌, ◌≢◌, ℕ, ◌<◌, ◌≤◌, Bool, true, false, cond, eqb, List, [], ◌⊎◌, ◌↔◌, inl, inr, Option, Some, None, length, get_or, map, refl, sym, ◌∙◌, ap, subst, arith, pos}
+use Rattle.std.proofs.Common.{◌≡◌, ◌≢◌, ℕ, ◌<◌, ◌≤◌, Bool, true, false, cond, eqb, List, [], ◌⊎◌, ◌↔◌, inl, inr, Option, Some, None, length}
+use Rattle.std.proofs.Common.{get_or, map, refl, sym, ◌∙◌, ap, subst, arith, pos}
 use Rattle.std.proofs.lemmas.Bool.{cases_eq, cases_lt, cases_Bool, eq-eqb, ne_eqb}
 use Rattle.std.proofs.lemmas.List.{get_or-map}
 use Rattle.std.specs.Option.{unwrap_or}
@@ -11,7 +12,9 @@ use Rattle.llb_loader.specs.Rows.{inputs}
 use Rattle.llb_loader.specs.Placing.{IsMarked}
 use Rattle.llb_loader.specs.RowLookup.{row_named, terminal_in}
 use Rattle.llb_loader.specs.Rules.{IsBelow, output_count}
-use Rattle.llb_loader.specs.Linking.{op_at, input_at, Plan, plan, links_in, input_row, ReachedRow, HasInput, outputs_there, IsBadIndex, Foremost, HasResult, IsStarted, IsNamed, IsOrdered, IsTaken, IsValid, start_in, IsPlanOf, Refuses, Refused}
+use Rattle.llb_loader.specs.Linking.{op_at, input_at, Plan, plan, links_in, input_row, ReachedRow, HasInput, outputs_there, IsBadIndex}
+use Rattle.llb_loader.specs.Linking.{Foremost, HasResult, IsStarted, IsNamed, IsOrdered, IsTaken, IsValid, start_in, IsPlanOf, Refuses}
+use Rattle.llb_loader.specs.Linking.{Refused}
 use Rattle.llb_loader.specs.Checks.{NamesAll, RefusesUnknown, RefusesFeature, RefusesRule, RefusesIndex, FitsAll, FirstBad, asked_of, count_there}
 use Rattle.llb_loader.proofs.Plans.{named_below, in_range, graph_at, row_below, NamedAt, named_at}
 
@@ -37,13 +40,15 @@ first_named p s e = let x : None ≡ Some p.start = sym e ∙ s.start in cc
 
 -- ---- the plan of rows and ops
 
-pub planned : (rows : List Row) (ops : List Op) (t s : ℕ) → t ≡ terminal_in rows → row_named rows t (input_at (op_at ops t) 0).digest ≡ Some s → IsPlanOf rows ops (plan rows ops t s)
+pub planned : (rows : List Row) (ops : List Op) (t s : ℕ) → t ≡ terminal_in rows
+    → row_named rows t (input_at (op_at ops t) 0).digest ≡ Some s → IsPlanOf rows ops (plan rows ops t s)
 planned rows ops t s terminal found =
     let start : s ≡ start_in rows ops =
     ap (λ (o : Option ℕ). unwrap_or o 0) (sym found) ∙ ap (λ (x : ℕ). unwrap_or (row_named rows x (input_at (op_at ops x) 0).digest) 0) terminal in
     record { same = ap (λ (x : ℕ). plan rows ops x s) terminal ∙ ap (λ (y : ℕ). plan rows ops (terminal_in rows) y) start }
 
-pub unplanned : (rows : List Row) (ops : List Op) (t : ℕ) → t ≡ terminal_in rows → row_named rows t (input_at (op_at ops t) 0).digest ≡ None → IsPlanOf rows ops (plan rows ops t 0)
+pub unplanned : (rows : List Row) (ops : List Op) (t : ℕ) → t ≡ terminal_in rows
+    → row_named rows t (input_at (op_at ops t) 0).digest ≡ None → IsPlanOf rows ops (plan rows ops t 0)
 unplanned rows ops t terminal none =
     let start : 0 ≡ start_in rows ops =
     ap (λ (o : Option ℕ). unwrap_or o 0) (sym none) ∙ ap (λ (x : ℕ). unwrap_or (row_named rows x (input_at (op_at ops x) 0).digest) 0) terminal in
@@ -124,7 +129,10 @@ terminal_asked k t i l = elim (cases_eq k t) [
 module _ (p : Plan) (seen : List Bool) (exact : (k : ℕ) → IsMarked seen k ↔ ReachedRow p k) where
   pub asked_cases : (k i : ℕ) → i < asked_of p.ops seen p.terminal k → HasInput p k i ⊎ ((k ≡ p.terminal) × (i ≡ 0))
   asked_cases k i l = elim (cases_Bool (get_or seen k false)) [
-    | inl m ↦ inl (record { reached = (exact k).0 m; here = subst (λ (b : Bool). i < cond b (length (op_at p.ops k).inputs) (cond (eqb k p.terminal) 1 0)) m l })
+    | inl m ↦ inl (record {
+      reached = (exact k).0 m;
+      here = subst (λ (b : Bool). i < cond b (length (op_at p.ops k).inputs) (cond (eqb k p.terminal) 1 0)) m l;
+    })
     | inr m ↦ inr (terminal_asked k p.terminal i (subst (λ (b : Bool). i < cond b (length (op_at p.ops k).inputs) (cond (eqb k p.terminal) 1 0)) m l))
   ]
 
@@ -132,7 +140,8 @@ module _ (p : Plan) (seen : List Bool) (exact : (k : ℕ) → IsMarked seen k �
   asked_from r k i (inl h) = subst (λ (b : Bool). i < cond b (length (op_at p.ops k).inputs) (cond (eqb k p.terminal) 1 0)) (sym ((exact k).1 h.reached)) h.here
   asked_from r k i (inr q) = elim (cases_Bool (get_or seen k false)) [
     | inl m ↦ subst (λ (b : Bool). i < cond b (length (op_at p.ops k).inputs) (cond (eqb k p.terminal) 1 0)) (sym m)
-        (let h = r.input in let e : length (op_at p.ops k).inputs ≡ length (op_at p.ops p.terminal).inputs = ap (λ (n : ℕ). length (op_at p.ops n).inputs) q.0 in let z = q.1 in omega (arith, h, e, z))
+        (let h = r.input in let e : length (op_at p.ops k).inputs ≡ length (op_at p.ops p.terminal).inputs =
+        ap (λ (n : ℕ). length (op_at p.ops n).inputs) q.0 in let z = q.1 in omega (arith, h, e, z))
     | inr m ↦ subst (λ (b : Bool). i < cond b (length (op_at p.ops k).inputs) (cond (eqb k p.terminal) 1 0)) (sym m)
         (subst (λ (b : Bool). i < cond b 1 0) (sym (eq-eqb k p.terminal q.0)) (let z = q.1 in omega (arith, z)))
   ]
@@ -148,11 +157,13 @@ module _ (p : Plan) (seen : List Bool) (exact : (k : ℕ) → IsMarked seen k �
     | inr g ↦ g
     | inl l ↦ elim (asked_cases k (length (op_at p.ops k).inputs) l) [
       | inl h ↦ absurd (let x = h.here in omega (arith, x))
-      | inr q ↦ absurd (let x = r.input in let e : length (op_at p.ops k).inputs ≡ length (op_at p.ops p.terminal).inputs = ap (λ (n : ℕ). length (op_at p.ops n).inputs) q.0 in let z = q.1 in omega (arith, x, e, z))
+      | inr q ↦ absurd (let x = r.input in let e : length (op_at p.ops k).inputs ≡ length (op_at p.ops p.terminal).inputs =
+          ap (λ (n : ℕ). length (op_at p.ops n).inputs) q.0 in let z = q.1 in omega (arith, x, e, z))
     ]
   ]
 
-  named_places : IsNamed p → (k : ℕ) → NamedAt (λ (i : Input). row_named p.rows p.terminal i.digest) (op_at p.ops k).inputs (record { digest = []; index = pos 0; extra = [] }) (asked_of p.ops seen p.terminal k)
+  named_places : IsNamed p → (k : ℕ) → NamedAt (λ (i : Input). row_named p.rows p.terminal i.digest) (op_at p.ops k).inputs
+      (record { digest = []; index = pos 0; extra = [] }) (asked_of p.ops seen p.terminal k)
   named_places n k = named_at (λ (i : Input). row_named p.rows p.terminal i.digest) (op_at p.ops k).inputs (record { digest = []; index = pos 0; extra = [] })
       (asked_of p.ops seen p.terminal k) (asked_there n.started.result k) (asked_named n k)
 
@@ -169,7 +180,8 @@ module _ (p : Plan) (seen : List Bool) (exact : (k : ℕ) → IsMarked seen k �
   pub count_is : IsNamed p → length p.ops ≡ length p.rows → (k i : ℕ) → i < asked_of p.ops seen p.terminal k
       → count_there (map output_count p.ops) (inputs (links_in p) k) i ≡ outputs_there p k i
   count_is n len k i l =
-      let b : unwrap_or (input_row p k i) 0 < length p.rows = row_under (input_row p k i) (asked_named n k i l) (λ b e. named_below p.rows p.terminal (input_at (op_at p.ops k) i).digest b e) in
+      let b : unwrap_or (input_row p k i) 0 < length p.rows = row_under (input_row p k i) (asked_named n k i l)
+      (λ b e. named_below p.rows p.terminal (input_at (op_at p.ops k) i).digest b e) in
       ap (λ (r : ℕ). get_or (map output_count p.ops) r 0) (linked_row n k i l)
       ∙ get_or-map output_count p.ops (unwrap_or (input_row p k i) 0) (record { inputs = []; kind = None; extra = [] }) 0 (let m = len in omega (arith, b, m))
 
@@ -184,18 +196,22 @@ module _ (p : Plan) (seen : List Bool) (exact : (k : ℕ) → IsMarked seen k �
       ] in
       b.bad (subst (λ (m : ℕ). IsBelow m (input_at (op_at p.ops k) i).index) (count_is n len k i l) (fits k h i l))
 
-  pub bad_index : IsNamed p → length p.ops ≡ length p.rows → (k i : ℕ) → FirstBad (map output_count p.ops) (inputs (links_in p) k) (op_at p.ops k) (asked_of p.ops seen p.terminal k) i → IsBadIndex p k i
+  pub bad_index : IsNamed p → length p.ops ≡ length p.rows → (k i : ℕ)
+      → FirstBad (map output_count p.ops) (inputs (links_in p) k) (op_at p.ops k) (asked_of p.ops seen p.terminal k) i → IsBadIndex p k i
   bad_index n len k i f = record {
     asked = asked_cases k i f.here;
     bad = λ b. f.bad (subst (λ (m : ℕ). IsBelow m (input_at (op_at p.ops k) i).index) (sym (count_is n len k i f.here)) b);
   }
 
-  pub fits_not_bad : IsNamed p → length p.ops ≡ length p.rows → (j h : ℕ) → IsBelow (count_there (map output_count p.ops) (inputs (links_in p) j) h) (input_at (op_at p.ops j) h).index
+  pub fits_not_bad : IsNamed p → length p.ops ≡ length p.rows → (j h : ℕ)
+      → IsBelow (count_there (map output_count p.ops) (inputs (links_in p) j) h) (input_at (op_at p.ops j) h).index
       → h < asked_of p.ops seen p.terminal j → ¬ IsBadIndex p j h
   fits_not_bad n len j h f l b = b.bad (subst (λ (m : ℕ). IsBelow m (input_at (op_at p.ops j) h).index) (count_is n len j h l) f)
 
-  pub foremost_bad : IsNamed p → length p.ops ≡ length p.rows → (k i : ℕ) → FirstBad (map output_count p.ops) (inputs (links_in p) k) (op_at p.ops k) (asked_of p.ops seen p.terminal k) i
-      → ((j : ℕ) → j < k → FitsAll (map output_count p.ops) (inputs (links_in p) j) (op_at p.ops j) (asked_of p.ops seen p.terminal j)) → Foremost (IsBadIndex p) k i
+  pub foremost_bad : IsNamed p → length p.ops ≡ length p.rows → (k i : ℕ)
+      → FirstBad (map output_count p.ops) (inputs (links_in p) k) (op_at p.ops k) (asked_of p.ops seen p.terminal k) i
+      → ((j : ℕ) → j < k → FitsAll (map output_count p.ops) (inputs (links_in p) j) (op_at p.ops j) (asked_of p.ops seen p.terminal j))
+      → Foremost (IsBadIndex p) k i
   foremost_bad n len k i f before = record {
     holds = bad_index n len k i f;
     least = λ j h b.
@@ -206,7 +222,9 @@ module _ (p : Plan) (seen : List Bool) (exact : (k : ℕ) → IsMarked seen k �
             | inl q ↦ inr (
               sym q,
               (elim (cases_lt h i) [
-                | inl m ↦ absurd (fits_not_bad n len j h (subst (λ (a : ℕ). IsBelow (count_there (map output_count p.ops) (inputs (links_in p) a) h) (input_at (op_at p.ops a) h).index) (sym q) (f.before h m)) l b)
+                | inl m ↦ absurd (fits_not_bad n len j h
+                    (subst (λ (a : ℕ). IsBelow (count_there (map output_count p.ops) (inputs (links_in p) a) h)
+                    (input_at (op_at p.ops a) h).index) (sym q) (f.before h m)) l b)
                 | inr m ↦ m
               ]),
             )
@@ -215,7 +233,8 @@ module _ (p : Plan) (seen : List Bool) (exact : (k : ℕ) → IsMarked seen k �
         ];
   }
 
-pub refuses_index : (rows : List Row) (ops : List Op) (t s : ℕ) (order : List ℕ) (seen : List Bool) → IsValid (plan rows ops t s) order → length ops ≡ length rows
+pub refuses_index : (rows : List Row) (ops : List Op) (t s : ℕ) (order : List ℕ) (seen : List Bool) → IsValid (plan rows ops t s) order
+    → length ops ≡ length rows
     → ((k : ℕ) → IsMarked seen k ↔ ReachedRow (plan rows ops t s) k) → (e : LoadFault)
     → RefusesIndex ops (links_in (plan rows ops t s)) (map output_count ops) seen t e → Refuses (plan rows ops t s) e
 refuses_index rows ops t s order seen valid len exact e (k, i, same, h, first, before) =

@@ -1,5 +1,6 @@
 -- The search for the reached rows: what holds of the marks and of the stack.
-use Rattle.std.proofs.Common.{◌≡◌, ℕ, zero, suc, ◌+◌, ◌<◌, Bool, true, false, List, [], ◌∷◌, ◌++◌, ◌⊎◌, inl, inr, length, get_or, set, replicate, refl, sym, ◌∙◌, ap, subst, below_more, arith}
+use Rattle.std.proofs.Common.{◌≡◌, ℕ, zero, suc, ◌+◌, ◌<◌, Bool, true, false, List, [], ◌∷◌, ◌++◌, ◌⊎◌, inl, inr, length, get_or, set}
+use Rattle.std.proofs.Common.{replicate, refl, sym, ◌∙◌, ap, subst, below_more, arith}
 use Rattle.std.proofs.lemmas.Bool.{cases_eq, cases_lt}
 use Rattle.std.proofs.lemmas.List.{get_or-set_same, get_or-set_other, length-set, get_or-replicate, length-replicate, get_or_past, length_push}
 use Rattle.std.proofs.lemmas.List.Elements.{Contains-append_left, Contains-push, Contains-push_cases, Contains-get_or, All-get_or, All-contains, All-weaker}
@@ -37,7 +38,10 @@ pub searching_mark : (g : List (List ℕ)) (start : ℕ) (seen : List Bool) (sta
 searching_mark g start seen stack P b h r s = record {
   sound = λ k m. elim (mark_cases seen b k m) [ inl m' ↦ s.sound k m' | inr e ↦ rw e r ];
   begun = mark_stays seen b start h s.begun;
-  marked = λ k c. elim (Contains-push_cases stack b k c) [ inl c' ↦ mark_stays seen b k h (s.marked k c') | inr e ↦ rw (← e) (get_or-set_same seen b true false h) ];
+  marked = λ k c. elim (Contains-push_cases stack b k c) [
+    | inl c' ↦ mark_stays seen b k h (s.marked k c')
+    | inr e ↦ rw (← e) (get_or-set_same seen b true false h)
+  ];
   closed = λ k m. elim (mark_cases seen b k m) [
     | inl m' ↦ elim (s.closed k m') [
       | inl c ↦ inl (Contains-append_left stack (b ∷ []) k c)
@@ -165,7 +169,8 @@ at_row_mark g start n row named seen stack i work all h fresh s =
       holds = searching_mark g start seen stack (λ x. x ≡ row) (get_or named i 0) k (reached_step g start row (get_or named i 0) s.at_row edge) s.holds;
       at_row = s.at_row;
       names = s.names;
-      passed = below_more _ _ (λ j q. mark_stays seen (get_or named i 0) (get_or named j 0) k (s.passed j q)) (get_or-set_same seen (get_or named i 0) true false k);
+      passed = below_more _ _ (λ j q. mark_stays seen (get_or named i 0) (get_or named j 0) k (s.passed j q))
+          (get_or-set_same seen (get_or named i 0) true false k);
       left = (let w = s.left in let p = length_push stack (get_or named i 0) in omega (arith, u, w, p));
     }
 

@@ -1,5 +1,6 @@
 -- At most one answer stands: the refusals come one after another, and each stands where all before it do not.
-use Rattle.std.proofs.Common.{◌≡◌, ℕ, zero, suc, ◌+◌, ◌<◌, ◌≤◌, List, [], ◌∷◌, inl, inr, ◌-◌, Option, Some, None, Result, Ok, Err, length, refl, sym, ◌∙◌, ap, subst, arith, true, false}
+use Rattle.std.proofs.Common.{◌≡◌, ℕ, zero, suc, ◌+◌, ◌<◌, ◌≤◌, List, [], ◌∷◌, inl, inr, ◌-◌, Option, Some, None, Result, Ok, Err, length}
+use Rattle.std.proofs.Common.{refl, sym, ◌∙◌, ap, subst, arith, true, false}
 use Rattle.std.specs.Prelude.{IsOk}
 use Rattle.std.specs.Result.{is_ok}
 use Rattle.std.proofs.lemmas.Bool.{cases_order}
@@ -12,7 +13,8 @@ use Rattle.llb_ops.specs.Messages.{op_of}
 use Rattle.llb_ops.specs.Definition.{definition_of}
 use Rattle.llb_loader.specs.declared.row.Row.{Row}
 use Rattle.llb_loader.specs.declared.fault.LoadFault.{LoadFault}
-use Rattle.llb_loader.specs.declared.fault.LoadFault.TheVariants.{Definition, Entry, TooFew, Collision, NoResult, UnknownDigest, Cycle, Unsupported, Invalid, BadIndex, Memory}
+use Rattle.llb_loader.specs.declared.fault.LoadFault.TheVariants.{Definition, Entry, TooFew, Collision, NoResult, UnknownDigest, Cycle}
+use Rattle.llb_loader.specs.declared.fault.LoadFault.TheVariants.{Unsupported, Invalid, BadIndex, Memory}
 use Rattle.llb_loader.specs.declared.fault.Feature.{Feature}
 use Rattle.llb_loader.specs.declared.fault.Rule.{Rule}
 use Rattle.llb_loader.specs.Numbering.{HasCycle, rank_in}
@@ -20,7 +22,9 @@ use Rattle.llb_loader.specs.RowLookup.{row_at, AllSame, Collides, Least}
 use Rattle.llb_loader.specs.Features.{feature_of}
 use Rattle.llb_loader.specs.Rules.{MeetsAll, Breaks, BreaksFirst, rules_on}
 use Rattle.llb_loader.specs.Graph.{Numbered}
-use Rattle.llb_loader.specs.Linking.{Plan, plan_of, op_at, links_in, input_row, Foremost, IsApart, HasResult, IsStarted, IsNamed, IsOrdered, IsTaken, IsValid, IsWhole, IsUnknown, IsBadIndex, IsUnsupported, IsInvalid, Refuses, Refused, GraphOf, numbered_of}
+use Rattle.llb_loader.specs.Linking.{Plan, plan_of, op_at, links_in, input_row, Foremost, IsApart, HasResult, IsStarted, IsNamed, IsOrdered}
+use Rattle.llb_loader.specs.Linking.{IsTaken, IsValid, IsWhole, IsUnknown, IsBadIndex, IsUnsupported, IsInvalid, Refuses, Refused, GraphOf}
+use Rattle.llb_loader.specs.Linking.{numbered_of}
 use Rattle.llb_loader.specs.Reading.{AreOps, IsUnread, RefusesRow}
 use Rattle.llb_loader.specs.Link.{IsGraphOf, IsRefusalOf}
 use Rattle.llb_loader.specs.Load.{rows_from}
@@ -38,7 +42,10 @@ least_one P j k a b = elim (cases_order j k) [
 foremost_one : (P : ℕ → ℕ → Type 0) (k i j h : ℕ) → Foremost P k i → Foremost P j h → (k ≡ j) × (i ≡ h)
 foremost_one P k i j h a b = elim (a.least j h b.holds) [
   | inl l ↦ elim (b.least k i a.holds) [ inl m ↦ absurd (omega (arith, l, m)) | inr s ↦ absurd (let e = s.0 in omega (arith, l, e)) ]
-  | inr s ↦ elim (b.least k i a.holds) [ inl m ↦ absurd (let e = s.0 in omega (arith, m, e)) | inr t ↦ (s.0, let l = s.1 in let m = t.1 in omega (arith, l, m)) ]
+  | inr s ↦ elim (b.least k i a.holds) [
+    | inl m ↦ absurd (let e = s.0 in omega (arith, m, e))
+    | inr t ↦ (s.0, let l = s.1 in let m = t.1 in omega (arith, l, m))
+  ]
 ]
 
 not_both : (is : List Input) (kind : Option Kind) (rs : List Rule) (b : Rule) → Breaks is kind rs b → MeetsAll is kind rs → ⊥
@@ -75,9 +82,11 @@ module _ (p : Plan) where
   Stops (suc (suc (suc zero))) e = (e ≡ UnknownDigest p.terminal 0) × HasResult p × (input_row p p.terminal 0 ≡ None)
   Stops (suc (suc (suc (suc zero)))) e = (k : ℕ) × (i : ℕ) × (e ≡ UnknownDigest k i) × IsStarted p × Foremost (IsUnknown p) k i
   Stops (suc (suc (suc (suc (suc zero))))) e = (e ≡ Cycle) × IsNamed p × HasCycle (links_in p) p.start
-  Stops (suc (suc (suc (suc (suc (suc zero)))))) e = (order : List ℕ) × (k : ℕ) × (f : Feature) × (e ≡ Unsupported k f) × IsOrdered p order × IsUnsupported p k f
+  Stops (suc (suc (suc (suc (suc (suc zero)))))) e = (order : List ℕ) × (k : ℕ) × (f : Feature) × (e ≡ Unsupported k f) × IsOrdered p order
+      × IsUnsupported p k f
   Stops (suc (suc (suc (suc (suc (suc (suc zero))))))) e = (order : List ℕ) × (k : ℕ) × (r : Rule) × (e ≡ Invalid k r) × IsTaken p order × IsInvalid p k r
-  Stops (suc (suc (suc (suc (suc (suc (suc (suc zero)))))))) e = (order : List ℕ) × (k : ℕ) × (i : ℕ) × (e ≡ BadIndex k i) × IsValid p order × Foremost (IsBadIndex p) k i
+  Stops (suc (suc (suc (suc (suc (suc (suc (suc zero)))))))) e = (order : List ℕ) × (k : ℕ) × (i : ℕ) × (e ≡ BadIndex k i)
+      × IsValid p order × Foremost (IsBadIndex p) k i
   Stops (suc (suc (suc (suc (suc (suc (suc (suc (suc n))))))))) e = ⊥
 
   passed_before : (n : ℕ) → Passes (suc n) → Passes n
@@ -147,11 +156,14 @@ module _ (p : Plan) where
       let at : s.1 ≡ t.1 = elim (cases_order s.1 t.1) [
         | inl x ↦ x
         | inr o ↦ elim o [
-          | inl l ↦ absurd (not_both (op_at p.ops s.1).inputs (op_at p.ops s.1).kind (rules_on (op_at p.ops s.1).kind) s.2 s.5.broken (t.5.least s.1 l s.5.reached))
-          | inr l ↦ absurd (not_both (op_at p.ops t.1).inputs (op_at p.ops t.1).kind (rules_on (op_at p.ops t.1).kind) t.2 t.5.broken (s.5.least t.1 l t.5.reached))
+          | inl l ↦ absurd (not_both (op_at p.ops s.1).inputs (op_at p.ops s.1).kind (rules_on (op_at p.ops s.1).kind) s.2 s.5.broken
+              (t.5.least s.1 l s.5.reached))
+          | inr l ↦ absurd (not_both (op_at p.ops t.1).inputs (op_at p.ops t.1).kind (rules_on (op_at p.ops t.1).kind) t.2 t.5.broken
+              (s.5.least t.1 l t.5.reached))
         ]
       ] in
-      let rule = broken_one (op_at p.ops s.1).inputs (op_at p.ops s.1).kind (rules_on (op_at p.ops s.1).kind) s.2 t.2 s.5.broken (subst (λ (k : ℕ). BreaksFirst (op_at p.ops k) t.2) (sym at) t.5.broken) in
+      let rule = broken_one (op_at p.ops s.1).inputs (op_at p.ops s.1).kind (rules_on (op_at p.ops s.1).kind) s.2 t.2 s.5.broken
+      (subst (λ (k : ℕ). BreaksFirst (op_at p.ops k) t.2) (sym at) t.5.broken) in
       s.3 ∙ ap (λ (k : ℕ). Invalid k s.2) at ∙ ap (λ (x : Rule). Invalid t.1 x) rule ∙ sym t.3
   stopped_one (suc (suc (suc (suc (suc (suc (suc (suc zero)))))))) e f s t =
       let at = foremost_one (IsBadIndex p) s.1 s.2 t.1 t.2 s.5 t.5 in
@@ -185,7 +197,8 @@ module _ (p : Plan) where
   -- where no refusal is left, none stands
   not_whole : (n : ℕ) (e : LoadFault) → Stops n e → ¬ ((order : List ℕ) × IsWhole p order)
   not_whole n e s w =
-      stopped_fails n e s (passed_below n (8 - n) (subst (λ (k : ℕ). Passes k) (let h = stops_within n e s in let x : 8 ≡ (8 - n) + n = omega (arith, h) in x) w))
+      stopped_fails n e s (passed_below n (8 - n)
+      (subst (λ (k : ℕ). Passes k) (let h = stops_within n e s in let x : 8 ≡ (8 - n) + n = omega (arith, h) in x) w))
 
   -- each refusal has its turn
   refusal_stops : (e : LoadFault) → Refuses p e → (n : ℕ) × Stops n e
@@ -225,7 +238,8 @@ ops_one rows xs ys a b = same_lists xs ys (a.len ∙ sym b.len) (λ k d l.
     let m : k < length ys = (let e = b.len in omega (arith, h, e)) in
     let ok : ◌≡◌ {A = Result Op OpFault} (Ok (op_at xs k)) (Ok (op_at ys k)) = sym (a.each k h) ∙ b.each k h in
     let same : op_at xs k ≡ op_at ys k = cc in
-    get_or_default xs k d (record { inputs = []; kind = None; extra = [] }) l ∙ same ∙ sym (get_or_default ys k d (record { inputs = []; kind = None; extra = [] }) m))
+    get_or_default xs k d (record { inputs = []; kind = None; extra = [] }) l ∙ same
+    ∙ sym (get_or_default ys k d (record { inputs = []; kind = None; extra = [] }) m))
 
 not_read : (r : Result Op OpFault) (f : OpFault) → r ≡ Err f → ¬ IsOk r
 not_read r f e ok = let x : is_ok r ≡ false = ap (λ (y : Result Op OpFault). is_ok y) e in let z : true ≡ false = sym ok ∙ x in cc
@@ -272,15 +286,18 @@ not_readable bytes xs f a b = let x : ◌≡◌ {A = Result (List (List ℕ)) Op
 
 pub one_answer_in : (bytes : List ℕ) → HasOneAnswerIn bytes
 one_answer_in bytes = record {
-  graphs = λ g h a b. (one_answer (rows_from a.0)).graphs g h a.2 (subst (λ (es : List (List ℕ)). IsGraphOf (rows_from es) h) (entries_one bytes b.0 a.0 b.1 a.1) b.2);
+  graphs = λ g h a b. (one_answer (rows_from a.0)).graphs g h a.2
+      (subst (λ (es : List (List ℕ)). IsGraphOf (rows_from es) h) (entries_one bytes b.0 a.0 b.1 a.1) b.2);
   refusals = λ e f r t. elim r [
     | inl a ↦ elim t [
-      | inl b ↦ (let err : ◌≡◌ {A = Result (List (List ℕ)) OpFault} (Err a.0) (Err b.0) = sym a.1 ∙ b.1 in let same : a.0 ≡ b.0 = cc in a.2 ∙ ap (λ (f : OpFault). Definition f) same ∙ sym b.2)
+      | inl b ↦ (let err : ◌≡◌ {A = Result (List (List ℕ)) OpFault} (Err a.0) (Err b.0) = sym a.1 ∙ b.1 in let same : a.0 ≡ b.0 = cc in a.2
+          ∙ ap (λ (f : OpFault). Definition f) same ∙ sym b.2)
       | inr b ↦ absurd (not_readable bytes b.0 a.0 b.1 a.1)
     ]
     | inr a ↦ elim t [
       | inl b ↦ absurd (not_readable bytes a.0 b.0 a.1 b.1)
-      | inr b ↦ (one_answer (rows_from a.0)).refusals e f a.2 (subst (λ (es : List (List ℕ)). IsRefusalOf (rows_from es) f) (entries_one bytes b.0 a.0 b.1 a.1) b.2)
+      | inr b ↦ (one_answer (rows_from a.0)).refusals e f a.2
+          (subst (λ (es : List (List ℕ)). IsRefusalOf (rows_from es) f) (entries_one bytes b.0 a.0 b.1 a.1) b.2)
     ]
   ];
   apart = λ g e a r. elim r [

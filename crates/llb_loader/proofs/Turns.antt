@@ -1,7 +1,9 @@
 -- The turns of the numbering: what holds of the marks, of the ready rows and of the waiting ones.
-use Rattle.std.proofs.Common.{◌≡◌, ◌≢◌, ℕ, zero, suc, ◌+◌, ◌<◌, ◌≤◌, Bool, true, false, cond, List, [], ◌∷◌, ◌++◌, ◌⊎◌, ◌↔◌, inl, inr, length, take, get_or, set, refl, sym, ◌∙◌, ap, subst, eqb, replicate, arith}
+use Rattle.std.proofs.Common.{◌≡◌, ◌≢◌, ℕ, zero, suc, ◌+◌, ◌<◌, ◌≤◌, Bool, true, false, cond, List, [], ◌∷◌, ◌++◌, ◌⊎◌, ◌↔◌, inl, inr}
+use Rattle.std.proofs.Common.{length, take, get_or, set, refl, sym, ◌∙◌, ap, subst, eqb, replicate, arith}
 use Rattle.std.proofs.lemmas.Bool.{cases_eq, cases_lt, cases_Bool, ne_eqb, eq-eqb}
-use Rattle.std.proofs.lemmas.List.{get_or-set_same, get_or-set_other, length_push, get_or_default, take-append-le, take_at, get_or_append_left, get_or_push, map-set, length-map}
+use Rattle.std.proofs.lemmas.List.{get_or-set_same, get_or-set_other, length_push, get_or_default, take-append-le, take_at}
+use Rattle.std.proofs.lemmas.List.{get_or_append_left, get_or_push, map-set, length-map}
 use Rattle.std.proofs.lemmas.List.Elements.{Contains-append_left, Contains-push, Contains-push_cases, All-contains, All-weaker}
 use Rattle.std.specs.List.{All, Contains}
 use Rattle.llb_loader.specs.declared.numbering.Waiter.{Waiter}
@@ -78,7 +80,8 @@ pub IsChecked_stays : (g : List (List ℕ)) (done : List Bool) (w : Waiter) (k :
 IsChecked_stays g done w k h c = record { within = c.within; passed = λ i l. mark_stays done k (get_or (inputs g w.row) i 0) h (c.passed i l) }
 
 pub place_ready : (g : List (List ℕ)) (start : ℕ) (done : List Bool) (w : Waiter) (r r' : ℕ → Bool) (ws ws' : List (List Waiter)) (P Q : ℕ → Type 0)
-    → ((k : ℕ) → P k → Q k ⊎ (k ≡ w.row)) → IsPending g start done w → GoesToReady g done w r r' ws ws' → IsPlaced g start done r ws P → IsPlaced g start done r' ws' Q
+    → ((k : ℕ) → P k → Q k ⊎ (k ≡ w.row)) → IsPending g start done w → GoesToReady g done w r r' ws ws' → IsPlaced g start done r ws P
+    → IsPlaced g start done r' ws' Q
 place_ready g start done w r r' ws ws' P Q split p x s = record {
   sound = λ k m. elim (put_cases r r' w.row x.added k m) [
     | inl m' ↦ s.sound k m'
@@ -96,7 +99,8 @@ place_ready g start done w r r' ws ws' P Q split p x s = record {
 
 pub place_waiting : (g : List (List ℕ)) (start : ℕ) (done : List Bool) (w : Waiter) (r r' : ℕ → Bool) (ws ws' : List (List Waiter)) (P Q : ℕ → Type 0)
     (b : ℕ) (next : Waiter)
-    → ((k : ℕ) → P k → Q k ⊎ (k ≡ w.row)) → IsPending g start done w → GoesToWaiting g done w r r' ws ws' b next → IsPlaced g start done r ws P → IsPlaced g start done r' ws' Q
+    → ((k : ℕ) → P k → Q k ⊎ (k ≡ w.row)) → IsPending g start done w → GoesToWaiting g done w r r' ws ws' b next
+    → IsPlaced g start done r ws P → IsPlaced g start done r' ws' Q
 place_waiting g start done w r r' ws ws' P Q b next split p x s =
     let here : get_or ws' b [] ≡ get_or ws b [] ++ next ∷ [] = rw x.pushed (get_or-set_same ws b (get_or ws b [] ++ next ∷ []) [] x.below) in
     let there : (a : ℕ) → a ≢ b → get_or ws' a [] ≡ get_or ws a [] = λ a n. rw x.pushed (get_or-set_other ws b a (get_or ws b [] ++ next ∷ []) [] n) in
@@ -132,7 +136,8 @@ place_waiting g start done w r r' ws ws' P Q b next split p x s =
     }
 
 pub place_step : (g : List (List ℕ)) (start : ℕ) (done : List Bool) (w : Waiter) (r r' : ℕ → Bool) (ws ws' : List (List Waiter)) (P Q : ℕ → Type 0)
-    → ((k : ℕ) → P k → Q k ⊎ (k ≡ w.row)) → IsPending g start done w → IsPlacing g done w r r' ws ws' → IsPlaced g start done r ws P → IsPlaced g start done r' ws' Q
+    → ((k : ℕ) → P k → Q k ⊎ (k ≡ w.row)) → IsPending g start done w → IsPlacing g done w r r' ws ws' → IsPlaced g start done r ws P
+    → IsPlaced g start done r' ws' Q
 place_step g start done w r r' ws ws' P Q split p x s = elim x [
   | inl y ↦ place_ready g start done w r r' ws ws' P Q split p y s
   | inr y ↦ place_waiting g start done w r r' ws ws' P Q y.0 y.1 split p y.2 s
@@ -171,8 +176,13 @@ fresh_stays done k q n f = get_or-set_other done k q true false n ∙ f
 pub waits_other : (g : List (List ℕ)) (start : ℕ) (done : List Bool) (k b : ℕ) (w : Waiter) → IsOpenRow g start done k → IsWaiting g start done b w → w.row ≢ k
 waits_other g start done k b w o v e = not_both done b (All-contains (IsMarked done) (inputs g k) b o.all (rw (← e) v.edge)) v.blocked
 
-pub pending_stays : (g : List (List ℕ)) (start : ℕ) (done : List Bool) (k : ℕ) (w : Waiter) → k < length done → w.row ≢ k → IsPending g start done w → IsPending g start (set done k true) w
-pending_stays g start done k w h n p = record { reached = p.reached; fresh = fresh_stays done k w.row n p.fresh; checked = IsChecked_stays g done w k h p.checked }
+pub pending_stays : (g : List (List ℕ)) (start : ℕ) (done : List Bool) (k : ℕ) (w : Waiter) → k < length done → w.row ≢ k
+    → IsPending g start done w → IsPending g start (set done k true) w
+pending_stays g start done k w h n p = record {
+  reached = p.reached;
+  fresh = fresh_stays done k w.row n p.fresh;
+  checked = IsChecked_stays g done w k h p.checked;
+}
 
 pub turn_woken : (g : List (List ℕ)) (start : ℕ) (done : List Bool) (r : ℕ → Bool) (ws : List (List Waiter)) (k : ℕ)
     → k < length done → r k ≡ true → IsPlaced g start done r ws NoRow → (w : Waiter) → Contains (get_or ws k []) w → IsPending g start (set done k true) w
@@ -204,7 +214,11 @@ turn_step g start done r r' ws k h hw m cut s =
       waits = λ b w c. elim (cases_eq b k) [
         | inl e ↦ absurd (let d : Contains [] w = rw get_or-set_same at (subst (λ (n : ℕ). Contains (get_or (set ws k []) n []) w) e c) in omega (arith, d.1))
         | inr n ↦ (let v = s.waits b w (subst (λ (l : List Waiter). Contains l w) (get_or-set_other ws k b [] [] n) c) in
-            record { pending = pending_stays g start done k w h (waits_other g start done k b w o v) v.pending; edge = v.edge; blocked = fresh_stays done k b n v.blocked })
+            record {
+              pending = pending_stays g start done k w h (waits_other g start done k b w o v) v.pending;
+              edge = v.edge;
+              blocked = fresh_stays done k b n v.blocked;
+            })
       ];
       covers = λ q t f. elim (cases_eq q k) [
         | inl e ↦ absurd (not_both (set done k true) k marks (subst (λ (n : ℕ). IsFresh (set done k true) n) e f))
@@ -238,7 +252,8 @@ next_least g start done order r ws k j least s o x =
       | inr v ↦ elim v [
         | inl p ↦ absurd p
         | inr u ↦ (let y = s.waits u.0 u.1 u.2 in
-            absurd (not_both done u.0 (o.only u.0 (All-contains (Contains order) (inputs g j) u.0 x.inputs_done (subst (λ (n : ℕ). HasEdge g n u.0) u.3 y.edge))) y.blocked))
+            absurd (not_both done u.0
+            (o.only u.0 (All-contains (Contains order) (inputs g j) u.0 x.inputs_done (subst (λ (n : ℕ). HasEdge g n u.0) u.3 y.edge))) y.blocked))
       ]
     ]
 
@@ -248,7 +263,11 @@ pub order_step : (g : List (List ℕ)) (start : ℕ) (done : List Bool) (order :
 order_step g start done order r ws k h m least s o =
     let x = s.sound k m in
     let turn : IsNext g start order k = record {
-      ready = record { reached = x.reached; fresh = λ c. not_both done k (o.only k c) x.fresh; inputs_done = All-weaker (IsMarked done) (Contains order) o.has (inputs g k) x.all };
+      ready = record {
+        reached = x.reached;
+        fresh = λ c. not_both done k (o.only k c) x.fresh;
+        inputs_done = All-weaker (IsMarked done) (Contains order) o.has (inputs g k) x.all;
+      };
       least = λ j. next_least g start done order r ws k j least s o;
     } in
     record {
@@ -316,7 +335,8 @@ pub turn_taken : (g : List (List ℕ)) (start : ℕ) (done : List Bool) (r r' : 
     → IsPlaced g start (set done k true) r' (lists (set items k next)) (WokenFrom old.items 0)
 turn_taken g start done r r' items k old next h hw m cut is nothing s =
     let at : get_or (lists items) k [] ≡ old.items = list_at items k old hw is in
-    let e : lists (set items k next) ≡ set (lists items) k [] = map-set (λ (v : Vec Waiter). v.items) items k next ∙ ap (λ (xs : List Waiter). set (lists items) k xs) nothing in
+    let e : lists (set items k next) ≡ set (lists items) k [] = map-set (λ (v : Vec Waiter). v.items) items k next
+    ∙ ap (λ (xs : List Waiter). set (lists items) k xs) nothing in
     let l : k < length (lists items) = (let z = length-map items (λ (v : Vec Waiter). v.items) in omega (arith, z, hw)) in
     let t = turn_step g start done r r' (lists items) k h l m cut s in
     let u = subst (λ (xs : List Waiter). IsPlaced g start (set done k true) r' (set (lists items) k []) (WokenFrom xs 0)) at t in
@@ -329,14 +349,16 @@ taken_pending g start done r items k old h hw m is s w c =
     turn_woken g start done r (lists items) k h m s w (subst (λ (xs : List Waiter). Contains xs w) (sym (list_at items k old hw is)) c)
 
 -- a reached row is one of the rows
-pub reached_below : (g : List (List ℕ)) (start n : ℕ) (seen : List Bool) → ((k : ℕ) → (get_or seen k false ≡ true) ↔ Reached g start k) → length seen ≡ n → (k : ℕ) → Reached g start k → k < n
+pub reached_below : (g : List (List ℕ)) (start n : ℕ) (seen : List Bool) → ((k : ℕ) → (get_or seen k false ≡ true) ↔ Reached g start k)
+    → length seen ≡ n → (k : ℕ) → Reached g start k → k < n
 reached_below g start n seen exact l k t = let h = marked_below seen k ((exact k).1 t) in omega (arith, h, l)
 
 -- one more row is looked at: it is placed, or isn't reached
 pub looked_placed : (k row : ℕ) → row ≤ k → (row + 1 ≤ k) ⊎ (k ≡ row)
 looked_placed k row h = elim (cases_eq k row) [ inl e ↦ inr e | inr n ↦ inl (omega arith) ]
 
-pub looked_past : (g : List (List ℕ)) (start : ℕ) (seen : List Bool) → ((k : ℕ) → (get_or seen k false ≡ true) ↔ Reached g start k) → (row : ℕ) → IsFresh seen row
+pub looked_past : (g : List (List ℕ)) (start : ℕ) (seen : List Bool) → ((k : ℕ) → (get_or seen k false ≡ true) ↔ Reached g start k)
+    → (row : ℕ) → IsFresh seen row
     → (k : ℕ) → Reached g start k → row ≤ k → row + 1 ≤ k
 looked_past g start seen exact row f k t h = elim (cases_eq k row) [
   | inl e ↦ absurd (not_both seen row (subst (IsMarked seen) e ((exact k).1 t)) f)

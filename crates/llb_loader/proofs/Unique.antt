@@ -1,5 +1,6 @@
 -- There is one numbering at most, and it shows that there is no cycle.
-use Rattle.std.proofs.Common.{◌≡◌, ◌≢◌, ℕ, zero, suc, ◌<◌, ◌≤◌, Bool, cond, List, [], ◌∷◌, ◌++◌, inl, inr, length, take, get_or, refl, sym, ◌∙◌, ap, subst, arith, add-one}
+use Rattle.std.proofs.Common.{◌≡◌, ◌≢◌, ℕ, zero, suc, ◌<◌, ◌≤◌, Bool, cond, List, [], ◌∷◌, ◌++◌, inl, inr, length, take, get_or, refl, sym}
+use Rattle.std.proofs.Common.{◌∙◌, ap, subst, arith, add-one}
 use Rattle.std.proofs.lemmas.Bool.{cases_eq, cases_order, ne_eqb, eq-eqb}
 use Rattle.std.proofs.lemmas.List.{get_or-take, length-take-le, take_more, take_all, get_or_default}
 use Rattle.std.proofs.lemmas.List.Elements.{Contains-get_or, All-contains}
@@ -19,7 +20,8 @@ rank_at [] k i h e = absurd (omega arith)
 rank_at (x ∷ xs) k zero h e = let r = rank_head x k xs e in (omega (arith, r), subst (λ (n : ℕ). get_or (x ∷ xs) n 0 ≡ k) (sym r) e)
 rank_at (x ∷ xs) k (suc i) h e = elim (cases_eq x k) [
   | inl y ↦ (let r = rank_head x k xs y in (omega (arith, r), subst (λ (n : ℕ). get_or (x ∷ xs) n 0 ≡ k) (sym r) y))
-  | inr n ↦ (let r = rank_tail x k xs n in let t = rank_at xs k i (omega arith) e in (omega (arith, r, t.0), subst (λ (m : ℕ). get_or (x ∷ xs) m 0 ≡ k) (sym r) t.1))
+  | inr n ↦ (let r = rank_tail x k xs n in let t = rank_at xs k i (omega arith) e in
+      (omega (arith, r, t.0), subst (λ (m : ℕ). get_or (x ∷ xs) m 0 ≡ k) (sym r) t.1))
 ]
 
 -- and not after any place where it stands
@@ -66,13 +68,16 @@ no_more g start xs ys s t h =
 
 pub one_numbering : (g : List (List ℕ)) (start : ℕ) (xs ys : List ℕ) → IsNumbering g start xs → IsNumbering g start ys → xs ≡ ys
 one_numbering g start xs ys s t = elim (cases_order (length xs) (length ys)) [
-  | inl e ↦ sym (take_all (length xs) xs (omega arith)) ∙ same_prefix g start xs ys s t (length xs) (omega arith) (omega arith) ∙ take_all (length xs) ys (omega arith)
+  | inl e ↦ sym (take_all (length xs) xs (omega arith)) ∙ same_prefix g start xs ys s t (length xs) (omega arith) (omega arith)
+      ∙ take_all (length xs) ys (omega arith)
   | inr o ↦ elim o [ inl h ↦ absurd (no_more g start xs ys s t h) | inr h ↦ absurd (no_more g start ys xs t s h) ]
 ]
 
 -- a row stands once
-pub numbered_once : (g : List (List ℕ)) (start : ℕ) (order : List ℕ) (i j : ℕ) → IsNumbering g start order → i < length order → j < i → get_or order j 0 ≢ get_or order i 0
+pub numbered_once : (g : List (List ℕ)) (start : ℕ) (order : List ℕ) (i j : ℕ) → IsNumbering g start order → i < length order → j < i
+    → get_or order j 0 ≢ get_or order i 0
 numbered_once g start order i j s h l e =
     let n : j < length (take i order) = (let p = length-take-le i order (omega arith) in omega (arith, p, l)) in
-    let c : Contains (take i order) (get_or order i 0) = subst (λ (k : ℕ). Contains (take i order) k) (get_or-take i order j 0 l ∙ e) (Contains-get_or (take i order) j 0 n) in
+    let c : Contains (take i order) (get_or order i 0) = subst (λ (k : ℕ). Contains (take i order) k) (get_or-take i order j 0 l ∙ e)
+    (Contains-get_or (take i order) j 0 n) in
     (s.each i h).ready.fresh c

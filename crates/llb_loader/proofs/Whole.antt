@@ -1,5 +1,6 @@
 -- The vertices that are built of a whole plan are a graph, and the one that the plan says.
-use Rattle.std.proofs.Common.{◌≡◌, ◌≢◌, ℕ, zero, suc, ◌<◌, ◌≤◌, ◌^◌, Bool, true, false, cond, not, ◌||◌, nat_eq, List, [], ◌∷◌, ◌++◌, ◌⊎◌, inl, inr, Option, Some, None, IsSome, length, get_or, drop, map, codes, refl, sym, ◌∙◌, ap, subst, arith, pos}
+use Rattle.std.proofs.Common.{◌≡◌, ◌≢◌, ℕ, zero, suc, ◌<◌, ◌≤◌, ◌^◌, Bool, true, false, cond, not, ◌||◌, nat_eq, List, [], ◌∷◌, ◌++◌, ◌⊎◌}
+use Rattle.std.proofs.Common.{inl, inr, Option, Some, None, IsSome, length, get_or, drop, map, codes, refl, sym, ◌∙◌, ap, subst, arith, pos}
 use Rattle.std.proofs.lemmas.Bool.{cases_lt}
 use Rattle.std.proofs.lemmas.Bool.Decides.{Decides-eqb}
 use Rattle.std.proofs.lemmas.Slice.Eq.{starts_is}
@@ -26,7 +27,8 @@ use Rattle.llb_applet.specs.declared.command.Command.{Command}
 use Rattle.llb_loader.specs.Locals.{behind}
 use Rattle.llb_loader.specs.Mounts.{secret, ssh, has_type}
 use Rattle.llb_loader.specs.Scripts.{kind_script, script_in}
-use Rattle.llb_loader.specs.Rules.{kind_steps, kind_outputs, is_output, owner_of, owner_by_name, outputs_of, mount_outputs, step_count, output_count, IsBelow, MeetsAll, MeetsRules, rules_on}
+use Rattle.llb_loader.specs.Rules.{kind_steps, kind_outputs, is_output, owner_of, owner_by_name, outputs_of, mount_outputs, step_count}
+use Rattle.llb_loader.specs.Rules.{output_count, IsBelow, MeetsAll, MeetsRules, rules_on}
 use Rattle.llb_loader.specs.Graph.{links, LeadsBelow, StandsFor, HasInputs, IsVertex, IsVertexOf, IsGraph}
 use Rattle.llb_loader.specs.Linking.{Plan, op_at, input_at, links_in, input_row, ReachedRow, HasInput, outputs_there, IsNamed, IsWhole, edge_of, vertex_of}
 use Rattle.llb_loader.specs.Building.{IsBuildable, AreBuilt, edge_at, vertex_at, edge_to}
@@ -34,7 +36,8 @@ use Rattle.llb_loader.proofs.Searching.{reached_step}
 use Rattle.llb_loader.proofs.Unique.{rank_at}
 use Rattle.llb_loader.proofs.Lengths.{commands_short}
 use Rattle.llb_loader.proofs.Executions.{exec_vertex}
-use Rattle.llb_loader.proofs.Plans.{graph_at, NamedAt, named_at, below_cases, below_wider, below_abs, below_pos, value_there, IsFirstRow, named_first, same_first, reached_first, named_digest}
+use Rattle.llb_loader.proofs.Plans.{graph_at, NamedAt, named_at, below_cases, below_wider, below_abs, below_pos, value_there, IsFirstRow}
+use Rattle.llb_loader.proofs.Plans.{named_first, same_first, reached_first, named_digest}
 use Rattle.llb_loader.proofs.Refusals.{reached_in, input_named}
 
 -- ---- one op
@@ -68,7 +71,7 @@ none_found : {X : Type 0} (p : X → Bool) (xs : List X) → find p xs ≡ None 
 none_found p [] e = tt
 none_found p (x ∷ xs) e = let f = not_found p x xs e in (f.0, none_found p xs f.1)
 
--- what stands behind a text's front that is not the whole text
+-- what stands after a text's prefix that is not the whole text
 behind_front : (front text : List ℕ) → starts_with nat_eq text front ≡ true → text ≢ front
     → (text ≡ front ++ drop (length front) text) × (0 < length (drop (length front) text)) × (behind front text ≡ Some (drop (length front) text))
 behind_front front text e n =
@@ -144,8 +147,10 @@ kind_vertex v (Some (Merge m)) free met within inputs script steps outputs = rec
 kind_vertex v (Some (Exec x)) free met within inputs script steps outputs =
     let r = none_found (has (Some (Exec x))) features free in
     exec_vertex v x (all_false (has_type secret) x.mounts r.1.1.1.0) (all_false (has_type ssh) x.mounts r.1.1.1.1.0) met within inputs script steps outputs
-kind_vertex v (Some (Diff x)) free met within inputs script steps outputs = absurd (let r = (none_found (has (Some (Diff x))) features free).0 in let y : true ≡ false = r in cc)
-kind_vertex v (Some (Build x)) free met within inputs script steps outputs = absurd (let r = (none_found (has (Some (Build x))) features free).1.0 in let y : true ≡ false = r in cc)
+kind_vertex v (Some (Diff x)) free met within inputs script steps outputs =
+    absurd (let r = (none_found (has (Some (Diff x))) features free).0 in let y : true ≡ false = r in cc)
+kind_vertex v (Some (Build x)) free met within inputs script steps outputs =
+    absurd (let r = (none_found (has (Some (Build x))) features free).1.0 in let y : true ≡ false = r in cc)
 kind_vertex v None free met within inputs script steps outputs = absurd (let y : false ≡ true = met.0 in cc)
 
 cons_le : (o : Option ℕ) (ys : List ℕ) (n : ℕ) → length ys ≤ n → length (cons_option o ys) ≤ suc n
@@ -160,8 +165,22 @@ same_vertex : (v w : Vertex) → v.digest ≡ w.digest → v.op ≡ w.op → v.s
 same_vertex v w a b s c d e =
     ap (λ (x : List ℕ). let r : Vertex = record { digest = x; op = v.op; script = v.script; inputs = v.inputs; steps = v.steps; outputs = v.outputs } in r) a
     ∙ ap (λ (x : Op). let r : Vertex = record { digest = w.digest; op = x; script = v.script; inputs = v.inputs; steps = v.steps; outputs = v.outputs } in r) b
-    ∙ ap (λ (x : Option (List Command)). let r : Vertex = record { digest = w.digest; op = w.op; script = x; inputs = v.inputs; steps = v.steps; outputs = v.outputs } in r) s
-    ∙ ap (λ (x : List Edge). let r : Vertex = record { digest = w.digest; op = w.op; script = w.script; inputs = x; steps = v.steps; outputs = v.outputs } in r) c
+    ∙ ap (λ (x : Option (List Command)). let r : Vertex = record {
+      digest = w.digest;
+      op = w.op;
+      script = x;
+      inputs = v.inputs;
+      steps = v.steps;
+      outputs = v.outputs;
+    } in r) s
+    ∙ ap (λ (x : List Edge). let r : Vertex = record {
+      digest = w.digest;
+      op = w.op;
+      script = w.script;
+      inputs = x;
+      steps = v.steps;
+      outputs = v.outputs;
+    } in r) c
     ∙ ap (λ (x : ℕ). let r : Vertex = record { digest = w.digest; op = w.op; script = w.script; inputs = w.inputs; steps = x; outputs = v.outputs } in r) d
     ∙ ap (λ (x : ℕ). let r : Vertex = record { digest = w.digest; op = w.op; script = w.script; inputs = w.inputs; steps = w.steps; outputs = x } in r) e
 
@@ -193,10 +212,13 @@ module _ (p : Plan) (order : List ℕ) (whole : IsWhole p order) (len : length p
   ]
 
   pub index_small : (k i : ℕ) → HasInput p k i ⊎ ((k ≡ p.terminal) × (i ≡ 0)) → IsBelow 1_025 (input_at (op_at p.ops k) i).index
-  index_small k i asked = below_wider (outputs_there p k i) 1_025 (input_at (op_at p.ops k) i).index (let c = count_small (unwrap_or (input_row p k i) 0) in omega (arith, c)) (index_below k i asked)
+  index_small k i asked = below_wider (outputs_there p k i) 1_025 (input_at (op_at p.ops k) i).index
+      (let c = count_small (unwrap_or (input_row p k i) 0) in omega (arith, c)) (index_below k i asked)
 
-  places : (k : ℕ) → ReachedRow p k → NamedAt (λ (i : Input). row_named p.rows p.terminal i.digest) (op_at p.ops k).inputs (record { digest = []; index = pos 0; extra = [] }) (length (op_at p.ops k).inputs)
-  places k r = named_at (λ (i : Input). row_named p.rows p.terminal i.digest) (op_at p.ops k).inputs (record { digest = []; index = pos 0; extra = [] }) (length (op_at p.ops k).inputs) (omega arith)
+  places : (k : ℕ) → ReachedRow p k → NamedAt (λ (i : Input). row_named p.rows p.terminal i.digest) (op_at p.ops k).inputs
+      (record { digest = []; index = pos 0; extra = [] }) (length (op_at p.ops k).inputs)
+  places k r = named_at (λ (i : Input). row_named p.rows p.terminal i.digest) (op_at p.ops k).inputs
+      (record { digest = []; index = pos 0; extra = [] }) (length (op_at p.ops k).inputs) (omega arith)
       (λ i l. input_named p named_in k i (record { reached = r; here = l }))
 
   pub full : (k : ℕ) → ReachedRow p k → length (inputs (links_in p) k) ≡ length (op_at p.ops k).inputs
@@ -218,7 +240,8 @@ module _ (p : Plan) (order : List ℕ) (whole : IsWhole p order) (len : length p
   }
 
   first_row : (k : ℕ) → ReachedRow p k → IsFirstRow p.rows k
-  first_row k r = reached_first p.rows p.terminal p.ops p.start k (named_first p.rows p.terminal (input_at (op_at p.ops p.terminal) 0).digest p.start named_in.started.start) r
+  first_row k r = reached_first p.rows p.terminal p.ops p.start k
+      (named_first p.rows p.terminal (input_at (op_at p.ops p.terminal) 0).digest p.start named_in.started.start) r
 
   -- ---- with the numbers of rows
 
@@ -252,8 +275,10 @@ module _ (p : Plan) (order : List ℕ) (whole : IsWhole p order) (len : length p
                 omega (arith, a, o, q, s);
           })
 
-      input_below : (k i : ℕ) → ReachedRow p k → i < length (op_at p.ops k).inputs → IsBelow (output_count (op_at p.ops (get_or (inputs (links_in p) k) i 0))) (input_at (op_at p.ops k) i).index
-      input_below k i r l = subst (λ (n : ℕ). IsBelow (output_count (op_at p.ops n)) (input_at (op_at p.ops k) i).index) (sym (linked k i r l)) (index_below k i (inl (record { reached = r; here = l })))
+      input_below : (k i : ℕ) → ReachedRow p k → i < length (op_at p.ops k).inputs
+          → IsBelow (output_count (op_at p.ops (get_or (inputs (links_in p) k) i 0))) (input_at (op_at p.ops k) i).index
+      input_below k i r l = subst (λ (n : ℕ). IsBelow (output_count (op_at p.ops n)) (input_at (op_at p.ops k) i).index)
+          (sym (linked k i r l)) (index_below k i (inl (record { reached = r; here = l })))
 
       edge_leads : (k i : ℕ) (h : k < length order) → i < length (op_at p.ops (get_or order k 0)).inputs → LeadsBelow vs k (edge_at (vertex_at vs k).inputs i)
       edge_leads k i h l =
@@ -265,7 +290,8 @@ module _ (p : Plan) (order : List ℕ) (whole : IsWhole p order) (len : length p
           let n = length-take-le k order (omega (arith, h)) in
           let low : c.0 < k = (let m = c.1 in omega (arith, m, n)) in
           let at : get_or order c.0 0 ≡ get_or (inputs (links_in p) (get_or order k 0)) i 0 =
-          get_or_default order c.0 0 (get_or (inputs (links_in p) (get_or order k 0)) i 0) (omega (arith, low, h)) ∙ sym (get_or-take k order c.0 (get_or (inputs (links_in p) (get_or order k 0)) i 0) low) ∙ c.2 in
+          get_or_default order c.0 0 (get_or (inputs (links_in p) (get_or order k 0)) i 0) (omega (arith, low, h))
+          ∙ sym (get_or-take k order c.0 (get_or (inputs (links_in p) (get_or order k 0)) i 0) low) ∙ c.2 in
           leads k (get_or (inputs (links_in p) (get_or order k 0)) i 0) c.0 (edge_at (vertex_at vs k).inputs i) (input_at (op_at p.ops (get_or order k 0)) i)
           ((built k h).edges i l) (omega (arith, low, h)) at (sym (ap (λ (x : ℕ). get_or ranks x 0) at) ∙ inverse c.0 (omega (arith, low, h))) low
           (input_below (get_or order k 0) i (row_reached k h) l)
@@ -284,27 +310,33 @@ module _ (p : Plan) (order : List ℕ) (whole : IsWhole p order) (len : length p
       result_leads x e =
           let c = place p.start start_reached in
           leads (length vs) p.start c.0 x (input_at (op_at p.ops p.terminal) 0) e c.1 c.2 c.3 (let l = c.1 in let b = built_len in omega (arith, l, b))
-          (subst (λ (n : ℕ). IsBelow (output_count (op_at p.ops n)) (input_at (op_at p.ops p.terminal) 0).index) (ap (λ (o : Option ℕ). unwrap_or o 0) named_in.started.start) (index_below p.terminal 0 (inr (refl, refl))))
+          (subst (λ (n : ℕ). IsBelow (output_count (op_at p.ops n)) (input_at (op_at p.ops p.terminal) 0).index)
+          (ap (λ (o : Option ℕ). unwrap_or o 0) named_in.started.start) (index_below p.terminal 0 (inr (refl, refl))))
 
       -- an edge between rows is one between their vertices
-      link_at : (k i : ℕ) → k < length order → i < length (inputs (links_in p) (get_or order k 0)) → HasEdge (links vs) k (get_or ranks (get_or (inputs (links_in p) (get_or order k 0)) i 0) 0)
+      link_at : (k i : ℕ) → k < length order → i < length (inputs (links_in p) (get_or order k 0))
+          → HasEdge (links vs) k (get_or ranks (get_or (inputs (links_in p) (get_or order k 0)) i 0) 0)
       link_at k i h l =
           let f = full (get_or order k 0) (row_reached k h) in
           let m : i < length (op_at p.ops (get_or order k 0)).inputs = omega (arith, l, f) in
           let n : i < length (vertex_at vs k).inputs = (let b = (built k h).len in omega (arith, m, b)) in
-          let row : inputs (links vs) k ≡ map (λ (e : Edge). e.vertex) (vertex_at vs k).inputs = get_or-map (λ (v : Vertex). map (λ (e : Edge). e.vertex) v.inputs) vs k _ [] (let b = built_len in omega (arith, h, b)) in
+          let row : inputs (links vs) k ≡ map (λ (e : Edge). e.vertex) (vertex_at vs k).inputs =
+          get_or-map (λ (v : Vertex). map (λ (e : Edge). e.vertex) v.inputs) vs k _ [] (let b = built_len in omega (arith, h, b)) in
           let at : get_or (map (λ (e : Edge). e.vertex) (vertex_at vs k).inputs) i 0 ≡ get_or ranks (get_or (inputs (links_in p) (get_or order k 0)) i 0) 0 =
           get_or-map (λ (e : Edge). e.vertex) (vertex_at vs k).inputs i _ 0 n ∙ ap (λ (e : Edge). e.vertex) ((built k h).edges i m) in
-          let long : i < length (map (λ (e : Edge). e.vertex) (vertex_at vs k).inputs) = (let z = length-map (vertex_at vs k).inputs (λ (e : Edge). e.vertex) in omega (arith, n, z)) in
+          let long : i < length (map (λ (e : Edge). e.vertex) (vertex_at vs k).inputs) =
+          (let z = length-map (vertex_at vs k).inputs (λ (e : Edge). e.vertex) in omega (arith, n, z)) in
           subst (λ (xs : List ℕ). Contains xs (get_or ranks (get_or (inputs (links_in p) (get_or order k 0)) i 0) 0)) (sym row)
-          (subst (λ (y : ℕ). Contains (map (λ (e : Edge). e.vertex) (vertex_at vs k).inputs) y) at (Contains-get_or (map (λ (e : Edge). e.vertex) (vertex_at vs k).inputs) i 0 long))
+          (subst (λ (y : ℕ). Contains (map (λ (e : Edge). e.vertex) (vertex_at vs k).inputs) y) at
+          (Contains-get_or (map (λ (e : Edge). e.vertex) (vertex_at vs k).inputs) i 0 long))
 
       link_edge : (a b : ℕ) → ReachedRow p a → HasEdge (links_in p) a b → HasEdge (links vs) (get_or ranks a 0) (get_or ranks b 0)
       link_edge a b r e =
           let c = place a r in
           let i : e.0 < length (inputs (links_in p) (get_or order c.0 0)) = subst (λ (n : ℕ). e.0 < length (inputs (links_in p) n)) (sym c.2) e.1 in
           let x = link_at c.0 e.0 c.1 i in
-          let to : get_or (inputs (links_in p) (get_or order c.0 0)) e.0 0 ≡ b = ap (λ (n : ℕ). get_or (inputs (links_in p) n) e.0 0) c.2 ∙ get_or_default (inputs (links_in p) a) e.0 0 b e.1 ∙ e.2 in
+          let to : get_or (inputs (links_in p) (get_or order c.0 0)) e.0 0 ≡ b = ap (λ (n : ℕ). get_or (inputs (links_in p) n) e.0 0) c.2
+          ∙ get_or_default (inputs (links_in p) a) e.0 0 b e.1 ∙ e.2 in
           subst (λ (n : ℕ). HasEdge (links vs) n (get_or ranks b 0)) (sym c.3) (subst (λ (n : ℕ). HasEdge (links vs) c.0 (get_or ranks n 0)) to x)
 
       walk_up : (b n : ℕ) → Walk (links_in p) p.start b n → Walk (links vs) (get_or ranks p.start 0) (get_or ranks b 0) n
@@ -323,21 +355,26 @@ module _ (p : Plan) (order : List ℕ) (whole : IsWhole p order) (len : length p
             script = b.script ∙ sym (ap script_in b.op);
             steps = b.steps ∙ sym (ap step_count b.op);
             outputs = b.outputs ∙ sym (ap output_count b.op);
-            few_steps = (let w = kind_steps_within (op_at p.ops (get_or order k 0)).kind (within_at (get_or order k 0) r).kind in let e = b.steps in omega (arith, w, e));
-            few_outputs = (let w = kind_count_within (op_at p.ops (get_or order k 0)).kind (within_at (get_or order k 0) r).kind in let e = b.outputs in omega (arith, w, e));
+            few_steps = (let w = kind_steps_within (op_at p.ops (get_or order k 0)).kind (within_at (get_or order k 0) r).kind in let e =
+                b.steps in omega (arith, w, e));
+            few_outputs = (let w = kind_count_within (op_at p.ops (get_or order k 0)).kind (within_at (get_or order k 0) r).kind in let e =
+                b.outputs in omega (arith, w, e));
           }
 
       of_kind : (k : ℕ) → k < length order → IsVertexOf (vertex_at vs k) (vertex_at vs k).op.kind
       of_kind k h =
           let v = is_vertex k h in
-          kind_vertex (vertex_at vs k) (vertex_at vs k).op.kind v.featureless v.valid v.within.kind ((built k h).len ∙ sym (ap (λ (o : Op). length o.inputs) (built k h).op)) v.script v.steps v.outputs
+          kind_vertex (vertex_at vs k) (vertex_at vs k).op.kind v.featureless v.valid v.within.kind
+          ((built k h).len ∙ sym (ap (λ (o : Op). length o.inputs) (built k h).op)) v.script v.steps v.outputs
 
-      stands_for : (k i : ℕ) → k < length order → i < length (op_at p.ops (get_or order k 0)).inputs → StandsFor vs (input_at (op_at p.ops (get_or order k 0)) i) (edge_at (vertex_at vs k).inputs i)
+      stands_for : (k i : ℕ) → k < length order → i < length (op_at p.ops (get_or order k 0)).inputs
+          → StandsFor vs (input_at (op_at p.ops (get_or order k 0)) i) (edge_at (vertex_at vs k).inputs i)
       stands_for k i h l =
           let r = row_reached k h in
           let f = full (get_or order k 0) (row_reached k h) in
           let li : i < length (inputs (links_in p) (get_or order k 0)) = omega (arith, l, f) in
-          let b = reached_step (links_in p) p.start (get_or order k 0) (get_or (inputs (links_in p) (get_or order k 0)) i 0) (row_reached k h) (Contains-get_or (inputs (links_in p) (get_or order k 0)) i 0 li) in
+          let b = reached_step (links_in p) p.start (get_or order k 0) (get_or (inputs (links_in p) (get_or order k 0)) i 0)
+          (row_reached k h) (Contains-get_or (inputs (links_in p) (get_or order k 0)) i 0 li) in
           let c = place (get_or (inputs (links_in p) (get_or order k 0)) i 0) b in
           let e = (built k h).edges i l ∙ ap (λ (n : ℕ). edge_to n (input_at (op_at p.ops (get_or order k 0)) i)) c.3 in
           let named = value_there (input_row p (get_or order k 0) i) (input_named p named_in (get_or order k 0) i (record { reached = r; here = l })) in
@@ -347,7 +384,8 @@ module _ (p : Plan) (order : List ℕ) (whole : IsWhole p order) (len : length p
                 ∙ (built c.0 c.1).digest
                 ∙ ap (λ (n : ℕ). (row_at p.rows n).digest) (c.2 ∙ linked (get_or order k 0) i r l)
                 ∙ named_digest p.rows p.terminal (input_at (op_at p.ops (get_or order k 0)) i).digest (unwrap_or (input_row p (get_or order k 0) i) 0) named;
-            index = below_pos (outputs_there p (get_or order k 0) i) (input_at (op_at p.ops (get_or order k 0)) i).index (index_below (get_or order k 0) i (inl (record { reached = r; here = l })));
+            index = below_pos (outputs_there p (get_or order k 0) i) (input_at (op_at p.ops (get_or order k 0)) i).index
+                (index_below (get_or order k 0) i (inl (record { reached = r; here = l })));
           })
 
       has_inputs : (k : ℕ) → k < length order → HasInputs vs (vertex_at vs k)
@@ -359,24 +397,31 @@ module _ (p : Plan) (order : List ℕ) (whole : IsWhole p order) (len : length p
                 let m : i < length (op_at p.ops (get_or order k 0)).inputs = (let n = b.len in omega (arith, l, n)) in
                 subst (λ (x : Edge). StandsFor vs (get_or (vertex_at vs k).op.inputs i input) x) (get_or_default (vertex_at vs k).inputs i _ e l)
                 (subst (λ (o : Op). StandsFor vs (get_or o.inputs i input) (edge_at (vertex_at vs k).inputs i)) (sym b.op)
-                (subst (λ (x : Input). StandsFor vs x (edge_at (vertex_at vs k).inputs i)) (get_or_default (op_at p.ops (get_or order k 0)).inputs i _ input m) (stands_for k i h m)));
+                (subst (λ (x : Input). StandsFor vs x (edge_at (vertex_at vs k).inputs i))
+                (get_or_default (op_at p.ops (get_or order k 0)).inputs i _ input m) (stands_for k i h m)));
           }
 
       distinct : (a b : ℕ) → a < length order → b < length order → (vertex_at vs a).digest ≡ (vertex_at vs b).digest → a ≡ b
       distinct a b la lb e =
-          let same = same_first p.rows (get_or order a 0) (get_or order b 0) (first_row (get_or order a 0) (row_reached a la)) (first_row (get_or order b 0) (row_reached b lb))
+          let same = same_first p.rows (get_or order a 0) (get_or order b 0) (first_row (get_or order a 0) (row_reached a la))
+          (first_row (get_or order b 0) (row_reached b lb))
           (sym (built a la).digest ∙ e ∙ (built b lb).digest) in
           sym (inverse a la) ∙ ap (λ (n : ℕ). get_or ranks n 0) same ∙ inverse b lb
 
-      pub is_graph : (x : Edge) → x ≡ edge_to (get_or ranks p.start 0) (input_at (op_at p.ops p.terminal) 0) → length p.rows ≤ 65_536 → length order ≤ length p.rows
+      pub is_graph : (x : Edge) → x ≡ edge_to (get_or ranks p.start 0) (input_at (op_at p.ops p.terminal) 0) → length p.rows ≤ 65_536
+          → length order ≤ length p.rows
           → IsGraph (record { vertices = vs; result = x })
       is_graph x e few short = record {
         down = down;
         result = result_leads x e;
         whole = λ k h.
             let l : k < length order = (let b = built_len in omega (arith, h, b)) in
-            let r = row_reached k l in
-            (r.0, subst (λ (n : ℕ). Walk (links vs) x.vertex n r.0) (inverse k l) (subst (λ (n : ℕ). Walk (links vs) n (get_or ranks (get_or order k 0) 0) r.0) (sym (ap (λ (y : Edge). y.vertex) e)) (walk_up (get_or order k 0) r.0 r.1)));
+            let r = row_reached k l in (
+              r.0,
+              subst (λ (n : ℕ). Walk (links vs) x.vertex n r.0) (inverse k l)
+                  (subst (λ (n : ℕ). Walk (links vs) n (get_or ranks (get_or order k 0) 0) r.0) (sym (ap (λ (y : Edge). y.vertex) e))
+                  (walk_up (get_or order k 0) r.0 r.1)),
+            );
         vertex = λ k d h.
             let l : k < length order = (let b = built_len in omega (arith, h, b)) in
             subst (λ (v : Vertex). IsVertex v) (sym (vertex_is k d l)) (is_vertex k l);
@@ -395,26 +440,34 @@ module _ (p : Plan) (order : List ℕ) (whole : IsWhole p order) (len : length p
 
       -- ---- and the one that the plan says
 
-      edge_same : (k i : ℕ) → k < length order → i < length (op_at p.ops (get_or order k 0)).inputs → edge_at (vertex_at vs k).inputs i ≡ edge_of p order (input_at (op_at p.ops (get_or order k 0)) i)
+      edge_same : (k i : ℕ) → k < length order → i < length (op_at p.ops (get_or order k 0)).inputs
+          → edge_at (vertex_at vs k).inputs i ≡ edge_of p order (input_at (op_at p.ops (get_or order k 0)) i)
       edge_same k i h l =
           let f = full (get_or order k 0) (row_reached k h) in
           let li : i < length (inputs (links_in p) (get_or order k 0)) = omega (arith, l, f) in
-          let b = reached_step (links_in p) p.start (get_or order k 0) (get_or (inputs (links_in p) (get_or order k 0)) i 0) (row_reached k h) (Contains-get_or (inputs (links_in p) (get_or order k 0)) i 0 li) in
+          let b = reached_step (links_in p) p.start (get_or order k 0) (get_or (inputs (links_in p) (get_or order k 0)) i 0)
+          (row_reached k h) (Contains-get_or (inputs (links_in p) (get_or order k 0)) i 0 li) in
           (built k h).edges i l
-          ∙ ap (λ (n : ℕ). edge_to n (input_at (op_at p.ops (get_or order k 0)) i)) (rank_is (get_or (inputs (links_in p) (get_or order k 0)) i 0) b ∙ ap (λ (n : ℕ). rank_in order n) (linked (get_or order k 0) i (row_reached k h) l))
+          ∙ ap (λ (n : ℕ). edge_to n (input_at (op_at p.ops (get_or order k 0)) i))
+          (rank_is (get_or (inputs (links_in p) (get_or order k 0)) i 0) b
+          ∙ ap (λ (n : ℕ). rank_in order n) (linked (get_or order k 0) i (row_reached k h) l))
 
       inputs_same : (k : ℕ) → k < length order → (vertex_at vs k).inputs ≡ map (edge_of p order) (op_at p.ops (get_or order k 0)).inputs
       inputs_same k h = same_lists (vertex_at vs k).inputs (map (edge_of p order) (op_at p.ops (get_or order k 0)).inputs)
           ((built k h).len ∙ sym (length-map (op_at p.ops (get_or order k 0)).inputs (edge_of p order)))
           (λ i d l. let m : i < length (op_at p.ops (get_or order k 0)).inputs = (let b = (built k h).len in omega (arith, l, b)) in
-          get_or_default (vertex_at vs k).inputs i d _ l ∙ edge_same k i h m ∙ sym (get_or-map (edge_of p order) (op_at p.ops (get_or order k 0)).inputs i _ d m))
+          get_or_default (vertex_at vs k).inputs i d _ l ∙ edge_same k i h m
+          ∙ sym (get_or-map (edge_of p order) (op_at p.ops (get_or order k 0)).inputs i _ d m))
 
       pub vertices_same : vs ≡ map (vertex_of p order) order
       vertices_same = same_lists vs (map (vertex_of p order) order) (built_len ∙ sym (length-map order (vertex_of p order))) (λ k d h.
           let l : k < length order = (let b = built_len in omega (arith, h, b)) in
           vertex_is k d l
-          ∙ same_vertex (vertex_at vs k) (vertex_of p order (get_or order k 0)) (built k l).digest (built k l).op (built k l).script (inputs_same k l) (built k l).steps (built k l).outputs
+          ∙ same_vertex (vertex_at vs k) (vertex_of p order (get_or order k 0)) (built k l).digest (built k l).op (built k l).script
+          (inputs_same k l) (built k l).steps (built k l).outputs
           ∙ sym (get_or-map (vertex_of p order) order k 0 d l))
 
-      pub result_same : (x : Edge) → x ≡ edge_to (get_or ranks p.start 0) (input_at (op_at p.ops p.terminal) 0) → x ≡ edge_of p order (input_at (op_at p.ops p.terminal) 0)
-      result_same x e = e ∙ ap (λ (n : ℕ). edge_to n (input_at (op_at p.ops p.terminal) 0)) (rank_is p.start start_reached ∙ sym (ap (λ (o : Option ℕ). rank_in order (unwrap_or o 0)) named_in.started.start))
+      pub result_same : (x : Edge) → x ≡ edge_to (get_or ranks p.start 0) (input_at (op_at p.ops p.terminal) 0)
+          → x ≡ edge_of p order (input_at (op_at p.ops p.terminal) 0)
+      result_same x e = e ∙ ap (λ (n : ℕ). edge_to n (input_at (op_at p.ops p.terminal) 0))
+          (rank_is p.start start_reached ∙ sym (ap (λ (o : Option ℕ). rank_in order (unwrap_or o 0)) named_in.started.start))

@@ -16,7 +16,8 @@ abbrev pub edge_at : List Edge → ℕ → Edge
 edge_at edges i = slice_index_or edges i (record { vertex = 0; index = 0 })
 
 abbrev pub vertex_at : List Vertex → ℕ → Vertex
-vertex_at vertices n = slice_index_or vertices n (record { digest = []; op = record { inputs = []; kind = None; extra = [] }; script = None; inputs = []; steps = 0; outputs = 0 })
+vertex_at vertices n = slice_index_or vertices n
+    (record { digest = []; op = record { inputs = []; kind = None; extra = [] }; script = None; inputs = []; steps = 0; outputs = 0 })
 
 -- the edge to a vertex that an input stands for
 abbrev pub edge_to : ℕ → Input → Edge

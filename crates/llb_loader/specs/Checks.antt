@@ -51,5 +51,6 @@ abbrev pub asked_of : List Op → List Bool → ℕ → ℕ → ℕ
 asked_of ops seen terminal k = cond (slice_index_or seen k false) (length (op_at ops k).inputs) (cond (k == terminal) 1 0)
 
 abbrev pub RefusesIndex : List Op → List (List ℕ) → List ℕ → List Bool → ℕ → LoadFault → Type 0
-RefusesIndex ops links counts seen t e = (k : ℕ) × (i : ℕ) × (e ≡ BadIndex k i) × (k < length ops) × FirstBad counts (inputs links k) (op_at ops k) (asked_of ops seen t k) i
+RefusesIndex ops links counts seen t e = (k : ℕ) × (i : ℕ) × (e ≡ BadIndex k i) × (k < length ops)
+    × FirstBad counts (inputs links k) (op_at ops k) (asked_of ops seen t k) i
     × ((j : ℕ) → j < k → FitsAll counts (inputs links j) (op_at ops j) (asked_of ops seen t j))

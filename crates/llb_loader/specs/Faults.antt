@@ -6,7 +6,7 @@ use Rattle.llb_ops.specs.declared.fault.OpFault.TheVariants as op
 use Rattle.llb_loader.specs.declared.fault.LoadFault.{LoadFault}
 use Rattle.llb_loader.specs.declared.fault.LoadFault.TheVariants as fault
 
--- want of memory, which no rule gives
+-- out of memory, which no rule gives
 abbrev pub is_memory : LoadFault → Bool
 is_memory fault.Memory = true
 is_memory _ = false

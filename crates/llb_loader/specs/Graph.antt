@@ -1,5 +1,6 @@
 -- A numbered graph, as contracts see it, and what is true of each one.
-use Rattle.std.specs.Prelude.{◌≡◌, ◌⊎◌, ℕ, ◌<◌, ◌≤◌, ◌^◌, pos, false, List, [], ◌++◌, length, map, slice_index_or, Option, Some, None, IsSome, Ok, Contains, codes}
+use Rattle.std.specs.Prelude.{◌≡◌, ◌⊎◌, ℕ, ◌<◌, ◌≤◌, ◌^◌, pos, false, List, [], ◌++◌, length, map, slice_index_or, Option, Some, None}
+use Rattle.std.specs.Prelude.{IsSome, Ok, Contains, codes}
 use Rattle.std.specs.List.{All, HoldsAt}
 use Rattle.llb_ops.specs.declared.op.Input.{Input}
 use Rattle.llb_ops.specs.declared.op.Kind.{Kind}
@@ -14,7 +15,8 @@ use Rattle.llb_loader.specs.declared.graph.Edge.{Edge}
 use Rattle.llb_loader.specs.declared.graph.Vertex.{Vertex}
 use Rattle.llb_loader.specs.Rows.{Reached}
 use Rattle.llb_loader.specs.Features.{feature_of}
-use Rattle.llb_loader.specs.Rules.{owner_of, owner_by_name, IsInput, ActionInputs, SecondInputs, outputs_of, count_outputs, AreOutputs, step_count, output_count, MeetsRules, mount_outputs, ShowsInput, AreMountOutputs, HasOptions, IsShared}
+use Rattle.llb_loader.specs.Rules.{owner_of, owner_by_name, IsInput, ActionInputs, SecondInputs, outputs_of, count_outputs, AreOutputs}
+use Rattle.llb_loader.specs.Rules.{step_count, output_count, MeetsRules, mount_outputs, ShowsInput, AreMountOutputs, HasOptions, IsShared}
 use Rattle.llb_applet.specs.declared.command.Command.{Command}
 use Rattle.llb_applet.specs.Scripts.{script_of}
 use Rattle.llb_loader.specs.Mounts.{bind, cache, tmpfs, read_as, dests_of, keys_of, AreApart}
@@ -57,7 +59,7 @@ pub record IsVertex (v : Vertex) : Type 0 where
 
 -- ---- a vertex by its kind
 
--- a source is local, and there is a name behind `local://`
+-- a source is local, and there is a name after `local://`
 pub record IsSourceVertex (v : Vertex) (s : SourceOp) : Type 0 where
   pub name : List ℕ
   pub local : source_name s ≡ Some name
@@ -134,7 +136,8 @@ pub record IsGraph (g : Numbered) : Type 0 where
   pub vertex : All IsVertex g.vertices
   pub inputs : All (HasInputs g.vertices) g.vertices
   -- no two vertices have one digest
-  pub distinct : (a b : ℕ) (d : Vertex) → a < length g.vertices → b < length g.vertices → (slice_index_or g.vertices a d).digest ≡ (slice_index_or g.vertices b d).digest → a ≡ b
+  pub distinct : (a b : ℕ) (d : Vertex) → a < length g.vertices → b < length g.vertices
+      → (slice_index_or g.vertices a d).digest ≡ (slice_index_or g.vertices b d).digest → a ≡ b
   -- each vertex is of a kind that is taken
   pub kind : All (λ v. IsVertexOf v v.op.kind) g.vertices
   pub few : length g.vertices ≤ 65_536

@@ -14,13 +14,15 @@ pub record IsChecked (g : List (List ℕ)) (done : List Bool) (w : Waiter) : Typ
   pub passed : (i : ℕ) → i < w.checked → IsMarked done (slice_index (inputs g w.row) i)
 
 -- all inputs are marked, and the row is among the ready ones
-pub record GoesToReady (g : List (List ℕ)) (done : List Bool) (w : Waiter) (ready next_ready : ℕ → Bool) (waiting next_waiting : List (List Waiter)) : Type 0 where
+pub record GoesToReady (g : List (List ℕ)) (done : List Bool) (w : Waiter) (ready next_ready : ℕ → Bool)
+    (waiting next_waiting : List (List Waiter)) : Type 0 where
   pub all : All (IsMarked done) (inputs g w.row)
   pub added : (q : ℕ) → next_ready q ≡ cond (w.row == q) true (ready q)
   pub same : next_waiting ≡ waiting
 
 -- input b is not marked, and the row waits for it
-pub record GoesToWaiting (g : List (List ℕ)) (done : List Bool) (w : Waiter) (ready next_ready : ℕ → Bool) (waiting next_waiting : List (List Waiter)) (b : ℕ) (next : Waiter) : Type 0 where
+pub record GoesToWaiting (g : List (List ℕ)) (done : List Bool) (w : Waiter) (ready next_ready : ℕ → Bool)
+    (waiting next_waiting : List (List Waiter)) (b : ℕ) (next : Waiter) : Type 0 where
   pub edge : HasEdge g w.row b
   pub open_input : slice_index_or done b false ≡ false
   pub row : next.row ≡ w.row

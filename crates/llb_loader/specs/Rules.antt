@@ -1,5 +1,6 @@
 -- What an op must be, so that it can be a vertex: the rules in their order, and the counts of its steps and outputs.
-use Rattle.std.specs.Prelude.{◌≡◌, ◌≢◌, ℕ, zero, ◌+◌, ℤ, pos, negsuc, ◌≤ℤ◌, ◌<ℤ◌, Bool, true, false, ◌||◌, ◌⊎◌, List, [], ◌∷◌, length, IsSome, ⊤, ◌<◌, map, count_by, Option, Some, None, slice_index_or, unwrap_or, codes}
+use Rattle.std.specs.Prelude.{◌≡◌, ◌≢◌, ℕ, zero, ◌+◌, ℤ, pos, negsuc, ◌≤ℤ◌, ◌<ℤ◌, Bool, true, false, ◌||◌, ◌⊎◌, List, [], ◌∷◌, length}
+use Rattle.std.specs.Prelude.{IsSome, ⊤, ◌<◌, map, count_by, Option, Some, None, slice_index_or, unwrap_or, codes}
 use Rattle.std.specs.List.{All, Contains}
 use Rattle.llb_loader.specs.declared.fault.Rule.{Rule}
 use Rattle.llb_loader.specs.declared.fault.Rule.TheVariants as rule
@@ -88,7 +89,8 @@ TakesSecond n _ second = ⊤
 
 -- action a copies from one of n inputs, the result of an action before it, or nothing
 abbrev pub SecondInputs : ℕ → List Action → Type 0
-SecondInputs n actions = (a : ℕ) (d : Action) → a < length actions → TakesSecond (n + a) (slice_index_or actions a d).kind (slice_index_or actions a d).secondary_input
+SecondInputs n actions = (a : ℕ) (d : Action) → a < length actions
+    → TakesSecond (n + a) (slice_index_or actions a d).kind (slice_index_or actions a d).secondary_input
 
 pub record TakeInputs (n : ℕ) (actions : List Action) : Type 0 where
   pub first : ActionInputs n actions

@@ -32,7 +32,8 @@ pub(crate) fn vertices_of(
     requires below { All (λ k. k < length rows.now) order.now }
     requires once { (i j : ℕ) → i < length order.now → j < i → slice_index order.now j ≢ slice_index order.now i }
     requires small { All (λ r. r < 65_536) ranks.now }
-    requires buildable { (i : ℕ) → i < length order.now → IsBuildable (op_at ops.items (slice_index order.now i)) (inputs (lists links.now) (slice_index order.now i)) }
+    requires buildable { (i : ℕ) → i < length order.now → IsBuildable (op_at ops.items (slice_index order.now i))
+        (inputs (lists links.now) (slice_index order.now i)) }
     ensures len { IfOk result (λ vertices. length vertices.items ≡ length order.now) }
     ensures built { IfOk result (λ vertices. AreBuilt rows.now ops.items (lists links.now) ranks.now order.now vertices.items (length order.now)) }
 {
@@ -116,7 +117,8 @@ fn edges_of(
     requires range { All (λ b. b < length ranks.now) named.now }
     requires small { All (λ r. r < 65_536) ranks.now }
     ensures len { IfOk result (λ edges. length edges.items ≡ length op.now.inputs) }
-    ensures edges { IfOk result (λ edges. (i : ℕ) → i < length op.now.inputs → edge_at edges.items i ≡ edge_to (slice_index ranks.now (slice_index named.now i)) (input_at op.now i)) }
+    ensures edges { IfOk result (λ edges. (i : ℕ) → i < length op.now.inputs
+        → edge_at edges.items i ≡ edge_to (slice_index ranks.now (slice_index named.now i)) (input_at op.now i)) }
 {
     let mut edges = Vec::with_capacity(alloc, op.inputs.len())?;
     for (i, input) in op.inputs.as_slice().iter().enumerate() {

@@ -130,7 +130,8 @@ pub(crate) fn check_indexes(
     requires asked { (k : ℕ) → k < length ops.now → asked_of ops.now seen.now terminal k ≤ length (inputs (lists links.now) k) }
     requires there { (k : ℕ) → k < length ops.now → asked_of ops.now seen.now terminal k ≤ length (op_at ops.now k).inputs }
     requires range { InRange (lists links.now) (length ops.now) }
-    ensures fit { OnOk result ((k : ℕ) → k < length ops.now → FitsAll counts.now (inputs (lists links.now) k) (op_at ops.now k) (asked_of ops.now seen.now terminal k)) }
+    ensures fit { OnOk result ((k : ℕ) → k < length ops.now → FitsAll counts.now (inputs (lists links.now) k) (op_at ops.now k)
+        (asked_of ops.now seen.now terminal k)) }
     ensures refused { IfErr result (RefusesIndex ops.now (lists links.now) counts.now seen.now terminal) }
 {
     for k in 0..ops.len() {
@@ -153,7 +154,7 @@ fn asked_inputs(op: &Op, reached: bool, terminal: bool) -> usize
     if terminal { 1 } else { 0 }
 }
 
-// The first of so many inputs whose index is that of no output.
+// The first of that many inputs whose index is that of no output.
 fn first_bad(op: &Op, named: &[usize], counts: &[usize], asked: usize) -> Option<usize>
     requires named { asked ≤ length named.now }
     requires inputs { asked ≤ length op.now.inputs }

@@ -1,4 +1,4 @@
-//! Why rows are no graph. A fault prints what stands behind the word `fault` in a refusal: its number and
+//! Why rows are no graph. A fault prints what stands after the word `fault` in a refusal: its number and
 //! its arguments, features and rules by their names. Refusals of memory of any kind become `Memory` by `?`.
 
 use llb_applet::ScriptFault;
@@ -78,7 +78,7 @@ pub enum Feature {
 pub enum Rule {
     /// The op is of some kind.
     NoKind,
-    /// There is a name behind `local://`.
+    /// There is a name after `local://`.
     LocalName,
     /// A file op has an action.
     NoActions,
@@ -116,7 +116,7 @@ pub enum Rule {
     MergeInput,
 }
 
-/// A rule prints its name, and that of scripts the script's fault behind it.
+/// A rule prints its name, and that of scripts the script's fault after it.
 impl fmt::Display for Rule {
     fn fmt<W: fmt::Write>(&self, f: &mut fmt::Formatter<W>) -> fmt::Result {
         match self {

@@ -36,7 +36,7 @@ pub struct Vertex {
 }
 
 impl Vertex {
-    /// The name of a local source: what stands behind `local://`.
+    /// The name of a local source: what stands after `local://`.
     pub fn local_name(&self) -> Option<&str>
         ensures { option_map (λ t. t.now) result ≡ local_name self.now.op }
     {

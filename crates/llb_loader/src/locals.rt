@@ -41,7 +41,7 @@ impl Locals {
         }
     }
 
-    /// Gives a tree under a name: in the place of the one that the name had, or else behind all others.
+    /// Gives a tree under a name: in the place of the one that the name had, or else after all others.
     ///
     /// `Memory` (92) where memory is refused.
     #[tactic(auto, using(crate::proofs::Trees::locals_added, crate::proofs::Trees::last_given))]

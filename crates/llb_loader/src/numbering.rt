@@ -120,7 +120,8 @@ fn place(
     requires waiting { vec_len waiting.old ≡ length rows.now }
     requires row { waiter.row < length rows.now }
     requires checked { IsChecked (lists rows.now) done.now waiter }
-    ensures placed { OnOk result (IsPlacing (lists rows.now) done.now waiter (contains nat_cmp ready.old) (contains nat_cmp ready.new) (lists waiting.old.items) (lists waiting.new.items)) }
+    ensures placed { OnOk result (IsPlacing (lists rows.now) done.now waiter (contains nat_cmp ready.old) (contains nat_cmp ready.new)
+        (lists waiting.old.items) (lists waiting.new.items)) }
     ensures len { vec_len waiting.new ≡ vec_len waiting.old }
 {
     let named = rows[waiter.row].as_slice();

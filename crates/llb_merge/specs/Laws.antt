@@ -200,5 +200,6 @@ pub lay_under_empty : (t : TreeMap) → lay t empty_tree ≡ finite.insert t [] 
 lay_under_empty t = sym (lay_only t empty_tree (finite.insert t [] (Dir new_dir_meta)) (λ q.
     finite.get-insert path_cmp-IsTotalOrder t [] (Dir new_dir_meta) q
     ∙ elim (eq_by_cmp path_cmp q [])
-    as (λ b. cond b (Some (Dir new_dir_meta)) (finite.get t q) ≡ or_else (cond b (Some (Dir new_dir_meta)) None) (finite.get t q)) [ true ↦ refl | false ↦ refl ]
+    as (λ b. cond b (Some (Dir new_dir_meta)) (finite.get t q) ≡ or_else (cond b (Some (Dir new_dir_meta)) None) (finite.get t q))
+    [ true ↦ refl | false ↦ refl ]
     ∙ (λ i. or_else (sym (get-empty_tree q) i) (cond (sym (below_none (finite.get empty_tree) empty_no_file q) i) None (finite.get t q)))))

@@ -1,5 +1,5 @@
-//! The want of memory, the one refusal here. It prints what stands behind the word `fault` in a refusal: its number.
-//! Of the refusals of a tree none but its want of memory can come, as the clauses of its calls say.
+//! Out of memory, the one refusal here. It prints what stands after the word `fault` in a refusal: its number.
+//! Of the refusals of a tree none but its *out of memory* can come, as the clauses of its calls say.
 
 use llb_tree::TreeFault;
 use thiserror::Error;

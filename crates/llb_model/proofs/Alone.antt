@@ -1,5 +1,6 @@
 -- A run by chosen events: each is granted, and its claims ascend.
-use Rattle.std.proofs.Common.{◌≡◌, ◌≢◌, ℕ, zero, suc, ◌+◌, ◌<◌, Bool, true, false, ◌||◌, ◌&&◌, cond, List, [], ◌∷◌, ◌++◌, length, Option, Some, None, is_some, option_map, ◌⊎◌, inl, inr, refl, sym, ap, subst, ◌∙◌, arith}
+use Rattle.std.proofs.Common.{◌≡◌, ◌≢◌, ℕ, zero, suc, ◌+◌, ◌<◌, Bool, true, false, ◌||◌, ◌&&◌, cond, List, [], ◌∷◌, ◌++◌, length, Option}
+use Rattle.std.proofs.Common.{Some, None, is_some, option_map, ◌⊎◌, inl, inr, refl, sym, ap, subst, ◌∙◌, arith}
 use Rattle.std.specs.Prelude.{slice_get, slice_set}
 use Rattle.std.proofs.lemmas.Bool.{cases_order}
 use Rattle.std.proofs.Math.Bool.{or-true}
@@ -11,7 +12,9 @@ use Rattle.llb_loader.specs.Graph.{LeadsBelow, IsGraph}
 use Rattle.llb_loader.specs.declared.graph.Edge.{Edge}
 use Rattle.llb_model.specs.Caches.{Store}
 use Rattle.llb_model.specs.Program.{Build, Need, Start, needs_of, step_on}
-use Rattle.llb_model.specs.State.{Status, Waiting, Running, Settled, Execution, At, Idle, Runs, State, ending_of, ending_at, ready, is_ready, is_waiting, is_failed, program_in, work_of, is_finished, ending_from, held, is_shut, held_key, is_stopped}
+use Rattle.llb_model.specs.State.{Status, Waiting, Running, Settled, Execution, At, Idle, Runs, State, ending_of, ending_at, ready}
+use Rattle.llb_model.specs.State.{is_ready, is_waiting, is_failed, program_in, work_of, is_finished, ending_from, held, is_shut, held_key}
+use Rattle.llb_model.specs.State.{is_stopped}
 use Rattle.llb_model.specs.Table.{Event, Claim, Step, Settle, Reply, claim_at, step_by, settle_with, after_settle, table}
 use Rattle.llb_model.specs.Run.{next_of, least, next_claim, or_else, chosen, is_settled, claims_of, AllAbove, AreAscending}
 use Rattle.llb_model.specs.Consistent.{IsConsistent}
@@ -43,8 +46,13 @@ next_is b [] w e is = absurd cc
 next_is b (Idle ∷ ws) w e is =
     let n = next_is b ws (w + 1) e is in
     (suc n.0, n.1, n.2, n.3 ∙ ap (λ k. cond (is_finished (program_in b n.1).steps n.1) (Settle k) (Step k)) (omega arith))
-next_is b (Runs x ∷ ws) w e is =
-    (0, x, refl, (let h : cond (is_finished (program_in b x).steps x) (Settle w) (Step w) ≡ e = cc in sym h) ∙ ap (λ k. cond (is_finished (program_in b x).steps x) (Settle k) (Step k)) (omega arith))
+next_is b (Runs x ∷ ws) w e is = (
+  0,
+  x,
+  refl,
+  (let h : cond (is_finished (program_in b x).steps x) (Settle w) (Step w) ≡ e = cc in sym h)
+      ∙ ap (λ k. cond (is_finished (program_in b x).steps x) (Settle k) (Step k)) (omega arith),
+)
 
 chosen_claim : (o : Option ℕ) (e : Event) → option_map {U = Event} (λ v. Claim 0 v) o ≡ Some e → (v : ℕ) × (o ≡ Some v) × (e ≡ Claim 0 v)
 chosen_claim None e is = absurd cc
@@ -53,10 +61,17 @@ chosen_claim (Some v) e is = (v, refl, sym (inside is))
 pub chosen_is : (b : Build) (s : State) (e : Event) → chosen b s ≡ Some e → IsNextOf b s e ⊎ ((v : ℕ) × (e ≡ Claim 0 v) × IsChosenClaim b s v)
 chosen_is b s e is = by_next (next_of b 0 s.workers) refl is
   where
-    by_next : (o : Option Event) → next_of b 0 s.workers ≡ o → or_else o (next_claim b s) ≡ Some e → IsNextOf b s e ⊎ ((v : ℕ) × (e ≡ Claim 0 v) × IsChosenClaim b s v)
+    by_next : (o : Option Event) → next_of b 0 s.workers ≡ o → or_else o (next_claim b s) ≡ Some e
+        → IsNextOf b s e ⊎ ((v : ℕ) × (e ≡ Claim 0 v) × IsChosenClaim b s v)
     by_next (Some f) next is =
         let n = next_is b s.workers 0 e (next ∙ is) in
-        inl (record { worker = n.0; execution = n.1; there = n.2; is = n.3 ∙ ap (λ k. cond (is_finished (program_in b n.1).steps n.1) (Settle k) (Step k)) (omega arith) })
+        inl (record {
+          worker = n.0;
+          execution = n.1;
+          there = n.2;
+          is = n.3
+              ∙ ap (λ k. cond (is_finished (program_in b n.1).steps n.1) (Settle k) (Step k)) (omega arith);
+        })
     by_next None next is =
         let c = chosen_claim (least (is_ready b s.statuses) 0 (length b.graph.vertices)) e is in
         inr (c.0, c.2, record { idle = nothing_runs b s.workers 0 next; least = least_some (is_ready b s.statuses) 0 (length b.graph.vertices) c.0 c.1 })
@@ -106,7 +121,8 @@ first_claim b s v Idle there c = by_start (ready b s.statuses v) refl c.least.pa
     by_start None is some = absurd cc
     by_start (Some start) is some =
         granted_with b s (Claim 0 v) (claim_at b s 0 v start (claim_places s start))
-        (claim_granted b s 0 v start there (ready_is b s.statuses v start is) (ap (λ ps. held_key ps (needs_of start.vertex)) (none_held s.workers c.idle) ∙ none_shut (needs_of start.vertex)))
+        (claim_granted b s 0 v start there (ready_is b s.statuses v start is)
+        (ap (λ ps. held_key ps (needs_of start.vertex)) (none_held s.workers c.idle) ∙ none_shut (needs_of start.vertex)))
 
 -- the event that is chosen is granted, where there is a worker
 pub chosen_granted : (b : Build) (s : State) (e : Event) (a : At) → slice_get s.workers 0 ≡ Some a → chosen b s ≡ Some e → IsGranted b s e
@@ -133,7 +149,8 @@ module _ (b : Build) (graph : IsGraph b.graph) where
   StopsMore : List Status → List Status → ℕ → Type 0
   StopsMore before later n = (k : ℕ) → k < n → is_stopped b before k ≡ true → is_stopped b later k ≡ true
 
-  stops_more : (before later : List Status) → ((j : ℕ) → is_failed (ending_at before j) ≡ true → is_failed (ending_at later j) ≡ true) → (n : ℕ) → StopsMore before later n
+  stops_more : (before later : List Status) → ((j : ℕ) → is_failed (ending_at before j) ≡ true → is_failed (ending_at later j) ≡ true)
+      → (n : ℕ) → StopsMore before later n
   unfolding StopsMore
   stops_more before later more zero k lt stop = absurd (omega arith)
   stops_more before later more (suc n) k lt stop =
@@ -141,10 +158,12 @@ module _ (b : Build) (graph : IsGraph b.graph) where
       stopped_is b graph later k v.0 v.1 ∙ elim (stopped_cases b graph before k v.0 v.1 stop) [
         | inl h ↦ ap (λ t. t || any_stopped b later v.0.inputs) (more k h)
         | inr h ↦
-            let stops = some_as (λ (e : Edge). is_stopped b before e.vertex ≡ true) (LeadsBelow b.graph.vertices k) (λ (e : Edge). is_stopped b later e.vertex ≡ true) v.0.inputs
+            let stops = some_as (λ (e : Edge). is_stopped b before e.vertex ≡ true) (LeadsBelow b.graph.vertices k)
+            (λ (e : Edge). is_stopped b later e.vertex ≡ true) v.0.inputs
             (any_true (λ (e : Edge). is_stopped b before e.vertex) v.0.inputs h) (each_below b.graph graph k v.0 v.1)
             (λ e stop leads. stops_more before later more n e.vertex (let low = leads.lower in omega (arith, low)) stop) in
-            ap (λ t. is_failed (ending_at later k) || t) (true_any (λ (e : Edge). is_stopped b later e.vertex) v.0.inputs stops) ∙ or-true (is_failed (ending_at later k))
+            ap (λ t. is_failed (ending_at later k) || t) (true_any (λ (e : Edge). is_stopped b later e.vertex) v.0.inputs stops)
+            ∙ or-true (is_failed (ending_at later k))
       ]
 
   -- a vertex keeps its status, or is not one that waits and stays stopped
@@ -165,7 +184,8 @@ module _ (b : Build) (graph : IsGraph b.graph) where
       by_status (Some (Running w)) is e = absurd cc
       by_status (Some (Settled x)) is e = ap (λ o. is_settled o || (is_waiting o && is_stopped b t.statuses k)) (same ∙ is)
       by_status (Some Waiting) is e =
-          ap (λ o. is_settled o || (is_waiting o && is_stopped b t.statuses k)) (same ∙ is) ∙ stops_more s.statuses t.statuses keeps.failures (suc k) k (omega arith) e
+          ap (λ o. is_settled o || (is_waiting o && is_stopped b t.statuses k)) (same ∙ is)
+          ∙ stops_more s.statuses t.statuses keeps.failures (suc k) k (omega arith) e
 
   -- a status that is written where nothing was over
   written : (s : State) (v : ℕ) (old new : Status) → slice_get s.statuses v ≡ Some old → is_failed (ending_of (Some old)) ≡ false → is_over b s v ≡ false
@@ -197,9 +217,10 @@ module _ (b : Build) (graph : IsGraph b.graph) where
       let own = here.working w c.x c.there in
       let end = ending_from (program_in b c.x) c.x in
       let unover = over_by b graph s here c.x.vertex (Some (Running w)) own in
-      subst (λ (t : Answer). Keeps s t.0) (sym c.gives) (written s c.x.vertex (Running w) (Settled end) own refl unover refl (after_settle s w c.x.vertex end).workers s.store)
+      subst (λ (t : Answer). Keeps s t.0) (sym c.gives) (written s c.x.vertex (Running w) (Settled end) own refl unover refl
+      (after_settle s w c.x.vertex end).workers s.store)
 
-  -- what is over stays so behind an event
+  -- what is over stays so after an event
   pub over_after : (s t : State) (e : Event) (r : Reply) → IsConsistent b s → table b s e ≡ Some (t, r) → (k : ℕ) → is_over b s k ≡ true → is_over b t k ≡ true
   over_after s t e r here given k over = over_stays s t (kept s e (t, r) here given) k over
 
@@ -210,8 +231,10 @@ module _ (b : Build) (graph : IsGraph b.graph) where
 
   still_past : (s t : State) → Keeps s t → (us : List ℕ) → Each_of (IsPast b s) us → Each_of (IsPast b t) us
   still_past s t keeps [] past = tt
-  still_past s t keeps (u ∷ us) past =
-      (record { claimed_once = keeps.claimed_stay u past.0.claimed_once; below = λ k lt. over_stays s t keeps k (past.0.below k lt) }, still_past s t keeps us past.1)
+  still_past s t keeps (u ∷ us) past = (
+    record { claimed_once = keeps.claimed_stay u past.0.claimed_once; below = λ k lt. over_stays s t keeps k (past.0.below k lt) },
+    still_past s t keeps us past.1,
+  )
 
   claims_append : (es fs : List Event) → claims_of (es ++ fs) ≡ claims_of es ++ claims_of fs
   claims_append [] fs = refl
@@ -233,14 +256,18 @@ module _ (b : Build) (graph : IsGraph b.graph) where
 
   all_below : (s : State) → IsConsistent b s → (v : ℕ) → is_ready b s.statuses v ≡ true → (us : List ℕ) → Each_of (IsPast b s) us → Each_of (λ u. u < v) us
   all_below s here v is [] past = tt
-  all_below s here v is (u ∷ us) past = (elim (cases_order u v) [ inl same ↦ absurd (waits same) | inr h ↦ elim h [ inl lt ↦ lt | inr gt ↦ absurd (over gt) ] ], all_below s here v is us past.1)
+  all_below s here v is (u ∷ us) past = (
+    elim (cases_order u v) [ inl same ↦ absurd (waits same) | inr h ↦ elim h [ inl lt ↦ lt | inr gt ↦ absurd (over gt) ] ],
+    all_below s here v is us past.1,
+  )
     where
       over : v < u → ⊥
       over gt = cc (over_not_ready b graph s here v (past.0.below v gt), is)
 
       waits : u ≡ v → ⊥
       waits same =
-          let w : is_waiting (slice_get s.statuses u) ≡ true = ap (λ n. is_waiting (slice_get s.statuses n)) same ∙ ap is_waiting (ready_waits b s.statuses v is) in
+          let w : is_waiting (slice_get s.statuses u) ≡ true = ap (λ n. is_waiting (slice_get s.statuses n)) same
+          ∙ ap is_waiting (ready_waits b s.statuses v is) in
           cc (w, past.0.claimed_once)
 
   claim_moves : (s : State) (v : ℕ) (a : Answer) → table b s (Claim 0 v) ≡ Some a → is_waiting (slice_get a.0.statuses v) ≡ false
@@ -248,7 +275,8 @@ module _ (b : Build) (graph : IsGraph b.graph) where
       let c = claim_is b s 0 v a given in
       ap (λ (x : Answer). is_waiting (slice_get x.0.statuses v)) c.gives ∙ ap is_waiting (get_set_same s.statuses v (Running 0) Waiting c.begins.waits)
 
-  pub alone_step : (s t : State) (e : Event) (r : Reply) (es : List Event) → IsConsistent b s → chosen b s ≡ Some e → table b s e ≡ Some (t, r) → Ascends b s es → Ascends b t (es ++ e ∷ [])
+  pub alone_step : (s t : State) (e : Event) (r : Reply) (es : List Event) → IsConsistent b s → chosen b s ≡ Some e
+      → table b s e ≡ Some (t, r) → Ascends b s es → Ascends b t (es ++ e ∷ [])
   alone_step s t e r es here is given up = elim (chosen_is b s e is) [ inl n ↦ no_claim n | inr c ↦ one_more c.0 c.1 c.2 ]
     where
       keeps : Keeps s t
@@ -257,7 +285,10 @@ module _ (b : Build) (graph : IsGraph b.graph) where
       same_claims : claims_of (e ∷ []) ≡ [] → Ascends b t (es ++ e ∷ [])
       same_claims none =
           let all : claims_of (es ++ e ∷ []) ≡ claims_of es = claims_append es (e ∷ []) ∙ ap (λ us. claims_of es ++ us) none ∙ append-nil (claims_of es) in
-          record { ascending = subst AreAscending (sym all) up.ascending; past = subst (Each_of (IsPast b t)) (sym all) (still_past s t keeps (claims_of es) up.past) }
+          record {
+            ascending = subst AreAscending (sym all) up.ascending;
+            past = subst (Each_of (IsPast b t)) (sym all) (still_past s t keeps (claims_of es) up.past);
+          }
 
       quiet : (t : Bool) (w : ℕ) → claims_of (cond t (Settle w) (Step w) ∷ []) ≡ []
       quiet true w = refl
@@ -273,7 +304,8 @@ module _ (b : Build) (graph : IsGraph b.graph) where
       one_more v same c =
           let all : claims_of (es ++ e ∷ []) ≡ claims_of es ++ v ∷ [] = claims_append es (e ∷ []) ∙ ap (λ f. claims_of es ++ claims_of (f ∷ [])) same in
           let below = all_below s here v c.least.passes (claims_of es) up.past in
-          let over = progress b graph s here v (omega (arith, c.least.high)) (λ k w lt runs_. let x = here.running k w runs_ in c.idle w x.0 x.1) (λ k lt. c.least.below k (omega arith) lt) in
+          let over = progress b graph s here v (omega (arith, c.least.high)) (λ k w lt runs_. let x =
+          here.running k w runs_ in c.idle w x.0 x.1) (λ k lt. c.least.below k (omega arith) lt) in
           record {
             ascending = subst AreAscending (sym all) (ascending_append (claims_of es) v up.ascending below);
             past = subst (Each_of (IsPast b t)) (sym all) (each_append (IsPast b t) (claims_of es) v (still_past s t keeps (claims_of es) up.past)

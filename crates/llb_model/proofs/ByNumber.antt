@@ -34,7 +34,8 @@ module _ {A B : Type 0} (next : List B → A → B) where
       let place : length (before ++ next before y ∷ []) + k ≡ length before + suc k = omega (arith, length-append before (next before y ∷ [])) in
       subst (λ n. Next (by_number next (before ++ next before y ∷ []) xs) n x) place (next_at (before ++ next before y ∷ []) xs k x there)
 
-  pub by_number_is : (xs : List A) (k : ℕ) (x : A) → slice_get xs k ≡ Some x → slice_get (by_number next [] xs) k ≡ Some (next (take k (by_number next [] xs)) x)
+  pub by_number_is : (xs : List A) (k : ℕ) (x : A) → slice_get xs k ≡ Some x
+      → slice_get (by_number next [] xs) k ≡ Some (next (take k (by_number next [] xs)) x)
   unfolding Next
   by_number_is xs k x there = subst (λ n. Next (by_number next [] xs) n x) (zero_add k) (next_at [] xs k x there)
     where

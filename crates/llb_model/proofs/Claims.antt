@@ -1,5 +1,6 @@
 -- The instances that a claim takes: which of them nobody has, and that they differ.
-use Rattle.std.proofs.Common.{◌≡◌, ℕ, zero, suc, ◌+◌, ◌<◌, ◌≤◌, Bool, true, false, List, [], ◌∷◌, length, map, Some, None, inl, inr, refl, sym, ap, subst, ◌∙◌, cond, arith}
+use Rattle.std.proofs.Common.{◌≡◌, ℕ, zero, suc, ◌+◌, ◌<◌, ◌≤◌, Bool, true, false, List, [], ◌∷◌, length, map, Some, None, inl, inr, refl}
+use Rattle.std.proofs.Common.{sym, ap, subst, ◌∙◌, cond, arith}
 use Rattle.std.specs.Prelude.{slice_get}
 use Rattle.llb_cache.specs.declared.key.Key.{Key}
 use Rattle.llb_cache.specs.declared.key.Mode.{Mode}
@@ -7,7 +8,8 @@ use Rattle.llb_cache.specs.declared.key.Mode.TheVariants.{Shared, Private, Locke
 use Rattle.llb_tree.specs.Tree.{TreeMap}
 use Rattle.llb_model.specs.Caches.{Place, place, Store, Has, Distinct, is_in, IsExclusive}
 use Rattle.llb_model.specs.Program.{Need, key_of}
-use Rattle.llb_model.specs.State.{Execution, At, Idle, Runs, held, IsFree, above, first_free, number_for, place_for, places_for, is_shut, held_key, first_trees, places_by}
+use Rattle.llb_model.specs.State.{Execution, At, Idle, Runs, held, IsFree, above, first_free, number_for, place_for, places_for, is_shut}
+use Rattle.llb_model.specs.State.{held_key, first_trees, places_by}
 use Rattle.llb_model.proofs.Stores.{has_in, has_left, has_right, has_map}
 
 -- ---- the least free instance
@@ -22,7 +24,8 @@ pub free_found : (ps : List Place) (k : Key) (n tries : ℕ) → above ps ≤ n 
 free_found ps k n zero le h = let lt : n < above ps = below_above ps (place k n) h in omega arith
 free_found ps k n (suc tries) le h = go (is_in ps (place k n)) refl (free_found ps k (n + 1) tries (omega (arith, le))) h
   where
-    go : (b : Bool) → is_in ps (place k n) ≡ b → (Has ps (place k (first_free ps k (n + 1) tries)) → ⊥) → Has ps (place k (cond b (first_free ps k (n + 1) tries) n)) → ⊥
+    go : (b : Bool) → is_in ps (place k n) ≡ b → (Has ps (place k (first_free ps k (n + 1) tries)) → ⊥)
+        → Has ps (place k (cond b (first_free ps k (n + 1) tries) n)) → ⊥
     go true is rest h = rest h
     go false is rest h = let both : true ≡ false = sym (has_in ps (place k n) h) ∙ is in cc
 
@@ -33,7 +36,8 @@ none_shut : (ps : List Place) (ns : List Need) (n : Need) → held_key ps ns ≡
 none_shut ps [] n none h = absurd h
 none_shut ps (m ∷ ns) n none h = go (is_shut ps m.key m.key.mode) refl none h (none_shut ps ns n)
   where
-    go : (b : Bool) → is_shut ps m.key m.key.mode ≡ b → cond b (Some m.key) (held_key ps ns) ≡ None → Has (m ∷ ns) n → (held_key ps ns ≡ None → Has ns n → is_shut ps n.key n.key.mode ≡ false)
+    go : (b : Bool) → is_shut ps m.key m.key.mode ≡ b → cond b (Some m.key) (held_key ps ns) ≡ None → Has (m ∷ ns) n
+        → (held_key ps ns ≡ None → Has ns n → is_shut ps n.key n.key.mode ≡ false)
         → is_shut ps n.key n.key.mode ≡ false
     go true is none h rest = absurd cc
     go false is none (inl h) rest = ap (λ (x : Need). is_shut ps x.key x.key.mode) h ∙ is
@@ -65,7 +69,8 @@ pub places_length : (ps : List Place) (ns : List Need) → length (places_for ps
 places_length ps [] = refl
 places_length ps (n ∷ ns) = ap suc (places_length ps ns)
 
-pub first_length : (s : Store) (inputs : List TreeMap) (ps : List Place) (ns : List Need) → length ps ≡ length ns → length (first_trees s inputs ps ns) ≡ length ps
+pub first_length : (s : Store) (inputs : List TreeMap) (ps : List Place) (ns : List Need) → length ps ≡ length ns
+    → length (first_trees s inputs ps ns) ≡ length ps
 first_length s inputs [] ns e = refl
 first_length s inputs (p ∷ ps) [] e = absurd (omega (arith, e))
 first_length s inputs (p ∷ ps) (n ∷ ns) e = ap suc (first_length s inputs ps ns (omega (arith, e)))

@@ -1,6 +1,7 @@
 -- While no vertex runs, the least vertex that is neither settled nor blocked is Ready. So an event is chosen exactly until the run is
 -- complete; and then every vertex stands as its plain outcome tells.
-use Rattle.std.proofs.Common.{◌≡◌, ◌≢◌, ℕ, zero, suc, ◌+◌, ◌<◌, ◌≤◌, Bool, true, false, ◌||◌, ◌&&◌, cond, List, [], ◌∷◌, length, Option, Some, None, is_some, option_map, ◌⊎◌, inl, inr, refl, sym, ap, subst, ◌∙◌, arith}
+use Rattle.std.proofs.Common.{◌≡◌, ◌≢◌, ℕ, zero, suc, ◌+◌, ◌<◌, ◌≤◌, Bool, true, false, ◌||◌, ◌&&◌, cond, List, [], ◌∷◌, length, Option}
+use Rattle.std.proofs.Common.{Some, None, is_some, option_map, ◌⊎◌, inl, inr, refl, sym, ap, subst, ◌∙◌, arith}
 use Rattle.std.specs.Prelude.{slice_get}
 use Rattle.std.proofs.lemmas.Bool.{cases_eq}
 use Rattle.llb_loader.specs.Graph.{LeadsBelow, IsGraph}
@@ -9,7 +10,8 @@ use Rattle.llb_loader.specs.declared.graph.Vertex.{Vertex}
 use Rattle.llb_tree.specs.Tree.{TreeMap}
 use Rattle.llb_model.specs.Program.{Build}
 use Rattle.llb_model.specs.Outcome.{Done, Failed, output_in, inputs_from, outcome, is_plain}
-use Rattle.llb_model.specs.State.{Status, Waiting, Running, Settled, Execution, At, Idle, Runs, State, ending_of, ending_at, is_ready, is_waiting, is_done, is_blocked, is_failed, is_stopped}
+use Rattle.llb_model.specs.State.{Status, Waiting, Running, Settled, Execution, At, Idle, Runs, State, ending_of, ending_at, is_ready}
+use Rattle.llb_model.specs.State.{is_waiting, is_done, is_blocked, is_failed, is_stopped}
 use Rattle.llb_model.specs.Table.{Event, Claim}
 use Rattle.llb_model.specs.Run.{next_of, least, next_claim, or_else, chosen, is_settled, each, is_complete, StandsPlainly}
 use Rattle.llb_model.specs.Consistent.{IsConsistent}
@@ -46,7 +48,8 @@ pub least_none : (test : ℕ → Bool) (v n : ℕ) → least test v n ≡ None �
 least_none test v zero e k low high = absurd (omega arith)
 least_none test v (suc n) e k low high = go (test v) refl e (cases_eq v k) (λ e low. least_none test (v + 1) n e k low (omega arith))
   where
-    go : (b : Bool) → test v ≡ b → cond b (Some v) (least test (v + 1) n) ≡ None → (v ≡ k) ⊎ (v ≢ k) → (least test (v + 1) n ≡ None → v + 1 ≤ k → test k ≡ false) → test k ≡ false
+    go : (b : Bool) → test v ≡ b → cond b (Some v) (least test (v + 1) n) ≡ None → (v ≡ k) ⊎ (v ≢ k)
+        → (least test (v + 1) n ≡ None → v + 1 ≤ k → test k ≡ false) → test k ≡ false
     go true here e which rest = absurd cc
     go false here e (inl h) rest = ap test (sym h) ∙ here
     go false here e (inr h) rest = rest e (omega arith)
@@ -54,7 +57,8 @@ least_none test v (suc n) e k low high = go (test v) refl e (cases_eq v k) (λ e
 pub none_least : (test : ℕ → Bool) (v n : ℕ) → ((k : ℕ) → v ≤ k → k < v + n → test k ≡ false) → least test v n ≡ None
 none_least test v zero all = refl
 none_least test v (suc n) all =
-    ap (λ b. cond b (Some v) (least test (v + 1) n)) (all v (omega arith) (omega arith)) ∙ none_least test (v + 1) n (λ k low high. all k (omega arith) (omega arith))
+    ap (λ b. cond b (Some v) (least test (v + 1) n)) (all v (omega arith) (omega arith))
+    ∙ none_least test (v + 1) n (λ k low high. all k (omega arith) (omega arith))
 
 pub record IsLeast (test : ℕ → Bool) (v n k : ℕ) : Type 0 where
   pub passes : test k ≡ true
@@ -66,7 +70,8 @@ pub least_some : (test : ℕ → Bool) (v n k : ℕ) → least test v n ≡ Some
 least_some test v zero k e = absurd cc
 least_some test v (suc n) k e = go (test v) refl e (λ e. least_some test (v + 1) n k e)
   where
-    go : (b : Bool) → test v ≡ b → cond b (Some v) (least test (v + 1) n) ≡ Some k → (least test (v + 1) n ≡ Some k → IsLeast test (v + 1) n k) → IsLeast test v (suc n) k
+    go : (b : Bool) → test v ≡ b → cond b (Some v) (least test (v + 1) n) ≡ Some k
+        → (least test (v + 1) n ≡ Some k → IsLeast test (v + 1) n k) → IsLeast test v (suc n) k
     go true here e rest =
         let same : v ≡ k = cc in
         record { passes = ap test (sym same) ∙ here; low = omega arith; high = omega arith; below = λ j low lt. absurd (omega arith) }
@@ -94,15 +99,18 @@ module _ (b : Build) (graph : IsGraph b.graph) (s : State) (here : IsConsistent 
   over_by k o is = ap (λ o. is_settled o || (is_waiting o && is_stopped b s.statuses k)) is
 
   -- an input of a vertex that is over below, and has no tree, is stopped
-  input_stopped : (k : ℕ) → k ≤ length b.graph.vertices → ((j : ℕ) → j < k → is_over b s j ≡ true) → (e : Edge) → output_in (ending_at s.statuses e.vertex) e.index ≡ None
+  input_stopped : (k : ℕ) → k ≤ length b.graph.vertices → ((j : ℕ) → j < k → is_over b s j ≡ true) → (e : Edge)
+      → output_in (ending_at s.statuses e.vertex) e.index ≡ None
       → LeadsBelow b.graph.vertices k e → is_stopped b s.statuses e.vertex ≡ true
   input_stopped k fits below e none leads =
       let low = leads.lower in
       let v = get_within b.graph.vertices e.vertex (omega (arith, low, fits)) in
-      let undone : is_done (ending_at s.statuses e.vertex) ≡ false = sym (edge_there b.graph (ending_at s.statuses) (done_count b graph s here) k fits e leads) ∙ ap is_some none in
+      let undone : is_done (ending_at s.statuses e.vertex) ≡ false =
+      sym (edge_there b.graph (ending_at s.statuses) (done_count b graph s here) k fits e leads) ∙ ap is_some none in
       by_status v.0 v.1 (slice_get s.statuses e.vertex) refl (below e.vertex low) undone
     where
-      by_status : (v : Vertex) → slice_get b.graph.vertices e.vertex ≡ Some v → (o : Option Status) → slice_get s.statuses e.vertex ≡ o → is_over b s e.vertex ≡ true
+      by_status : (v : Vertex) → slice_get b.graph.vertices e.vertex ≡ Some v → (o : Option Status) → slice_get s.statuses e.vertex ≡ o
+          → is_over b s e.vertex ≡ true
           → is_done (ending_at s.statuses e.vertex) ≡ false → is_stopped b s.statuses e.vertex ≡ true
       by_status v there None is over undone = absurd (cc (over_by e.vertex None is, over))
       by_status v there (Some Waiting) is over undone = sym (over_by e.vertex (Some Waiting) is) ∙ over
@@ -111,7 +119,8 @@ module _ (b : Build) (graph : IsGraph b.graph) (s : State) (here : IsConsistent 
           stopped_is b graph s.statuses e.vertex v there ∙ ap (λ o. is_failed (ending_of o) || any_stopped b s.statuses v.inputs) is
       by_status v there (Some (Settled (Done trees))) is over undone = absurd (cc (ap (λ o. is_done (ending_of o)) is, undone))
 
-  pub progress : (n : ℕ) → n ≤ length b.graph.vertices → ((k w : ℕ) → k < n → slice_get s.statuses k ≢ Some (Running w)) → ((k : ℕ) → k < n → is_ready b s.statuses k ≡ false)
+  pub progress : (n : ℕ) → n ≤ length b.graph.vertices → ((k w : ℕ) → k < n → slice_get s.statuses k ≢ Some (Running w))
+      → ((k : ℕ) → k < n → is_ready b s.statuses k ≡ false)
       → (k : ℕ) → k < n → is_over b s k ≡ true
   progress zero fits none_runs none_ready k lt = absurd (omega arith)
   progress (suc n) fits none_runs none_ready k lt =
@@ -123,10 +132,12 @@ module _ (b : Build) (graph : IsGraph b.graph) (s : State) (here : IsConsistent 
           let v = get_within b.graph.vertices k (omega arith) in
           by_status v.0 v.1 status.0 status.1
         where
-          waits : (v : Vertex) → slice_get b.graph.vertices k ≡ Some v → slice_get s.statuses k ≡ Some Waiting → inputs_from (ending_at s.statuses) v.inputs ≡ None → is_over b s k ≡ true
+          waits : (v : Vertex) → slice_get b.graph.vertices k ≡ Some v → slice_get s.statuses k ≡ Some Waiting
+              → inputs_from (ending_at s.statuses) v.inputs ≡ None → is_over b s k ≡ true
           waits v there is none =
               let stops =
-              some_as (λ (e : Edge). output_in (ending_at s.statuses e.vertex) e.index ≡ None) (LeadsBelow b.graph.vertices k) (λ (e : Edge). is_stopped b s.statuses e.vertex ≡ true) v.inputs
+              some_as (λ (e : Edge). output_in (ending_at s.statuses e.vertex) e.index ≡ None) (LeadsBelow b.graph.vertices k)
+              (λ (e : Edge). is_stopped b s.statuses e.vertex ≡ true) v.inputs
               (none_in_inputs (ending_at s.statuses) v.inputs none) (each_below b.graph graph k v there) (input_stopped k (omega arith) below) in
               over_by k (Some Waiting) is ∙ stopped_is b graph s.statuses k v there ∙ ap (λ o. is_failed (ending_of o) || any_stopped b s.statuses v.inputs) is
               ∙ true_any (λ (e : Edge). is_stopped b s.statuses e.vertex) v.inputs stops
@@ -184,7 +195,8 @@ module _ (b : Build) (graph : IsGraph b.graph) (s : State) (here : IsConsistent 
 
   pub complete_is_none : is_complete b s ≡ true → chosen b s ≡ None
   complete_is_none e =
-      let over : (k : ℕ) → k < length b.graph.vertices → is_over b s k ≡ true = λ k lt. each_true (is_over b s) 0 (length b.graph.vertices) e k (omega arith) (omega arith) in
+      let over : (k : ℕ) → k < length b.graph.vertices → is_over b s k ≡ true =
+      λ k lt. each_true (is_over b s) 0 (length b.graph.vertices) e k (omega arith) (omega arith) in
       let idle = all_idle s.workers 0 (λ u x there. let own = here.working u x there in
       over_not_running x.vertex u (over x.vertex (omega (arith, got_within s.statuses x.vertex (Running u) own, here.count))) own) in
       let ready = none_least (is_ready b s.statuses) 0 (length b.graph.vertices) (λ k low high. over_not_ready k (over k (omega arith))) in
@@ -195,10 +207,12 @@ module _ (b : Build) (graph : IsGraph b.graph) (s : State) (here : IsConsistent 
 -- then nothing runs
 pub complete_rests : (b : Build) → IsGraph b.graph → (s : State) → IsConsistent b s → is_complete b s ≡ true → IsAtRest s
 complete_rests b graph s here complete v w runs =
-    over_not_running b graph s here v w (each_true (is_over b s) 0 (length b.graph.vertices) complete v (omega arith) (omega (arith, got_within s.statuses v (Running w) runs, here.count))) runs
+    over_not_running b graph s here v w (each_true (is_over b s) 0 (length b.graph.vertices) complete v (omega arith)
+    (omega (arith, got_within s.statuses v (Running w) runs, here.count))) runs
 
 -- a vertex with no cache at or before it
-pub complete_plain : (b : Build) → IsGraph b.graph → (s : State) → IsConsistent b s → StandsByOutcomes b s → is_complete b s ≡ true → (k : ℕ) → k < length b.graph.vertices → is_plain b k ≡ true
+pub complete_plain : (b : Build) → IsGraph b.graph → (s : State) → IsConsistent b s → StandsByOutcomes b s → is_complete b s ≡ true
+    → (k : ℕ) → k < length b.graph.vertices → is_plain b k ≡ true
     → StandsPlainly (slice_get s.statuses k) (outcome b k)
 complete_plain b graph s here stands complete k lt plain =
     let status = get_within s.statuses k (omega (arith, here.count)) in

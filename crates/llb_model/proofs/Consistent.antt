@@ -8,7 +8,8 @@ use Rattle.llb_tree.specs.Tree.{TreeMap}
 use Rattle.llb_model.specs.Caches.{Place}
 use Rattle.llb_model.specs.Program.{Build, Work, Left, Start, program_at, step_on}
 use Rattle.llb_model.specs.Outcome.{Ending, Done, inputs_from}
-use Rattle.llb_model.specs.State.{Status, Waiting, Running, Settled, Execution, Idle, Runs, State, Opening, opening, ending_of, ending_at, is_waiting, program_in, work_of, ending_from, begin_at}
+use Rattle.llb_model.specs.State.{Status, Waiting, Running, Settled, Execution, Idle, Runs, State, Opening, opening, ending_of, ending_at}
+use Rattle.llb_model.specs.State.{is_waiting, program_in, work_of, ending_from, begin_at}
 use Rattle.llb_model.specs.Table.{Event, Claim, Step, Settle, Reply, execution_on, after_claim, with_step, after_step, after_settle, table}
 use Rattle.llb_model.specs.Run.{run}
 use Rattle.llb_model.specs.Consistent.{IsConsistent}
@@ -22,16 +23,19 @@ opening_consistent b o = record {
   count = length-replicate (length b.graph.vertices) Waiting;
   running = λ v w there. absurd (let h : Running w ≡ Waiting = got_replicate (length b.graph.vertices) Waiting v (Running w) there in cc);
   working = λ w x there. absurd (let h : Runs x ≡ Idle = got_replicate o.workers Idle w (Runs x) there in cc);
-  outputs = λ v x trees there done. absurd (let h : Settled (Done trees) ≡ Waiting = got_replicate (length b.graph.vertices) Waiting v (Settled (Done trees)) done in cc);
+  outputs = λ v x trees there done. absurd (let h : Settled (Done trees) ≡ Waiting =
+      got_replicate (length b.graph.vertices) Waiting v (Settled (Done trees)) done in cc);
   inputs = λ v x there stays. absurd (
-      let status = get_within (replicate (length b.graph.vertices) Waiting) v (omega (arith, length-replicate (length b.graph.vertices) Waiting, got_within b.graph.vertices v x there)) in
+      let status = get_within (replicate (length b.graph.vertices) Waiting) v
+      (omega (arith, length-replicate (length b.graph.vertices) Waiting, got_within b.graph.vertices v x there)) in
       let waits : status.0 ≡ Waiting = got_replicate (length b.graph.vertices) Waiting v status.0 status.1 in
       cc (ap is_waiting status.1 ∙ ap (λ t. is_waiting (Some t)) waits, stays)
       );
 }
 
 -- the inputs are still there when something ends
-some_mono : (f g : ℕ → Option Ending) → ((j : ℕ) (e : Ending) → f j ≡ Some e → g j ≡ Some e) → (edges : List Edge) → is_some (inputs_from f edges) ≡ true → is_some (inputs_from g edges) ≡ true
+some_mono : (f g : ℕ → Option Ending) → ((j : ℕ) (e : Ending) → f j ≡ Some e → g j ≡ Some e) → (edges : List Edge)
+    → is_some (inputs_from f edges) ≡ true → is_some (inputs_from g edges) ≡ true
 some_mono f g more edges some = by_inputs (inputs_from f edges) refl some
   where
     by_inputs : (o : Option (List TreeMap)) → inputs_from f edges ≡ o → is_some o ≡ true → is_some (inputs_from g edges) ≡ true
@@ -40,7 +44,8 @@ some_mono f g more edges some = by_inputs (inputs_from f edges) refl some
 
 module _ (b : Build) (s : State) (here : IsConsistent b s) where
   -- where a vertex that has not ended gets another status
-  ends_stay : (v : ℕ) (old new : Status) → slice_get s.statuses v ≡ Some old → ending_of (Some old) ≡ None → (j : ℕ) (e : Ending) → ending_at s.statuses j ≡ Some e
+  ends_stay : (v : ℕ) (old new : Status) → slice_get s.statuses v ≡ Some old → ending_of (Some old) ≡ None → (j : ℕ) (e : Ending)
+      → ending_at s.statuses j ≡ Some e
       → ending_at (slice_set s.statuses v new) j ≡ Some e
   ends_stay v old new there unended j e is = elim (eq_or j v) [
     | inl h ↦ absurd (let none : ending_at s.statuses j ≡ None = ap (ending_at s.statuses) h ∙ ap ending_of there ∙ unended in cc)
@@ -51,12 +56,14 @@ module _ (b : Build) (s : State) (here : IsConsistent b s) where
       → ((x : Vertex) → slice_get b.graph.vertices v ≡ Some x → is_some (inputs_from (ending_at s.statuses) x.inputs) ≡ true)
       → (k : ℕ) (x : Vertex) → slice_get b.graph.vertices k ≡ Some x → is_waiting (slice_get (slice_set s.statuses v new) k) ≡ false
       → is_some (inputs_from (ending_at (slice_set s.statuses v new)) x.inputs) ≡ true
-  inputs_stay v old new there unended own k x at moved = some_mono (ending_at s.statuses) (ending_at (slice_set s.statuses v new)) (ends_stay v old new there unended) x.inputs (elim (eq_or k v) [
-    | inl h ↦ own x (ap (slice_get b.graph.vertices) (sym h) ∙ at)
-    | inr h ↦ here.inputs k x at (sym (ap is_waiting (get_set_other s.statuses v new k h)) ∙ moved)
-  ])
+  inputs_stay v old new there unended own k x at moved = some_mono (ending_at s.statuses) (ending_at (slice_set s.statuses v new))
+      (ends_stay v old new there unended) x.inputs (elim (eq_or k v) [
+        | inl h ↦ own x (ap (slice_get b.graph.vertices) (sym h) ∙ at)
+        | inr h ↦ here.inputs k x at (sym (ap is_waiting (get_set_other s.statuses v new k h)) ∙ moved)
+      ])
 
-  claim_keeps : (w v : ℕ) (start : Start) (work : Work) (ps : List Place) → slice_get s.workers w ≡ Some Idle → IsReady b s.statuses v start → IsConsistent b (after_claim s w v work ps)
+  claim_keeps : (w v : ℕ) (start : Start) (work : Work) (ps : List Place) → slice_get s.workers w ≡ Some Idle
+      → IsReady b s.statuses v start → IsConsistent b (after_claim s w v work ps)
   claim_keeps w v start work ps idle ready = record {
     count = length_set s.statuses v (Running w) ∙ here.count;
     running = λ k u there. elim (got_set s.statuses v (Running w) k (Running u) there) [
@@ -74,7 +81,10 @@ module _ (b : Build) (s : State) (here : IsConsistent b s) where
           ∙ get_set_same s.statuses v (Running w) Waiting ready.waits ∙ ap (λ n. some_of (Running n)) (sym h.0)
       | inr h ↦ get_set_other s.statuses v (Running w) x.vertex (other u x (here.working u x h.1)) ∙ here.working u x h.1
     ];
-    outputs = λ k x trees there done. elim (got_set s.statuses v (Running w) k (Settled (Done trees)) done) [ inl h ↦ absurd (cc (h.1)) | inr h ↦ here.outputs k x trees there h.1 ];
+    outputs = λ k x trees there done. elim (got_set s.statuses v (Running w) k (Settled (Done trees)) done) [
+      | inl h ↦ absurd (cc (h.1))
+      | inr h ↦ here.outputs k x trees there h.1
+    ];
     inputs = inputs_stay v Waiting (Running w) ready.waits refl
         (λ x there. let same : start.vertex ≡ x = inside (sym ready.there ∙ there) in
         ap (λ (y : Vertex). is_some (inputs_from (ending_at s.statuses) y.inputs)) (sym same) ∙ ap is_some ready.inputs);
@@ -96,8 +106,11 @@ module _ (b : Build) (s : State) (here : IsConsistent b s) where
         let old = here.running k u there in
         elim (eq_or u w) [
           | inl h ↦
-              let same : old.0 ≡ x = runs_same (sym old.1 ∙ ap (slice_get s.workers) h ∙ at) in
-              (z, ap (slice_get (slice_set s.workers w (Runs z))) h ∙ get_set_same s.workers w (Runs z) (Runs x) at, ap (λ (y : Execution). y.vertex) (sym same) ∙ old.2)
+              let same : old.0 ≡ x = runs_same (sym old.1 ∙ ap (slice_get s.workers) h ∙ at) in (
+                z,
+                ap (slice_get (slice_set s.workers w (Runs z))) h ∙ get_set_same s.workers w (Runs z) (Runs x) at,
+                ap (λ (y : Execution). y.vertex) (sym same) ∙ old.2,
+              )
           | inr h ↦ (old.0, get_set_other s.workers w (Runs z) u h ∙ old.1, old.2)
         ];
     working = λ u y there. elim (got_set s.workers w (Runs z) u (Runs y) there) [
@@ -136,7 +149,8 @@ module _ (b : Build) (s : State) (here : IsConsistent b s) where
           ended_count (program_in b x) x.own x.fault trees same ∙ ap (λ p. p.outputs) program
       | inr h ↦ here.outputs k v trees there h.1
     ];
-    inputs = inputs_stay x.vertex (Running w) (Settled end) (here.working w x at) refl (λ v there. here.inputs x.vertex v there (ap is_waiting (here.working w x at)));
+    inputs = inputs_stay x.vertex (Running w) (Settled end) (here.working w x at) refl
+        (λ v there. here.inputs x.vertex v there (ap is_waiting (here.working w x at)));
   }
     where
       end : Ending
@@ -146,12 +160,14 @@ module _ (b : Build) (s : State) (here : IsConsistent b s) where
       one_of u y there same = let both : some_of (Runs y) ≡ some_of (Runs x) = sym there ∙ ap (slice_get s.workers) same ∙ at in cc
 
       one_worker : (u : ℕ) (y : Execution) → slice_get s.statuses y.vertex ≡ Some (Running u) → y.vertex ≡ x.vertex → u ≡ w
-      one_worker u y status same = let both : some_of (Running u) ≡ some_of (Running w) = sym status ∙ ap (slice_get s.statuses) same ∙ here.working w x at in cc
+      one_worker u y status same = let both : some_of (Running u) ≡ some_of (Running w) = sym status ∙ ap (slice_get s.statuses) same
+          ∙ here.working w x at in cc
 
 pub event_consistent : (b : Build) (s : State) (e : Event) (a : Answer) → IsConsistent b s → table b s e ≡ Some a → IsConsistent b a.0
 event_consistent b s (Claim w v) a here given =
     let c = claim_is b s w v a given in
-    subst (λ (t : Answer). IsConsistent b t.0) (sym c.gives) (claim_keeps b s here w v c.start (begin_at b s.store c.start (claim_places s c.start)) (claim_places s c.start) c.idle c.begins)
+    subst (λ (t : Answer). IsConsistent b t.0) (sym c.gives)
+    (claim_keeps b s here w v c.start (begin_at b s.store c.start (claim_places s c.start)) (claim_places s c.start) c.idle c.begins)
 event_consistent b s (Step w) a here given =
     let c = step_is b s w a given in
     subst (λ (t : Answer). IsConsistent b t.0) (sym c.gives) (step_keeps b s here w c.x (step_on c.x.done (Some c.step) (work_of s c.x)) c.there)

@@ -1,5 +1,6 @@
 -- The instances of a key are numbered without gaps.
-use Rattle.std.proofs.Common.{◌≡◌, ℕ, zero, suc, ◌+◌, ◌<◌, ◌≤◌, Bool, true, false, ◌||◌, List, [], ◌∷◌, ◌++◌, length, Some, ◌⊎◌, inl, inr, refl, sym, ap, subst, ◌∙◌, cond, arith}
+use Rattle.std.proofs.Common.{◌≡◌, ℕ, zero, suc, ◌+◌, ◌<◌, ◌≤◌, Bool, true, false, ◌||◌, List, [], ◌∷◌, ◌++◌, length, Some, ◌⊎◌, inl, inr}
+use Rattle.std.proofs.Common.{refl, sym, ap, subst, ◌∙◌, cond, arith}
 use Rattle.std.specs.Prelude.{slice_get, is_some}
 use Rattle.std.specs.Ordering.{eq_by_cmp}
 use Rattle.llb_cache.specs.declared.key.Key.{Key}
@@ -9,7 +10,8 @@ use Rattle.llb_loader.specs.declared.graph.Vertex.{Vertex}
 use Rattle.llb_tree.specs.Tree.{TreeMap}
 use Rattle.llb_model.specs.Caches.{Place, place, place_cmp, Store, content, put_all, Has, is_in}
 use Rattle.llb_model.specs.Program.{Build, Need, needs_of, step_on}
-use Rattle.llb_model.specs.State.{Execution, At, Idle, Runs, State, Opening, opening, work_of, held, above, first_free, number_for, place_for, places_for, begin_at, places_by}
+use Rattle.llb_model.specs.State.{Execution, At, Idle, Runs, State, Opening, opening, work_of, held, above, first_free, number_for}
+use Rattle.llb_model.specs.State.{place_for, places_for, begin_at, places_by}
 use Rattle.llb_model.specs.Table.{Event, Claim, Step, Settle, Reply, Claimed, execution_on, claim_at, table}
 use Rattle.llb_model.specs.Laws.{IsDense, StaysDense, ClaimsLeast}
 use Rattle.llb_model.proofs.Lists.{inside, got_set, got_replicate}
@@ -36,7 +38,8 @@ below_free ps k n (suc tries) m le lt = go (is_in ps (place k n)) refl lt (below
     split : (n m : ℕ) → n ≤ m → (n ≡ m) ⊎ (n + 1 ≤ m)
     split n m le = grind arith
 
-    go : (b : Bool) → is_in ps (place k n) ≡ b → m < cond b (first_free ps k (n + 1) tries) n → (n + 1 ≤ m → m < first_free ps k (n + 1) tries → Has ps (place k m)) → Has ps (place k m)
+    go : (b : Bool) → is_in ps (place k n) ≡ b → m < cond b (first_free ps k (n + 1) tries) n
+        → (n + 1 ≤ m → m < first_free ps k (n + 1) tries → Has ps (place k m)) → Has ps (place k m)
     go true is lt rest = elim (split n m le) [
       | inl h ↦ subst (λ j. Has ps (place k j)) h (in_has ps (place k n) is)
       | inr h ↦ rest h lt
@@ -185,7 +188,8 @@ claims_least b s t w v vertex job at given p h n lt free =
     let same : Claimed job ≡ (claim_at b s w v c.start (claim_places s c.start)).1 = ap (λ (a : Answer). a.1) c.gives in
     let whose : vertex ≡ c.start.vertex = inside (sym at ∙ c.begins.there) in
     let places : places_by (needs_of vertex) job.instances ≡ claim_places s c.start =
-    ap (λ (x : Vertex). places_by (needs_of x) job.instances) whose ∙ ap (λ r. places_by (needs_of c.start.vertex) (numbers_in r)) same ∙ places_numbered (held s.workers) (needs_of c.start.vertex) in
+    ap (λ (x : Vertex). places_by (needs_of x) job.instances) whose ∙ ap (λ r. places_by (needs_of c.start.vertex) (numbers_in r)) same
+    ∙ places_numbered (held s.workers) (needs_of c.start.vertex) in
     let r = holder_of s.workers (place p.key n) (below_held (held s.workers) (needs_of c.start.vertex) p (subst (λ ps. Has ps p) places h) n lt) in
     free r.0 r.1 r.2 r.3
   where

@@ -8,9 +8,11 @@ use Rattle.llb_tree.specs.Tree.{TreeMap}
 use Rattle.llb_model.specs.Caches.{Place}
 use Rattle.llb_model.specs.Program.{Build, MicroStep, Start, start_with, needs_of, step_on}
 use Rattle.llb_model.specs.Outcome.{inputs_from}
-use Rattle.llb_model.specs.State.{Status, Waiting, Running, Settled, Execution, At, Idle, Runs, State, ending_at, start_from, ready, program_in, work_of, is_finished, next_step, ending_from, held, places_for, held_key, begin_at}
+use Rattle.llb_model.specs.State.{Status, Waiting, Running, Settled, Execution, At, Idle, Runs, State, ending_at, start_from, ready}
+use Rattle.llb_model.specs.State.{program_in, work_of, is_finished, next_step, ending_from, held, places_for, held_key, begin_at}
 use Rattle.llb_model.specs.SettleCause.{SettleCause, NotFinished}
-use Rattle.llb_model.specs.Table.{Event, Claim, Step, Settle, Reply, or_not_ready, claim_start, claim_at, claim_unless, claimed, execution_on, with_step, step_by, step_with, stepped, settle_with, settled, table}
+use Rattle.llb_model.specs.Table.{Event, Claim, Step, Settle, Reply, or_not_ready, claim_start, claim_at, claim_unless, claimed}
+use Rattle.llb_model.specs.Table.{execution_on, with_step, step_by, step_with, stepped, settle_with, settled, table}
 use Rattle.llb_model.proofs.Lists.{inside, length_set}
 
 -- the state after an event, and its reply
@@ -52,14 +54,16 @@ pub record IsSettle (b : Build) (s : State) (w : ℕ) (a : Answer) : Type 0 wher
 pub ready_is : (b : Build) (statuses : List Status) (v : ℕ) (start : Start) → ready b statuses v ≡ Some start → IsReady b statuses v start
 ready_is b statuses v start e = by_status (slice_get statuses v) refl (slice_get b.graph.vertices v) refl e
   where
-    by_inputs : slice_get statuses v ≡ Some Waiting → (vertex : Vertex) → slice_get b.graph.vertices v ≡ Some vertex → (r : Option (List TreeMap)) → inputs_from (ending_at statuses) vertex.inputs ≡ r
+    by_inputs : slice_get statuses v ≡ Some Waiting → (vertex : Vertex) → slice_get b.graph.vertices v ≡ Some vertex
+        → (r : Option (List TreeMap)) → inputs_from (ending_at statuses) vertex.inputs ≡ r
         → option_map (start_with vertex) r ≡ Some start → IsReady b statuses v start
     by_inputs waits vertex there None inputs e = absurd cc
     by_inputs waits vertex there (Some trees) inputs e =
         let same : start_with vertex trees ≡ start = cc in
         subst (IsReady b statuses v) same (record { waits = waits; there = there; inputs = inputs })
 
-    by_status : (o : Option Status) → slice_get statuses v ≡ o → (u : Option Vertex) → slice_get b.graph.vertices v ≡ u → start_from statuses o u ≡ Some start → IsReady b statuses v start
+    by_status : (o : Option Status) → slice_get statuses v ≡ o → (u : Option Vertex) → slice_get b.graph.vertices v ≡ u
+        → start_from statuses o u ≡ Some start → IsReady b statuses v start
     by_status None waits u there e = absurd cc
     by_status (Some Waiting) waits None there e = absurd cc
     by_status (Some Waiting) waits (Some vertex) there e = by_inputs waits vertex there (inputs_from (ending_at statuses) vertex.inputs) refl e
@@ -68,7 +72,8 @@ ready_is b statuses v start e = by_status (slice_get statuses v) refl (slice_get
 
 pub ready_as : (b : Build) (statuses : List Status) (v : ℕ) (start : Start) → IsReady b statuses v start → ready b statuses v ≡ Some start
 ready_as b statuses v start r =
-    ap (λ o. start_from statuses o (slice_get b.graph.vertices v)) r.waits ∙ ap (start_from statuses (Some Waiting)) r.there ∙ ap (option_map (start_with start.vertex)) r.inputs
+    ap (λ o. start_from statuses o (slice_get b.graph.vertices v)) r.waits ∙ ap (start_from statuses (Some Waiting)) r.there
+    ∙ ap (option_map (start_with start.vertex)) r.inputs
 
 -- ---- what is granted
 
@@ -85,9 +90,11 @@ granted_ok (Err f) a e = absurd cc
 pub claim_is : (b : Build) (s : State) (w v : ℕ) (a : Answer) → table b s (Claim w v) ≡ Some a → IsClaim b s w v a
 unfolding table
 claim_is b s w v a e =
-    by_worker (slice_get s.workers w) refl (slice_get b.graph.vertices v) refl (granted_ok (claimed b s w v (claim_start s.statuses v (slice_get s.workers w) (slice_get b.graph.vertices v))) a e)
+    by_worker (slice_get s.workers w) refl (slice_get b.graph.vertices v) refl
+    (granted_ok (claimed b s w v (claim_start s.statuses v (slice_get s.workers w) (slice_get b.graph.vertices v))) a e)
   where
-    by_key : slice_get s.workers w ≡ Some Idle → (start : Start) → IsReady b s.statuses v start → (o : Option Key) → held_key (held s.workers) (needs_of start.vertex) ≡ o
+    by_key : slice_get s.workers w ≡ Some Idle → (start : Start) → IsReady b s.statuses v start → (o : Option Key)
+        → held_key (held s.workers) (needs_of start.vertex) ≡ o
         → claim_unless b s w v start o ≡ Ok a → IsClaim b s w v a
     by_key idle start begins (Some k) is e = absurd cc
     by_key idle start begins None is e = record { idle = idle; start = start; begins = begins; unheld = is; gives = sym (inside_ok e) }
@@ -96,7 +103,8 @@ claim_is b s w v a e =
     by_ready idle None is e = absurd cc
     by_ready idle (Some start) is e = by_key idle start (ready_is b s.statuses v start is) (held_key (held s.workers) (needs_of start.vertex)) refl e
 
-    by_worker : (o : Option At) → slice_get s.workers w ≡ o → (u : Option Vertex) → slice_get b.graph.vertices v ≡ u → claimed b s w v (claim_start s.statuses v o u) ≡ Ok a → IsClaim b s w v a
+    by_worker : (o : Option At) → slice_get s.workers w ≡ o → (u : Option Vertex) → slice_get b.graph.vertices v ≡ u
+        → claimed b s w v (claim_start s.statuses v o u) ≡ Ok a → IsClaim b s w v a
     by_worker None is u there e = absurd cc
     by_worker (Some (Runs x)) is u there e = absurd cc
     by_worker (Some Idle) is None there e = absurd cc
@@ -107,7 +115,8 @@ pub step_is : (b : Build) (s : State) (w : ℕ) (a : Answer) → table b s (Step
 unfolding table
 step_is b s w a e = by_worker (slice_get s.workers w) refl (granted_ok (stepped b s w (slice_get s.workers w)) a e)
   where
-    by_next : (x : Execution) → slice_get s.workers w ≡ Some (Runs x) → (o : Option MicroStep) → next_step (program_in b x).steps x ≡ o → step_with s w x o ≡ Ok a → IsStep b s w a
+    by_next : (x : Execution) → slice_get s.workers w ≡ Some (Runs x) → (o : Option MicroStep) → next_step (program_in b x).steps x ≡ o
+        → step_with s w x o ≡ Ok a → IsStep b s w a
     by_next x there None is e = absurd cc
     by_next x there (Some m) is e = record { x = x; there = there; step = m; next = is; gives = sym (inside_ok e) }
 
@@ -123,7 +132,8 @@ pub settle_is : (b : Build) (s : State) (w : ℕ) (a : Answer) → table b s (Se
 unfolding table settle_if
 settle_is b s w a e = by_worker (slice_get s.workers w) refl (granted_ok (settled b s w (slice_get s.workers w)) a e)
   where
-    by_test : (x : Execution) → slice_get s.workers w ≡ Some (Runs x) → (fin : Bool) → is_finished (program_in b x).steps x ≡ fin → settle_if b s w x fin ≡ Ok a → IsSettle b s w a
+    by_test : (x : Execution) → slice_get s.workers w ≡ Some (Runs x) → (fin : Bool) → is_finished (program_in b x).steps x ≡ fin
+        → settle_if b s w x fin ≡ Ok a → IsSettle b s w a
     by_test x there false is e = absurd cc
     by_test x there true is e = record { x = x; there = there; finished = is; gives = sym (inside_ok e) }
 
@@ -136,7 +146,8 @@ settle_is b s w a e = by_worker (slice_get s.workers w) refl (granted_ok (settle
 pub workers_stay : (b : Build) (s : State) (e : Event) (a : Answer) → table b s e ≡ Some a → length a.0.workers ≡ length s.workers
 workers_stay b s (Claim w v) a given =
     let c = claim_is b s w v a given in
-    ap (λ (t : Answer). length t.0.workers) c.gives ∙ length_set s.workers w (Runs (execution_on v (begin_at b s.store c.start (claim_places s c.start)) (claim_places s c.start)))
+    ap (λ (t : Answer). length t.0.workers) c.gives
+    ∙ length_set s.workers w (Runs (execution_on v (begin_at b s.store c.start (claim_places s c.start)) (claim_places s c.start)))
 workers_stay b s (Step w) a given =
     let c = step_is b s w a given in
     ap (λ (t : Answer). length t.0.workers) c.gives ∙ length_set s.workers w (Runs (with_step c.x (step_on c.x.done (Some c.step) (work_of s c.x))))
@@ -150,10 +161,12 @@ unfolding table
 claim_granted b s w v start idle r unheld =
     ap (λ o. result_ok (claimed b s w v (claim_start s.statuses v o (slice_get b.graph.vertices v)))) idle
     ∙ ap (λ o. result_ok (claimed b s w v (claim_start s.statuses v (Some Idle) o))) r.there
-    ∙ ap (λ o. result_ok (claimed b s w v (or_not_ready o))) (sym (ap (start_from s.statuses (slice_get s.statuses v)) r.there) ∙ ready_as b s.statuses v start r)
+    ∙ ap (λ o. result_ok (claimed b s w v (or_not_ready o))) (sym (ap (start_from s.statuses (slice_get s.statuses v)) r.there)
+    ∙ ready_as b s.statuses v start r)
     ∙ ap (λ o. result_ok (claim_unless b s w v start o)) unheld
 
-pub step_granted : (b : Build) (s : State) (w : ℕ) (x : Execution) (m : MicroStep) → slice_get s.workers w ≡ Some (Runs x) → next_step (program_in b x).steps x ≡ Some m
+pub step_granted : (b : Build) (s : State) (w : ℕ) (x : Execution) (m : MicroStep) → slice_get s.workers w ≡ Some (Runs x)
+    → next_step (program_in b x).steps x ≡ Some m
     → table b s (Step w) ≡ Some (step_by s w x m (step_on x.done (Some m) (work_of s x)))
 unfolding table
 step_granted b s w x m there next = ap (λ o. result_ok (stepped b s w o)) there ∙ ap (λ o. result_ok (step_with s w x o)) next

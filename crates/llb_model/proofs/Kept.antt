@@ -1,5 +1,6 @@
 -- A list of instances for each key stands for a map from places.
-use Rattle.std.proofs.Common.{◌≡◌, ◌≢◌, ℕ, zero, suc, ◌+◌, ◌<◌, ◌≤◌, Bool, true, false, List, [], ◌∷◌, ◌++◌, length, Option, Some, None, unwrap_or, ◌⊎◌, inl, inr, refl, sym, ap, ◌∙◌, cond, arith}
+use Rattle.std.proofs.Common.{◌≡◌, ◌≢◌, ℕ, zero, suc, ◌+◌, ◌<◌, ◌≤◌, Bool, true, false, List, [], ◌∷◌, ◌++◌, length, Option, Some, None}
+use Rattle.std.proofs.Common.{unwrap_or, ◌⊎◌, inl, inr, refl, sym, ap, ◌∙◌, cond, arith}
 use Rattle.std.specs.Prelude.{slice_get, slice_set, is_some, nat_lt}
 use Rattle.std.specs.Map.{lookup}
 use Rattle.std.specs.FinMap as finite
@@ -27,10 +28,12 @@ key_apart k l m n apart e = apart (ap (λ (p : Place). p.key) e)
 -- of another key, or below the first number
 other_key : (s : Store) (k l : Key) (n m : ℕ) (ts : List TreeMap) → l ≢ k → content (with_trees s k n ts) (place l m) ≡ content s (place l m)
 other_key s k l n m [] apart = refl
-other_key s k l n m (t ∷ ts) apart = content_other (with_trees s k (n + 1) ts) (place k n) t (place l m) (key_apart l k m n apart) ∙ other_key s k l (n + 1) m ts apart
+other_key s k l n m (t ∷ ts) apart = content_other (with_trees s k (n + 1) ts) (place k n) t (place l m) (key_apart l k m n apart)
+    ∙ other_key s k l (n + 1) m ts apart
 
 -- where nothing of the key stood past the trees before
-at_number : (s : Store) (k : Key) (n i : ℕ) (ts : List TreeMap) → ((j : ℕ) → slice_get ts j ≡ None → content s (place k (n + j)) ≡ None) → content (with_trees s k n ts) (place k (n + i)) ≡ slice_get ts i
+at_number : (s : Store) (k : Key) (n i : ℕ) (ts : List TreeMap) → ((j : ℕ) → slice_get ts j ≡ None → content s (place k (n + j)) ≡ None)
+    → content (with_trees s k n ts) (place k (n + i)) ≡ slice_get ts i
 at_number s k n i [] none = none i refl
 at_number s k n zero (t ∷ ts) none =
     ap (λ m. content (with_trees s k n (t ∷ ts)) (place k m)) (nothing n) ∙ content_same (with_trees s k (n + 1) ts) (place k n) t
@@ -64,12 +67,14 @@ shown all (r ∷ rows) k n = go (same_key k r.0) refl (λ m. shown all rows k m)
     zero_plus m = omega arith
 
     go : (b : Bool) → same_key k r.0 ≡ b → ((m : ℕ) → content (store_from all rows) (place k m) ≡ cond (has_row k rows) (slice_get (trees_of all k) m) None)
-        → content (with_trees (store_from all rows) r.0 0 (trees_of all r.0)) (place k n) ≡ cond (is_some (cond b (Some r.1) (lookup (same_key k) rows))) (slice_get (trees_of all k) n) None
+        → content (with_trees (store_from all rows) r.0 0 (trees_of all r.0)) (place k n)
+        ≡ cond (is_some (cond b (Some r.1) (lookup (same_key k) rows))) (slice_get (trees_of all k) n) None
     go true is rest =
         let same : k ≡ r.0 = same_keys k r.0 is in
         ap (λ l. content (with_trees (store_from all rows) l 0 (trees_of all l)) (place k n)) (sym same)
         ∙ ap (λ m. content (with_trees (store_from all rows) k 0 (trees_of all k)) (place k m)) (zero_plus n)
-        ∙ at_number (store_from all rows) k 0 n (trees_of all k) (λ j past. ap (λ m. content (store_from all rows) (place k m)) (sym (zero_plus j)) ∙ rest j ∙ none_past (has_row k rows) j past)
+        ∙ at_number (store_from all rows) k 0 n (trees_of all k)
+        (λ j past. ap (λ m. content (store_from all rows) (place k m)) (sym (zero_plus j)) ∙ rest j ∙ none_past (has_row k rows) j past)
     go false is rest =
         other_key (store_from all rows) r.0 k 0 n (trees_of all r.0) (λ e. let both : true ≡ false = sym (key_itself k) ∙ ap (same_key k) e ∙ is in cc) ∙ rest n
 
@@ -153,7 +158,8 @@ made_stands rows p t reached = go (nat_lt p.number (length (trees_of rows p.key)
     go false is =
         let past : length (trees_of rows p.key) ≤ p.number = ltb-false p.number (length (trees_of rows p.key)) is in
         let own = same_trees rows p.key (trees_of rows p.key ++ t ∷ []) in
-        let new : unwrap_or (content (store_of rows) p) t ≡ t = ap (λ o. unwrap_or o t) (shows_instances rows p ∙ get_past (trees_of rows p.key) p.number past) in
+        let new : unwrap_or (content (store_of rows) p) t ≡ t = ap (λ o. unwrap_or o t)
+        (shows_instances rows p ∙ get_past (trees_of rows p.key) p.number past) in
         edit_is_put rows (cache.with_trees rows p.key (trees_of rows p.key ++ t ∷ [])) p t (record {
           others = λ k apart. other_trees rows p.key k (trees_of rows p.key ++ t ∷ []) (apart_keys k p.key apart);
           here = ap (λ ts. slice_get ts p.number) own ∙ append_here (trees_of rows p.key) p.number reached past;
@@ -163,7 +169,8 @@ made_stands rows p t reached = go (nat_lt p.number (length (trees_of rows p.key)
 
 -- no number is left out
 pub kept_dense : (rows : List Row) → IsDense (store_of rows)
-kept_dense rows k n there = ap is_some (shows_instances rows (place k n)) ∙ before (trees_of rows k) n (sym (ap is_some (shows_instances rows (place k (n + 1)))) ∙ there)
+kept_dense rows k n there = ap is_some (shows_instances rows (place k n))
+    ∙ before (trees_of rows k) n (sym (ap is_some (shows_instances rows (place k (n + 1)))) ∙ there)
   where
     one : (n : ℕ) → n + 1 ≡ suc n
     one n = omega arith
@@ -171,4 +178,5 @@ kept_dense rows k n there = ap is_some (shows_instances rows (place k n)) ∙ be
     before : (ts : List TreeMap) (n : ℕ) → is_some (slice_get ts (n + 1)) ≡ true → is_some (slice_get ts n) ≡ true
     before [] n some = some
     before (t ∷ ts) zero some = refl
-    before (t ∷ ts) (suc n) some = before ts n (ap (λ i. is_some (slice_get ts i)) (one n) ∙ sym (ap (λ i. is_some (slice_get (t ∷ ts) i)) (one (suc n))) ∙ some)
+    before (t ∷ ts) (suc n) some = before ts n (ap (λ i. is_some (slice_get ts i)) (one n)
+        ∙ sym (ap (λ i. is_some (slice_get (t ∷ ts) i)) (one (suc n))) ∙ some)

@@ -1,5 +1,6 @@
 -- A claim, a step and a settle in words of leases.
-use Rattle.std.proofs.Common.{◌≡◌, ℕ, zero, suc, ◌+◌, ◌<◌, ◌≤◌, Bool, true, false, ◌&&◌, List, [], ◌∷◌, length, map, Some, option_map, unwrap_or, ◌⊎◌, inl, inr, refl, sym, ap, subst, ◌∙◌, cond, arith}
+use Rattle.std.proofs.Common.{◌≡◌, ℕ, zero, suc, ◌+◌, ◌<◌, ◌≤◌, Bool, true, false, ◌&&◌, List, [], ◌∷◌, length, map, Some, option_map}
+use Rattle.std.proofs.Common.{unwrap_or, ◌⊎◌, inl, inr, refl, sym, ap, subst, ◌∙◌, cond, arith}
 use Rattle.std.specs.List.{find}
 use Rattle.std.proofs.lemmas.Bool.{cases_order}
 use Rattle.llb_cache.specs.declared.key.Key.{Key}
@@ -37,7 +38,8 @@ lease_below out k n (suc more) m low lt = go (is_held out (place k n)) refl lt (
     split : (n m : ℕ) → n ≤ m → (n ≡ m) ⊎ (n + 1 ≤ m)
     split n m le = grind arith
 
-    go : (b : Bool) → is_held out (place k n) ≡ b → m < cond b (cache.first_free out k (n + 1) more) n → (n + 1 ≤ m → m < cache.first_free out k (n + 1) more → is_held out (place k m) ≡ true)
+    go : (b : Bool) → is_held out (place k n) ≡ b → m < cond b (cache.first_free out k (n + 1) more) n
+        → (n + 1 ≤ m → m < cache.first_free out k (n + 1) more → is_held out (place k m) ≡ true)
         → is_held out (place k m) ≡ true
     go false is lt rest = absurd (omega (arith, low, lt))
     go true is lt rest = elim (split n m low) [
@@ -47,7 +49,8 @@ lease_below out k n (suc more) m low lt = go (is_held out (place k n)) refl lt (
 
 module _ (out : Leases) (workers : List At) (same : HoldsAs out workers) where
   held_same : (p : Place) → is_held out p ≡ is_in (held workers) p
-  held_same p = same_bool (is_held out p) (is_in (held workers) p) (λ h. has_in (held workers) p (same.running p h)) (λ h. same.leased p (in_has (held workers) p h))
+  held_same p = same_bool (is_held out p) (is_in (held workers) p) (λ h. has_in (held workers) p (same.running p h))
+      (λ h. same.leased p (in_has (held workers) p h))
 
   shut_same : (k : Key) (m : Mode) → (is_locked m && is_held out (place k 0)) ≡ is_shut (held workers) k m
   shut_same k Shared = refl
@@ -63,13 +66,15 @@ module _ (out : Leases) (workers : List At) (same : HoldsAs out workers) where
       lower : cache.number_for out k Private < number_for (held workers) k Private → ⊥
       lower lt =
           let free : is_held out (place k (cache.number_for out k Private)) ≡ false = number_free out k Private apart refl tt in
-          let there : is_held out (place k (cache.number_for out k Private)) ≡ true = same.leased (place k (cache.number_for out k Private)) (below_number (held workers) k Private (cache.number_for out k Private) lt) in
+          let there : is_held out (place k (cache.number_for out k Private)) ≡ true =
+          same.leased (place k (cache.number_for out k Private)) (below_number (held workers) k Private (cache.number_for out k Private) lt) in
           cc
 
       higher : number_for (held workers) k Private < cache.number_for out k Private → ⊥
       higher lt =
           free_found (held workers) k 0 (above (held workers)) (omega arith)
-          (same.running (place k (number_for (held workers) k Private)) (lease_below out k 0 (leases out) (number_for (held workers) k Private) (omega arith) lt))
+          (same.running (place k (number_for (held workers) k Private))
+          (lease_below out k 0 (leases out) (number_for (held workers) k Private) (omega arith) lt))
 
       go : (cache.number_for out k Private ≡ number_for (held workers) k Private)
           ⊎ ((cache.number_for out k Private < number_for (held workers) k Private) ⊎ (number_for (held workers) k Private < cache.number_for out k Private))
@@ -83,19 +88,23 @@ module _ (out : Leases) (workers : List At) (same : HoldsAs out workers) where
 
 pub refuses_alike : (out : Leases) (workers : List At) → RefusesAlike out workers
 refuses_alike out workers inputs [] same = refl
-refuses_alike out workers inputs (n ∷ needs) same = go (is_shut (held workers) n.key n.key.mode) (shut_same out workers same n.key n.key.mode) (refuses_alike out workers inputs needs same)
+refuses_alike out workers inputs (n ∷ needs) same = go (is_shut (held workers) n.key n.key.mode)
+    (shut_same out workers same n.key n.key.mode) (refuses_alike out workers inputs needs same)
   where
     go : (b : Bool) → cache.is_shut out (record { key = n.key; tree = base_in n.input inputs }) ≡ b
         → option_map (λ (n : cache_need.Need). n.key) (find (cache.is_shut out) (asked inputs needs)) ≡ held_key (held workers) needs
-        → option_map (λ (n : cache_need.Need). n.key) (find (cache.is_shut out) (asked inputs (n ∷ needs))) ≡ cond b (Some n.key) (held_key (held workers) needs)
+        → option_map (λ (n : cache_need.Need). n.key) (find (cache.is_shut out) (asked inputs (n ∷ needs)))
+        ≡ cond b (Some n.key) (held_key (held workers) needs)
     go b is rest =
-        ap (λ t. option_map (λ (n : cache_need.Need). n.key) (cond t (Some (need_with n.key (base_in n.input inputs))) (find (cache.is_shut out) (asked inputs needs)))) is ∙ by_test b rest
+        ap (λ t. option_map (λ (n : cache_need.Need). n.key)
+        (cond t (Some (need_with n.key (base_in n.input inputs))) (find (cache.is_shut out) (asked inputs needs)))) is ∙ by_test b rest
       where
         need_with : Key → TreeMap → cache_need.Need
         need_with k t = record { key = k; tree = t }
 
         by_test : (b : Bool) → option_map (λ (n : cache_need.Need). n.key) (find (cache.is_shut out) (asked inputs needs)) ≡ held_key (held workers) needs
-            → option_map (λ (n : cache_need.Need). n.key) (cond b (Some (need_with n.key (base_in n.input inputs))) (find (cache.is_shut out) (asked inputs needs))) ≡ cond b (Some n.key) (held_key (held workers) needs)
+            → option_map (λ (n : cache_need.Need). n.key) (cond b (Some (need_with n.key (base_in n.input inputs)))
+            (find (cache.is_shut out) (asked inputs needs))) ≡ cond b (Some n.key) (held_key (held workers) needs)
         by_test true rest = refl
         by_test false rest = rest
 
@@ -120,7 +129,8 @@ taken_paired out workers inputs (n ∷ needs) same apart =
     ap (λ (p : Place). (p, base_in n.input inputs) ∷ cache.taken out (asked inputs needs)) (place_same out workers same apart n.key)
     ∙ ap (λ (ts : List Taken). (place_for (held workers) n, base_in n.input inputs) ∷ ts) (taken_paired out workers inputs needs same apart)
 
-all_made : (rows : List Row) (inputs : List TreeMap) (ps : List Place) (needs : List Need) → Distinct ps → ((p : Place) → Has ps p → p.number ≤ length (trees_of rows p.key)) → length ps ≡ length needs
+all_made : (rows : List Row) (inputs : List TreeMap) (ps : List Place) (needs : List Need) → Distinct ps
+    → ((p : Place) → Has ps p → p.number ≤ length (trees_of rows p.key)) → length ps ≡ length needs
     → store_of (made_all rows (paired inputs ps needs)) ≡ put_all (store_of rows) ps (first_trees (store_of rows) inputs ps needs)
 all_made rows inputs [] needs apart reached count = refl
 all_made rows inputs (p ∷ ps) [] apart reached count = absurd (omega (arith, count))
@@ -129,7 +139,8 @@ all_made rows inputs (p ∷ ps) (n ∷ needs) apart reached count =
     let u = unwrap_or (content (store_of rows) p) t in
     let next = made rows p t in
     let one : store_of next ≡ put (store_of rows) p u = made_stands rows p t (reached p (inl refl)) in
-    all_made next inputs ps needs apart.1 (λ q h. let grows = (makes rows p t).grows q.key in let low = reached q (inr h) in omega (arith, low, grows)) (omega (arith, count))
+    all_made next inputs ps needs apart.1 (λ q h. let grows = (makes rows p t).grows q.key in let low =
+    reached q (inr h) in omega (arith, low, grows)) (omega (arith, count))
     ∙ ap (λ s. put_all s ps (first_trees s inputs ps needs)) one
     ∙ ap (put_all (put (store_of rows) p u) ps) (first_same (store_of rows) p u inputs ps needs apart.0)
 

@@ -1,5 +1,6 @@
--- The leases of workers, behind a claim, a step and a settle.
-use Rattle.std.proofs.Common.{◌≡◌, ◌≢◌, ℕ, zero, suc, ◌+◌, ◌<◌, Bool, true, false, List, [], ◌∷◌, ◌++◌, length, Option, Some, None, inl, inr, refl, sym, ap, subst, ◌∙◌, cond, arith}
+-- The leases of workers, after a claim, a step and a settle.
+use Rattle.std.proofs.Common.{◌≡◌, ◌≢◌, ℕ, zero, suc, ◌+◌, ◌<◌, Bool, true, false, List, [], ◌∷◌, ◌++◌, length, Option, Some, None, inl}
+use Rattle.std.proofs.Common.{inr, refl, sym, ap, subst, ◌∙◌, cond, arith}
 use Rattle.std.specs.Prelude.{slice_get, slice_set, nat_lt}
 use Rattle.std.proofs.lemmas.Bool.{ltb-false, ltb-true}
 use Rattle.llb_cache.specs.Caches as cache
@@ -32,8 +33,10 @@ get_front (x ∷ xs) ys (suc i) lt = get_front xs ys i (omega (arith, lt))
 lease_there : (out : Leases) (ps : List Place) → cache.Has (with_lease out (free_lease out) ps) (free_lease out) ps
 lease_there out ps = go (nat_lt (free_lease out) (length out)) refl
   where
-    go : (b : Bool) → nat_lt (free_lease out) (length out) ≡ b → cache.Has (cond b (slice_set out (free_lease out) (Some ps)) (out ++ Some ps ∷ [])) (free_lease out) ps
-    go true is = let old = get_within out (free_lease out) (ltb-true (free_lease out) (length out) is) in get_set_same out (free_lease out) (Some ps) old.0 old.1
+    go : (b : Bool) → nat_lt (free_lease out) (length out) ≡ b
+        → cache.Has (cond b (slice_set out (free_lease out) (Some ps)) (out ++ Some ps ∷ [])) (free_lease out) ps
+    go true is = let old = get_within out (free_lease out) (ltb-true (free_lease out) (length out) is) in
+        get_set_same out (free_lease out) (Some ps) old.0 old.1
     go false is =
         let past = ltb-false (free_lease out) (length out) is in
         let within = free_within out in
@@ -70,7 +73,7 @@ trim_stays (Some ps ∷ out) (suc a) qs at = trim_stays out a qs at
 trim_stays (None ∷ out) zero qs at = absurd cc
 trim_stays (None ∷ out) (suc a) qs at = before_stays (trimmed out) a qs (trim_stays out a qs at)
 
--- who has what behind a lease that is given back
+-- who has what after a lease that is given back
 back_is : (out : Leases) (l a : ℕ) (qs : List Place) → cache.Has (trimmed (slice_set out l None)) a qs → (a ≢ l) × cache.Has out a qs
 back_is out l a qs at = elim (got_set out l None a (Some qs) (trim_is (slice_set out l None) a qs at)) [
   | inl h ↦ absurd (cc (h.1))
@@ -138,7 +141,12 @@ claim_leases out workers ls w z are idle = record {
   has = λ u x at. elim (got_set workers w (Runs z) u (Runs x) at) [
     | inl h ↦
         let same : z ≡ x = cc (h.1) in
-        inl (l, ap (slice_get (slice_set ls w (Some l))) h.0 ∙ there, subst (λ (y : Execution). cache.Has (with_lease out l z.places) l y.places) same (lease_there out z.places))
+        inl (
+          l,
+          ap (slice_get (slice_set ls w (Some l))) h.0
+              ∙ there,
+          subst (λ (y : Execution). cache.Has (with_lease out l z.places) l y.places) same (lease_there out z.places),
+        )
     | inr h ↦ elim (are.has u x h.1) [
       | inl old ↦ inl (old.0, get_set_other ls w (Some l) u h.0 ∙ old.1, lease_stays out z.places old.0 x.places old.2)
       | inr old ↦ inr (get_set_other ls w (Some l) u h.0 ∙ old.0, old.1)
@@ -236,7 +244,12 @@ settle_gives_back out workers ls w l are at_w = record {
   has = λ u x at. elim (got_set workers w Idle u (Runs x) at) [
     | inl h ↦ absurd (cc (h.1))
     | inr h ↦ elim (are.has u x h.1) [
-      | inl old ↦ inl (old.0, get_set_other ls w None u h.0 ∙ old.1, back_stays out l old.0 x.places (λ same. h.0 (are.once u w l (old.1 ∙ ap some_lease same) at_w)) old.2)
+      | inl old ↦ inl (
+        old.0,
+        get_set_other ls w None u h.0
+            ∙ old.1,
+        back_stays out l old.0 x.places (λ same. h.0 (are.once u w l (old.1 ∙ ap some_lease same) at_w)) old.2,
+      )
       | inr old ↦ inr (get_set_other ls w None u h.0 ∙ old.0, old.1)
     ]
   ];

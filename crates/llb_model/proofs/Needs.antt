@@ -1,6 +1,7 @@
 -- The caches that a vertex of a graph shows have different keys: mounts with equal keys are refused, and the loader's numbers stand for one
 -- mode and one index each.
-use Rattle.std.proofs.Common.{◌≡◌, ℕ, zero, suc, ◌+◌, ◌<◌, ℤ, pos, negsuc, Bool, true, false, cond, List, [], ◌∷◌, length, map, Option, Some, None, option_map, inl, inr, refl, sym, ap, subst, ◌∙◌, arith}
+use Rattle.std.proofs.Common.{◌≡◌, ℕ, zero, suc, ◌+◌, ◌<◌, ℤ, pos, negsuc, Bool, true, false, cond, List, [], ◌∷◌, length, map, Option}
+use Rattle.std.proofs.Common.{Some, None, option_map, inl, inr, refl, sym, ap, subst, ◌∙◌, arith}
 use Rattle.std.specs.Prelude.{slice_get, slice_index_or}
 use Rattle.std.specs.List.{All}
 use Rattle.std.specs.Cmp.{signed_Decides}
@@ -117,13 +118,20 @@ module _ (inputs : List Input) (indexed : AreIndexed inputs) where
       by_key : (o : Option CacheKey) → mounts.key_of inputs m ≡ o → Has (map key_of (with_need i m o (needs_from inputs (i + 1) ms))) k
           → (Has (map key_of (needs_from inputs (i + 1) ms)) k → IsOfMount inputs (m ∷ ms) k) → IsOfMount inputs (m ∷ ms) k
       by_key None is h rest = rest h
-      by_key (Some c) is (inl h) rest = record { place = 0; key = c; there = is; known = mount_known inputs indexed m (All-head IsShared m ms shared) c is; is = h }
+      by_key (Some c) is (inl h) rest = record {
+        place = 0;
+        key = c;
+        there = is;
+        known = mount_known inputs indexed m (All-head IsShared m ms shared) c is;
+        is = h;
+      }
       by_key (Some c) is (inr h) rest = rest h
 
   distinct_needs : (i : ℕ) (ms : List Mount) → All IsShared ms → AreApart (keys_of inputs ms) → Distinct (map key_of (needs_from inputs i ms))
   distinct_needs i [] shared apart = tt
   distinct_needs i (m ∷ ms) shared apart =
-      by_key (mounts.key_of inputs m) refl (distinct_needs (i + 1) ms (All-tail IsShared m ms shared) (record { apart = λ a c lt. apart.apart (suc a) (suc c) (omega (arith, lt)) }))
+      by_key (mounts.key_of inputs m) refl (distinct_needs (i + 1) ms (All-tail IsShared m ms shared)
+      (record { apart = λ a c lt. apart.apart (suc a) (suc c) (omega (arith, lt)) }))
     where
       other : (c : CacheKey) → mounts.key_of inputs m ≡ Some c → Has (map key_of (needs_from inputs (i + 1) ms)) (key_as c) → ⊥
       other c is h =
@@ -131,7 +139,8 @@ module _ (inputs : List Input) (indexed : AreIndexed inputs) where
           let same : c ≡ r.key = key_once c r.key (mount_known inputs indexed m (All-head IsShared m ms shared) c is) r.known r.is in
           apart.apart 0 (suc r.place) (omega arith) (c, is, r.there ∙ ap (λ k. some_of k) (sym same))
 
-      by_key : (o : Option CacheKey) → mounts.key_of inputs m ≡ o → Distinct (map key_of (needs_from inputs (i + 1) ms)) → Distinct (map key_of (with_need i m o (needs_from inputs (i + 1) ms)))
+      by_key : (o : Option CacheKey) → mounts.key_of inputs m ≡ o → Distinct (map key_of (needs_from inputs (i + 1) ms))
+          → Distinct (map key_of (with_need i m o (needs_from inputs (i + 1) ms)))
       by_key None is rest = rest
       by_key (Some c) is rest = (other c is, rest)
 
@@ -143,7 +152,8 @@ inputs_indexed vertices v has i input there =
     let e = get_within v.inputs i within in (
       e.0.index,
       subst (λ (x : Input). x.index ≡ pos e.0.index) (get_or_from_slice_get v.op.inputs i input input there)
-          (subst (λ (x : Edge). StandsFor vertices (slice_index_or v.op.inputs i input) x) (get_or_from_slice_get v.inputs i e.0 e.0 e.1) (has.each i input e.0 within)).index,
+          (subst (λ (x : Edge). StandsFor vertices (slice_index_or v.op.inputs i input) x) (get_or_from_slice_get v.inputs i e.0 e.0 e.1)
+          (has.each i input e.0 within)).index,
     )
 
 pub graph_distinct : (b : model.Build) → IsGraph b.graph → HasDistinctNeeds b
@@ -157,7 +167,8 @@ graph_distinct b graph k v there =
     whole = subst IsVertex (get_or_from_slice_get b.graph.vertices k v v there) (All-get_or IsVertex b.graph.vertices k v within graph.vertex)
 
     has : HasInputs b.graph.vertices v
-    has = subst (HasInputs b.graph.vertices) (get_or_from_slice_get b.graph.vertices k v v there) (All-get_or (HasInputs b.graph.vertices) b.graph.vertices k v within graph.inputs)
+    has = subst (HasInputs b.graph.vertices) (get_or_from_slice_get b.graph.vertices k v v there)
+        (All-get_or (HasInputs b.graph.vertices) b.graph.vertices k v within graph.inputs)
 
     by_kind : (o : Option Kind) → MeetsAll v.op.inputs o (rules_on o) → Distinct (map key_of (needs_from v.op.inputs 0 (kind_mounts o)))
     by_kind None valid = tt

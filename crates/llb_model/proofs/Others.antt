@@ -10,8 +10,10 @@ use Rattle.llb_model.specs.Caches.{Place, Store, content, put, Has, IsExclusive}
 use Rattle.llb_model.specs.ClaimCause.{ClaimCause}
 use Rattle.llb_model.specs.SettleCause.{SettleCause, NotFinished}
 use Rattle.llb_model.specs.Program.{Build, MicroStep, Need, Work, Left, Start, needs_of, base_in, begin, step_on}
-use Rattle.llb_model.specs.State.{Execution, At, Idle, Runs, State, opening, program_in, work_of, is_finished, next_step, ending_from, held, number_for, place_for, places_for, held_key, first_trees, begin_at}
-use Rattle.llb_model.specs.Table.{Event, Claim, Step, Settle, Claimed, claim_start, execution_on, job_on, claim_with, claim_at, claim_unless, claimed, with_step, step_reply, step_by, step_with, stepped, settle_with, settled, table}
+use Rattle.llb_model.specs.State.{Execution, At, Idle, Runs, State, opening, program_in, work_of, is_finished, next_step, ending_from, held}
+use Rattle.llb_model.specs.State.{number_for, place_for, places_for, held_key, first_trees, begin_at}
+use Rattle.llb_model.specs.Table.{Event, Claim, Step, Settle, Claimed, claim_start, execution_on, job_on, claim_with, claim_at}
+use Rattle.llb_model.specs.Table.{claim_unless, claimed, with_step, step_reply, step_by, step_with, stepped, settle_with, settled, table}
 use Rattle.llb_model.specs.Laws.{IsReached, IsLockedOnce, OthersKeep, with_content, with_content_after, OthersIgnore}
 use Rattle.llb_model.proofs.Lists.{got_set, got_replicate}
 use Rattle.llb_model.proofs.Stores.{content_other, kept_all, put_all_put, trees_same, has_map}
@@ -32,14 +34,16 @@ others_keep b s t (Claim u v) r reached given w x p there has exclusive other =
 others_keep b s t (Step u) r reached given w x p there has exclusive other =
     let c = step_is b s u (t, r) given in
     ap (λ (a : Answer). content a.0.store p) c.gives
-    ∙ kept_all s.store c.x.places (step_on c.x.done (Some c.step) (work_of s c.x)).work.trees p (λ h. other ((reached_separate b s reached).once u w c.x x p c.there there h has exclusive))
+    ∙ kept_all s.store c.x.places (step_on c.x.done (Some c.step) (work_of s c.x)).work.trees p
+    (λ h. other ((reached_separate b s reached).once u w c.x x p c.there there h has exclusive))
 others_keep b s t (Settle u) r reached given w x p there has exclusive other =
     let c = settle_is b s u (t, r) given in
     ap (λ (a : Answer). content a.0.store p) c.gives
 
 -- ---- what is not looked at
 
-pub first_same : (s : Store) (p : Place) (t : TreeMap) (inputs : List TreeMap) (ps : List Place) (ns : List Need) → (Has ps p → ⊥) → first_trees (put s p t) inputs ps ns ≡ first_trees s inputs ps ns
+pub first_same : (s : Store) (p : Place) (t : TreeMap) (inputs : List TreeMap) (ps : List Place) (ns : List Need) → (Has ps p → ⊥)
+    → first_trees (put s p t) inputs ps ns ≡ first_trees s inputs ps ns
 first_same s p t inputs [] ns apart = refl
 first_same s p t inputs (q ∷ ps) [] apart = refl
 first_same s p t inputs (q ∷ ps) (n ∷ ns) apart =
@@ -53,17 +57,22 @@ claim_same b s p t u v start ps apart =
     ∙ stored (begin_at b s.store start ps)
   where
     stored : (work : Work) → claim_with (with_content p t s) u v start.vertex work ps ≡ with_content_after p t (claim_with s u v start.vertex work ps)
-    stored work = ap (λ (st : Store). (record (claim_with s u v start.vertex work ps).0 { store = st }, Claimed (job_on u v start.vertex work ps))) (put_all_put s.store p t ps work.trees apart)
+    stored work = ap (λ (st : Store). (
+      record (claim_with s u v start.vertex work ps).0 { store = st },
+      Claimed (job_on u v start.vertex work ps),
+    )) (put_all_put s.store p t ps work.trees apart)
 
 step_same : (s : State) (p : Place) (t : TreeMap) (u : ℕ) (x : Execution) (m : MicroStep) → (Has x.places p → ⊥)
-    → step_by (with_content p t s) u x m (step_on x.done (Some m) (work_of (with_content p t s) x)) ≡ with_content_after p t (step_by s u x m (step_on x.done (Some m) (work_of s x)))
+    → step_by (with_content p t s) u x m (step_on x.done (Some m) (work_of (with_content p t s) x))
+    ≡ with_content_after p t (step_by s u x m (step_on x.done (Some m) (work_of s x)))
 step_same s p t u x m apart =
     ap (λ ts. step_by (with_content p t s) u x m (step_on x.done (Some m) (record { own = x.own; trees = ts })))
     (trees_same s.store (put s.store p t) x.places (λ q h. content_other s.store p t q (λ e. apart (subst (Has x.places) e h))))
     ∙ stored (step_on x.done (Some m) (work_of s x))
   where
     stored : (left : Left) → step_by (with_content p t s) u x m left ≡ with_content_after p t (step_by s u x m left)
-    stored left = ap (λ (st : Store). (record (step_by s u x m left).0 { store = st }, step_reply x.done m left.fault)) (put_all_put s.store p t x.places left.work.trees apart)
+    stored left = ap (λ (st : Store). (record (step_by s u x m left).0 { store = st }, step_reply x.done m left.fault))
+        (put_all_put s.store p t x.places left.work.trees apart)
 
 -- the same event, with another tree there
 Ignored : Build → State → Event → Place → TreeMap → Type 0
@@ -83,7 +92,8 @@ claim_ignores b s u v p t apart = go (claim_start s.statuses v (slice_get s.work
     go (Err cause) = refl
     go (Ok start) = by_key start (held_key (held s.workers) (needs_of start.vertex)) refl
 
-step_ignores : (b : Build) (s : State) (u : ℕ) (p : Place) (t : TreeMap) → ((x : Execution) → slice_get s.workers u ≡ Some (Runs x) → Has x.places p → ⊥) → Ignored b s (Step u) p t
+step_ignores : (b : Build) (s : State) (u : ℕ) (p : Place) (t : TreeMap)
+    → ((x : Execution) → slice_get s.workers u ≡ Some (Runs x) → Has x.places p → ⊥) → Ignored b s (Step u) p t
 unfolding table Ignored
 step_ignores b s u p t apart = go (slice_get s.workers u) refl
   where
@@ -92,7 +102,8 @@ step_ignores b s u p t apart = go (slice_get s.workers u) refl
     by_next x there None = refl
     by_next x there (Some m) = ap (λ (a : Answer). Some a) (step_same s p t u x m (apart x there))
 
-    go : (o : Option At) → slice_get s.workers u ≡ o → result_ok (stepped b (with_content p t s) u o) ≡ option_map (with_content_after p t) (result_ok (stepped b s u o))
+    go : (o : Option At) → slice_get s.workers u ≡ o → result_ok (stepped b (with_content p t s) u o)
+        ≡ option_map (with_content_after p t) (result_ok (stepped b s u o))
     go None is = refl
     go (Some Idle) is = refl
     go (Some (Runs x)) is = by_next x is (next_step (program_in b x).steps x)
@@ -104,7 +115,8 @@ settle_ignores b s u p t = go (slice_get s.workers u)
     settle_if : State → Execution → Bool → Result Answer SettleCause
     settle_if r x fin = cond fin (Ok (settle_with r u x.vertex (ending_from (program_in b x) x))) (Err NotFinished)
 
-    by_test : (x : Execution) (fin : Bool) → result_ok (settle_if (with_content p t s) x fin) ≡ option_map (with_content_after p t) (result_ok (settle_if s x fin))
+    by_test : (x : Execution) (fin : Bool) → result_ok (settle_if (with_content p t s) x fin)
+        ≡ option_map (with_content_after p t) (result_ok (settle_if s x fin))
     by_test x true = refl
     by_test x false = refl
 
@@ -137,16 +149,19 @@ places_first ps ns p h locked =
     let m = has_map (place_for ps) ns p h in
     ap (λ (q : Place). q.number) m.2 ∙ number_locked ps m.0.key m.0.key.mode (ap (λ (q : Place). q.key.mode) (sym m.2) ∙ locked)
 
-fewer_first : (ws vs : List At) → ((w : ℕ) (x : Execution) → slice_get vs w ≡ Some (Runs x) → (y : Execution) × (slice_get ws w ≡ Some (Runs y)) × (y.places ≡ x.places)) → IsFirst ws → IsFirst vs
+fewer_first : (ws vs : List At) → ((w : ℕ) (x : Execution) → slice_get vs w ≡ Some (Runs x)
+    → (y : Execution) × (slice_get ws w ≡ Some (Runs y)) × (y.places ≡ x.places)) → IsFirst ws → IsFirst vs
 fewer_first ws vs back f = record { first = λ w x p there h. let m = back w x there in f.first w m.0 p m.1 (subst (λ ps. Has ps p) (sym m.2) h) }
 
 event_first : (b : Build) (s : State) (e : Event) (a : Answer) → IsFirst s.workers → table b s e ≡ Some a → IsFirst a.0.workers
 event_first b s (Claim w v) a f given =
     let c = claim_is b s w v a given in
     let ps = claim_places s c.start in
-    subst (λ (a : Answer). IsFirst a.0.workers) (sym c.gives) (taken s.workers (execution_on v (begin_at b s.store c.start ps) ps) f (places_first (held s.workers) (needs_of c.start.vertex)))
+    subst (λ (a : Answer). IsFirst a.0.workers) (sym c.gives)
+    (taken s.workers (execution_on v (begin_at b s.store c.start ps) ps) f (places_first (held s.workers) (needs_of c.start.vertex)))
   where
-    taken : (ws : List At) (z : Execution) → IsFirst ws → ((p : Place) → Has z.places p → p.key.mode ≡ Locked → p.number ≡ 0) → IsFirst (slice_set ws w (Runs z))
+    taken : (ws : List At) (z : Execution) → IsFirst ws → ((p : Place) → Has z.places p → p.key.mode ≡ Locked → p.number ≡ 0)
+        → IsFirst (slice_set ws w (Runs z))
     taken ws z f new = record {
       first = λ u x p there h locked. elim (got_set ws w (Runs z) u (Runs x) there) [
         | inl k ↦ let same : x ≡ z = cc (k.1) in new p (subst (λ (t : Execution). Has t.places p) same h) locked
@@ -156,7 +171,8 @@ event_first b s (Claim w v) a f given =
 event_first b s (Step w) a f given =
     let c = step_is b s w a given in
     let left = step_on c.x.done (Some c.step) (work_of s c.x) in
-    subst (λ (a : Answer). IsFirst a.0.workers) (sym c.gives) (fewer_first s.workers (slice_set s.workers w (Runs (with_step c.x left))) (stepped_back s.workers w c.x left c.there) f)
+    subst (λ (a : Answer). IsFirst a.0.workers) (sym c.gives)
+    (fewer_first s.workers (slice_set s.workers w (Runs (with_step c.x left))) (stepped_back s.workers w c.x left c.there) f)
 event_first b s (Settle w) a f given =
     let c = settle_is b s w a given in
     subst (λ (a : Answer). IsFirst a.0.workers) (sym c.gives) (fewer_first s.workers (slice_set s.workers w Idle) (settled_back s.workers w) f)

@@ -1,5 +1,6 @@
 -- The trees of inputs; and the outcome of a vertex is that of its program on the outcomes of its inputs.
-use Rattle.std.proofs.Common.{◌≡◌, ℕ, zero, suc, ◌+◌, ◌<◌, ◌≤◌, Bool, true, false, not, ◌&&◌, ◌||◌, cond, List, [], ◌∷◌, length, take, Option, Some, None, is_some, unwrap_or, inl, inr, refl, sym, ap, subst, ◌∙◌, arith}
+use Rattle.std.proofs.Common.{◌≡◌, ℕ, zero, suc, ◌+◌, ◌<◌, ◌≤◌, Bool, true, false, not, ◌&&◌, ◌||◌, cond, List, [], ◌∷◌, length, take}
+use Rattle.std.proofs.Common.{Option, Some, None, is_some, unwrap_or, inl, inr, refl, sym, ap, subst, ◌∙◌, arith}
 use Rattle.std.specs.Prelude.{slice_get, map}
 use Rattle.std.specs.List.{All, list_all, list_any}
 use Rattle.std.proofs.lemmas.Bool.{and_parts}
@@ -16,7 +17,8 @@ use Rattle.llb_loader.specs.declared.graph.Vertex.{Vertex}
 use Rattle.llb_tree.specs.Tree.{TreeMap}
 use Rattle.llb_model.specs.declared.fault.VertexFault.{VertexFault}
 use Rattle.llb_model.specs.Program.{Build, Program, View, needs_from, needs_of, with_need, has_cache, outputs_of, output_from}
-use Rattle.llb_model.specs.Outcome.{Ending, Done, Failed, ended, output_in, both, all_there, inputs_from, outcome_on, ending_in, next_outcome, outcomes, outcome, next_plain, is_plain}
+use Rattle.llb_model.specs.Outcome.{Ending, Done, Failed, ended, output_in, both, all_there, inputs_from, outcome_on, ending_in}
+use Rattle.llb_model.specs.Outcome.{next_outcome, outcomes, outcome, next_plain, is_plain}
 use Rattle.llb_model.specs.Laws.{HasNoCaches}
 use Rattle.llb_model.specs.ByNumber.{by_number}
 use Rattle.llb_model.specs.State.{is_done}
@@ -29,7 +31,8 @@ output_mono : (o p : Option Ending) (i : ℕ) (t : TreeMap) → ((x : Ending) �
 output_mono None p i t more e = absurd cc
 output_mono (Some x) p i t more e = ap (λ q. output_in q i) (more x refl) ∙ e
 
-there_cons : {A : Type 0} (o : Option A) (os : List (Option A)) (ys : List A) → all_there (o ∷ os) ≡ Some ys → (x : A) × (xs : List A) × (o ≡ Some x) × (all_there os ≡ Some xs) × (ys ≡ x ∷ xs)
+there_cons : {A : Type 0} (o : Option A) (os : List (Option A)) (ys : List A) → all_there (o ∷ os) ≡ Some ys
+    → (x : A) × (xs : List A) × (o ≡ Some x) × (all_there os ≡ Some xs) × (ys ≡ x ∷ xs)
 there_cons {A} o os ys e = go o (all_there os) e
   where
     go : (o : Option A) (r : Option (List A)) → both o r ≡ Some ys → (x : A) × (xs : List A) × (o ≡ Some x) × (r ≡ Some xs) × (ys ≡ x ∷ xs)
@@ -38,7 +41,8 @@ there_cons {A} o os ys e = go o (all_there os) e
     go (Some x) (Some xs) e = (x, xs, refl, refl, let h : x ∷ xs ≡ ys = cc in sym h)
 
 -- what is there by one account of some vertices is there by a fuller one
-pub inputs_mono : (P : ℕ → Type 0) (f g : ℕ → Option Ending) → ((j : ℕ) (x : Ending) → P j → f j ≡ Some x → g j ≡ Some x) → (edges : List Edge) → Each_of (λ (e : Edge). P e.vertex) edges
+pub inputs_mono : (P : ℕ → Type 0) (f g : ℕ → Option Ending) → ((j : ℕ) (x : Ending) → P j → f j ≡ Some x → g j ≡ Some x)
+    → (edges : List Edge) → Each_of (λ (e : Edge). P e.vertex) edges
     → (trees : List TreeMap) → inputs_from f edges ≡ Some trees → inputs_from g edges ≡ Some trees
 unfolding inputs_from
 inputs_mono P f g more [] each trees e = e
@@ -49,7 +53,8 @@ inputs_mono P f g more (d ∷ edges) each trees e =
     ap (λ o. both o (all_there (map (λ (e : Edge). output_in (g e.vertex) e.index) edges))) first ∙ ap (both (Some s.0)) rest ∙ ap (λ xs. some_of xs) (sym s.4)
 
 -- two accounts that agree on the inputs
-pub inputs_same : (f g : ℕ → Option Ending) (edges : List Edge) → Each_of (λ (e : Edge). f e.vertex ≡ g e.vertex) edges → inputs_from f edges ≡ inputs_from g edges
+pub inputs_same : (f g : ℕ → Option Ending) (edges : List Edge) → Each_of (λ (e : Edge). f e.vertex ≡ g e.vertex) edges
+    → inputs_from f edges ≡ inputs_from g edges
 unfolding inputs_from
 inputs_same f g [] same = refl
 inputs_same f g (d ∷ edges) same =
@@ -67,12 +72,15 @@ inputs_none f [] h = absurd h
 inputs_none f (d ∷ edges) (inl h) = ap (λ o. both o (all_there (map (λ (e : Edge). output_in (f e.vertex) e.index) edges))) h
 inputs_none f (d ∷ edges) (inr h) = ap (both (output_in (f d.vertex) d.index)) (inputs_none f edges h) ∙ both_none (output_in (f d.vertex) d.index)
 
-pub none_in_inputs : (f : ℕ → Option Ending) (edges : List Edge) → inputs_from f edges ≡ None → Some_of (λ (e : Edge). output_in (f e.vertex) e.index ≡ None) edges
+pub none_in_inputs : (f : ℕ → Option Ending) (edges : List Edge) → inputs_from f edges ≡ None
+    → Some_of (λ (e : Edge). output_in (f e.vertex) e.index ≡ None) edges
 unfolding inputs_from
 none_in_inputs f [] e = absurd cc
-none_in_inputs f (d ∷ edges) e = go (output_in (f d.vertex) d.index) refl (all_there (map (λ (e : Edge). output_in (f e.vertex) e.index) edges)) refl e (none_in_inputs f edges)
+none_in_inputs f (d ∷ edges) e = go (output_in (f d.vertex) d.index) refl
+    (all_there (map (λ (e : Edge). output_in (f e.vertex) e.index) edges)) refl e (none_in_inputs f edges)
   where
-    go : (o : Option TreeMap) → output_in (f d.vertex) d.index ≡ o → (r : Option (List TreeMap)) → all_there (map (λ (e : Edge). output_in (f e.vertex) e.index) edges) ≡ r → both o r ≡ None
+    go : (o : Option TreeMap) → output_in (f d.vertex) d.index ≡ o → (r : Option (List TreeMap))
+        → all_there (map (λ (e : Edge). output_in (f e.vertex) e.index) edges) ≡ r → both o r ≡ None
         → (all_there (map (λ (e : Edge). output_in (f e.vertex) e.index) edges) ≡ None → Some_of (λ (e : Edge). output_in (f e.vertex) e.index ≡ None) edges)
         → Some_of (λ (e : Edge). output_in (f e.vertex) e.index ≡ None) (d ∷ edges)
     go None is r has e rest = inl is
@@ -111,12 +119,14 @@ edge_there g f counts k fits e leads =
         let t = get_within trees e.index (omega (arith, size, index)) in
         ap is_some t.1
 
-pub inputs_there : (g : Numbered) (f : ℕ → Option Ending) → HasOutputs g f → (k : ℕ) → k ≤ length g.vertices → (edges : List Edge) → Each_of (LeadsBelow g.vertices k) edges
+pub inputs_there : (g : Numbered) (f : ℕ → Option Ending) → HasOutputs g f → (k : ℕ) → k ≤ length g.vertices → (edges : List Edge)
+    → Each_of (LeadsBelow g.vertices k) edges
     → is_some (inputs_from f edges) ≡ list_all (λ (e : Edge). is_done (f e.vertex)) edges
 unfolding inputs_from
 inputs_there g f counts k fits [] each = refl
 inputs_there g f counts k fits (e ∷ edges) each =
-    both_there (output_in (f e.vertex) e.index) (inputs_from f edges) ∙ (λ i. edge_there g f counts k fits e each.0 i && inputs_there g f counts k fits edges each.1 i)
+    both_there (output_in (f e.vertex) e.index) (inputs_from f edges)
+    ∙ (λ i. edge_there g f counts k fits e each.0 i && inputs_there g f counts k fits edges each.1 i)
   where
     both_there : {A : Type 0} (o : Option A) (r : Option (List A)) → is_some (both o r) ≡ (is_some o && is_some r)
     both_there (Some x) (Some xs) = refl
@@ -134,10 +144,12 @@ mounts_need : (inputs : List Input) (i : ℕ) (ms : List Mount) → list_any (ha
 mounts_need inputs i [] none = refl
 mounts_need inputs i (m ∷ ms) none = by_test (has_type cache m) refl none (mounts_need inputs (i + 1) ms)
   where
-    by_test : (t : Bool) → has_type cache m ≡ t → (t || list_any (has_type cache) ms) ≡ false → (list_any (has_type cache) ms ≡ false → needs_from inputs (i + 1) ms ≡ [])
+    by_test : (t : Bool) → has_type cache m ≡ t → (t || list_any (has_type cache) ms) ≡ false
+        → (list_any (has_type cache) ms ≡ false → needs_from inputs (i + 1) ms ≡ [])
         → needs_from inputs i (m ∷ ms) ≡ []
     by_test true is none rest = absurd cc
-    by_test false is none rest = ap (λ t. with_need i m (key_by (seed_of inputs m.input) (cond t m.cache_opt None)) (needs_from inputs (i + 1) ms)) is ∙ rest none
+    by_test false is none rest =
+        ap (λ t. with_need i m (key_by (seed_of inputs m.input) (cond t m.cache_opt None)) (needs_from inputs (i + 1) ms)) is ∙ rest none
 
 pub no_needs : (v : Vertex) → has_cache v ≡ false → needs_of v ≡ []
 no_needs v none = mounts_need v.op.inputs 0 (kind_mounts v.op.kind) none
@@ -147,16 +159,19 @@ module _ (b : Build) (graph : IsGraph b.graph) where
   pub outcome_is : (k : ℕ) (v : Vertex) → slice_get b.graph.vertices k ≡ Some v → outcome b k ≡ Some (outcome_on b v (inputs_from (plain b) v.inputs))
   outcome_is k v there =
       by_number_is (next_outcome b) b.graph.vertices k v there
-      ∙ ap (λ ts. some_of (outcome_on b v ts)) (inputs_same (λ j. ending_in (slice_get (take k (outcomes b)) j)) (plain b) v.inputs (lower v.inputs (each_below b.graph graph k v there)))
+      ∙ ap (λ ts. some_of (outcome_on b v ts)) (inputs_same (λ j. ending_in (slice_get (take k (outcomes b)) j)) (plain b) v.inputs
+      (lower v.inputs (each_below b.graph graph k v there)))
     where
-      lower : (edges : List Edge) → Each_of (LeadsBelow b.graph.vertices k) edges → Each_of (λ (e : Edge). ending_in (slice_get (take k (outcomes b)) e.vertex) ≡ plain b e.vertex) edges
+      lower : (edges : List Edge) → Each_of (LeadsBelow b.graph.vertices k) edges
+          → Each_of (λ (e : Edge). ending_in (slice_get (take k (outcomes b)) e.vertex) ≡ plain b e.vertex) edges
       lower [] each = tt
       lower (e ∷ edges) each = (ap ending_in (get_take (outcomes b) k e.vertex each.0.lower), lower edges each.1)
 
   -- ---- plain vertices
 
   plain_parts : (k : ℕ) (v : Vertex) → slice_get b.graph.vertices k ≡ Some v → is_plain b k ≡ true
-      → (not (has_cache v) ≡ true) × (list_all (λ (e : Edge). unwrap_or (slice_get (take k (by_number next_plain [] b.graph.vertices)) e.vertex) false) v.inputs ≡ true)
+      → (not (has_cache v) ≡ true)
+      × (list_all (λ (e : Edge). unwrap_or (slice_get (take k (by_number next_plain [] b.graph.vertices)) e.vertex) false) v.inputs ≡ true)
   plain_parts k v there is =
       and_parts (not (has_cache v)) (list_all (λ (e : Edge). unwrap_or (slice_get (take k (by_number next_plain [] b.graph.vertices)) e.vertex) false) v.inputs)
       (sym (ap (λ o. unwrap_or o false) (by_number_is next_plain b.graph.vertices k v there)) ∙ is)
@@ -170,14 +185,16 @@ module _ (b : Build) (graph : IsGraph b.graph) where
       not_true false e = refl
 
   -- the vertices that a plain one's edges lead to are plain
-  pub plain_inputs : (k : ℕ) (v : Vertex) → slice_get b.graph.vertices k ≡ Some v → is_plain b k ≡ true → Each_of (λ (e : Edge). is_plain b e.vertex ≡ true) v.inputs
+  pub plain_inputs : (k : ℕ) (v : Vertex) → slice_get b.graph.vertices k ≡ Some v → is_plain b k ≡ true
+      → Each_of (λ (e : Edge). is_plain b e.vertex ≡ true) v.inputs
   plain_inputs k v there is =
       each v.inputs (each_below b.graph graph k v there) (plain_parts k v there is).1
     where
       front : Edge → Bool
       front e = unwrap_or (slice_get (take k (by_number next_plain [] b.graph.vertices)) e.vertex) false
 
-      each : (edges : List Edge) → Each_of (LeadsBelow b.graph.vertices k) edges → list_all front edges ≡ true → Each_of (λ (e : Edge). is_plain b e.vertex ≡ true) edges
+      each : (edges : List Edge) → Each_of (LeadsBelow b.graph.vertices k) edges → list_all front edges ≡ true
+          → Each_of (λ (e : Edge). is_plain b e.vertex ≡ true) edges
       each [] leads all = tt
       each (e ∷ edges) leads all =
           let a = and_parts (front e) (list_all front edges) all in
@@ -192,14 +209,16 @@ module _ (b : Build) (graph : IsGraph b.graph) where
   plain_below (suc n) none k lt fits =
       let v = get_within b.graph.vertices k fits in
       ap (λ o. unwrap_or o false) (by_number_is next_plain b.graph.vertices k v.0 v.1)
-      ∙ ap (λ t. not t && list_all (λ (e : Edge). unwrap_or (slice_get (take k (by_number next_plain [] b.graph.vertices)) e.vertex) false) v.0.inputs) (none k v.0 v.1)
+      ∙ ap (λ t. not t && list_all (λ (e : Edge). unwrap_or (slice_get (take k (by_number next_plain [] b.graph.vertices)) e.vertex) false)
+      v.0.inputs) (none k v.0 v.1)
       ∙ all v.0.inputs (each_below b.graph graph k v.0 v.1) (λ j low. plain_below n none j (omega arith) (omega arith))
     where
       all : (edges : List Edge) → Each_of (LeadsBelow b.graph.vertices k) edges → ((j : ℕ) → j < k → is_plain b j ≡ true)
           → list_all (λ (e : Edge). unwrap_or (slice_get (take k (by_number next_plain [] b.graph.vertices)) e.vertex) false) edges ≡ true
       all [] leads below = refl
       all (e ∷ edges) leads below =
-          let first = ap (λ o. unwrap_or o false) (get_take (by_number next_plain [] b.graph.vertices) k e.vertex leads.0.lower) ∙ below e.vertex leads.0.lower in
+          let first = ap (λ o. unwrap_or o false) (get_take (by_number next_plain [] b.graph.vertices) k e.vertex leads.0.lower)
+          ∙ below e.vertex leads.0.lower in
           (λ i. first i && all edges leads.1 below i)
 
   -- where no vertex shows a cache, each is plain

@@ -1,5 +1,6 @@
 -- What the first micro-steps of a program leave, and which one comes next.
-use Rattle.std.proofs.Common.{◌≡◌, ℕ, zero, suc, ◌+◌, ◌-◌, ◌<◌, ◌≤◌, Bool, true, false, ◌||◌, List, length, Option, Some, None, is_some, inl, inr, refl, sym, ap, ◌∙◌, cond, add-zero, add-suc, arith}
+use Rattle.std.proofs.Common.{◌≡◌, ℕ, zero, suc, ◌+◌, ◌-◌, ◌<◌, ◌≤◌, Bool, true, false, ◌||◌, List, length, Option, Some, None, is_some}
+use Rattle.std.proofs.Common.{inl, inr, refl, sym, ap, ◌∙◌, cond, add-zero, add-suc, arith}
 use Rattle.std.specs.Prelude.{slice_get, nat_le, Result, Ok, Err}
 use Rattle.std.proofs.lemmas.Bool.{leb-true, leb-false, le-leb, cases_lt}
 use Rattle.llb_applet.specs.Commands.{run}
@@ -7,14 +8,15 @@ use Rattle.llb_applet.specs.declared.command.Command.{Command}
 use Rattle.llb_applet.specs.declared.setting.Setting.{Setting}
 use Rattle.llb_mount.specs.declared.shown.Shown.{Shown}
 use Rattle.llb_model.specs.declared.fault.VertexFault.{VertexFault}
-use Rattle.llb_model.specs.Program.{MicroStep, ReadLocal, Act, LayInput, Run, View, LocalTree, Files, Layers, Mounted, Work, Left, micro_step, with_own, tried, act_on, filled, ran, run_on, step_on, unless_faulted, go_on, part, whole}
+use Rattle.llb_model.specs.Program.{MicroStep, ReadLocal, Act, LayInput, Run, View, LocalTree, Files, Layers, Mounted, Work, Left}
+use Rattle.llb_model.specs.Program.{micro_step, with_own, tried, act_on, filled, ran, run_on, step_on, unless_faulted, go_on, part, whole}
 use Rattle.llb_model.specs.State.{Execution, is_finished, next_step}
 use Rattle.llb_model.proofs.Lists.{some_of, get_past, get_within}
 use Rattle.llb_model.proofs.Views.{parts_count}
 
 -- ---- past the end, or a fault
 
--- so many micro-steps are all that are done
+-- that many micro-steps are all that are done
 abbrev pub is_over_at : List MicroStep → Left → ℕ → Bool
 is_over_at steps left k = is_some left.fault || nat_le (length steps) k
 
@@ -22,7 +24,8 @@ past_end : (a : Bool) (n k : ℕ) → n ≤ k → (a || nat_le n k) ≡ true
 past_end true n k le = refl
 past_end false n k le = le-leb n k le
 
-goes_nowhere : (steps : List MicroStep) (k : ℕ) (left : Left) (o : Option VertexFault) → left.fault ≡ o → (is_some o || nat_le (length steps) k) ≡ true → go_on steps k left ≡ left
+goes_nowhere : (steps : List MicroStep) (k : ℕ) (left : Left) (o : Option VertexFault) → left.fault ≡ o
+    → (is_some o || nat_le (length steps) k) ≡ true → go_on steps k left ≡ left
 goes_nowhere steps k left (Some f) is over = ap (λ o. unless_faulted o left (step_on k (slice_get steps k) left.work)) is
 goes_nowhere steps k left None is over =
     ap (λ o. unless_faulted o left (step_on k (slice_get steps k) left.work)) is ∙ ap (λ m. step_on k m left.work) (get_past steps k (leb-true _ _ over))
@@ -35,7 +38,8 @@ over_later : (a : Bool) (n k j : ℕ) → (a || nat_le n k) ≡ true → (a || n
 over_later true n k j over = refl
 over_later false n k j over = past_end false n (k + j) (let le : n ≤ k = leb-true _ _ over in omega arith)
 
-pub stays : (steps : List MicroStep) (work : Work) (k : ℕ) → is_over_at steps (part steps work k) k ≡ true → (j : ℕ) → part steps work (k + j) ≡ part steps work k
+pub stays : (steps : List MicroStep) (work : Work) (k : ℕ) → is_over_at steps (part steps work k) k ≡ true → (j : ℕ)
+    → part steps work (k + j) ≡ part steps work k
 unfolding part
 stays steps work k over zero = ap (part steps work) (add-zero k)
 stays steps work k over (suc j) =
@@ -50,7 +54,8 @@ finished_whole steps work k over = elim (cases_lt k (length steps)) [
       ap (part steps work) (sym sum) ∙ stays steps work k over (length steps - k)
   | inr le ↦
       let sum : length steps + (k - length steps) ≡ k = omega arith in
-      let past : is_over_at steps (whole steps work) (length steps) ≡ true = past_end (is_some (whole steps work).fault) (length steps) (length steps) (omega arith) in
+      let past : is_over_at steps (whole steps work) (length steps) ≡ true =
+      past_end (is_some (whole steps work).fault) (length steps) (length steps) (omega arith) in
       sym (stays steps work (length steps) past (k - length steps)) ∙ ap (part steps work) sum
 ]
 
@@ -96,7 +101,8 @@ none_finished steps x e = by_test (is_finished steps x) refl
 
 -- ---- the trees of instances
 
-command_keeps : (k : ℕ) (setting : Setting) (command : Command) (work : Work) (own : View) → length (tried work (run_on k setting command own work.trees)).work.trees ≡ length work.trees
+command_keeps : (k : ℕ) (setting : Setting) (command : Command) (work : Work) (own : View)
+    → length (tried work (run_on k setting command own work.trees)).work.trees ≡ length work.trees
 command_keeps k setting command work (LocalTree t) = refl
 command_keeps k setting command work (Files inputs results) = refl
 command_keeps k setting command work (Layers inputs t) = refl

@@ -8,7 +8,8 @@ use Rattle.llb_model.specs.declared.fault.VertexFault.{VertexFault}
 use Rattle.llb_model.specs.Caches.{trees_at}
 use Rattle.llb_model.specs.Program.{Build, Program, View, Work, Left, Start, program_of, program_at, start_with, begin, step_on, unless_faulted, go_on, part}
 use Rattle.llb_model.specs.Outcome.{Ending, Ended, ending, ending_in, outcome_on, outcome, is_plain}
-use Rattle.llb_model.specs.State.{Status, Waiting, Running, Settled, Execution, Idle, Runs, State, Opening, opening, ending_of, ending_at, program_in, work_of, is_finished, ending_from, held, places_for, begin_at}
+use Rattle.llb_model.specs.State.{Status, Waiting, Running, Settled, Execution, Idle, Runs, State, Opening, opening, ending_of, ending_at}
+use Rattle.llb_model.specs.State.{program_in, work_of, is_finished, ending_from, held, places_for, begin_at}
 use Rattle.llb_model.specs.Table.{Event, Claim, Step, Settle, Reply, execution_on, with_step, table}
 use Rattle.llb_model.specs.Run.{run}
 use Rattle.llb_model.specs.Plain.{left_of, IsUnderWay, StandsByOutcomes}
@@ -49,12 +50,14 @@ module _ (b : Build) (graph : IsGraph b.graph) (s : State) (stands : StandsByOut
     vertex = start.vertex;
     trees = start.inputs;
     there = ready.there;
-    inputs = inputs_mono (λ j. is_plain b j ≡ true) (ending_at s.statuses) (plain b) ending_plain start.vertex.inputs (plain_inputs b graph v start.vertex ready.there is) start.inputs ready.inputs;
+    inputs = inputs_mono (λ j. is_plain b j ≡ true) (ending_at s.statuses) (plain b) ending_plain start.vertex.inputs
+        (plain_inputs b graph v start.vertex ready.there is) start.inputs ready.inputs;
     so_far = refl;
     bare = ap (places_for (held s.workers)) (plain_needs b graph v start.vertex ready.there is);
   }
 
-  further : (w : ℕ) (a : Answer) (c : IsStep b s w a) → is_plain b c.x.vertex ≡ true → IsUnderWay b (with_step c.x (step_on c.x.done (Some c.step) (work_of s c.x)))
+  further : (w : ℕ) (a : Answer) (c : IsStep b s w a) → is_plain b c.x.vertex ≡ true
+      → IsUnderWay b (with_step c.x (step_on c.x.done (Some c.step) (work_of s c.x)))
   unfolding part
   further w a c is = record {
     vertex = old.vertex;
@@ -64,11 +67,13 @@ module _ (b : Build) (graph : IsGraph b.graph) (s : State) (stands : StandsByOut
     so_far =
         ap (part (program_of old.vertex).steps (begin b (start_with old.vertex old.trees) [])) (add_one c.x.done)
         ∙ ap (go_on (program_of old.vertex).steps c.x.done) old.so_far
-        ∙ ap (λ (o : Option VertexFault). unless_faulted o (left_of c.x) (step_on c.x.done (slice_get (program_of old.vertex).steps c.x.done) (left_of c.x).work)) next.clean
+        ∙ ap (λ (o : Option VertexFault). unless_faulted o (left_of c.x)
+        (step_on c.x.done (slice_get (program_of old.vertex).steps c.x.done) (left_of c.x).work)) next.clean
         ∙ ap (λ (m : Work). step_on c.x.done (slice_get (program_of old.vertex).steps c.x.done) m) (sym (bare_work s c.x old.bare))
         ∙ ap (λ (p : Program). step_on c.x.done (slice_get p.steps c.x.done) (work_of s c.x)) (sym (ap program_at old.there))
         ∙ ap (λ m. step_on c.x.done m (work_of s c.x)) next.there
-        ∙ ap (left_with left) (nil_from_length left.work.trees (step_keeps c.x.done (Some c.step) (work_of s c.x) ∙ ap (λ (m : Work). length m.trees) (bare_work s c.x old.bare)));
+        ∙ ap (left_with left) (nil_from_length left.work.trees (step_keeps c.x.done (Some c.step) (work_of s c.x)
+        ∙ ap (λ (m : Work). length m.trees) (bare_work s c.x old.bare)));
     bare = old.bare;
   }
     where
@@ -92,7 +97,8 @@ module _ (b : Build) (graph : IsGraph b.graph) (s : State) (stands : StandsByOut
       let program : program_in b c.x ≡ program_of old.vertex = ap program_at old.there in
       let start = begin b (start_with old.vertex old.trees) [] in
       let over : is_over_at (program_of old.vertex).steps (part (program_of old.vertex).steps start c.x.done) c.x.done ≡ true =
-      ap (λ (l : Left). is_over_at (program_of old.vertex).steps l c.x.done) old.so_far ∙ ap (λ (p : Program). is_finished p.steps c.x) (sym program) ∙ c.finished in
+      ap (λ (l : Left). is_over_at (program_of old.vertex).steps l c.x.done) old.so_far
+      ∙ ap (λ (p : Program). is_finished p.steps c.x) (sym program) ∙ c.finished in
       outcome_is b graph c.x.vertex old.vertex old.there ∙ ap (λ ts. some_of (outcome_on b old.vertex ts)) old.inputs
       ∙ ap (λ l. some_of (Ended (ending (program_of old.vertex) l))) (finished_whole (program_of old.vertex).steps start c.x.done over ∙ old.so_far)
       ∙ ap (λ (p : Program). some_of (Ended (ending_from p c.x))) (sym program)
@@ -138,5 +144,6 @@ event_plain b graph s (Settle w) a stands given =
       working = λ u x is there. elim (got_set s.workers w Idle u (Runs x) there) [ inl h ↦ absurd (cc (h.1)) | inr h ↦ stands.working u x is h.1 ];
     })
 
-pub run_plain : (b : Build) → IsGraph b.graph → (s t : State) (es : List Event) (rs : List Reply) → StandsByOutcomes b s → run b s es ≡ Some (t, rs) → StandsByOutcomes b t
+pub run_plain : (b : Build) → IsGraph b.graph → (s t : State) (es : List Event) (rs : List Reply) → StandsByOutcomes b s
+    → run b s es ≡ Some (t, rs) → StandsByOutcomes b t
 run_plain b graph = run_keeps b (StandsByOutcomes b) (event_plain b graph)

@@ -34,7 +34,8 @@ pub ready_law : (b : Build) → IsGraph b.graph → (s : State) → IsConsistent
 ready_law b graph s here v x there =
     ready_by_inputs b s.statuses v x there
     ∙ ap (λ t. is_waiting (slice_get s.statuses v) && t)
-    (inputs_there b.graph (ending_at s.statuses) (done_count b graph s here) v (omega (arith, got_within b.graph.vertices v x there)) x.inputs (each_below b.graph graph v x there))
+    (inputs_there b.graph (ending_at s.statuses) (done_count b graph s here) v
+    (omega (arith, got_within b.graph.vertices v x there)) x.inputs (each_below b.graph graph v x there))
 
 -- a Ready vertex waits
 pub ready_waits : (b : Build) (statuses : List Status) (v : ℕ) → is_ready b statuses v ≡ true → slice_get statuses v ≡ Some Waiting

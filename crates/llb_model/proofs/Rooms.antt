@@ -39,7 +39,8 @@ come_settled (y ∷ vs) (r ∷ ss) (suc v) e = omega (arith, come_settled vs ss 
 first : (c a : At) (ws : List At) → slice_get (c ∷ ws) 0 ≡ Some a → c ≡ a
 first c a ws at = cc
 
-pub left_set : (b : Build) (ws : List At) (w : ℕ) (a c : At) → slice_get ws w ≡ Some a → all_left b (slice_set ws w c) + left_by b a ≡ all_left b ws + left_by b c
+pub left_set : (b : Build) (ws : List At) (w : ℕ) (a c : At) → slice_get ws w ≡ Some a
+    → all_left b (slice_set ws w c) + left_by b a ≡ all_left b ws + left_by b c
 left_set b [] w a c at = absurd (cc)
 left_set b (d ∷ ws) zero a c at = let p : left_by b d ≡ left_by b a = ap (left_by b) (first d a ws at) in omega (arith, p)
 left_set b (d ∷ ws) (suc w) a c at = omega (arith, left_set b ws w a c at)
@@ -83,6 +84,7 @@ run_room b s t (e ∷ es) rs given =
     let r = run_first b s e es t rs given in
     omega (arith, event_room b s e r.a r.given, run_room b r.a.0 t es r.rest r.goes_on)
 
--- a run from an opening state, with what is still to come, has at most so many events
-pub run_has_few : (b : Build) (o : Opening) (t : State) (es : List Event) (rs : List Reply) → run b (opening b o) es ≡ Some (t, rs) → still_to_come b t + length es ≤ most_events b
+-- a run from an opening state, with what is still to come, has at most that many events
+pub run_has_few : (b : Build) (o : Opening) (t : State) (es : List Event) (rs : List Reply) → run b (opening b o) es ≡ Some (t, rs)
+    → still_to_come b t + length es ≤ most_events b
 run_has_few b o t es rs given = omega (arith, opening_room b o, run_room b (opening b o) t es rs given)

@@ -12,7 +12,7 @@ Ran = Option (State × List Reply)
 
 -- ---- a run, and another from where it ended
 
--- replies in front
+-- replies first
 abbrev pub behind : List Reply → Ran → Ran
 behind rs o = option_map {U = State × List Reply} (λ (t : State × List Reply). (t.0, rs ++ t.1)) o
 
@@ -45,7 +45,8 @@ pub run_one : (b : Build) (s t : State) (e : Event) (r : Reply) → table b s e 
 unfolding run
 run_one b s t e r granted = ap (λ o. after o (λ t. run b t [])) granted
 
-pub run_on : (b : Build) (s t u : State) (xs ys : List Event) (rs qs : List Reply) → run b s xs ≡ Some (t, rs) → run b t ys ≡ Some (u, qs) → run b s (xs ++ ys) ≡ Some (u, rs ++ qs)
+pub run_on : (b : Build) (s t u : State) (xs ys : List Event) (rs qs : List Reply) → run b s xs ≡ Some (t, rs) → run b t ys ≡ Some (u, qs)
+    → run b s (xs ++ ys) ≡ Some (u, rs ++ qs)
 run_on b s t u xs ys rs qs first later =
     run_append b s xs ys ∙ ap (λ o. joined o (λ v. run b v ys)) first ∙ ap (behind rs) later
 

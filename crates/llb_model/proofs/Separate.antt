@@ -13,7 +13,8 @@ use Rattle.llb_model.proofs.Runs.{run_keeps}
 
 -- of the places that count, no two workers have one
 pub record IsSeparate (E : Place → Type 0) (ws : List At) : Type 0 where
-  pub once : (w u : ℕ) (x y : Execution) (p : Place) → slice_get ws w ≡ Some (Runs x) → slice_get ws u ≡ Some (Runs y) → Has x.places p → Has y.places p → E p → w ≡ u
+  pub once : (w u : ℕ) (x y : Execution) (p : Place) → slice_get ws w ≡ Some (Runs x) → slice_get ws u ≡ Some (Runs y) → Has x.places p
+      → Has y.places p → E p → w ≡ u
 
 unfoldable pub alone : Place → Type 0
 alone p = IsExclusive p.key.mode
@@ -25,7 +26,8 @@ pub opening_separate : (E : Place → Type 0) (n : ℕ) → IsSeparate E (replic
 opening_separate E n = record { once = λ w u x y p there. absurd (let h : Runs x ≡ Idle = got_replicate n Idle w (Runs x) there in cc) }
 
 -- a worker that takes places which are free, of those that count
-pub taken_separate : (E : Place → Type 0) (ws : List At) (w : ℕ) (z : Execution) → ((p : Place) → Has z.places p → E p → IsFree ws p) → IsSeparate E ws → IsSeparate E (slice_set ws w (Runs z))
+pub taken_separate : (E : Place → Type 0) (ws : List At) (w : ℕ) (z : Execution) → ((p : Place) → Has z.places p → E p → IsFree ws p)
+    → IsSeparate E ws → IsSeparate E (slice_set ws w (Runs z))
 taken_separate E ws w z free sep = record {
   once = λ a b x y p at_a at_b has_a has_b counts. elim (got_set ws w (Runs z) a (Runs x) at_a) [
     | inl h ↦ elim (got_set ws w (Runs z) b (Runs y) at_b) [
@@ -43,7 +45,8 @@ taken_separate E ws w z free sep = record {
     same_run x e = cc
 
 -- workers of which each that runs ran on the same places before
-pub fewer_separate : (E : Place → Type 0) (ws vs : List At) → ((w : ℕ) (x : Execution) → slice_get vs w ≡ Some (Runs x) → (y : Execution) × (slice_get ws w ≡ Some (Runs y)) × (y.places ≡ x.places))
+pub fewer_separate : (E : Place → Type 0) (ws vs : List At)
+    → ((w : ℕ) (x : Execution) → slice_get vs w ≡ Some (Runs x) → (y : Execution) × (slice_get ws w ≡ Some (Runs y)) × (y.places ≡ x.places))
     → IsSeparate E ws → IsSeparate E vs
 fewer_separate E ws vs back sep = record {
   once = λ a b x y p at_a at_b has_a has_b counts.
@@ -53,7 +56,8 @@ fewer_separate E ws vs back sep = record {
 }
 
 pub stepped_back : (ws : List At) (w : ℕ) (x : Execution) (left : Left) → slice_get ws w ≡ Some (Runs x)
-    → (u : ℕ) (y : Execution) → slice_get (slice_set ws w (Runs (with_step x left))) u ≡ Some (Runs y) → (z : Execution) × (slice_get ws u ≡ Some (Runs z)) × (z.places ≡ y.places)
+    → (u : ℕ) (y : Execution) → slice_get (slice_set ws w (Runs (with_step x left))) u ≡ Some (Runs y)
+    → (z : Execution) × (slice_get ws u ≡ Some (Runs z)) × (z.places ≡ y.places)
 stepped_back ws w x left there u y at_u = elim (got_set ws w (Runs (with_step x left)) u (Runs y) at_u) [
   | inl h ↦
       let same : y ≡ with_step x left = inside h.1 in
@@ -64,7 +68,8 @@ stepped_back ws w x left there u y at_u = elim (got_set ws w (Runs (with_step x 
     inside : {a b : Execution} → Runs a ≡ Runs b → a ≡ b
     inside e = cc
 
-pub settled_back : (ws : List At) (w u : ℕ) (y : Execution) → slice_get (slice_set ws w Idle) u ≡ Some (Runs y) → (z : Execution) × (slice_get ws u ≡ Some (Runs z)) × (z.places ≡ y.places)
+pub settled_back : (ws : List At) (w u : ℕ) (y : Execution) → slice_get (slice_set ws w Idle) u ≡ Some (Runs y)
+    → (z : Execution) × (slice_get ws u ≡ Some (Runs z)) × (z.places ≡ y.places)
 settled_back ws w u y at_u = elim (got_set ws w Idle u (Runs y) at_u) [ inl h ↦ absurd (cc (h.1)) | inr h ↦ (y, h.1, refl) ]
 
 -- what a claim takes is free, of the places that count
@@ -74,7 +79,8 @@ TakesFree E b s a (Step w) = Unit {0}
 TakesFree E b s a (Settle w) = Unit {0}
 
 -- an event keeps workers apart, where what a claim takes is free
-pub event_separate : (E : Place → Type 0) (b : Build) (s : State) (e : Event) (a : Answer) → IsSeparate E s.workers → TakesFree E b s a e → table b s e ≡ Some a → IsSeparate E a.0.workers
+pub event_separate : (E : Place → Type 0) (b : Build) (s : State) (e : Event) (a : Answer) → IsSeparate E s.workers → TakesFree E b s a e
+    → table b s e ≡ Some a → IsSeparate E a.0.workers
 event_separate E b s (Claim w v) a sep free given =
     let c = claim_is b s w v a given in
     let z = execution_on v (begin_at b s.store c.start (claim_places s c.start)) (claim_places s c.start) in
@@ -82,13 +88,15 @@ event_separate E b s (Claim w v) a sep free given =
 event_separate E b s (Step w) a sep free given =
     let c = step_is b s w a given in
     let left = step_on c.x.done (Some c.step) (work_of s c.x) in
-    subst (λ (t : Answer). IsSeparate E t.0.workers) (sym c.gives) (fewer_separate E s.workers (slice_set s.workers w (Runs (with_step c.x left))) (stepped_back s.workers w c.x left c.there) sep)
+    subst (λ (t : Answer). IsSeparate E t.0.workers) (sym c.gives)
+    (fewer_separate E s.workers (slice_set s.workers w (Runs (with_step c.x left))) (stepped_back s.workers w c.x left c.there) sep)
 event_separate E b s (Settle w) a sep free given =
     let c = settle_is b s w a given in
     subst (λ (t : Answer). IsSeparate E t.0.workers) (sym c.gives) (fewer_separate E s.workers (slice_set s.workers w Idle) (settled_back s.workers w) sep)
 
 -- what a claim takes alone is free
-pub alone_free : (b : Build) (s : State) (w v : ℕ) (a : Answer) (c : IsClaim b s w v a) (p : Place) → Has (claim_places s c.start) p → alone p → IsFree s.workers p
+pub alone_free : (b : Build) (s : State) (w v : ℕ) (a : Answer) (c : IsClaim b s w v a) (p : Place) → Has (claim_places s c.start) p
+    → alone p → IsFree s.workers p
 unfolding alone
 alone_free b s w v a c p h counts = free_from s.workers p (places_free (held s.workers) (needs_of c.start.vertex) c.unheld p h counts)
 

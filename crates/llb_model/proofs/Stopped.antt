@@ -1,5 +1,6 @@
 -- Which vertices are stopped: one whose inputs are all there is not; one that has not failed itself waits, and has the plain outcome Blocked.
-use Rattle.std.proofs.Common.{◌≡◌, ℕ, zero, suc, ◌<◌, Bool, true, false, ◌||◌, ◌&&◌, List, [], ◌∷◌, length, take, Option, Some, None, is_some, unwrap_or, ◌⊎◌, inl, inr, refl, sym, ap, subst, ◌∙◌, arith}
+use Rattle.std.proofs.Common.{◌≡◌, ℕ, zero, suc, ◌<◌, Bool, true, false, ◌||◌, ◌&&◌, List, [], ◌∷◌, length, take, Option, Some, None}
+use Rattle.std.proofs.Common.{is_some, unwrap_or, ◌⊎◌, inl, inr, refl, sym, ap, subst, ◌∙◌, arith}
 use Rattle.std.specs.Prelude.{slice_get}
 use Rattle.std.specs.List.{list_any}
 use Rattle.std.proofs.lemmas.List.{length-take-le}
@@ -11,7 +12,8 @@ use Rattle.llb_loader.specs.declared.graph.Vertex.{Vertex}
 use Rattle.llb_model.specs.declared.fault.VertexFault.{VertexFault}
 use Rattle.llb_model.specs.Program.{Build, Start}
 use Rattle.llb_model.specs.Outcome.{Ending, Done, Failed, Blocked, output_in, inputs_from, outcome_on, ending_in, outcome, is_plain}
-use Rattle.llb_model.specs.State.{Status, Waiting, Running, Settled, State, ending_of, ending_at, ready, is_ready, is_waiting, is_failed, next_stopped, stopped, is_blocked, is_stopped}
+use Rattle.llb_model.specs.State.{Status, Waiting, Running, Settled, State, ending_of, ending_at, ready, is_ready, is_waiting, is_failed}
+use Rattle.llb_model.specs.State.{next_stopped, stopped, is_blocked, is_stopped}
 use Rattle.llb_model.specs.Consistent.{IsConsistent}
 use Rattle.llb_model.specs.Plain.{StandsByOutcomes}
 use Rattle.llb_model.proofs.Lists.{some_of, get_take, get_within, got_within, Each_of, each_unit, each_both, any_true, some_as}
@@ -44,7 +46,8 @@ any_stopped b statuses edges = list_any (λ (e : Edge). is_stopped b statuses e.
 pub stopped_is : (b : Build) → IsGraph b.graph → (statuses : List Status) (k : ℕ) (v : Vertex) → slice_get b.graph.vertices k ≡ Some v
     → is_stopped b statuses k ≡ (is_failed (ending_at statuses k) || any_stopped b statuses v.inputs)
 stopped_is b graph statuses k v there =
-    let fits : length (take k (stopped b statuses)) ≡ k = length-take-le k (stopped b statuses) (omega (arith, stopped_length b statuses, got_within b.graph.vertices k v there)) in
+    let fits : length (take k (stopped b statuses)) ≡ k = length-take-le k (stopped b statuses)
+    (omega (arith, stopped_length b statuses, got_within b.graph.vertices k v there)) in
     ap (λ o. unwrap_or o false) (stopped_next b statuses k v there)
     ∙ ap (λ n. is_failed (ending_at statuses n) || list_any (λ (e : Edge). unwrap_or (slice_get (take k (stopped b statuses)) e.vertex) false) v.inputs) fits
     ∙ ap (λ t. is_failed (ending_at statuses k) || t) (lower v.inputs (each_below b.graph graph k v there))
@@ -55,9 +58,11 @@ stopped_is b graph statuses k v there =
     lower (e ∷ edges) each = λ i. unwrap_or (get_take (stopped b statuses) k e.vertex each.0.lower i) false || lower edges each.1 i
 
 -- a stopped vertex has failed, or an input of it is stopped
-pub stopped_cases : (b : Build) → IsGraph b.graph → (statuses : List Status) (k : ℕ) (v : Vertex) → slice_get b.graph.vertices k ≡ Some v → is_stopped b statuses k ≡ true
+pub stopped_cases : (b : Build) → IsGraph b.graph → (statuses : List Status) (k : ℕ) (v : Vertex) → slice_get b.graph.vertices k ≡ Some v
+    → is_stopped b statuses k ≡ true
     → (is_failed (ending_at statuses k) ≡ true) ⊎ (any_stopped b statuses v.inputs ≡ true)
-stopped_cases b graph statuses k v there stop = or_cases (is_failed (ending_at statuses k)) (any_stopped b statuses v.inputs) (sym (stopped_is b graph statuses k v there) ∙ stop)
+stopped_cases b graph statuses k v there stop = or_cases (is_failed (ending_at statuses k)) (any_stopped b statuses v.inputs)
+    (sym (stopped_is b graph statuses k v there) ∙ stop)
 
 failed_is : (o : Option Ending) → is_failed o ≡ true → (f : VertexFault) × (o ≡ Some (Failed f))
 failed_is None e = absurd cc
@@ -76,7 +81,8 @@ module _ (b : Build) (graph : IsGraph b.graph) (statuses : List Status) (P : ℕ
   NoTrees : ℕ → Type 0
   NoTrees n = (k : ℕ) → k < n → P k → is_stopped b statuses k ≡ true → (i : ℕ) → output_in (f k) i ≡ None
 
-  none_behind : LacksTrees → (k : ℕ) (v : Vertex) → P k → slice_get b.graph.vertices k ≡ Some v → NoTrees k → any_stopped b statuses v.inputs ≡ true → inputs_from f v.inputs ≡ None
+  none_behind : LacksTrees → (k : ℕ) (v : Vertex) → P k → slice_get b.graph.vertices k ≡ Some v → NoTrees k
+      → any_stopped b statuses v.inputs ≡ true → inputs_from f v.inputs ≡ None
   unfolding NoTrees
   none_behind lacks k v own there below any =
       inputs_none f v.inputs (some_as (λ (e : Edge). is_stopped b statuses e.vertex ≡ true) (λ (e : Edge). LeadsBelow b.graph.vertices k e × P e.vertex)
@@ -95,7 +101,8 @@ module _ (b : Build) (graph : IsGraph b.graph) (statuses : List Status) (P : ℕ
       ]
 
   -- a stopped vertex that has not failed itself lacks an input
-  lacks_inputs : LacksTrees → (k : ℕ) (v : Vertex) → P k → slice_get b.graph.vertices k ≡ Some v → is_stopped b statuses k ≡ true → is_failed (ending_at statuses k) ≡ false
+  lacks_inputs : LacksTrees → (k : ℕ) (v : Vertex) → P k → slice_get b.graph.vertices k ≡ Some v → is_stopped b statuses k ≡ true
+      → is_failed (ending_at statuses k) ≡ false
       → inputs_from f v.inputs ≡ None
   lacks_inputs lacks k v own there stop unfailed = elim (stopped_cases b graph statuses k v there stop) [
     | inl h ↦ absurd (cc (h, unfailed))
@@ -167,11 +174,13 @@ module _ (b : Build) (graph : IsGraph b.graph) (s : State) (here : IsConsistent 
   pub stops_by : (k : ℕ) → is_stopped b s.statuses k ≡ (is_failed (ending_at s.statuses k) || is_blocked b s.statuses k)
   stops_by k = by_cases (is_failed (ending_at s.statuses k)) refl (is_stopped b s.statuses k) refl
     where
-      by_cases : (f : Bool) → is_failed (ending_at s.statuses k) ≡ f → (t : Bool) → is_stopped b s.statuses k ≡ t → t ≡ (f || (is_waiting (slice_get s.statuses k) && t))
+      by_cases : (f : Bool) → is_failed (ending_at s.statuses k) ≡ f → (t : Bool) → is_stopped b s.statuses k ≡ t
+          → t ≡ (f || (is_waiting (slice_get s.statuses k) && t))
       by_cases true own true stop = refl
       by_cases true own false stop =
           let f = failed_is (ending_at s.statuses k) own in
-          let v = get_within b.graph.vertices k (omega (arith, got_within s.statuses k (Settled (Failed f.0)) (ending_settled (slice_get s.statuses k) (Failed f.0) f.1), here.count)) in
+          let v = get_within b.graph.vertices k
+          (omega (arith, got_within s.statuses k (Settled (Failed f.0)) (ending_settled (slice_get s.statuses k) (Failed f.0) f.1), here.count)) in
           let yes : is_stopped b s.statuses k ≡ true = stopped_is b graph s.statuses k v.0 v.1 ∙ ap (λ t. t || any_stopped b s.statuses v.0.inputs) own in
           absurd (cc (yes, stop))
       by_cases false own true stop = ap (λ t. t && true) (sym (stopped_waits k stop own))
@@ -179,7 +188,8 @@ module _ (b : Build) (graph : IsGraph b.graph) (s : State) (here : IsConsistent 
 
   -- a vertex is blocked exactly where it waits, and an input of it has failed or is blocked
   pub blocked_is : (k : ℕ) (v : Vertex) → slice_get b.graph.vertices k ≡ Some v
-      → is_blocked b s.statuses k ≡ (is_waiting (slice_get s.statuses k) && list_any (λ (e : Edge). is_failed (ending_at s.statuses e.vertex) || is_blocked b s.statuses e.vertex) v.inputs)
+      → is_blocked b s.statuses k ≡ (is_waiting (slice_get s.statuses k) && list_any
+      (λ (e : Edge). is_failed (ending_at s.statuses e.vertex) || is_blocked b s.statuses e.vertex) v.inputs)
   blocked_is k v there = by_status (slice_get s.statuses k) refl
     where
       each_same : (edges : List Edge)
@@ -188,7 +198,8 @@ module _ (b : Build) (graph : IsGraph b.graph) (s : State) (here : IsConsistent 
       each_same (e ∷ edges) = λ i. stops_by e.vertex i || each_same edges i
 
       by_status : (o : Option Status) → slice_get s.statuses k ≡ o
-          → (is_waiting o && is_stopped b s.statuses k) ≡ (is_waiting o && list_any (λ (e : Edge). is_failed (ending_at s.statuses e.vertex) || is_blocked b s.statuses e.vertex) v.inputs)
+          → (is_waiting o && is_stopped b s.statuses k)
+          ≡ (is_waiting o && list_any (λ (e : Edge). is_failed (ending_at s.statuses e.vertex) || is_blocked b s.statuses e.vertex) v.inputs)
       by_status None is = refl
       by_status (Some (Running w)) is = refl
       by_status (Some (Settled e)) is = refl
@@ -209,7 +220,8 @@ module _ (b : Build) (graph : IsGraph b.graph) (s : State) (stands : StandsByOut
   }
 
   -- a stopped vertex that has not failed itself has the plain outcome Blocked
-  pub stopped_blocked : (k : ℕ) → is_plain b k ≡ true → is_stopped b s.statuses k ≡ true → is_failed (ending_at s.statuses k) ≡ false → outcome b k ≡ Some Blocked
+  pub stopped_blocked : (k : ℕ) → is_plain b k ≡ true → is_stopped b s.statuses k ≡ true → is_failed (ending_at s.statuses k) ≡ false
+      → outcome b k ≡ Some Blocked
   stopped_blocked k own stop unfailed =
       let v = get_within b.graph.vertices k (stopped_there b s.statuses k stop) in
       blocked_by k v.0 v.1 (lacks_inputs b graph s.statuses (λ k. is_plain b k ≡ true) (plain b) by_outcomes k v.0 own v.1 stop unfailed)

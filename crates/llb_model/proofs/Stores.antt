@@ -1,5 +1,6 @@
 -- Contents and places: what a write changes, and what stays.
-use Rattle.std.proofs.Common.{◌≡◌, ◌≢◌, suc, Bool, true, false, ◌||◌, List, [], ◌∷◌, ◌++◌, length, map, Option, Some, None, unwrap_or, ◌⊎◌, inl, inr, refl, sym, ap, subst, ◌∙◌, cond, arith}
+use Rattle.std.proofs.Common.{◌≡◌, ◌≢◌, suc, Bool, true, false, ◌||◌, List, [], ◌∷◌, ◌++◌, length, map, Option, Some, None, unwrap_or, ◌⊎◌}
+use Rattle.std.proofs.Common.{inl, inr, refl, sym, ap, subst, ◌∙◌, cond, arith}
 use Rattle.std.specs.Ordering.{eq_by_cmp}
 use Rattle.std.specs.Cmp.{IsTotalOrder, Equal-is, on_total}
 use Rattle.std.specs.Cmp.Lexicographic.{lists_total, nat_list_cmp_total}
@@ -11,7 +12,8 @@ use Rattle.llb_cache.specs.declared.key.Seed.{Seed}
 use Rattle.llb_cache.specs.declared.key.Mode.{Mode}
 use Rattle.llb_cache.specs.declared.key.Mode.TheVariants.{Shared, Private, Locked}
 use Rattle.llb_tree.specs.Tree.{TreeMap, empty_tree}
-use Rattle.llb_model.specs.Caches.{Place, mode_number, seed_name, key_name, name_of, place_cmp, Store, content, put, put_all, trees_at, Hold, Has, Distinct, is_in}
+use Rattle.llb_model.specs.Caches.{Place, mode_number, seed_name, key_name, name_of, place_cmp, Store, content, put, put_all, trees_at}
+use Rattle.llb_model.specs.Caches.{Hold, Has, Distinct, is_in}
 
 -- ---- places
 
@@ -184,7 +186,8 @@ hold_same s r (q ∷ ps) [] a b p h = absurd a
 hold_same s r (q ∷ ps) (t ∷ ts) a b p (inl h) = ap (content s) h ∙ a.0 ∙ sym b.0 ∙ ap (content r) (sym h)
 hold_same s r (q ∷ ps) (t ∷ ts) a b p (inr h) = hold_same s r ps ts a.1 b.1 p h
 
-pub put_all_put : (s : Store) (p : Place) (t : TreeMap) (ps : List Place) (ts : List TreeMap) → (Has ps p → ⊥) → put_all (put s p t) ps ts ≡ put (put_all s ps ts) p t
+pub put_all_put : (s : Store) (p : Place) (t : TreeMap) (ps : List Place) (ts : List TreeMap) → (Has ps p → ⊥)
+    → put_all (put s p t) ps ts ≡ put (put_all s ps ts) p t
 put_all_put s p t [] ts apart = refl
 put_all_put s p t (q ∷ ps) [] apart = refl
 put_all_put s p t (q ∷ ps) (u ∷ ts) apart =
@@ -193,10 +196,12 @@ put_all_put s p t (q ∷ ps) (u ∷ ts) apart =
 pub trees_same : (s r : Store) (ps : List Place) → ((p : Place) → Has ps p → content r p ≡ content s p) → trees_at r ps ≡ trees_at s ps
 trees_same s r [] same = refl
 trees_same s r (p ∷ ps) same =
-    ap (λ o. unwrap_or o empty_tree ∷ trees_at r ps) (same p (inl refl)) ∙ ap (λ us. unwrap_or (content s p) empty_tree ∷ us) (trees_same s r ps (λ q h. same q (inr h)))
+    ap (λ o. unwrap_or o empty_tree ∷ trees_at r ps) (same p (inl refl))
+    ∙ ap (λ us. unwrap_or (content s p) empty_tree ∷ us) (trees_same s r ps (λ q h. same q (inr h)))
 
 -- what stands at a place still does, with this or another tree
-pub put_holds : (s : Store) (ps : List Place) (ts : List TreeMap) (qs : List Place) (us : List TreeMap) → Hold s qs us → (vs : List TreeMap) × Hold (put_all s ps ts) qs vs
+pub put_holds : (s : Store) (ps : List Place) (ts : List TreeMap) (qs : List Place) (us : List TreeMap) → Hold s qs us
+    → (vs : List TreeMap) × Hold (put_all s ps ts) qs vs
 put_holds s [] ts qs us hold = (us, hold)
 put_holds s (p ∷ ps) [] qs us hold = (us, hold)
 put_holds s (p ∷ ps) (t ∷ ts) qs us hold = let h = one s p t qs us hold in put_holds (put s p t) ps ts qs h.0 h.1

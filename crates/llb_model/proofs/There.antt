@@ -29,8 +29,10 @@ still store ps ts qs t = let h = put_holds store ps ts qs t.trees t.hold in reco
 written : (store : Store) (ps : List Place) (ts : List TreeMap) → Distinct ps → length ts ≡ length ps → IsThere (put_all store ps ts) ps
 written store ps ts apart count = record { apart = apart; trees = ts; hold = hold_all store ps ts apart count }
 
-after_write : (store : Store) (ws : List At) (w : ℕ) (z : Execution) (ts : List TreeMap) → ((u : ℕ) (x : Execution) → slice_get ws u ≡ Some (Runs x) → IsThere store x.places)
-    → Distinct z.places → length ts ≡ length z.places → (u : ℕ) (x : Execution) → slice_get (slice_set ws w (Runs z)) u ≡ Some (Runs x) → IsThere (put_all store z.places ts) x.places
+after_write : (store : Store) (ws : List At) (w : ℕ) (z : Execution) (ts : List TreeMap)
+    → ((u : ℕ) (x : Execution) → slice_get ws u ≡ Some (Runs x) → IsThere store x.places)
+    → Distinct z.places → length ts ≡ length z.places → (u : ℕ) (x : Execution) → slice_get (slice_set ws w (Runs z)) u ≡ Some (Runs x)
+    → IsThere (put_all store z.places ts) x.places
 after_write store ws w z ts old apart count u x there = elim (got_set ws w (Runs z) u (Runs x) there) [
   | inl h ↦
       let same : z ≡ x = cc (h.1) in
@@ -45,16 +47,20 @@ event_there b differ s (Claim w v) a f given =
     let work = begin_at b s.store c.start ps in
     let count = first_length s.store c.start.inputs ps (needs_of c.start.vertex) (places_length (held s.workers) (needs_of c.start.vertex)) in
     let apart = places_distinct (held s.workers) (needs_of c.start.vertex) (differ v c.start.vertex c.begins.there) in
-    subst (λ (t : Answer). AreThere t.0) (sym c.gives) (record { each = after_write s.store s.workers w (execution_on v work ps) work.trees f.each apart count })
+    subst (λ (t : Answer). AreThere t.0) (sym c.gives)
+    (record { each = after_write s.store s.workers w (execution_on v work ps) work.trees f.each apart count })
 event_there b differ s (Step w) a f given =
     let c = step_is b s w a given in
     let own = f.each w c.x c.there in
     let left = step_on c.x.done (Some c.step) (work_of s c.x) in
-    let count = step_keeps c.x.done (Some c.step) (work_of s c.x) ∙ ap length (hold_trees s.store c.x.places own.trees own.hold) ∙ hold_length s.store c.x.places own.trees own.hold in
-    subst (λ (t : Answer). AreThere t.0) (sym c.gives) (record { each = after_write s.store s.workers w (with_step c.x left) left.work.trees f.each own.apart count })
+    let count = step_keeps c.x.done (Some c.step) (work_of s c.x) ∙ ap length (hold_trees s.store c.x.places own.trees own.hold)
+    ∙ hold_length s.store c.x.places own.trees own.hold in
+    subst (λ (t : Answer). AreThere t.0) (sym c.gives)
+    (record { each = after_write s.store s.workers w (with_step c.x left) left.work.trees f.each own.apart count })
 event_there b differ s (Settle w) a f given =
     let c = settle_is b s w a given in
-    subst (λ (t : Answer). AreThere t.0) (sym c.gives) (record { each = λ u x there. elim (got_set s.workers w Idle u (Runs x) there) [ inl h ↦ absurd (cc (h.1)) | inr h ↦ f.each u x h.1 ] })
+    subst (λ (t : Answer). AreThere t.0) (sym c.gives)
+    (record { each = λ u x there. elim (got_set s.workers w Idle u (Runs x) there) [ inl h ↦ absurd (cc (h.1)) | inr h ↦ f.each u x h.1 ] })
 
 pub held_are_there : (b : Build) → HasDistinctNeeds b → HeldAreThere b
 held_are_there b differ s r w x there =

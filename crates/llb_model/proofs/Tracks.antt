@@ -1,14 +1,18 @@
 -- A run keeps step with its claim order: what runs has done the first micro-steps of what the order did at the claim.
-use Rattle.std.proofs.Common.{◌≡◌, ◌≢◌, ℕ, zero, suc, ◌+◌, true, List, [], ◌∷◌, length, map, Option, Some, None, unwrap_or, inl, inr, refl, sym, ap, subst, ◌∙◌, arith}
+use Rattle.std.proofs.Common.{◌≡◌, ◌≢◌, ℕ, zero, suc, ◌+◌, true, List, [], ◌∷◌, length, map, Option, Some, None, unwrap_or, inl, inr, refl}
+use Rattle.std.proofs.Common.{sym, ap, subst, ◌∙◌, arith}
 use Rattle.std.specs.Prelude.{slice_get, slice_set, replicate}
 use Rattle.llb_loader.specs.declared.graph.Vertex.{Vertex}
 use Rattle.llb_tree.specs.Tree.{TreeMap}
 use Rattle.llb_model.specs.declared.fault.VertexFault.{VertexFault}
 use Rattle.llb_model.specs.Caches.{Place, Store, content, Hold, Has, Distinct}
-use Rattle.llb_model.specs.Program.{Build, MicroStep, ReadLocal, Act, LayInput, Run, Program, View, Need, Work, Left, Start, program_of, program_at, needs_of, base_in, step_on, unless_faulted, go_on, part, whole}
+use Rattle.llb_model.specs.Program.{Build, MicroStep, ReadLocal, Act, LayInput, Run, Program, View, Need, Work, Left, Start, program_of}
+use Rattle.llb_model.specs.Program.{program_at, needs_of, base_in, step_on, unless_faulted, go_on, part, whole}
 use Rattle.llb_model.specs.Outcome.{Ending, Done, Failed, ending}
-use Rattle.llb_model.specs.State.{Status, Waiting, Running, Settled, Execution, Idle, Runs, State, Opening, opening, ending_of, ending_at, ready, program_in, is_finished, next_step, work_of, ending_from, held, IsFree, first_trees, begin_at}
-use Rattle.llb_model.specs.Table.{Event, Claim, Step, Settle, Reply, execution_on, claim_at, with_step, after_step, after_settle, step_reply, settle_reply, table}
+use Rattle.llb_model.specs.State.{Status, Waiting, Running, Settled, Execution, Idle, Runs, State, Opening, opening, ending_of, ending_at}
+use Rattle.llb_model.specs.State.{ready, program_in, is_finished, next_step, work_of, ending_from, held, IsFree, first_trees, begin_at}
+use Rattle.llb_model.specs.Table.{Event, Claim, Step, Settle, Reply, execution_on, claim_at, with_step, after_step, after_settle}
+use Rattle.llb_model.specs.Table.{step_reply, settle_reply, table}
 use Rattle.llb_model.specs.Order.{Order, at_first, named, whole_at, run_whole, order, claims_in}
 use Rattle.llb_model.specs.Laws.{HasDistinctNeeds}
 use Rattle.llb_model.proofs.Lists.{some_of, got_set, get_set_same, get_set_other, got_replicate, each_unit}
@@ -30,7 +34,7 @@ at_work own trees = record { own = own; trees = trees }
 abbrev left_at : View → List TreeMap → Option VertexFault → Left
 left_at own trees fault = record { work = at_work own trees; fault = fault }
 
--- what a worker runs: so much of its program on what the order began it with, on its instances as they are now
+-- what a worker runs: that much of its program on what the order began it with, on its instances as they are now
 pub record IsWorking (b : Build) (s : State) (o : Order) (w : ℕ) (x : Execution) : Type 0 where
   pub vertex : Vertex
   pub there : slice_get b.graph.vertices x.vertex ≡ Some vertex
@@ -84,27 +88,32 @@ agree_one xs ys v a x at_x new old k = go (slice_get (slice_set xs v a) k) refl
     go : (o : Option Status) → slice_get (slice_set xs v a) k ≡ o → Agrees (slice_get (slice_set xs v a) k) (slice_get ys k)
     go None is = at_other (λ same. let both : some_of a ≡ None = sym (get_set_same xs v a x at_x) ∙ ap (slice_get (slice_set xs v a)) (sym same) ∙ is in cc)
     go (Some z) is = elim (got_set xs v a k z is) [
-      | inl h ↦ subst (λ j. Agrees (slice_get (slice_set xs v a) j) (slice_get ys j)) (sym h.0) (subst (λ (r : Option Status). Agrees r (slice_get ys v)) (sym (get_set_same xs v a x at_x)) new)
+      | inl h ↦ subst (λ j. Agrees (slice_get (slice_set xs v a) j) (slice_get ys j)) (sym h.0)
+          (subst (λ (r : Option Status). Agrees r (slice_get ys v)) (sym (get_set_same xs v a x at_x)) new)
       | inr h ↦ at_other h.0
     ]
 
 -- ---- inputs
 
 -- what has ended has ended so in the order
-ends_too : (xs ys : List Status) → ((k : ℕ) → Agrees (slice_get xs k) (slice_get ys k)) → (j : ℕ) (e : Ending) → ending_at xs j ≡ Some e → ending_at ys j ≡ Some e
+ends_too : (xs ys : List Status) → ((k : ℕ) → Agrees (slice_get xs k) (slice_get ys k)) → (j : ℕ) (e : Ending) → ending_at xs j ≡ Some e
+    → ending_at ys j ≡ Some e
 ends_too xs ys same j e is = ap ending_of (agree_settled (slice_get xs j) (slice_get ys j) e (same j) (ending_settled (slice_get xs j) e is))
 
 -- a Ready vertex is Ready in the order, with the same inputs
-pub ready_too : (b : Build) (xs ys : List Status) → ((k : ℕ) → Agrees (slice_get xs k) (slice_get ys k)) → (v : ℕ) (start : Start) → IsReady b xs v start → ready b ys v ≡ Some start
+pub ready_too : (b : Build) (xs ys : List Status) → ((k : ℕ) → Agrees (slice_get xs k) (slice_get ys k)) → (v : ℕ) (start : Start)
+    → IsReady b xs v start → ready b ys v ≡ Some start
 ready_too b xs ys same v start r = ready_as b ys v start (record {
   waits = agree_waiting (slice_get xs v) (slice_get ys v) (same v) r.waits;
   there = r.there;
-  inputs = inputs_mono (λ j. Unit {0}) (ending_at xs) (ending_at ys) (λ j e u. ends_too xs ys same j e) start.vertex.inputs (each_unit start.vertex.inputs) start.inputs r.inputs;
+  inputs = inputs_mono (λ j. Unit {0}) (ending_at xs) (ending_at ys) (λ j e u. ends_too xs ys same j e) start.vertex.inputs
+      (each_unit start.vertex.inputs) start.inputs r.inputs;
 })
 
 -- ---- what a claim begins with
 
-first_agrees : (a b : Store) (inputs : List TreeMap) (ps : List Place) (ns : List Need) → ((p : Place) → Has ps p → content a p ≡ content b p) → first_trees a inputs ps ns ≡ first_trees b inputs ps ns
+first_agrees : (a b : Store) (inputs : List TreeMap) (ps : List Place) (ns : List Need)
+    → ((p : Place) → Has ps p → content a p ≡ content b p) → first_trees a inputs ps ns ≡ first_trees b inputs ps ns
 first_agrees a b inputs [] ns same = refl
 first_agrees a b inputs (p ∷ ps) [] same = refl
 first_agrees a b inputs (p ∷ ps) (n ∷ ns) same =
@@ -175,12 +184,14 @@ module _ (b : Build) (s : State) (o : Order) (tracks : Tracks b s o) where
         apart = apart;
         status = get_set_same s.statuses v (Running w) Waiting r.waits;
         ends = get_set_same o.statuses v (Settled (ending p left)) Waiting waits;
-        leaves = hold_all o.store ps left.work.trees apart (part_keeps p.steps begun (length p.steps) ∙ first_length o.store start.inputs ps (needs_of start.vertex) count);
+        leaves = hold_all o.store ps left.work.trees apart (part_keeps p.steps begun (length p.steps)
+            ∙ first_length o.store start.inputs ps (needs_of start.vertex) count);
       }
 
       moved : (u : ℕ) (x : Execution) → slice_get s.workers u ≡ Some (Runs x) → IsWorking b s o u x → IsWorking b new later u x
       moved u x at_u old =
-          let other : x.vertex ≢ v = λ same. let both : some_of Waiting ≡ some_of (Running u) = sym r.waits ∙ ap (slice_get s.statuses) (sym same) ∙ old.status in absurd cc in
+          let other : x.vertex ≢ v = λ same. let both : some_of Waiting ≡ some_of (Running u) = sym r.waits
+          ∙ ap (slice_get s.statuses) (sym same) ∙ old.status in absurd cc in
           let mine : (q : Place) → Has x.places q → Has ps q → ⊥ = λ q h k. free q k u x at_u h in
           record {
             vertex = old.vertex;
@@ -197,7 +208,8 @@ module _ (b : Build) (s : State) (o : Order) (tracks : Tracks b s o) where
           }
 
   pub step_tracks : (w : ℕ) (x : Execution) (m : MicroStep) → slice_get s.workers w ≡ Some (Runs x) → next_step (program_in b x).steps x ≡ Some m
-      → IsSeparate any (after_step s w x (step_on x.done (Some m) (work_of s x))).workers → Tracks b (after_step s w x (step_on x.done (Some m) (work_of s x))) o
+      → IsSeparate any (after_step s w x (step_on x.done (Some m) (work_of s x))).workers
+      → Tracks b (after_step s w x (step_on x.done (Some m) (work_of s x))) o
   unfolding part
   step_tracks w x m at_w comes separate = record {
     agree = tracks.agree;
@@ -228,7 +240,8 @@ module _ (b : Build) (s : State) (o : Order) (tracks : Tracks b s o) where
       same_worker : (u : ℕ) (y : Execution) → slice_get s.workers u ≡ Some (Runs y) → u ≡ w → y ≡ x
       same_worker u y at_u same = let both : some_of (Runs y) ≡ some_of (Runs x) = sym at_u ∙ ap (slice_get s.workers) same ∙ at_w in cc
 
-      by_worker : (p : Place) → IsFree new.workers p → (Has x.places p → ⊥) → (u : ℕ) (y : Execution) → slice_get s.workers u ≡ Some (Runs y) → Has y.places p → ⊥
+      by_worker : (p : Place) → IsFree new.workers p → (Has x.places p → ⊥) → (u : ℕ) (y : Execution)
+          → slice_get s.workers u ≡ Some (Runs y) → Has y.places p → ⊥
       by_worker p is_free mine u y at_u h =
           is_free u y (get_set_other s.workers w (Runs z) u (λ same. mine (subst (λ (t : Execution). Has t.places p) (same_worker u y at_u same) h)) ∙ at_u) h
 
@@ -247,7 +260,8 @@ module _ (b : Build) (s : State) (o : Order) (tracks : Tracks b s o) where
           ∙ ap (λ n. step_on x.done n (work_of s x)) it.there
 
       count : length left.work.trees ≡ length x.places
-      count = step_keeps x.done (Some m) (work_of s x) ∙ ap length (hold_trees s.store x.places own.trees own.now) ∙ hold_length s.store x.places own.trees own.now
+      count = step_keeps x.done (Some m) (work_of s x) ∙ ap length (hold_trees s.store x.places own.trees own.now)
+          ∙ hold_length s.store x.places own.trees own.now
 
       add_one : (n : ℕ) → n + 1 ≡ suc n
       add_one n = omega arith
@@ -284,7 +298,8 @@ module _ (b : Build) (s : State) (o : Order) (tracks : Tracks b s o) where
   pub settle_tracks : (w : ℕ) (x : Execution) → slice_get s.workers w ≡ Some (Runs x) → is_finished (program_in b x).steps x ≡ true
       → IsSeparate any (slice_set s.workers w Idle) → Tracks b (after_settle s w x.vertex (ending_from (program_in b x) x)) o
   settle_tracks w x at_w fin separate = record {
-    agree = agree_one s.statuses o.statuses x.vertex (Settled end) (Running w) own.status (own.ends ∙ ap (λ (e : Ending). some_of (Settled e)) same_end) tracks.agree;
+    agree = agree_one s.statuses o.statuses x.vertex (Settled end) (Running w) own.status
+        (own.ends ∙ ap (λ (e : Ending). some_of (Settled e)) same_end) tracks.agree;
     working = λ u y there. elim (got_set s.workers w Idle u (Runs y) there) [
       | inl h ↦ absurd (cc (h.1))
       | inr h ↦
@@ -333,7 +348,8 @@ module _ (b : Build) (s : State) (o : Order) (tracks : Tracks b s o) where
       same_worker : (u : ℕ) (y : Execution) → slice_get s.workers u ≡ Some (Runs y) → u ≡ w → y ≡ x
       same_worker u y at_u same = let both : some_of (Runs y) ≡ some_of (Runs x) = sym at_u ∙ ap (slice_get s.workers) same ∙ at_w in cc
 
-      by_worker : (p : Place) → IsFree (slice_set s.workers w Idle) p → (Has x.places p → ⊥) → (u : ℕ) (y : Execution) → slice_get s.workers u ≡ Some (Runs y) → Has y.places p → ⊥
+      by_worker : (p : Place) → IsFree (slice_set s.workers w Idle) p → (Has x.places p → ⊥) → (u : ℕ) (y : Execution)
+          → slice_get s.workers u ≡ Some (Runs y) → Has y.places p → ⊥
       by_worker p is_free mine u y at_u h =
           is_free u y (get_set_other s.workers w Idle u (λ same. mine (subst (λ (t : Execution). Has t.places p) (same_worker u y at_u same) h)) ∙ at_u) h
 
@@ -360,7 +376,8 @@ settle_stays : (b : Build) (o : Order) (v : ℕ) (e : Ending) → after_reply b 
 settle_stays b o v (Done trees) = refl
 settle_stays b o v (Failed f) = refl
 
-pub event_tracks : (b : Build) → HasDistinctNeeds b → (s : State) (o : Order) (e : Event) (a : Answer) → Tracks b s o → TakesFree any b s a e → table b s e ≡ Some a
+pub event_tracks : (b : Build) → HasDistinctNeeds b → (s : State) (o : Order) (e : Event) (a : Answer) → Tracks b s o
+    → TakesFree any b s a e → table b s e ≡ Some a
     → Tracks b a.0 (after_reply b o a.1)
 event_tracks b differ s o (Claim w v) a tracks free given =
     let c = claim_is b s w v a given in
@@ -368,17 +385,20 @@ event_tracks b differ s o (Claim w v) a tracks free given =
     let ps = claim_places s c.start in
     let apart = places_distinct (held s.workers) (needs_of c.start.vertex) (differ v c.start.vertex r.there) in
     let separate = subst (λ (t : Answer). IsSeparate any t.0.workers) c.gives (event_separate any b s (Claim w v) a tracks.separate free given) in
-    let now = claim_tracks b s o tracks w v c.start ps c.idle r (λ p h. free c p h tt) apart (places_length (held s.workers) (needs_of c.start.vertex)) separate in
+    let now = claim_tracks b s o tracks w v c.start ps c.idle r (λ p h. free c p h tt) apart
+    (places_length (held s.workers) (needs_of c.start.vertex)) separate in
     let numbers = map (λ (p : Place). p.number) ps in
     subst (λ (t : Answer). Tracks b t.0 (after_reply b o t.1)) (sym c.gives)
-    (subst (λ (q : Option Start). Tracks b (claim_at b s w v c.start ps).0 (run_whole b o (named v numbers) q)) (sym (ready_too b s.statuses o.statuses tracks.agree v c.start r))
+    (subst (λ (q : Option Start). Tracks b (claim_at b s w v c.start ps).0 (run_whole b o (named v numbers) q))
+    (sym (ready_too b s.statuses o.statuses tracks.agree v c.start r))
     (subst (λ qs. Tracks b (claim_at b s w v c.start ps).0 (whole_at b o v c.start qs)) (sym (places_numbered (held s.workers) (needs_of c.start.vertex))) now))
 event_tracks b differ s o (Step w) a tracks free given =
     let c = step_is b s w a given in
     let left = step_on c.x.done (Some c.step) (work_of s c.x) in
     let separate = subst (λ (t : Answer). IsSeparate any t.0.workers) c.gives (event_separate any b s (Step w) a tracks.separate free given) in
     subst (λ (t : Answer). Tracks b t.0 (after_reply b o t.1)) (sym c.gives)
-    (subst (Tracks b (after_step s w c.x left)) (sym (step_stays b o c.x.done c.step left.fault)) (step_tracks b s o tracks w c.x c.step c.there c.next separate))
+    (subst (Tracks b (after_step s w c.x left)) (sym (step_stays b o c.x.done c.step left.fault))
+    (step_tracks b s o tracks w c.x c.step c.there c.next separate))
 event_tracks b differ s o (Settle w) a tracks free given =
     let c = settle_is b s w a given in
     let end = ending_from (program_in b c.x) c.x in

@@ -16,14 +16,16 @@ counted_by v (Some (kind.Source s)) is = is.steps
 counted_by v (Some (kind.File f)) is = is.steps ∙ sym (length_map Act f.actions)
 counted_by v (Some (kind.Merge m)) is = is.steps ∙ sym (length_map (λ (i : MergeInput). LayInput i.input) m.inputs)
 counted_by v (Some (kind.Exec x)) is =
-    is.steps ∙ sym (length_map (Run (setting_of x.meta)) is.commands) ∙ ap (λ (o : Option (List Command)). length (map (Run (setting_of x.meta)) (unwrap_or o []))) (sym is.script)
+    is.steps ∙ sym (length_map (Run (setting_of x.meta)) is.commands)
+    ∙ ap (λ (o : Option (List Command)). length (map (Run (setting_of x.meta)) (unwrap_or o []))) (sym is.script)
 counted_by v (Some (kind.Build b)) is = absurd is
 counted_by v (Some (kind.Diff d)) is = absurd is
 counted_by v None is = absurd is
 
 pub counted : (g : Numbered) (k : ℕ) (v : Vertex) → IsGraph g → slice_get g.vertices k ≡ Some v → v.steps ≡ length (program_of v).steps
 counted g k v graph at =
-    counted_by v v.op.kind (subst (λ x. IsVertexOf x x.op.kind) (get_or_from_slice_get g.vertices k v v at) (graph.kind k v (slice_get_within g.vertices k v at)))
+    counted_by v v.op.kind (subst (λ x. IsVertexOf x x.op.kind) (get_or_from_slice_get g.vertices k v v at)
+    (graph.kind k v (slice_get_within g.vertices k v at)))
 
 pub few_steps : (g : Numbered) (k : ℕ) (v : Vertex) → IsGraph g → slice_get g.vertices k ≡ Some v → v.steps < 2 ^ 25
 few_steps g k v graph at =

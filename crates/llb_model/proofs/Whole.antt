@@ -60,7 +60,10 @@ always b s [] = tt
 always b s (e ∷ es) = (tt, λ a given. always b a.0 es)
 
 stands : (b : Build) (s : State) (o : Order) → Tracks b s o → StandsIn s o
-stands b s o tracks = record { endings = λ v e is. agree_settled (slice_get s.statuses v) (slice_get o.statuses v) e (tracks.agree v) is; contents = tracks.free }
+stands b s o tracks = record {
+  endings = λ v e is. agree_settled (slice_get s.statuses v) (slice_get o.statuses v) e (tracks.agree v) is;
+  contents = tracks.free;
+}
 
 pub runs_in_claim_order : (b : Build) → HasDistinctNeeds b → NoShared b → RunsInClaimOrder b
 runs_in_claim_order b differ none opened es rs s given =

@@ -13,6 +13,8 @@ pub record IsConsistent (b : Build) (s : State) : Type 0 where
   pub running : (v w : ℕ) → slice_get s.statuses v ≡ Some (Running w) → (x : Execution) × (slice_get s.workers w ≡ Some (Runs x)) × (x.vertex ≡ v)
   pub working : (w : ℕ) (x : Execution) → slice_get s.workers w ≡ Some (Runs x) → slice_get s.statuses x.vertex ≡ Some (Running w)
   -- what is done has as many trees as outputs
-  pub outputs : (v : ℕ) (x : Vertex) (trees : List TreeMap) → slice_get b.graph.vertices v ≡ Some x → slice_get s.statuses v ≡ Some (Settled (Done trees)) → length trees ≡ x.outputs
+  pub outputs : (v : ℕ) (x : Vertex) (trees : List TreeMap) → slice_get b.graph.vertices v ≡ Some x
+      → slice_get s.statuses v ≡ Some (Settled (Done trees)) → length trees ≡ x.outputs
   -- what does not wait has all its inputs
-  pub inputs : (v : ℕ) (x : Vertex) → slice_get b.graph.vertices v ≡ Some x → is_waiting (slice_get s.statuses v) ≡ false → is_some (inputs_from (ending_at s.statuses) x.inputs) ≡ true
+  pub inputs : (v : ℕ) (x : Vertex) → slice_get b.graph.vertices v ≡ Some x → is_waiting (slice_get s.statuses v) ≡ false
+      → is_some (inputs_from (ending_at s.statuses) x.inputs) ≡ true

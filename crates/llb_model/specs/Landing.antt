@@ -1,5 +1,6 @@
 -- A landing: the block of the micro-steps that are left to a worker, and of its settle; what it leaves of the machine.
-use Rattle.std.specs.Prelude.{◌≡◌, ℕ, zero, suc, ◌+◌, ◌||◌, Bool, true, false, List, [], ◌∷◌, ◌++◌, length, Some, is_some, nat_le, slice_get, slice_set, replicate}
+use Rattle.std.specs.Prelude.{◌≡◌, ℕ, zero, suc, ◌+◌, ◌||◌, Bool, true, false, List, [], ◌∷◌, ◌++◌, length, Some, is_some, nat_le}
+use Rattle.std.specs.Prelude.{slice_get, slice_set, replicate}
 use Rattle.llb_tree.specs.Tree.{TreeMap}
 use Rattle.llb_model.specs.Caches.{Hold, Distinct, put_all}
 use Rattle.llb_model.specs.Program.{Build, MicroStep, Left, go_on}
@@ -60,13 +61,15 @@ landed b s w x left = record {
 
 -- the steps alone have the effect of further micro-steps on what the worker has left so far
 abbrev pub StepsAsBlock : Build → Type 0
-StepsAsBlock b = (s : State) (w : ℕ) (x : Execution) (trees : List TreeMap) (n : ℕ) → slice_get s.workers w ≡ Some (Runs x) → Distinct x.places → Hold s.store x.places trees
+StepsAsBlock b = (s : State) (w : ℕ) (x : Execution) (trees : List TreeMap) (n : ℕ) → slice_get s.workers w ≡ Some (Runs x)
+    → Distinct x.places → Hold s.store x.places trees
     → AreThere (program_in b x).steps x.done (left_so_far x trees) n
     → (rs : List Reply) × (run b s (steps_by w n) ≡ Some (after_steps s w x n (further (program_in b x).steps x.done (left_so_far x trees) n), rs))
 
 -- what was worked out elsewhere on a worker's view and trees as they are now has, landed, the effect of the block
 abbrev pub LandsAsBlock : Build → Type 0
-LandsAsBlock b = (s : State) (w : ℕ) (x : Execution) (trees : List TreeMap) (n : ℕ) → slice_get s.workers w ≡ Some (Runs x) → Distinct x.places → Hold s.store x.places trees
+LandsAsBlock b = (s : State) (w : ℕ) (x : Execution) (trees : List TreeMap) (n : ℕ) → slice_get s.workers w ≡ Some (Runs x)
+    → Distinct x.places → Hold s.store x.places trees
     → AreLeft (program_in b x).steps x.done (left_so_far x trees) n
     → (rs : List Reply) × (run b s (landing w n)
     ≡ Some (

@@ -37,17 +37,20 @@ NoShared b = (k : ℕ) (v : Vertex) → slice_get b.graph.vertices k ≡ Some v 
 
 -- two running workers with one instance that an execution has alone are one worker
 abbrev pub IsHeldOnce : Build → Type 0
-IsHeldOnce b = (s : State) → IsReached b s → (w u : ℕ) (x y : Execution) (p : Place) → slice_get s.workers w ≡ Some (Runs x) → slice_get s.workers u ≡ Some (Runs y)
+IsHeldOnce b = (s : State) → IsReached b s → (w u : ℕ) (x y : Execution) (p : Place) → slice_get s.workers w ≡ Some (Runs x)
+    → slice_get s.workers u ≡ Some (Runs y)
     → Has x.places p → Has y.places p → IsExclusive p.key.mode → w ≡ u
 
 -- two running workers with one locked key are one worker
 abbrev pub IsLockedOnce : Build → Type 0
-IsLockedOnce b = (s : State) → IsReached b s → (w u : ℕ) (x y : Execution) (p q : Place) → slice_get s.workers w ≡ Some (Runs x) → slice_get s.workers u ≡ Some (Runs y)
+IsLockedOnce b = (s : State) → IsReached b s → (w u : ℕ) (x y : Execution) (p q : Place) → slice_get s.workers w ≡ Some (Runs x)
+    → slice_get s.workers u ≡ Some (Runs y)
     → Has x.places p → Has y.places q → p.key ≡ q.key → p.key.mode ≡ Locked → w ≡ u
 
 -- an event of another worker leaves an instance that a running worker has alone
 abbrev pub OthersKeep : Build → Type 0
-OthersKeep b = (s t : State) (e : Event) (r : Reply) → IsReached b s → table b s e ≡ Some (t, r) → (w : ℕ) (x : Execution) (p : Place) → slice_get s.workers w ≡ Some (Runs x)
+OthersKeep b = (s t : State) (e : Event) (r : Reply) → IsReached b s → table b s e ≡ Some (t, r) → (w : ℕ) (x : Execution) (p : Place)
+    → slice_get s.workers w ≡ Some (Runs x)
     → Has x.places p → IsExclusive p.key.mode → worker_of e ≢ w → content t.store p ≡ content s.store p
 
 -- another tree at one place
@@ -87,7 +90,8 @@ IsAtRest s = (v w : ℕ) → slice_get s.statuses v ≡ Some (Running w) → ⊥
 
 -- how one driver leaves the machine: as its claim order does, shared caches included
 abbrev pub AloneInClaimOrder : Build → Type 0
-AloneInClaimOrder b = (o : Opening) (es : List Event) (rs : List Reply) (s : State) → run b (opening b o) es ≡ Some (s, rs) → AreChosen b (opening b o) es → IsAtRest s
+AloneInClaimOrder b = (o : Opening) (es : List Event) (rs : List Reply) (s : State) → run b (opening b o) es ≡ Some (s, rs)
+    → AreChosen b (opening b o) es → IsAtRest s
     → (s.statuses ≡ (order b (at_first b o.store) (claims_in rs)).statuses) × (s.store ≡ (order b (at_first b o.store) (claims_in rs)).store)
 
 -- ---- the instances of a key are a list
@@ -102,12 +106,14 @@ StaysDense b = (o : Opening) (es : List Event) (rs : List Reply) (s : State) →
 
 -- and it takes the least instance of a private key that no running worker has
 abbrev pub ClaimsLeast : Build → Type 0
-ClaimsLeast b = (s t : State) (w v : ℕ) (vertex : Vertex) (job : Job) → slice_get b.graph.vertices v ≡ Some vertex → table b s (Claim w v) ≡ Some (t, Claimed job)
+ClaimsLeast b = (s t : State) (w v : ℕ) (vertex : Vertex) (job : Job) → slice_get b.graph.vertices v ≡ Some vertex
+    → table b s (Claim w v) ≡ Some (t, Claimed job)
     → (p : Place) → Has (places_by (needs_of vertex) job.instances) p → (n : ℕ) → n < p.number → IsFree s.workers (place p.key n) → ⊥
 
 -- what a running worker has are instances that differ, each with a tree
 abbrev pub HeldAreThere : Build → Type 0
-HeldAreThere b = (s : State) → IsReached b s → (w : ℕ) (x : Execution) → slice_get s.workers w ≡ Some (Runs x) → Distinct x.places × ((trees : List TreeMap) × Hold s.store x.places trees)
+HeldAreThere b = (s : State) → IsReached b s → (w : ℕ) (x : Execution) → slice_get s.workers w ≡ Some (Runs x)
+    → Distinct x.places × ((trees : List TreeMap) × Hold s.store x.places trees)
 
 -- ---- views
 

@@ -43,7 +43,8 @@ MakesAlike rows out workers = (inputs : List TreeMap) (needs : List Need) → Ho
 
 -- writes of instances that are there leave the contents that a step leaves
 abbrev pub WritesAlike : List Row → Type 0
-WritesAlike rows = (ps : List Place) (ts : List TreeMap) → ((p : Place) → Has ps p → p.number < length (trees_of rows p.key)) → store_of (put_each rows ps ts) ≡ put_all (store_of rows) ps ts
+WritesAlike rows = (ps : List Place) (ts : List TreeMap) → ((p : Place) → Has ps p → p.number < length (trees_of rows p.key))
+    → store_of (put_each rows ps ts) ≡ put_all (store_of rows) ps ts
 
 -- ---- the leases of workers
 
@@ -69,11 +70,13 @@ ClaimLeases = (out : Leases) (workers : List At) (ls : List (Option ℕ)) (w : �
     → AreLeased (cache.with_lease out (cache.free_lease out) z.places) (slice_set workers w (Runs z)) (slice_set ls w (Some (cache.free_lease out)))
 
 abbrev pub ClaimWithout : Type 0
-ClaimWithout = (out : Leases) (workers : List At) (ls : List (Option ℕ)) (w : ℕ) (z : Execution) → AreLeased out workers ls → slice_get workers w ≡ Some Idle → z.places ≡ []
+ClaimWithout = (out : Leases) (workers : List At) (ls : List (Option ℕ)) (w : ℕ) (z : Execution) → AreLeased out workers ls
+    → slice_get workers w ≡ Some Idle → z.places ≡ []
     → AreLeased out (slice_set workers w (Runs z)) (slice_set ls w None)
 
 abbrev pub StepKeepsLease : Type 0
-StepKeepsLease = (out : Leases) (workers : List At) (ls : List (Option ℕ)) (w : ℕ) (x z : Execution) → AreLeased out workers ls → slice_get workers w ≡ Some (Runs x) → z.places ≡ x.places
+StepKeepsLease = (out : Leases) (workers : List At) (ls : List (Option ℕ)) (w : ℕ) (x z : Execution) → AreLeased out workers ls
+    → slice_get workers w ≡ Some (Runs x) → z.places ≡ x.places
     → AreLeased out (slice_set workers w (Runs z)) ls
 
 abbrev pub SettleGivesBack : Type 0

@@ -1,4 +1,4 @@
--- The claim order: each claimed vertex is run whole at its claim, one behind the other.
+-- The claim order: each claimed vertex is run whole at its claim, one after the other.
 use Rattle.std.specs.Prelude.{◌≡◌, ℕ, List, [], ◌∷◌, length, Option, Some, None, slice_get, slice_set, replicate}
 use Rattle.llb_model.specs.Caches.{Place, Store, content, put_all}
 use Rattle.llb_model.specs.Program.{Build, Program, Left, Start, program_of, needs_of, whole}

@@ -1,11 +1,12 @@
 -- Whole runs: the fold of the table over events; the event that a driver chooses; when all is done.
-use Rattle.std.specs.Prelude.{◌≡◌, ℕ, zero, suc, ◌+◌, ◌<◌, ◌==◌, Bool, true, false, ◌||◌, ◌&&◌, List, [], ◌∷◌, length, count_by, Option, Some, None, option_map, slice_get, if◌then◌else◌}
+use Rattle.std.specs.Prelude.{◌≡◌, ℕ, zero, suc, ◌+◌, ◌<◌, ◌==◌, Bool, true, false, ◌||◌, ◌&&◌, List, [], ◌∷◌, length, count_by, Option}
+use Rattle.std.specs.Prelude.{Some, None, option_map, slice_get, if◌then◌else◌}
 use Rattle.llb_model.specs.Program.{Build}
 use Rattle.llb_model.specs.Outcome.{Outcome, Ended, Blocked}
 use Rattle.llb_model.specs.State.{Status, Waiting, Running, Settled, At, Idle, Runs, State, is_ready, is_blocked, is_finished, program_in}
 use Rattle.llb_model.specs.Table.{Event, Claim, Step, Settle, Reply, worker_of, table}
 
--- a run goes on from what an event gives, with its reply in front
+-- a run goes on from what an event gives, with its reply first
 abbrev pub after : Option (State × Reply) → (State → Option (State × List Reply)) → Option (State × List Reply)
 after None go = None
 after (Some (s, r)) go = option_map (λ (t : State × List Reply). (t.0, r ∷ t.1)) (go s)
@@ -25,7 +26,7 @@ next_of b w [] = None
 next_of b w (Idle ∷ workers) = next_of b (w + 1) workers
 next_of b w (Runs x ∷ workers) = Some (if is_finished (program_in b x).steps x then Settle w else Step w)
 
--- the least of so many numbers from one on that passes a test
+-- the least of that many numbers from one on that passes a test
 abbrev pub least : (ℕ → Bool) → ℕ → ℕ → Option ℕ
 least test v zero = None
 least test v (suc n) = if test v then Some v else least test (v + 1) n
@@ -48,7 +49,7 @@ is_settled (Some (Running w)) = false
 is_settled (Some Waiting) = false
 is_settled None = false
 
--- each of so many numbers from one on passes a test
+-- each of that many numbers from one on passes a test
 abbrev pub each : (ℕ → Bool) → ℕ → ℕ → Bool
 each test v zero = true
 each test v (suc n) = test v && each test (v + 1) n

@@ -8,7 +8,8 @@ use Rattle.llb_model.specs.declared.fault.VertexFault.TheVariants as fault
 use Rattle.llb_model.specs.Caches.{Place, put_all}
 use Rattle.llb_model.specs.Program.{Build, MicroStep, ReadLocal, Act, LayInput, Run, Program, Work, Left, Start, program_of, needs_of, step_on}
 use Rattle.llb_model.specs.Outcome.{Ending, Done, Failed}
-use Rattle.llb_model.specs.State.{Status, Running, Settled, Execution, At, Idle, Runs, State, start_from, program_in, work_of, is_finished, next_step, ending_from, held, places_for, held_key, begin_at}
+use Rattle.llb_model.specs.State.{Status, Running, Settled, Execution, At, Idle, Runs, State, start_from, program_in, work_of, is_finished}
+use Rattle.llb_model.specs.State.{next_step, ending_from, held, places_for, held_key, begin_at}
 use Rattle.llb_model.specs.ClaimCause as claim
 use Rattle.llb_model.specs.StepCause as step
 use Rattle.llb_model.specs.SettleCause as settle

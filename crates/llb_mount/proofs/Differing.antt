@@ -29,7 +29,8 @@ pub one_more : (mounts : List Shown) (i : ℕ) (m : Shown) → i < length mounts
 one_more mounts i m below read before free =
     let dest : Shown → List (List ℕ) = λ m. m.dest in
     let more : dests (take (i + 1) mounts) ≡ dests (take i mounts) ++ m.dest ∷ [] =
-    ap dests (take_more mounts i m below) ∙ map_push dest (take i mounts) (get_or mounts i m) ∙ ap (λ (m : Shown). dests (take i mounts) ++ m.dest ∷ []) (sym read) in
+    ap dests (take_more mounts i m below) ∙ map_push dest (take i mounts) (get_or mounts i m)
+    ∙ ap (λ (m : Shown). dests (take i mounts) ++ m.dest ∷ []) (sym read) in
     let All_differ : List (List (List ℕ)) → Type 0 = λ ds. AllPairs (λ d e. d ≢ e) ds in
     subst All_differ (sym more) (all_pairs_push (λ d e. d ≢ e) (dests (take i mounts)) m.dest before
     (λ k d within same. free (k, within, get_or_default (dests (take i mounts)) k m.dest d within ∙ same)))

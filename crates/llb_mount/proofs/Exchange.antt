@@ -15,4 +15,8 @@ exchanged_view mounts number m old read same view =
     let HasRoot : List (List (List ℕ)) → Type 0 = λ ds. Contains ds [] in
     let Differ : List (List (List ℕ)) → Type 0 = λ ds. AllPairs (λ d e. d ≢ e) ds in
     let Few : ℕ → Type 0 = λ n. n < 2 ^ 32 in
-    record { root = subst HasRoot (sym stay) view.root; differ = subst Differ (sym stay) view.differ; few = subst Few (sym (length-set mounts number m)) view.few }
+    record {
+      root = subst HasRoot (sym stay) view.root;
+      differ = subst Differ (sym stay) view.differ;
+      few = subst Few (sym (length-set mounts number m)) view.few;
+    }

@@ -1,5 +1,6 @@
 -- Where a path is routed: the loop over the mounts finds the one route, and that is the one of the definition.
-use Rattle.std.proofs.Common.{◌≡◌, ◌≢◌, ℕ, zero, suc, ◌<◌, ◌≤◌, ◌↔◌, ◌⊎◌, inl, inr, max, nat_eq, Bool, true, false, cond, List, [], ◌∷◌, length, take, get_or, refl, sym, ap, ◌∙◌, subst, arith, true≢false}
+use Rattle.std.proofs.Common.{◌≡◌, ◌≢◌, ℕ, zero, suc, ◌<◌, ◌≤◌, ◌↔◌, ◌⊎◌, inl, inr, max, nat_eq, Bool, true, false, cond, List, [], ◌∷◌}
+use Rattle.std.proofs.Common.{length, take, get_or, refl, sym, ap, ◌∙◌, subst, arith, true≢false}
 use Rattle.std.proofs.Math.Nat.{le-max_left, le-max_right, max-le}
 use Rattle.std.proofs.Math.ListN.{get_or-map}
 use Rattle.std.proofs.lemmas.List.{get_or_default, length-map}
@@ -24,11 +25,11 @@ pub record IsBest (mounts : List Shown) (path : List (List ℕ)) (i number dropp
   pub names : length (mount_at mounts number).dest ≡ dropped
   pub most : (k : ℕ) → k < i → is_within (mount_at mounts k).dest path ≡ true → length (mount_at mounts k).dest ≤ dropped
 
--- what is known behind the first mounts
+-- what is known after the first mounts
 abbrev pub SoFar : List Shown → List (List ℕ) → ℕ → ℕ → ℕ → Type 0
 SoFar mounts path i number dropped = HasNone mounts path i dropped ⊎ IsBest mounts path i number dropped
 
--- behind all mounts there is one, since one dest is the root
+-- after all mounts there is one, since one dest is the root
 pub found : (mounts : List Shown) (path : List (List ℕ)) (number dropped : ℕ) → IsView mounts → SoFar mounts path (length mounts) number dropped
     → IsRoute mounts path (number, dropped)
 found mounts path number dropped view (inl w) =
@@ -69,7 +70,8 @@ length_within (d ∷ ds) path n all =
     go false is rest within = within
 
 -- where dests differ, the one at a place is found there
-number_is : (ds : List (List (List ℕ))) (k : ℕ) (path : List (List ℕ)) → AllPairs (λ d e. d ≢ e) ds → k < length ds → get_or ds k [] ≡ path → k ≡ number_of ds path
+number_is : (ds : List (List (List ℕ))) (k : ℕ) (path : List (List ℕ)) → AllPairs (λ d e. d ≢ e) ds → k < length ds → get_or ds k [] ≡ path
+    → k ≡ number_of ds path
 number_is ds k path differ within here =
     sym (position_or_len_is (λ d. pointwise (pointwise nat_eq) d path) ds k [] (omega (arith, within)) before (λ _. (decides (get_or ds k [])).1 here))
   where
@@ -96,5 +98,6 @@ route_is mounts path view to is =
     let names : to.1 ≡ greatest_length ds path = omega (arith, long, no_longer ds path to.0 within prefix, length_within ds path to.1 all) in
     let front : get_or ds to.0 [] ≡ take (greatest_length ds path) path =
     (pointwise_decides bytes_decides (get_or ds to.0 []) (take (length (get_or ds to.0 [])) path)).0 prefix ∙ ap (λ n. take n path) (long ∙ names) in
-    let numbers : to.0 ≡ number_of ds (take (greatest_length ds path) path) = number_is ds to.0 (take (greatest_length ds path) path) view.differ within front in
+    let numbers : to.0 ≡ number_of ds (take (greatest_length ds path) path) =
+    number_is ds to.0 (take (greatest_length ds path) path) view.differ within front in
     λ i. (numbers i, names i)

@@ -20,13 +20,13 @@ number_of ds path = position_or_len (λ d. pointwise (pointwise nat_eq) d path) 
 abbrev pub route : List Shown → List (List ℕ) → ℕ × ℕ
 route mounts path = let n = greatest_length (dests mounts) path in (number_of (dests mounts) (take n path), n)
 
--- the mount's dest is a prefix of the path and has so many names, and no other that is a prefix has more
+-- the mount's dest is a prefix of the path and has that many names, and no other that is a prefix has more
 pub record IsRoute (mounts : List Shown) (path : List (List ℕ)) (to : ℕ × ℕ) : Type 0 where
   pub there : to.0 < length mounts
   pub prefix : is_within (mount_at mounts to.0).dest path ≡ true
   pub dropped : length (mount_at mounts to.0).dest ≡ to.1
   pub longest : All (λ m. is_within m.dest path ≡ true → length m.dest ≤ to.1) mounts
 
--- the path that is meant in a mount's tree: what is left behind so many names, below the selector
+-- the path that is meant in a mount's tree: what is left after that many names, below the selector
 abbrev pub place_in : List (List ℕ) → ℕ → List (List ℕ) → List (List ℕ)
 place_in selector dropped path = selector ++ drop dropped path

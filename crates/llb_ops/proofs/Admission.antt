@@ -1,5 +1,6 @@
 -- What a definition is by its entries, as they are counted.
-use Rattle.std.proofs.Common.{◌≡◌, ℕ, zero, suc, ◌-◌, ◌<◌, ◌≤◌, Bool, true, false, cond, List, [], ◌∷◌, length, Result, Ok, Err, refl, sym, ap, subst, ◌∙◌, arith}
+use Rattle.std.proofs.Common.{◌≡◌, ℕ, zero, suc, ◌-◌, ◌<◌, ◌≤◌, Bool, true, false, cond, List, [], ◌∷◌, length, Result, Ok, Err, refl, sym}
+use Rattle.std.proofs.Common.{ap, subst, ◌∙◌, arith}
 use Rattle.std.specs.Prelude.{nat_lt}
 use Rattle.std.proofs.lemmas.Bool.{lt-ltb, le-ltb, ltb-false}
 use Rattle.llb_wire.specs.declared.fault.WireFault.{WireFault}
@@ -38,13 +39,20 @@ pub unreadable : (bytes : List ℕ) (f : OpFault) → length bytes ≤ definitio
 unreadable bytes f fits e = by_entries bytes fits ∙ ap (λ r. r >>= entries_fit) (err_counted (entries_in bytes) f e)
 
 -- what was counted is of entries that are there
-there : (r : Result (List (List ℕ)) OpFault) (n : ℕ) (s : Bool) → counted r ≡ Ok (n, s) → (es : List (List ℕ)) × (r ≡ Ok es) × (length es ≡ n) × (are_short es ≡ s)
-there (Ok es) n s e = (es, refl, ap (λ (x : ℕ × Bool). x.0) (same (length es, are_short es) (n, s) e), ap (λ (x : ℕ × Bool). x.1) (same (length es, are_short es) (n, s) e)) where
+there : (r : Result (List (List ℕ)) OpFault) (n : ℕ) (s : Bool) → counted r ≡ Ok (n, s)
+    → (es : List (List ℕ)) × (r ≡ Ok es) × (length es ≡ n) × (are_short es ≡ s)
+there (Ok es) n s e = (
+  es,
+  refl,
+  ap (λ (x : ℕ × Bool). x.0) (same (length es, are_short es) (n, s) e),
+  ap (λ (x : ℕ × Bool). x.1) (same (length es, are_short es) (n, s) e),
+) where
   same : (x y : ℕ × Bool) → ◌≡◌ {A = Result (ℕ × Bool) OpFault} (Ok x) (Ok y) → x ≡ y
   same x y e = cc
 there (Err f) n s e = absurd cc
 
-pub too_many : (bytes : List ℕ) (n : ℕ) (s : Bool) → length bytes ≤ definition_limit → counted (entries_in bytes) ≡ Ok (n, s) → entries_limit < n → definition_of bytes ≡ Err OverLimit
+pub too_many : (bytes : List ℕ) (n : ℕ) (s : Bool) → length bytes ≤ definition_limit → counted (entries_in bytes) ≡ Ok (n, s)
+    → entries_limit < n → definition_of bytes ≡ Err OverLimit
 too_many bytes n s fits e many =
     let h = there (entries_in bytes) n s e in
     let long : nat_lt entries_limit (length h.0) ≡ true = lt-ltb _ _ (omega (arith, many, h.2)) in
@@ -59,7 +67,8 @@ too_big bytes n fits e =
     let h = there (entries_in bytes) n false e in
     by_entries bytes fits ∙ ap (λ r. r >>= entries_fit) h.1 ∙ fit_cases h.0 (nat_lt entries_limit (length h.0)) refl h.3
 
-pub fits : (bytes : List ℕ) (n : ℕ) → length bytes ≤ definition_limit → counted (entries_in bytes) ≡ Ok (n, true) → n ≤ entries_limit → admission (definition_of bytes) ≡ Ok tt
+pub fits : (bytes : List ℕ) (n : ℕ) → length bytes ≤ definition_limit → counted (entries_in bytes) ≡ Ok (n, true) → n ≤ entries_limit
+    → admission (definition_of bytes) ≡ Ok tt
 fits bytes n small e few =
     let h = there (entries_in bytes) n true e in
     let short : nat_lt entries_limit (length h.0) ≡ false = le-ltb _ _ (omega (arith, few, h.2)) in
@@ -68,15 +77,17 @@ fits bytes n small e few =
 
 -- ---- what was admitted
 
--- the faults of records are no want of memory
-first_named : (shape : Shape) (bytes : List ℕ) (r : Result Field WireFault) (e : OpFault) → (from_wire r >>= λ f. cond (wire_fits (form_of shape f.number) f.wire) (Ok f) (Err WrongWireType)) ≡ Err e → is_memory e ≡ false
+-- the faults of records are not *out of memory*
+first_named : (shape : Shape) (bytes : List ℕ) (r : Result Field WireFault) (e : OpFault)
+    → (from_wire r >>= λ f. cond (wire_fits (form_of shape f.number) f.wire) (Ok f) (Err WrongWireType)) ≡ Err e → is_memory e ≡ false
 first_named shape bytes (Err d) e h = let is : Wire d ≡ e = cc in ap is_memory (sym is)
 first_named shape bytes (Ok f) e h = by (wire_fits (form_of shape f.number) f.wire) h where
   by : (b : Bool) → cond b (Ok f) (Err WrongWireType) ≡ Err e → is_memory e ≡ false
   by true h = absurd cc
   by false h = let is : WrongWireType ≡ e = cc in ap is_memory (sym is)
 
-err_of : {A B : Type 0} (r : Result A OpFault) (k : A → Result B OpFault) (e : OpFault) (P : Type 0) → (r >>= k) ≡ Err e → (r ≡ Err e → P) → ((x : A) → k x ≡ Err e → P) → P
+err_of : {A B : Type 0} (r : Result A OpFault) (k : A → Result B OpFault) (e : OpFault) (P : Type 0) → (r >>= k) ≡ Err e → (r ≡ Err e → P)
+    → ((x : A) → k x ≡ Err e → P) → P
 err_of (Ok x) k e P h f g = g x h
 err_of (Err d) k e P h f g = f (let is : d ≡ e = cc in ap (λ y. Err y) is)
 
@@ -102,7 +113,8 @@ limit_named es e h = by (nat_lt entries_limit (length es)) (are_short es) h wher
 pub definition_named : (bytes : List ℕ) (e : OpFault) → definition_of bytes ≡ Err e → is_memory e ≡ false
 unfolding definition_of
 definition_named bytes e h = by (nat_lt definition_limit (length bytes)) h where
-  by : (b : Bool) → cond {A = Result (List (List ℕ)) OpFault} b (Err OverLimit) (records_from definition_shape 0 bytes >>= λ rs. entries_fit (payloads (all 1 rs))) ≡ Err e → is_memory e ≡ false
+  by : (b : Bool) → cond {A = Result (List (List ℕ)) OpFault} b (Err OverLimit) (records_from definition_shape 0 bytes
+      >>= λ rs. entries_fit (payloads (all 1 rs))) ≡ Err e → is_memory e ≡ false
   by true h = let is : OverLimit ≡ e = cc in ap is_memory (sym is)
   by false h =
       err_of (records_from definition_shape 0 bytes) (λ rs. entries_fit (payloads (all 1 rs))) e (is_memory e ≡ false) h
@@ -123,7 +135,8 @@ fit_same xs es h = by (nat_lt entries_limit (length xs)) (are_short xs) h where
   by false true h = cc
   by false false h = absurd cc
 
-pub is_short : (bytes : List ℕ) (es : List (List ℕ)) (b : Bool) → nat_lt definition_limit (length bytes) ≡ b → definition_of bytes ≡ Ok es → nat_lt definition_limit (length bytes) ≡ false
+pub is_short : (bytes : List ℕ) (es : List (List ℕ)) (b : Bool) → nat_lt definition_limit (length bytes) ≡ b → definition_of bytes ≡ Ok es
+    → nat_lt definition_limit (length bytes) ≡ false
 unfolding definition_of
 is_short bytes es true e h = absurd (let k = rw e at h in cc)
 is_short bytes es false e h = e

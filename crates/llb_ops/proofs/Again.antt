@@ -19,7 +19,7 @@ number_part n v = record { number = n; wire = wire.Varint; value = v; payload = 
 abbrev pub bytes_part : ℕ → List ℕ → Record
 bytes_part n bytes = record { number = n; wire = wire.Len; value = length bytes; payload = bytes; text = record_text n wire.Len 0 bytes }
 
--- the bytes of records, one behind the other
+-- the bytes of records, one after the other
 abbrev pub spelled : List Record → List ℕ
 spelled rs = flat_map (λ r. r.text) rs
 
@@ -35,7 +35,8 @@ pub record FitsShape (shape : Shape) (r : Record) : Type 0 where
   pub part : IsPart r
   pub wire : wire_fits (form_of shape r.number) r.wire ≡ true
 
-front : (shape : Shape) (bytes : List ℕ) (f : Field) → 0 < length bytes → field_at bytes 0 ≡ Ok f → wire_fits (form_of shape f.number) f.wire ≡ true → 0 < f.«end»
+front : (shape : Shape) (bytes : List ℕ) (f : Field) → 0 < length bytes → field_at bytes 0 ≡ Ok f
+    → wire_fits (form_of shape f.number) f.wire ≡ true → 0 < f.«end»
     → records_from shape 0 bytes ≡ (records_from shape 0 (drop f.«end» bytes) >>= λ rs. Ok (record_of bytes f ∷ rs))
 unfolding records_from
 front shape [] f long e fits some = absurd (omega (arith, long))
@@ -43,7 +44,7 @@ front shape (b ∷ bytes) f long e fits some =
     let pred : drop f.«end» (b ∷ bytes) ≡ drop (f.«end» - 1) bytes = drop_pred f.«end» b bytes some in
     rw (e, fits, pred, ← parts_skip shape (f.«end» - 1) bytes) refl
 
--- records that are spelled one behind the other are read as these records
+-- records that are spelled one after the other are read as these records
 pub parts_again : (shape : Shape) (rs : List Record) → AllByRecursion (FitsShape shape) rs → records_from shape 0 (spelled rs) ≡ Ok rs
 unfolding records_from
 parts_again shape [] fits = refl
@@ -53,7 +54,8 @@ parts_again shape (r ∷ rs) fits =
     let rest = spelled rs in
     let same : record_of (r.text ++ rest) f ≡ r = p.again rest in
     let long : 0 < length (r.text ++ rest) = omega (arith, length-append r.text rest, p.some) in
-    let fits_f : wire_fits (form_of shape f.number) f.wire ≡ true = subst (λ (x : Record). wire_fits (form_of shape x.number) x.wire ≡ true) (sym same) fits.0.wire in
+    let fits_f : wire_fits (form_of shape f.number) f.wire ≡ true =
+    subst (λ (x : Record). wire_fits (form_of shape x.number) x.wire ≡ true) (sym same) fits.0.wire in
     let one = front shape (r.text ++ rest) f long (p.reads rest) fits_f (omega (arith, p.ends, p.some)) in
     let behind : drop f.«end» (r.text ++ rest) ≡ rest = drop_at r.text rest f.«end» (sym p.ends) in
     one ∙ rw (behind, parts_again shape rs fits.1, same) refl
@@ -78,7 +80,9 @@ part_of r h =
     }
 
 pub number_part_is : (n v : ℕ) → 0 < n → n ≤ 536_870_911 → v < 2 ^ 64 → IsPart (number_part n v)
-number_part_is n v some small fits = part_of (number_part n v) (written_is_record n wire.Varint v [] (omega (arith, some), small) fits (omega arith) (λ e. absurd cc))
+number_part_is n v some small fits = part_of (number_part n v)
+    (written_is_record n wire.Varint v [] (omega (arith, some), small) fits (omega arith) (λ e. absurd cc))
 
 pub bytes_part_is : (n : ℕ) (bytes : List ℕ) → 0 < n → n ≤ 536_870_911 → length bytes < 2 ^ 64 → IsPart (bytes_part n bytes)
-bytes_part_is n bytes some small fits = part_of (bytes_part n bytes) (written_is_record n wire.Len 0 bytes (omega (arith, some), small) (omega arith) fits (λ e. absurd cc))
+bytes_part_is n bytes some small fits = part_of (bytes_part n bytes)
+    (written_is_record n wire.Len 0 bytes (omega (arith, some), small) (omega arith) fits (λ e. absurd cc))

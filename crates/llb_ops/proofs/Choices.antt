@@ -20,22 +20,26 @@ kept_all : (P : Record → Type 0) (rs : List Record) (r : Record) (b : Bool) �
 kept_all P rs r true h k = tt
 kept_all P rs r false h k = All-append P rs (r ∷ []) h (k, tt)
 
-since_all : (P : Record → Type 0) (p : Record → Bool) (so_far rs : List Record) → AllByRecursion P so_far → AllByRecursion P rs → AllByRecursion P (fold (kept p) so_far rs)
+since_all : (P : Record → Type 0) (p : Record → Bool) (so_far rs : List Record) → AllByRecursion P so_far → AllByRecursion P rs
+    → AllByRecursion P (fold (kept p) so_far rs)
 since_all P p so_far [] h k = h
 since_all P p so_far (r ∷ rs) h k = since_all P p (kept p so_far r) rs (kept_all P so_far r (p r) h k.0) k.1
 
 -- records that the test of clearing doesn't see may be left out before or after
-kept_mine : (p q : Record → Bool) (so_far : List Record) (r : Record) (a b : Bool) → p r ≡ a → q r ≡ b → (p r ≡ true → q r ≡ true) → filter q (kept p so_far r) ≡ cond b (kept p (filter q so_far) r) (filter q so_far)
+kept_mine : (p q : Record → Bool) (so_far : List Record) (r : Record) (a b : Bool) → p r ≡ a → q r ≡ b → (p r ≡ true → q r ≡ true)
+    → filter q (kept p so_far r) ≡ cond b (kept p (filter q so_far) r) (filter q so_far)
 kept_mine p q so_far r true true e f wider = rw e refl
 kept_mine p q so_far r true false e f wider = absurd (let g = wider e in cc)
 kept_mine p q so_far r false true e f wider = rw (e, filter-append, f) refl
 kept_mine p q so_far r false false e f wider = rw (e, filter-append, f) (append-nil (filter q so_far))
 
-since_step : (p q : Record → Bool) (so_far : List Record) (r : Record) (rs : List Record) (b : Bool) → q r ≡ b → fold (kept p) (cond b (kept p so_far r) so_far) (filter q rs) ≡ fold (kept p) so_far (filter q (r ∷ rs))
+since_step : (p q : Record → Bool) (so_far : List Record) (r : Record) (rs : List Record) (b : Bool) → q r ≡ b
+    → fold (kept p) (cond b (kept p so_far r) so_far) (filter q rs) ≡ fold (kept p) so_far (filter q (r ∷ rs))
 since_step p q so_far r rs true f = rw f refl
 since_step p q so_far r rs false f = rw f refl
 
-since_mine : (p q : Record → Bool) (so_far rs : List Record) → ((r : Record) → p r ≡ true → q r ≡ true) → filter q (fold (kept p) so_far rs) ≡ fold (kept p) (filter q so_far) (filter q rs)
+since_mine : (p q : Record → Bool) (so_far rs : List Record) → ((r : Record) → p r ≡ true → q r ≡ true)
+    → filter q (fold (kept p) so_far rs) ≡ fold (kept p) (filter q so_far) (filter q rs)
 since_mine p q so_far [] wider = refl
 since_mine p q so_far (r ∷ rs) wider =
     since_mine p q (kept p so_far r) rs wider
@@ -57,7 +61,8 @@ some_of n = Some n
 some_is : (m n : ℕ) → some_of m ≡ some_of n → m ≡ n
 some_is m n e = cc
 
-last_has : (ns : List ℕ) (xs : List Record) (n : ℕ) → AllByRecursion (λ r. is_member ns r ≡ true) xs → option_map (λ r. r.number) (last_of xs) ≡ some_of n → has ns n ≡ true
+last_has : (ns : List ℕ) (xs : List Record) (n : ℕ) → AllByRecursion (λ r. is_member ns r ≡ true) xs
+    → option_map (λ r. r.number) (last_of xs) ≡ some_of n → has ns n ≡ true
 last_has ns [] n h e = absurd cc
 last_has ns (r ∷ []) n h e = subst (λ (k : ℕ). has ns k ≡ true) (some_is r.number n e) h.0
 last_has ns (r ∷ s ∷ xs) n h e = last_has ns (s ∷ xs) n h.1 (ap (option_map (λ x. x.number)) (sym (last_more r s xs)) ∙ e)
@@ -65,7 +70,8 @@ last_has ns (r ∷ s ∷ xs) n h e = last_has ns (s ∷ xs) n h.1 (ap (option_ma
 chosen_mine : (ns : List ℕ) (rs : List Record) → chosen ns (mine ns rs) ≡ chosen ns rs
 chosen_mine ns rs = ap (λ xs. option_map (λ r. r.number) (last_of xs)) (filter_narrow (is_member ns) (is_member ns) rs (λ r e. e))
 
-of_mine : {A : Type 0} (ns : List ℕ) (read : ℕ → List Record → Result A OpFault) (rs : List Record) (o : Option ℕ) → chosen ns rs ≡ o → member_of ns read o (mine ns rs) ≡ member_of ns read o rs
+of_mine : {A : Type 0} (ns : List ℕ) (read : ℕ → List Record → Result A OpFault) (rs : List Record) (o : Option ℕ) → chosen ns rs ≡ o
+    → member_of ns read o (mine ns rs) ≡ member_of ns read o rs
 of_mine ns read rs None e = refl
 of_mine ns read rs (Some n) e = ap (λ xs. read n xs >>= λ a. Ok (Some a)) (member_mine ns n rs (last_has ns (mine ns rs) n (filter_passes (is_member ns) rs) e))
 
@@ -73,14 +79,20 @@ pub one_of_mine : {A : Type 0} (ns : List ℕ) (read : ℕ → List Record → R
 one_of_mine ns read rs = ap (λ o. member_of ns read o (mine ns rs)) (chosen_mine ns rs) ∙ of_mine ns read rs (chosen ns rs) refl
 
 -- where a member is set, it was read of good records
-pub member_from : {A : Type 0} (shape : Shape) (ns : List ℕ) (read : ℕ → List Record → Result A OpFault) (rs : List Record) (a : A) (o : Option ℕ) → AllByRecursion (IsGood shape) rs → member_of ns read o rs ≡ Ok (Some a)
+pub member_from : {A : Type 0} (shape : Shape) (ns : List ℕ) (read : ℕ → List Record → Result A OpFault) (rs : List Record) (a : A)
+    (o : Option ℕ) → AllByRecursion (IsGood shape) rs → member_of ns read o rs ≡ Ok (Some a)
     → (n : ℕ) × (xs : List Record) × AllByRecursion (IsGood shape) xs × (read n xs ≡ Ok a)
 member_from shape ns read rs a None good e = absurd (nothing e) where
   nothing : {A : Type 0} {a : A} → ok_of {A = Option A} None ≡ ok_of (Some a) → ⊥
   nothing e = cc
 member_from shape ns read rs a (Some n) good e =
-    let b = bind_ok (read n (member ns n rs)) (λ a. Ok (Some a)) (Some a) e in
-    (n, member ns n rs, All-filter (IsGood shape) (λ r. r.number == n) (since (is_other ns n) rs) (since_all (IsGood shape) (is_other ns n) [] rs tt good), b.1 ∙ ap (λ x. Ok x) (same b.0 a b.2)) where
+    let b = bind_ok (read n (member ns n rs)) (λ a. Ok (Some a)) (Some a) e in (
+      n,
+      member ns n rs,
+      All-filter (IsGood shape) (λ r. r.number == n) (since (is_other ns n) rs)
+          (since_all (IsGood shape) (is_other ns n) [] rs tt good),
+      b.1 ∙ ap (λ x. Ok x) (same b.0 a b.2),
+    ) where
       same : {A : Type 0} (x y : A) → ok_of {A = Option A} (Some x) ≡ ok_of (Some y) → x ≡ y
       same x y e = cc
 
@@ -93,7 +105,8 @@ abbrev pub choice : {shape : Shape} {M A : Type 0} (ns : List ℕ) (read : ℕ �
     → ((a : A) → (write a).text ≡ bytes a)
     → ((a : A) → is_member ns (write a) ≡ true)
     → ((n : ℕ) (xs : List Record) (a : A) → AllByRecursion (IsGood shape) xs → read n xs ≡ Ok a → IsWritten shape (write a))
-    → ((n : ℕ) (xs : List Record) (a : A) → AllByRecursion (IsGood shape) xs → read n xs ≡ Ok a → IsShort (write a) → one_of ns read (write a ∷ []) ≡ Ok (Some a))
+    → ((n : ℕ) (xs : List Record) (a : A) → AllByRecursion (IsGood shape) xs → read n xs ≡ Ok a → IsShort (write a)
+    → one_of ns read (write a ∷ []) ≡ Ok (Some a))
     → FieldOf shape M (Option A)
 choice {shape} {M} {A} ns read write bytes text own written again = record {
   ns = ns;
@@ -111,20 +124,28 @@ choice {shape} {M} {A} ns read write bytes text own written again = record {
   again = again_member shape ns read write again;
   limit = λ rs o good e w. refl;
 } where
-  spelled_member : {A : Type 0} (write : A → Record) (bytes : A → List ℕ) → ((a : A) → (write a).text ≡ bytes a) → (o : Option A) → spelled (a_member write o) ≡ one_of_field bytes o
+  spelled_member : {A : Type 0} (write : A → Record) (bytes : A → List ℕ) → ((a : A) → (write a).text ≡ bytes a) → (o : Option A)
+      → spelled (a_member write o) ≡ one_of_field bytes o
   spelled_member write bytes text None = refl
   spelled_member write bytes text (Some a) = append-nil (write a).text ∙ text a
 
-  own_member : {A : Type 0} (ns : List ℕ) (write : A → Record) → ((a : A) → is_member ns (write a) ≡ true) → (o : Option A) → AllByRecursion (λ r. is_member ns r ≡ true) (a_member write o)
+  own_member : {A : Type 0} (ns : List ℕ) (write : A → Record) → ((a : A) → is_member ns (write a) ≡ true) → (o : Option A)
+      → AllByRecursion (λ r. is_member ns r ≡ true) (a_member write o)
   own_member ns write own None = tt
   own_member ns write own (Some a) = (own a, tt)
 
-  written_member : {A : Type 0} (shape : Shape) (ns : List ℕ) (read : ℕ → List Record → Result A OpFault) (write : A → Record) → ((n : ℕ) (xs : List Record) (a : A) → AllByRecursion (IsGood shape) xs → read n xs ≡ Ok a → IsWritten shape (write a)) → (rs : List Record) (o : Option A) → AllByRecursion (IsGood shape) rs → one_of ns read rs ≡ Ok o → AllByRecursion (IsWritten shape) (a_member write o)
+  written_member : {A : Type 0} (shape : Shape) (ns : List ℕ) (read : ℕ → List Record → Result A OpFault) (write : A → Record)
+      → ((n : ℕ) (xs : List Record) (a : A) → AllByRecursion (IsGood shape) xs → read n xs ≡ Ok a → IsWritten shape (write a))
+      → (rs : List Record) (o : Option A) → AllByRecursion (IsGood shape) rs → one_of ns read rs ≡ Ok o
+      → AllByRecursion (IsWritten shape) (a_member write o)
   written_member shape ns read write written rs None good e = tt
   written_member shape ns read write written rs (Some a) good e =
       let f = member_from shape ns read rs a (chosen ns rs) good e in (written f.0 f.1 a f.2 f.3, tt)
 
-  again_member : {A : Type 0} (shape : Shape) (ns : List ℕ) (read : ℕ → List Record → Result A OpFault) (write : A → Record) → ((n : ℕ) (xs : List Record) (a : A) → AllByRecursion (IsGood shape) xs → read n xs ≡ Ok a → IsShort (write a) → one_of ns read (write a ∷ []) ≡ Ok (Some a)) → (rs : List Record) (o : Option A) → AllByRecursion (IsGood shape) rs → one_of ns read rs ≡ Ok o → AllByRecursion IsShort (a_member write o) → one_of ns read (a_member write o) ≡ Ok o
+  again_member : {A : Type 0} (shape : Shape) (ns : List ℕ) (read : ℕ → List Record → Result A OpFault) (write : A → Record)
+      → ((n : ℕ) (xs : List Record) (a : A) → AllByRecursion (IsGood shape) xs → read n xs ≡ Ok a → IsShort (write a)
+      → one_of ns read (write a ∷ []) ≡ Ok (Some a)) → (rs : List Record) (o : Option A) → AllByRecursion (IsGood shape) rs
+      → one_of ns read rs ≡ Ok o → AllByRecursion IsShort (a_member write o) → one_of ns read (a_member write o) ≡ Ok o
   again_member shape ns read write again rs None good e short = refl
   again_member shape ns read write again rs (Some a) good e short =
       let f = member_from shape ns read rs a (chosen ns rs) good e in again f.0 f.1 a f.2 f.3 short.0

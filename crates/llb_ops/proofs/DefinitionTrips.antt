@@ -26,7 +26,8 @@ use Rattle.llb_ops.proofs.Admission.{by_entries, is_short, are_in, still_fit}
 
 -- ---- the canonical bytes of the entries are no more than those of the records
 
-bytes_of : (w : Wire) (behind payload : List ℕ) (value : ℕ) → w ≡ wire.Len → IsPayload w behind value payload → AreBytes behind → (value ≡ length payload) × (length payload < 2 ^ 64) × AreBytes payload
+bytes_of : (w : Wire) (behind payload : List ℕ) (value : ℕ) → w ≡ wire.Len → IsPayload w behind value payload → AreBytes behind
+    → (value ≡ length payload) × (length payload < 2 ^ 64) × AreBytes payload
 bytes_of w behind payload value is h are =
     let len : IsPayload wire.Len behind value payload = subst (λ (x : Wire). IsPayload x behind value payload) is h in
     (sym len.3, omega (arith, len.3, len.2.small), are_bytes-back len.0 payload (subst AreBytes len.1 are))
@@ -51,19 +52,22 @@ is_len wire.I32 e = absurd cc
 abbrev canon : List Record → List ℕ
 canon rs = each_field 1 (payloads (all 1 rs))
 
-canon_more : (r : Record) (rs : List Record) (last left : ℕ) (b : Bool) → eqb r.number 1 ≡ b → (eqb r.number 1 ≡ true → length (set_bytes 1 r.payload) ≤ last) → length (canon rs) ≤ left → length (canon (r ∷ rs)) ≤ last + left
+canon_more : (r : Record) (rs : List Record) (last left : ℕ) (b : Bool) → eqb r.number 1 ≡ b
+    → (eqb r.number 1 ≡ true → length (set_bytes 1 r.payload) ≤ last) → length (canon rs) ≤ left → length (canon (r ∷ rs)) ≤ last + left
 unfolding each_field
 canon_more r rs last left true e fits rest = rw e (omega (arith, fits e, rest, length-append (set_bytes 1 r.payload) (canon rs)))
 canon_more r rs last left false e fits rest = rw e (omega (arith, rest))
 
-no_longer : (rs : List Record) → AllByRecursion IsRecord rs → AllByRecursion (FitsShape definition_shape) rs → AreBytes (spelled rs) → length (canon rs) ≤ length (spelled rs)
+no_longer : (rs : List Record) → AllByRecursion IsRecord rs → AllByRecursion (FitsShape definition_shape) rs → AreBytes (spelled rs)
+    → length (canon rs) ≤ length (spelled rs)
 unfolding each_field
 no_longer [] each fits are = omega arith
 no_longer (r ∷ rs) each fits are =
     let front = are_bytes-front r.text (spelled rs) are in
     let rest = no_longer rs each.1 fits.1 (are_bytes-back r.text (spelled rs) are) in
     let one = canon_more r rs (length r.text) (length (spelled rs)) (eqb r.number 1) refl
-    (λ is. entry_fits r each.0 front (eqb-true r.number 1 is) (is_len r.wire (subst (λ (n : ℕ). wire_fits (form_of definition_shape n) r.wire ≡ true) (eqb-true r.number 1 is) fits.0.wire))) rest in
+    (λ is. entry_fits r each.0 front (eqb-true r.number 1 is)
+    (is_len r.wire (subst (λ (n : ℕ). wire_fits (form_of definition_shape n) r.wire ≡ true) (eqb-true r.number 1 is) fits.0.wire))) rest in
     omega (arith, one, length-append r.text (spelled rs))
 
 strings_fit : (es : List (List ℕ)) → AllByRecursion IsShort (some_strings 1 es) → AllByRecursion (FitsShape definition_shape) (some_strings 1 es)
@@ -82,7 +86,8 @@ entries_again es small =
     ∙ ap (λ (r : Result (List Record) OpFault). r >>= λ rs. Ok (payloads (all 1 rs))) again
     ∙ ap (λ (rs : List Record). Ok (payloads rs)) only ∙ ap (λ (xs : List (List ℕ)). Ok xs) (strings_read 1 es)
 
-found_in : (bytes : List ℕ) (es : List (List ℕ)) → entries_in bytes ≡ Ok es → (rs : List Record) × (records_from definition_shape 0 bytes ≡ Ok rs) × (payloads (all 1 rs) ≡ es)
+found_in : (bytes : List ℕ) (es : List (List ℕ)) → entries_in bytes ≡ Ok es → (rs : List Record)
+    × (records_from definition_shape 0 bytes ≡ Ok rs) × (payloads (all 1 rs) ≡ es)
 unfolding entries_in
 found_in bytes es e =
     let rs = bind_ok (records_from definition_shape 0 bytes) (λ rs. Ok (payloads (all 1 rs))) es e in
@@ -94,7 +99,8 @@ definition_returns es bytes are e =
     let rs = found_in bytes es (are_in bytes es e) in
     let found : SpellRecords bytes rs.0 = records_found definition_shape 0 bytes rs.0 are rs.1 in
     let fits = records_fit definition_shape 0 bytes rs.0 rs.1 in
-    let short : length (each_field 1 (payloads (all 1 rs.0))) ≤ length bytes = (let h = no_longer rs.0 found.each fits (subst AreBytes found.whole are) in omega (arith, h, ap length found.whole)) in
+    let short : length (each_field 1 (payloads (all 1 rs.0))) ≤ length bytes =
+    (let h = no_longer rs.0 found.each fits (subst AreBytes found.whole are) in omega (arith, h, ap length found.whole)) in
     let len : length (definition_bytes es) ≤ length bytes = subst (λ (xs : List (List ℕ)). length (each_field 1 xs) ≤ length bytes) rs.2 short in
     let fit : length (definition_bytes es) ≤ definition_limit = omega (arith, len, few) in
     by_entries (definition_bytes es) fit ∙ ap (λ r. r >>= entries_fit) (entries_again es (omega (arith, fit))) ∙ still_fit bytes es e

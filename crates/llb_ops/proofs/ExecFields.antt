@@ -9,13 +9,16 @@ use Rattle.llb_ops.specs.declared.exec.CacheOpt.{CacheOpt}
 use Rattle.llb_ops.specs.declared.merge.MergeOp.{MergeOp}
 use Rattle.llb_ops.specs.declared.merge.MergeInput.{MergeInput}
 use Rattle.llb_ops.specs.Records.{int64, int32, flag, message_of}
-use Rattle.llb_ops.specs.Messages.{merge_input_of, merge_input_in, merge_op_of, merge_op_in, tmpfs_opt_of, tmpfs_opt_in, cache_opt_of, cache_opt_in, mount_of, mount_in, meta_of, meta_in, exec_op_of, exec_op_in}
+use Rattle.llb_ops.specs.Messages.{merge_input_of, merge_input_in, merge_op_of, merge_op_in, tmpfs_opt_of, tmpfs_opt_in, cache_opt_of}
+use Rattle.llb_ops.specs.Messages.{cache_opt_in, mount_of, mount_in, meta_of, meta_in, exec_op_of, exec_op_in}
 use Rattle.llb_ops.specs.Writing.{bit, merge_input_bytes, merge_op_bytes, tmpfs_opt_bytes, cache_opt_bytes, mount_bytes, meta_bytes, exec_op_bytes}
 use Rattle.llb_ops.proofs.Texts.{empty_utf8}
 use Rattle.llb_ops.proofs.Numbers.{from_signed, int64_recodes, int32_recodes, flag_recodes}
 use Rattle.llb_ops.proofs.MergeTrips.{merge_input_returns, merge_input_made, merge_op_made}
-use Rattle.llb_ops.proofs.ExecTrips.{tmpfs_opt_returns, cache_opt_returns, mount_returns, meta_returns, tmpfs_opt_made, cache_opt_made, mount_made, meta_made, exec_op_made}
-use Rattle.llb_ops.proofs.Told.{HasFrom, next_is, is_repeated, Told, told_both, told_end, told_number, told_bytes, told_items, told_message, told_messages, has_by, row_at, int64_is, int32_is, flag_is}
+use Rattle.llb_ops.proofs.ExecTrips.{tmpfs_opt_returns, cache_opt_returns, mount_returns, meta_returns, tmpfs_opt_made, cache_opt_made}
+use Rattle.llb_ops.proofs.ExecTrips.{mount_made, meta_made, exec_op_made}
+use Rattle.llb_ops.proofs.Told.{HasFrom, next_is, is_repeated, Told, told_both, told_end, told_number, told_bytes, told_items, told_message}
+use Rattle.llb_ops.proofs.Told.{told_messages, has_by, row_at, int64_is, int32_is, flag_is}
 
 abbrev merge_input_told : Told name.MergeInput MergeInput (ℤ × Unit {0}) 0 false 1 false
 merge_input_told =

@@ -6,7 +6,8 @@ use Rattle.llb_ops.specs.declared.exec.Mount.{Mount}
 use Rattle.llb_ops.specs.declared.exec.TmpfsOpt.{TmpfsOpt}
 use Rattle.llb_ops.specs.declared.exec.CacheOpt.{CacheOpt}
 use Rattle.llb_ops.specs.Records.{int64, int32, flag, message_of}
-use Rattle.llb_ops.specs.Messages.{meta_shape, meta_of, tmpfs_opt_shape, tmpfs_opt_of, cache_opt_shape, cache_opt_of, mount_shape, mount_of, exec_op_shape, exec_op_of, cache_opt_in, exec_op_in, meta_in, mount_in, tmpfs_opt_in}
+use Rattle.llb_ops.specs.Messages.{meta_shape, meta_of, tmpfs_opt_shape, tmpfs_opt_of, cache_opt_shape, cache_opt_of, mount_shape, mount_of}
+use Rattle.llb_ops.specs.Messages.{exec_op_shape, exec_op_of, cache_opt_in, exec_op_in, meta_in, mount_in, tmpfs_opt_in}
 use Rattle.llb_ops.specs.Writing.{bit, meta_bytes, tmpfs_opt_bytes, cache_opt_bytes, mount_bytes, exec_op_bytes}
 use Rattle.llb_ops.proofs.Texts.{empty_utf8}
 use Rattle.llb_ops.proofs.Numbers.{from_signed, int64_recodes, int32_recodes, flag_recodes}
@@ -62,7 +63,17 @@ mount_fields =
     (both (message 20 cache_opt_of cache_opt_bytes cache_opt_returns refl refl) end refl) refl) refl) refl) refl) refl) refl) refl
 
 abbrev pub mount_made : ℤ × (List ℕ × (List ℕ × (ℤ × (Bool × (ℤ × (Option TmpfsOpt × (Option CacheOpt × Unit {0}))))))) → List ℕ → Mount
-mount_made a extra = record { input = a.0; selector = a.1.0; dest = a.1.1.0; output = a.1.1.1.0; readonly = a.1.1.1.1.0; mount_type = a.1.1.1.1.1.0; tmpfs_opt = a.1.1.1.1.1.1.0; cache_opt = a.1.1.1.1.1.1.1.0; extra = extra }
+mount_made a extra = record {
+  input = a.0;
+  selector = a.1.0;
+  dest = a.1.1.0;
+  output = a.1.1.1.0;
+  readonly = a.1.1.1.1.0;
+  mount_type = a.1.1.1.1.1.0;
+  tmpfs_opt = a.1.1.1.1.1.1.0;
+  cache_opt = a.1.1.1.1.1.1.1.0;
+  extra = extra;
+}
 
 pub mount_returns : Returns mount_of mount_bytes
 unfolding message_of mount_in mount_bytes

@@ -1,4 +1,4 @@
--- How often a number stands among others, and fields of which none stands too often: counted behind one another, or all together.
+-- How often a number stands among others, and fields of which none stands too often: counted after one another, or all together.
 use Rattle.std.proofs.Common.{◌≡◌, ℕ, ◌+◌, ◌≤◌, Bool, true, false, eqb, List, [], ◌∷◌, ◌++◌, length, map, refl, sym, ap, subst, ◌∙◌, eq-eqb, arith}
 use Rattle.std.specs.Prelude.{nat_le, ◌&&◌, ◌==◌, if◌then◌else◌}
 use Rattle.std.specs.List.{AllByRecursion}
@@ -34,7 +34,7 @@ AreInnerFew (number row v rest) = AreInnerFew rest
 AreInnerFew (bytes row held rest) = AreInnerFew rest
 AreInnerFew (message row inner rest) = NoneOften (numbers_of inner) × AreInnerFew inner × AreInnerFew rest
 
--- ---- what is counted together is counted behind one another
+-- ---- what is counted together is counted after one another
 
 -- no number stands too often among these and those before, where the last stands so often
 abbrev HasRoom : ℕ → ℕ → List ℕ → Type 0

@@ -1,6 +1,7 @@
 -- A field of a message, or several: how it is read of the message's records, written to them, and read again. A message is
 -- read again where each of its fields is.
-use Rattle.std.proofs.Common.{◌≡◌, ℕ, ◌<◌, ◌^◌, Bool, true, false, cond, List, [], ◌∷◌, ◌++◌, length, refl, sym, ap, subst, ◌∙◌, append_assoc, Result, Ok, Err, arith}
+use Rattle.std.proofs.Common.{◌≡◌, ℕ, ◌<◌, ◌^◌, Bool, true, false, cond, List, [], ◌∷◌, ◌++◌, length, refl, sym, ap, subst, ◌∙◌}
+use Rattle.std.proofs.Common.{append_assoc, Result, Ok, Err, arith}
 use Rattle.std.specs.Prelude.{is_none, ◌&&◌}
 use Rattle.std.specs.List.{AllByRecursion}
 use Rattle.std.specs.Bool.{if◌then◌else◌}
@@ -14,7 +15,9 @@ use Rattle.llb_ops.specs.declared.fault.OpFault.TheVariants.{OverLimit, NotUtf8}
 use Rattle.llb_ops.specs.Records.{Shape, form_of, text_fits, texts_fit, parts, records_from, is_member, unnamed}
 use Rattle.llb_ops.proofs.Again.{FitsShape, parts_again, spelled}
 use Rattle.llb_ops.proofs.Kept.{guard_ended, records_fit}
-use Rattle.llb_ops.proofs.Picks.{All-append, All-front, All-behind, All-map, All-filter, filter_passes, filter_all, filter_none, filter_narrow, mine, has_left, has_right, apart, apart_left, apart_right, are_named, named_of, extras_of, unnamed_has}
+use Rattle.llb_ops.proofs.Picks.{All-append, All-front, All-behind, All-map, All-filter, filter_passes, filter_all, filter_none}
+use Rattle.llb_ops.proofs.Picks.{filter_narrow, mine, has_left, has_right, apart, apart_left, apart_right, are_named, named_of, extras_of}
+use Rattle.llb_ops.proofs.Picks.{unnamed_has}
 
 -- a record is read again, with its wire type, and UTF-8 where it is a text
 pub record IsGood (shape : Shape) (r : Record) : Type 0 where
@@ -28,7 +31,7 @@ IsShort r = length r.text < 2 ^ 64
 abbrev pub IsWritten : Shape → Record → Type 0
 IsWritten shape r = IsShort r → IsGood shape r
 
--- a field of a message M, or several, of the numbers `ns`; `run` goes on with what is read, and `bytes` puts it behind others
+-- a field of a message M, or several, of the numbers `ns`; `run` goes on with what is read, and `bytes` puts it after others
 pub record FieldOf (shape : Shape) (M A : Type 0) : Type 0 where
   pub ns : List ℕ
   pub read : List Record → Result A OpFault
@@ -80,32 +83,41 @@ ok_is x y e = cc
 abbrev pub pair_read : {A B : Type 0} → (List Record → Result A OpFault) → (List Record → Result B OpFault) → List Record → Result (A × B) OpFault
 pair_read f g rs = f rs >>= λ a. (g rs >>= λ b. Ok (a, b))
 
-pub pair_parts : {A B : Type 0} (f : List Record → Result A OpFault) (g : List Record → Result B OpFault) (rs : List Record) (p : A × B) → pair_read f g rs ≡ Ok p → (f rs ≡ Ok p.0) × (g rs ≡ Ok p.1)
+pub pair_parts : {A B : Type 0} (f : List Record → Result A OpFault) (g : List Record → Result B OpFault) (rs : List Record) (p : A × B)
+    → pair_read f g rs ≡ Ok p → (f rs ≡ Ok p.0) × (g rs ≡ Ok p.1)
 pair_parts f g rs p e =
     let a = bind_ok (f rs) (λ a. (g rs >>= λ b. Ok (a, b))) p e in
     let b = bind_ok (g rs) (λ b. Ok (a.0, b)) p a.2 in
     let is = ok_is (a.0, b.0) p b.2 in
     (a.1 ∙ ap (λ x. Ok x) (ap (λ q. q.0) is), b.1 ∙ ap (λ x. Ok x) (ap (λ q. q.1) is))
 
-pub pair_again : {A B : Type 0} (f : List Record → Result A OpFault) (g : List Record → Result B OpFault) (rs : List Record) (p : A × B) → f rs ≡ Ok p.0 → g rs ≡ Ok p.1 → pair_read f g rs ≡ Ok p
+pub pair_again : {A B : Type 0} (f : List Record → Result A OpFault) (g : List Record → Result B OpFault) (rs : List Record) (p : A × B)
+    → f rs ≡ Ok p.0 → g rs ≡ Ok p.1 → pair_read f g rs ≡ Ok p
 pair_again f g rs p e h = rw (e, h) refl
 
 -- what one field reads among the records of both
-pub front_only : (ns ms : List ℕ) (xs ys : List Record) → apart ns ms ≡ true → AllByRecursion (λ r. is_member ns r ≡ true) xs → AllByRecursion (λ r. is_member ms r ≡ true) ys → mine ns (xs ++ ys) ≡ xs
+pub front_only : (ns ms : List ℕ) (xs ys : List Record) → apart ns ms ≡ true → AllByRecursion (λ r. is_member ns r ≡ true) xs
+    → AllByRecursion (λ r. is_member ms r ≡ true) ys → mine ns (xs ++ ys) ≡ xs
 front_only ns ms xs ys e h k =
-    let others : AllByRecursion (λ r. is_member ns r ≡ false) ys = All-map (λ r. is_member ms r ≡ true) (λ r. is_member ns r ≡ false) ys (λ r g. apart_left ns ms r.number e g) k in
-    filter-append (is_member ns) xs ys ∙ ap (λ zs. zs ++ mine ns ys) (filter_all (is_member ns) xs h) ∙ ap (λ zs. xs ++ zs) (filter_none (is_member ns) ys others) ∙ append-nil xs
+    let others : AllByRecursion (λ r. is_member ns r ≡ false) ys = All-map (λ r. is_member ms r ≡ true) (λ r. is_member ns r ≡ false) ys
+    (λ r g. apart_left ns ms r.number e g) k in
+    filter-append (is_member ns) xs ys ∙ ap (λ zs. zs ++ mine ns ys) (filter_all (is_member ns) xs h)
+    ∙ ap (λ zs. xs ++ zs) (filter_none (is_member ns) ys others) ∙ append-nil xs
 
-pub behind_only : (ns ms : List ℕ) (xs ys : List Record) → apart ns ms ≡ true → AllByRecursion (λ r. is_member ns r ≡ true) xs → AllByRecursion (λ r. is_member ms r ≡ true) ys → mine ms (xs ++ ys) ≡ ys
+pub behind_only : (ns ms : List ℕ) (xs ys : List Record) → apart ns ms ≡ true → AllByRecursion (λ r. is_member ns r ≡ true) xs
+    → AllByRecursion (λ r. is_member ms r ≡ true) ys → mine ms (xs ++ ys) ≡ ys
 behind_only ns ms xs ys e h k =
-    let others : AllByRecursion (λ r. is_member ms r ≡ false) xs = All-map (λ r. is_member ns r ≡ true) (λ r. is_member ms r ≡ false) xs (λ r g. apart_right ns ms r.number e g) h in
+    let others : AllByRecursion (λ r. is_member ms r ≡ false) xs = All-map (λ r. is_member ns r ≡ true) (λ r. is_member ms r ≡ false) xs
+    (λ r g. apart_right ns ms r.number e g) h in
     filter-append (is_member ms) xs ys ∙ ap (λ zs. zs ++ mine ms ys) (filter_none (is_member ms) xs others) ∙ filter_all (is_member ms) ys k
 
-pub wide_left : {A : Type 0} (ns ms : List ℕ) (f : List Record → A) → ((rs : List Record) → f (mine ns rs) ≡ f rs) → (rs : List Record) → f (mine (ns ++ ms) rs) ≡ f rs
+pub wide_left : {A : Type 0} (ns ms : List ℕ) (f : List Record → A) → ((rs : List Record) → f (mine ns rs) ≡ f rs) → (rs : List Record)
+    → f (mine (ns ++ ms) rs) ≡ f rs
 wide_left ns ms f local rs =
     sym (local (mine (ns ++ ms) rs)) ∙ ap f (filter_narrow (is_member ns) (is_member (ns ++ ms)) rs (λ r e. has_left ns ms r.number e)) ∙ local rs
 
-pub wide_right : {A : Type 0} (ns ms : List ℕ) (f : List Record → A) → ((rs : List Record) → f (mine ms rs) ≡ f rs) → (rs : List Record) → f (mine (ns ++ ms) rs) ≡ f rs
+pub wide_right : {A : Type 0} (ns ms : List ℕ) (f : List Record → A) → ((rs : List Record) → f (mine ms rs) ≡ f rs) → (rs : List Record)
+    → f (mine (ns ++ ms) rs) ≡ f rs
 wide_right ns ms f local rs =
     sym (local (mine (ns ++ ms) rs)) ∙ ap f (filter_narrow (is_member ms) (is_member (ns ++ ms)) rs (λ r e. has_right ns ms r.number e)) ∙ local rs
 
@@ -116,7 +128,8 @@ pub bind_same : {A M : Type 0} (r : Result A OpFault) (f g : A → Result M OpFa
 bind_same (Ok a) f g h = h a
 bind_same (Err d) f g h = refl
 
-pub bind_pair : {A B M : Type 0} (r : Result A OpFault) (q : Result B OpFault) (k : A × B → Result M OpFault) → (r >>= λ a. (q >>= λ b. k (a, b))) ≡ ((r >>= λ a. (q >>= λ b. Ok (a, b))) >>= k)
+pub bind_pair : {A B M : Type 0} (r : Result A OpFault) (q : Result B OpFault) (k : A × B → Result M OpFault)
+    → (r >>= λ a. (q >>= λ b. k (a, b))) ≡ ((r >>= λ a. (q >>= λ b. Ok (a, b))) >>= k)
 bind_pair (Ok a) (Ok b) k = refl
 bind_pair (Ok a) (Err d) k = refl
 bind_pair (Err d) q k = refl
@@ -132,7 +145,8 @@ both {shape} {M} {A} {B} f g e = record {
   within = λ rs. f.within rs && g.within rs;
   write = λ p. f.write p.0 ++ g.write p.1;
   bytes = λ before p. g.bytes (f.bytes before p.0) p.1;
-  spells = λ before p. ap (λ xs. before ++ xs) (flat_map-append (λ r. r.text) (f.write p.0) (g.write p.1)) ∙ sym (append_assoc before (spelled (f.write p.0)) (spelled (g.write p.1)))
+  spells = λ before p. ap (λ xs. before ++ xs) (flat_map-append (λ r. r.text) (f.write p.0) (g.write p.1))
+      ∙ sym (append_assoc before (spelled (f.write p.0)) (spelled (g.write p.1)))
       ∙ ap (λ xs. xs ++ spelled (g.write p.1)) (f.spells before p.0) ∙ g.spells (f.bytes before p.0) p.1;
   own = λ p. All-append (λ r. is_member (f.ns ++ g.ns) r ≡ true) (f.write p.0) (g.write p.1)
       (All-map (λ r. is_member f.ns r ≡ true) (λ r. is_member (f.ns ++ g.ns) r ≡ true) (f.write p.0) (λ r h. has_left f.ns g.ns r.number h) (f.own p.0))
@@ -187,7 +201,7 @@ texts_good : (shape : Shape) (rs : List Record) → AllByRecursion (IsGood shape
 texts_good shape [] h = refl
 texts_good shape (r ∷ rs) h = and_true (text_fits shape r) (texts_fit shape rs) h.0.text (texts_good shape rs h.1)
 
--- good records that are spelled one behind the other are read as these
+-- good records that are spelled one after the other are read as these
 pub good_again : (shape : Shape) (rs : List Record) → AllByRecursion (IsGood shape) rs → parts shape (spelled rs) ≡ Ok rs
 unfolding parts
 good_again shape rs h =
@@ -209,33 +223,44 @@ message_parts {shape} f make rs m e =
     let w = guard_ended (f.within rs) OverLimit (make a.0 (unnamed shape rs)) m a.2 in
     (a.0, a.1, w.0, w.1)
 
-message_again : {shape : Shape} {A M : Type 0} (f : FieldOf shape M A) (make : A → List ℕ → M) (rs : List Record) (a : A) (extra : List ℕ) → f.read rs ≡ Ok a → f.within rs ≡ true → unnamed shape rs ≡ extra → message_read f make rs ≡ Ok (make a extra)
+message_again : {shape : Shape} {A M : Type 0} (f : FieldOf shape M A) (make : A → List ℕ → M) (rs : List Record) (a : A) (extra : List ℕ)
+    → f.read rs ≡ Ok a → f.within rs ≡ true → unnamed shape rs ≡ extra → message_read f make rs ≡ Ok (make a extra)
 message_again f make rs a extra e w x = rw (e, w, x) refl
 
 -- the records of a message that was read, written again
-pub fields_again : {shape : Shape} {A M : Type 0} (f : FieldOf shape M A) (make : A → List ℕ → M) (rs : List Record) (a : A) → are_named shape f.ns ≡ true → AllByRecursion (IsGood shape) rs → f.read rs ≡ Ok a → f.within rs ≡ true
+pub fields_again : {shape : Shape} {A M : Type 0} (f : FieldOf shape M A) (make : A → List ℕ → M) (rs : List Record) (a : A)
+    → are_named shape f.ns ≡ true → AllByRecursion (IsGood shape) rs → f.read rs ≡ Ok a → f.within rs ≡ true
     → length (spelled (f.write a ++ extras_of shape rs)) < 2 ^ 64
     → (parts shape (spelled (f.write a ++ extras_of shape rs)) >>= message_read f make) ≡ Ok (make a (unnamed shape rs))
 fields_again {shape} f make rs a named good e w small =
     let ws = f.write a in
     let xs = extras_of shape rs in
     let is_extra : AllByRecursion (λ r. is_none (form_of shape r.number) ≡ true) xs = filter_passes (λ r. is_none (form_of shape r.number)) rs in
-    let others : AllByRecursion (λ r. is_member f.ns r ≡ false) xs = All-map (λ r. is_none (form_of shape r.number) ≡ true) (λ r. is_member f.ns r ≡ false) xs (λ r h. unnamed_has shape f.ns r.number named h) is_extra in
+    let others : AllByRecursion (λ r. is_member f.ns r ≡ false) xs =
+    All-map (λ r. is_none (form_of shape r.number) ≡ true) (λ r. is_member f.ns r ≡ false) xs
+    (λ r h. unnamed_has shape f.ns r.number named h) is_extra in
     let short = All-front IsShort ws xs (all_short (ws ++ xs) small) in
     let new = all_good shape ws (f.written rs a good e) short in
     let all = All-append (IsGood shape) ws xs new (All-filter (IsGood shape) (λ r. is_none (form_of shape r.number)) rs good) in
-    let only : mine f.ns (ws ++ xs) ≡ ws = filter-append (is_member f.ns) ws xs ∙ ap (λ zs. zs ++ mine f.ns xs) (filter_all (is_member f.ns) ws (f.own a)) ∙ ap (λ zs. ws ++ zs) (filter_none (is_member f.ns) xs others) ∙ append-nil ws in
+    let only : mine f.ns (ws ++ xs) ≡ ws = filter-append (is_member f.ns) ws xs
+    ∙ ap (λ zs. zs ++ mine f.ns xs) (filter_all (is_member f.ns) ws (f.own a))
+    ∙ ap (λ zs. ws ++ zs) (filter_none (is_member f.ns) xs others) ∙ append-nil ws in
     let read : f.read (ws ++ xs) ≡ Ok a = sym (f.local (ws ++ xs)) ∙ ap f.read only ∙ f.again rs a good e short in
     let within : f.within (ws ++ xs) ≡ true = sym (f.local_within (ws ++ xs)) ∙ ap f.within only ∙ f.limit rs a good e w in
-    let named_ws : AllByRecursion (λ r. is_none (form_of shape r.number) ≡ false) ws = All-map (λ r. is_member f.ns r ≡ true) (λ r. is_none (form_of shape r.number) ≡ false) ws (λ r h. named_of shape f.ns r.number named h) (f.own a) in
-    let kept : extras_of shape (ws ++ xs) ≡ xs = filter-append (λ r. is_none (form_of shape r.number)) ws xs ∙ ap (λ zs. zs ++ extras_of shape xs) (filter_none (λ r. is_none (form_of shape r.number)) ws named_ws) ∙ filter_all (λ r. is_none (form_of shape r.number)) xs is_extra in
-    ap (λ (x : Result (List Record) OpFault). x >>= message_read f make) (good_again shape (ws ++ xs) all) ∙ message_again f make (ws ++ xs) a (unnamed shape rs) read within (ap spelled kept)
+    let named_ws : AllByRecursion (λ r. is_none (form_of shape r.number) ≡ false) ws =
+    All-map (λ r. is_member f.ns r ≡ true) (λ r. is_none (form_of shape r.number) ≡ false) ws (λ r h. named_of shape f.ns r.number named h) (f.own a) in
+    let kept : extras_of shape (ws ++ xs) ≡ xs = filter-append (λ r. is_none (form_of shape r.number)) ws xs
+    ∙ ap (λ zs. zs ++ extras_of shape xs) (filter_none (λ r. is_none (form_of shape r.number)) ws named_ws)
+    ∙ filter_all (λ r. is_none (form_of shape r.number)) xs is_extra in
+    ap (λ (x : Result (List Record) OpFault). x >>= message_read f make) (good_again shape (ws ++ xs) all)
+    ∙ message_again f make (ws ++ xs) a (unnamed shape rs) read within (ap spelled kept)
 
--- the rest of a message behind its records: its fields one after the other, and the limits
+-- the rest of a message after its records: its fields one after the other, and the limits
 abbrev pub message_run : {shape : Shape} {A M : Type 0} → FieldOf shape M A → (A → List ℕ → M) → List Record → Result M OpFault
 message_run {shape} f make rs = f.run rs (λ a. if f.within rs then Ok (make a (unnamed shape rs)) else Err OverLimit)
 
-pub run_parts : {shape : Shape} {A M : Type 0} (f : FieldOf shape M A) (make : A → List ℕ → M) (r : Result (List Record) OpFault) → (r >>= message_run f make) ≡ (r >>= message_read f make)
+pub run_parts : {shape : Shape} {A M : Type 0} (f : FieldOf shape M A) (make : A → List ℕ → M) (r : Result (List Record) OpFault)
+    → (r >>= message_run f make) ≡ (r >>= message_read f make)
 run_parts {shape} f make (Ok rs) = f.runs rs (λ a. if f.within rs then Ok (make a (unnamed shape rs)) else Err OverLimit)
 run_parts f make (Err d) = refl
 
@@ -251,7 +276,9 @@ returns_by {shape} {A} {M} f make read write named reads writes bytes m e small 
     let p = message_parts f make rs.0 m rs.2 in
     let good = parts_good shape bytes rs.0 rs.1 in
     let extra = unnamed shape rs.0 in
-    let text : write (make p.0 extra) ≡ spelled (f.write p.0 ++ extras_of shape rs.0) = writes p.0 extra ∙ ap (λ xs. xs ++ extra) (sym (f.spells [] p.0)) ∙ sym (flat_map-append (λ r. r.text) (f.write p.0) (extras_of shape rs.0)) in
-    let short : length (spelled (f.write p.0 ++ extras_of shape rs.0)) < 2 ^ 64 = subst (λ (xs : List ℕ). length xs < 2 ^ 64) text (subst (λ (x : M). length (write x) < 2 ^ 64) (sym p.3) small) in
+    let text : write (make p.0 extra) ≡ spelled (f.write p.0 ++ extras_of shape rs.0) = writes p.0 extra
+    ∙ ap (λ xs. xs ++ extra) (sym (f.spells [] p.0)) ∙ sym (flat_map-append (λ r. r.text) (f.write p.0) (extras_of shape rs.0)) in
+    let short : length (spelled (f.write p.0 ++ extras_of shape rs.0)) < 2 ^ 64 =
+    subst (λ (xs : List ℕ). length xs < 2 ^ 64) text (subst (λ (x : M). length (write x) < 2 ^ 64) (sym p.3) small) in
     subst (λ (x : M). read (write x) ≡ Ok x) p.3
     (ap read text ∙ reading (spelled (f.write p.0 ++ extras_of shape rs.0)) ∙ fields_again f make rs.0 p.0 named good p.1 p.2 short)

@@ -17,11 +17,16 @@ use Rattle.llb_ops.specs.declared.owners.UserOpt.{UserOpt}
 use Rattle.llb_ops.specs.declared.owners.User.{User}
 use Rattle.llb_ops.specs.declared.owners.User.TheVariants.{ByName, ById}
 use Rattle.llb_ops.specs.Records.{int64, int32, uint32, flag, number, joined, message_of}
-use Rattle.llb_ops.specs.Messages.{users, user_of, action_kinds, action_kind_of, input_of, input_in, user_opt_of, user_opt_in, chown_opt_of, chown_opt_in, mk_file_of, mk_file_in, mk_dir_of, mk_dir_in, copy_file_of, copy_file_in, copy_file_with, rm_of, rm_in, action_of, action_in, file_op_of, file_op_in}
-use Rattle.llb_ops.specs.Writing.{bit, set_bytes, set_number, input_bytes, user_opt_bytes, chown_opt_bytes, mk_file_bytes, mk_dir_bytes, copy_file_bytes, rm_bytes, action_bytes, file_op_bytes}
+use Rattle.llb_ops.specs.Messages.{users, user_of, action_kinds, action_kind_of, input_of, input_in, user_opt_of, user_opt_in, chown_opt_of}
+use Rattle.llb_ops.specs.Messages.{chown_opt_in, mk_file_of, mk_file_in, mk_dir_of, mk_dir_in, copy_file_of, copy_file_in, copy_file_with}
+use Rattle.llb_ops.specs.Messages.{rm_of, rm_in, action_of, action_in, file_op_of, file_op_in}
+use Rattle.llb_ops.specs.Writing.{bit, set_bytes, set_number, input_bytes, user_opt_bytes, chown_opt_bytes, mk_file_bytes, mk_dir_bytes}
+use Rattle.llb_ops.specs.Writing.{copy_file_bytes, rm_bytes, action_bytes, file_op_bytes}
 use Rattle.llb_ops.proofs.Texts.{empty_utf8}
 use Rattle.llb_ops.proofs.Numbers.{from_signed, int64_recodes, int32_recodes, flag_recodes}
-use Rattle.llb_ops.proofs.Trips.{user_record, UserRead, user_cases, user_choice, action_record, ActionRead, action_from, action_choice, user_opt_returns, chown_opt_returns, action_returns, input_made, user_opt_made, chown_opt_made, mk_file_made, mk_dir_made, copy_file_made, rm_made, action_made, file_op_made}
+use Rattle.llb_ops.proofs.Trips.{user_record, UserRead, user_cases, user_choice, action_record, ActionRead, action_from, action_choice}
+use Rattle.llb_ops.proofs.Trips.{user_opt_returns, chown_opt_returns, action_returns, input_made, user_opt_made, chown_opt_made}
+use Rattle.llb_ops.proofs.Trips.{mk_file_made, mk_dir_made, copy_file_made, rm_made, action_made, file_op_made}
 use Rattle.llb_ops.proofs.Tells.{tells_bytes, tells_number, tells_message}
 use Rattle.llb_ops.proofs.Told.{HasFrom, LeadsBy, next_is, is_repeated, Told, told_both, told_end, told_number, told_bytes, told_items, told_message}
 use Rattle.llb_ops.proofs.Told.{told_messages, tells_member, few_members, or_true, has_by, row_at, int64_is, int32_is, flag_is}
@@ -107,7 +112,9 @@ pub mk_dir_has : HasFrom name.FileActionMkDir mk_dir_of mk_dir_bytes mk_dir_byte
 unfolding message_of mk_dir_in mk_dir_bytes
 mk_dir_has = has_by mk_dir_told mk_dir_made mk_dir_of mk_dir_bytes mk_dir_bytes (λ entry. refl) (λ a more. refl) (λ a more. refl)
 
-abbrev copy_file_told : Told name.FileActionCopy CopyFile (List ℕ × (List ℕ × (Option ChownOpt × (ℤ × (Bool × (Bool × (Bool × (Bool × (Bool × (Bool × (ℤ × (List (List ℕ) × (List (List ℕ) × Unit {0}))))))))))))) 0 false 13 false
+abbrev copy_file_told : Told name.FileActionCopy CopyFile
+    (List ℕ × (List ℕ × (Option ChownOpt
+    × (ℤ × (Bool × (Bool × (Bool × (Bool × (Bool × (Bool × (ℤ × (List (List ℕ) × (List (List ℕ) × Unit {0}))))))))))))) 0 false 13 false
 copy_file_told =
     told_both (told_bytes name.FileActionCopy 0 false (row_at name.FileActionCopy 1) (λ held h. h) (next_is refl refl) refl refl refl empty_utf8)
     (told_both (told_bytes name.FileActionCopy 1 false (row_at name.FileActionCopy 2) (λ held h. h) (next_is refl refl) refl refl refl empty_utf8)
@@ -145,14 +152,30 @@ rm_has = has_by rm_told rm_made rm_of rm_bytes rm_bytes (λ entry. refl) (λ a m
 
 action_known : (a : ActionKind) → ActionRead a → (k : ℕ) × (k ≤ 7) × LeadsBy name.FileAction 3 false k true (action_record a) (action_record a)
 unfolding set_bytes
-action_known (action.Copy m) h =
-    (4, omega arith, tells_message name.FileAction name.FileActionCopy 3 false (row_at name.FileAction 4) (copy_file_bytes m) (copy_file_bytes m) (next_is refl refl) refl (copy_file_has h.0 m h.1))
-action_known (action.MkFile m) h =
-    (5, omega arith, tells_message name.FileAction name.FileActionMkFile 3 false (row_at name.FileAction 5) (mk_file_bytes m) (mk_file_bytes m) (next_is refl refl) refl (mk_file_has h.0 m h.1))
-action_known (action.MkDir m) h =
-    (6, omega arith, tells_message name.FileAction name.FileActionMkDir 3 false (row_at name.FileAction 6) (mk_dir_bytes m) (mk_dir_bytes m) (next_is refl refl) refl (mk_dir_has h.0 m h.1))
-action_known (action.Rm m) h =
-    (7, omega arith, tells_message name.FileAction name.FileActionRm 3 false (row_at name.FileAction 7) (rm_bytes m) (rm_bytes m) (next_is refl refl) refl (rm_has h.0 m h.1))
+action_known (action.Copy m) h = (
+  4,
+  omega arith,
+  tells_message name.FileAction name.FileActionCopy 3 false (row_at name.FileAction 4) (copy_file_bytes m)
+      (copy_file_bytes m) (next_is refl refl) refl (copy_file_has h.0 m h.1),
+)
+action_known (action.MkFile m) h = (
+  5,
+  omega arith,
+  tells_message name.FileAction name.FileActionMkFile 3 false (row_at name.FileAction 5) (mk_file_bytes m)
+      (mk_file_bytes m) (next_is refl refl) refl (mk_file_has h.0 m h.1),
+)
+action_known (action.MkDir m) h = (
+  6,
+  omega arith,
+  tells_message name.FileAction name.FileActionMkDir 3 false (row_at name.FileAction 6) (mk_dir_bytes m)
+      (mk_dir_bytes m) (next_is refl refl) refl (mk_dir_has h.0 m h.1),
+)
+action_known (action.Rm m) h = (
+  7,
+  omega arith,
+  tells_message name.FileAction name.FileActionRm 3 false (row_at name.FileAction 7) (rm_bytes m) (rm_bytes m)
+      (next_is refl refl) refl (rm_has h.0 m h.1),
+)
 
 abbrev action_told : Told name.FileAction Action (ℤ × (ℤ × (ℤ × (Option ActionKind × Unit {0})))) 0 false 7 true
 action_told =
@@ -163,7 +186,8 @@ action_told =
       field = action_choice;
       lean = action_choice;
       tells = λ rs o good e.
-          tells_member name.FileAction 3 7 action_kinds action_kind_of action_record action_record rs o (omega arith) good (λ n xs a h. action_known a (action_from n xs a h)) e;
+          tells_member name.FileAction 3 7 action_kinds action_kind_of action_record action_record rs o (omega arith) good
+          (λ n xs a h. action_known a (action_from n xs a h)) e;
       few = λ rs o good e w. few_members action_record o;
     })
     (told_end name.FileAction 7 true) refl refl) refl refl) refl refl) refl refl

@@ -1,4 +1,4 @@
--- The payloads of a field's records, one behind the other.
+-- The payloads of a field's records, one after the other.
 use Rattle.std.proofs.Common.{◌≡◌, List, [], ◌∷◌, length, sym, arith}
 use Rattle.std.proofs.lemmas.List.{append-nil}
 use Rattle.llb_wire.specs.Records.{Record}

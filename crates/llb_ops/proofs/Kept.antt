@@ -55,4 +55,7 @@ records_fit shape zero (b ∷ bytes) rs e =
     let got : field_at (b ∷ bytes) 0 ≡ Ok f.0 = wire_ok (field_at (b ∷ bytes) 0) f.0 (g.1 ∙ ap (λ z. Ok z) w.1) in
     let fits : wire_fits (form_of shape f.0.number) f.0.wire ≡ true = subst (λ (z : Field). wire_fits (form_of shape z.number) z.wire ≡ true) w.1 w.0 in
     let h : record_of (b ∷ bytes) f.0 ∷ xs.0 ≡ rs = ok_list (record_of (b ∷ bytes) f.0 ∷ xs.0) rs xs.2 in
-    subst (λ ys. AllByRecursion (FitsShape shape) ys) h (record { part = part_is (b ∷ bytes) f.0 got; wire = fits }, records_fit shape (f.0.«end» - 1) bytes xs.0 xs.1)
+    subst (λ ys. AllByRecursion (FitsShape shape) ys) h (
+      record { part = part_is (b ∷ bytes) f.0 got; wire = fits },
+      records_fit shape (f.0.«end» - 1) bytes xs.0 xs.1,
+    )

@@ -67,19 +67,36 @@ lean_kind_bytes a = (lean_kind_record a).text
 
 abbrev lean_choice : FieldOf op_shape Op (Option Kind)
 lean_choice =
-    choice kinds kind_of lean_kind_record lean_kind_bytes (λ a. refl) lean_own (λ n xs a good e. lean_written a) (λ n xs a good e short. lean_again (joined xs) a (kind_from n xs a e) short)
+    choice kinds kind_of lean_kind_record lean_kind_bytes (λ a. refl) lean_own (λ n xs a good e. lean_written a)
+    (λ n xs a good e short. lean_again (joined xs) a (kind_from n xs a e) short)
 
 kind_known : (entry : List ℕ) (a : Kind) → KindRead entry a → (k : ℕ) × (k ≤ 7) × LeadsBy name.Op 1 false k true (kind_record a) (lean_kind_record a)
 unfolding set_bytes
-kind_known entry (Exec m) h =
-    (2, omega arith, tells_message name.Op name.ExecOp 1 false (row_at name.Op 2) (exec_op_bytes m) (exec_op_bytes m) (next_is refl refl) refl (exec_op_has entry m h))
-kind_known entry (Source m) h =
-    (3, omega arith, tells_message name.Op name.SourceOp 1 false (row_at name.Op 3) (source_op_bytes m) (lean_source_bytes m) (next_is refl refl) refl (source_op_has entry m h))
-kind_known entry (File m) h =
-    (4, omega arith, tells_message name.Op name.FileOp 1 false (row_at name.Op 4) (file_op_bytes m) (file_op_bytes m) (next_is refl refl) refl (file_op_has entry m h))
+kind_known entry (Exec m) h = (
+  2,
+  omega arith,
+  tells_message name.Op name.ExecOp 1 false (row_at name.Op 2) (exec_op_bytes m) (exec_op_bytes m)
+      (next_is refl refl) refl (exec_op_has entry m h),
+)
+kind_known entry (Source m) h = (
+  3,
+  omega arith,
+  tells_message name.Op name.SourceOp 1 false (row_at name.Op 3) (source_op_bytes m) (lean_source_bytes m)
+      (next_is refl refl) refl (source_op_has entry m h),
+)
+kind_known entry (File m) h = (
+  4,
+  omega arith,
+  tells_message name.Op name.FileOp 1 false (row_at name.Op 4) (file_op_bytes m) (file_op_bytes m)
+      (next_is refl refl) refl (file_op_has entry m h),
+)
 kind_known entry (Build held) h = (5, omega arith, tells_bytes name.Op 1 false (row_at name.Op 5) held (next_is refl refl) tt (or_true _ true refl) refl)
-kind_known entry (Merge m) h =
-    (6, omega arith, tells_message name.Op name.MergeOp 1 false (row_at name.Op 6) (merge_op_bytes m) (merge_op_bytes m) (next_is refl refl) refl (merge_op_has entry m h))
+kind_known entry (Merge m) h = (
+  6,
+  omega arith,
+  tells_message name.Op name.MergeOp 1 false (row_at name.Op 6) (merge_op_bytes m) (merge_op_bytes m)
+      (next_is refl refl) refl (merge_op_has entry m h),
+)
 kind_known entry (Diff held) h = (7, omega arith, tells_bytes name.Op 1 false (row_at name.Op 7) held (next_is refl refl) tt (or_true _ true refl) refl)
 
 abbrev op_told : Told name.Op Op (List Input × (Option Kind × Unit {0})) 0 false 7 true
@@ -89,7 +106,8 @@ op_told =
     (told_both (record {
       field = kind_choice;
       lean = lean_choice;
-      tells = λ rs o good e. tells_member name.Op 1 7 kinds kind_of kind_record lean_kind_record rs o (omega arith) good (λ n xs a h. kind_known (joined xs) a (kind_from n xs a h)) e;
+      tells = λ rs o good e. tells_member name.Op 1 7 kinds kind_of kind_record lean_kind_record rs o (omega arith) good
+          (λ n xs a h. kind_known (joined xs) a (kind_from n xs a h)) e;
       few = λ rs o good e w. few_members kind_record o;
     })
     (told_end name.Op 7 true) refl refl) refl refl

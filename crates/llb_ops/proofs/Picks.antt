@@ -29,7 +29,8 @@ pub All-both : {X : Type 0} (P Q : X → Type 0) (xs : List X) → AllByRecursio
 All-both P Q [] h k = tt
 All-both P Q (x ∷ xs) h k = ((h.0, k.0), All-both P Q xs h.1 k.1)
 
-keep_more : {X : Type 0} (P : X → Type 0) (p : X → Bool) (x : X) (xs : List X) (b : Bool) → p x ≡ b → P x → AllByRecursion P (filter p xs) → AllByRecursion P (filter p (x ∷ xs))
+keep_more : {X : Type 0} (P : X → Type 0) (p : X → Bool) (x : X) (xs : List X) (b : Bool) → p x ≡ b → P x → AllByRecursion P (filter p xs)
+    → AllByRecursion P (filter p (x ∷ xs))
 keep_more P p x xs true e h rest = rw e (h, rest)
 keep_more P p x xs false e h rest = rw e rest
 
@@ -37,7 +38,8 @@ pub All-filter : {X : Type 0} (P : X → Type 0) (p : X → Bool) (xs : List X) 
 All-filter P p [] h = tt
 All-filter P p (x ∷ xs) h = keep_more P p x xs (p x) refl h.0 (All-filter P p xs h.1)
 
-passes_more : {X : Type 0} (p : X → Bool) (x : X) (xs : List X) (b : Bool) → p x ≡ b → AllByRecursion (λ y. p y ≡ true) (filter p xs) → AllByRecursion (λ y. p y ≡ true) (filter p (x ∷ xs))
+passes_more : {X : Type 0} (p : X → Bool) (x : X) (xs : List X) (b : Bool) → p x ≡ b → AllByRecursion (λ y. p y ≡ true) (filter p xs)
+    → AllByRecursion (λ y. p y ≡ true) (filter p (x ∷ xs))
 passes_more p x xs true e rest = rw e (e, rest)
 passes_more p x xs false e rest = rw e rest
 
@@ -54,7 +56,8 @@ filter_none p [] h = refl
 filter_none p (x ∷ xs) h = let e = h.0 in rw e (filter_none p xs h.1)
 
 -- a pick among what a wider test picks
-narrow_more : {X : Type 0} (p q : X → Bool) (x : X) (xs : List X) (a b : Bool) → p x ≡ a → q x ≡ b → (p x ≡ true → q x ≡ true) → filter p (filter q xs) ≡ filter p xs → filter p (filter q (x ∷ xs)) ≡ filter p (x ∷ xs)
+narrow_more : {X : Type 0} (p q : X → Bool) (x : X) (xs : List X) (a b : Bool) → p x ≡ a → q x ≡ b → (p x ≡ true → q x ≡ true)
+    → filter p (filter q xs) ≡ filter p xs → filter p (filter q (x ∷ xs)) ≡ filter p (x ∷ xs)
 narrow_more p q x xs true true e f wider h = rw (f, e) (ap (λ ys. x ∷ ys) h)
 narrow_more p q x xs false true e f wider h = rw (f, e) h
 narrow_more p q x xs true false e f wider h = absurd (let g = wider e in cc)
@@ -138,7 +141,8 @@ named_of shape [] k e h = absurd cc
 named_of shape (n ∷ ns) k e h =
     let both = and_both (not (is_none (form_of shape n))) (are_named shape ns) e in
     go (eqb n k) refl h (not_true (is_none (form_of shape n)) both.0) (λ g. named_of shape ns k both.1 g) where
-      go : (b : Bool) → eqb n k ≡ b → has (n ∷ ns) k ≡ true → is_none (form_of shape n) ≡ false → (has ns k ≡ true → is_none (form_of shape k) ≡ false) → is_none (form_of shape k) ≡ false
+      go : (b : Bool) → eqb n k ≡ b → has (n ∷ ns) k ≡ true → is_none (form_of shape n) ≡ false
+          → (has ns k ≡ true → is_none (form_of shape k) ≡ false) → is_none (form_of shape k) ≡ false
       go true f h named more = subst (λ (j : ℕ). is_none (form_of shape j) ≡ false) (eqb-true n k f) named
       go false f h named more = more (rw f at h)
 

@@ -1,5 +1,6 @@
 -- The attributes that are held: no two have one key, so that their entries settle as they stand.
-use Rattle.std.proofs.Common.{◌≡◌, ℕ, ◌+◌, ◌≤◌, Bool, true, false, List, [], ◌∷◌, ◌++◌, length, map, fold, nat_eq, refl, sym, ap, subst, ◌∙◌, append_assoc, arith}
+use Rattle.std.proofs.Common.{◌≡◌, ℕ, ◌+◌, ◌≤◌, Bool, true, false, List, [], ◌∷◌, ◌++◌, length, map, fold, nat_eq, refl, sym, ap, subst}
+use Rattle.std.proofs.Common.{◌∙◌, append_assoc, arith}
 use Rattle.std.specs.List.{AllByRecursion}
 use Rattle.std.specs.Cmp.Lexicographic.{pointwise}
 use Rattle.std.proofs.lemmas.List.{append-nil}
@@ -19,7 +20,8 @@ Apart [] = Unit {0}
 Apart (p ∷ ps) = AllByRecursion (λ q. same q.0 p.0 ≡ false) ps × Apart ps
 
 -- what holds of the keys and of one more holds of the keys with that one
-keys_hold : (P : List ℕ → Type 0) (es : List Held) (k : List ℕ) (v : Attribute) → AllByRecursion (λ q. P q.0) es → P k → AllByRecursion (λ q. P q.0) (insert_entry same es k v)
+keys_hold : (P : List ℕ → Type 0) (es : List Held) (k : List ℕ) (v : Attribute) → AllByRecursion (λ q. P q.0) es → P k
+    → AllByRecursion (λ q. P q.0) (insert_entry same es k v)
 keys_hold P [] k v h n = (n, tt)
 keys_hold P (e ∷ es) k v h n = go (same k e.0) refl (keys_hold P es k v h.1 n) where
   go : (b : Bool) → same k e.0 ≡ b → AllByRecursion (λ q. P q.0) (insert_entry same es k v) → AllByRecursion (λ q. P q.0) (insert_entry same (e ∷ es) k v)
@@ -41,20 +43,23 @@ pub settled_apart : (es : List AttributeEntry) → Apart (settled es)
 unfolding settled
 settled_apart es = apart_fold [] es tt
 
--- a new key stands behind all others
+-- a new key stands after all others
 insert_behind : (es : List Held) (k : List ℕ) (v : Attribute) → AllByRecursion (λ q. same k q.0 ≡ false) es → insert_entry same es k v ≡ es ++ (k, v) ∷ []
 insert_behind [] k v h = refl
 insert_behind (e ∷ es) k v h = let s = h.0 in rw s (ap (λ xs. e ∷ xs) (insert_behind es k v h.1))
 
-heads : (front : List Held) (p : Held) (ps : List Held) → AllByRecursion (λ f. AllByRecursion (λ q. same q.0 f.0 ≡ false) (p ∷ ps)) front → AllByRecursion (λ f. same p.0 f.0 ≡ false) front
+heads : (front : List Held) (p : Held) (ps : List Held) → AllByRecursion (λ f. AllByRecursion (λ q. same q.0 f.0 ≡ false) (p ∷ ps)) front
+    → AllByRecursion (λ f. same p.0 f.0 ≡ false) front
 heads [] p ps h = tt
 heads (f ∷ front) p ps h = (h.0.0, heads front p ps h.1)
 
-tails : (front : List Held) (p : Held) (ps : List Held) → AllByRecursion (λ f. AllByRecursion (λ q. same q.0 f.0 ≡ false) (p ∷ ps)) front → AllByRecursion (λ f. AllByRecursion (λ q. same q.0 f.0 ≡ false) ps) front
+tails : (front : List Held) (p : Held) (ps : List Held) → AllByRecursion (λ f. AllByRecursion (λ q. same q.0 f.0 ≡ false) (p ∷ ps)) front
+    → AllByRecursion (λ f. AllByRecursion (λ q. same q.0 f.0 ≡ false) ps) front
 tails [] p ps h = tt
 tails (f ∷ front) p ps h = (h.0.1, tails front p ps h.1)
 
-fold_apart : (front ps : List Held) → AllByRecursion (λ f. AllByRecursion (λ q. same q.0 f.0 ≡ false) ps) front → Apart ps → fold put front (map entry_of ps) ≡ front ++ ps
+fold_apart : (front ps : List Held) → AllByRecursion (λ f. AllByRecursion (λ q. same q.0 f.0 ≡ false) ps) front → Apart ps
+    → fold put front (map entry_of ps) ≡ front ++ ps
 fold_apart front [] h a = sym (append-nil front)
 fold_apart front (p ∷ ps) h a =
     let here : put front (entry_of p) ≡ front ++ p ∷ [] = insert_behind front p.0 p.1 (heads front p ps h) in
@@ -69,14 +74,16 @@ settles_again ps a = fold_apart [] ps tt a
 
 -- ---- what is held was an entry
 
-hold_more : (P : AttributeEntry → Type 0) (es : List Held) (e : AttributeEntry) → AllByRecursion (λ p. P (entry_of p)) es → P e → AllByRecursion (λ p. P (entry_of p)) (put es e)
+hold_more : (P : AttributeEntry → Type 0) (es : List Held) (e : AttributeEntry) → AllByRecursion (λ p. P (entry_of p)) es → P e
+    → AllByRecursion (λ p. P (entry_of p)) (put es e)
 hold_more P [] e h n = (n, tt)
 hold_more P (p ∷ ps) e h n = go (same e.key p.0) refl (hold_more P ps e h.1 n) where
   go : (b : Bool) → same e.key p.0 ≡ b → AllByRecursion (λ q. P (entry_of q)) (put ps e) → AllByRecursion (λ q. P (entry_of q)) (put (p ∷ ps) e)
   go true s rest = rw s (subst (λ (k : List ℕ). P (record { key = k; value = e.value; extra = e.extra })) (same_text e.key p.0 s) n, h.1)
   go false s rest = rw s (h.0, rest)
 
-hold_fold : (P : AttributeEntry → Type 0) (held : List Held) (es : List AttributeEntry) → AllByRecursion (λ p. P (entry_of p)) held → AllByRecursion P es → AllByRecursion (λ p. P (entry_of p)) (fold put held es)
+hold_fold : (P : AttributeEntry → Type 0) (held : List Held) (es : List AttributeEntry) → AllByRecursion (λ p. P (entry_of p)) held
+    → AllByRecursion P es → AllByRecursion (λ p. P (entry_of p)) (fold put held es)
 hold_fold P held [] h k = h
 hold_fold P held (e ∷ es) h k = hold_fold P (put held e) es (hold_more P held e h k.0) k.1
 

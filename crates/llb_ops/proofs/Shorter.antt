@@ -25,18 +25,42 @@ unfolding set_bytes
 shorter_field n a b le =
     let tag = tag_text n wire.Len in
     let spelling = smaller 9 (length a) (length b) le in
-    omega (arith, le, spelling, length-append tag (varint_text (length a) ++ a), length-append tag (varint_text (length b) ++ b), length-append (varint_text (length a)) a, length-append (varint_text (length b)) b)
+    omega (
+      arith,
+      le,
+      spelling,
+      length-append tag (varint_text (length a) ++ a),
+      length-append tag (varint_text (length b) ++ b),
+      length-append (varint_text (length a)) a,
+      length-append (varint_text (length b)) b,
+    )
 
 pub shorter : (fs : Fields) → length (bytes_of (without_empty fs)) ≤ length (bytes_of fs)
 shorter (extra more) = omega arith
 shorter (number row v rest) =
-    omega (arith, shorter rest, length-append (set_number row.1.number v) (bytes_of (without_empty rest)), length-append (set_number row.1.number v) (bytes_of rest))
+    omega (
+      arith,
+      shorter rest,
+      length-append (set_number row.1.number v) (bytes_of (without_empty rest)),
+      length-append (set_number row.1.number v) (bytes_of rest),
+    )
 shorter (bytes row held rest) = go (row.1.of_entry && (length held == 0)) refl (shorter rest) where
   go : (b : Bool) → row.1.of_entry && (length held == 0) ≡ b → length (bytes_of (without_empty rest)) ≤ length (bytes_of rest)
       → length (bytes_of (without_empty (bytes row held rest))) ≤ length (bytes_of (bytes row held rest))
   go true e h = rw e (omega (arith, h, length-append (set_bytes row.1.number held) (bytes_of rest)))
-  go false e h = rw e (omega (arith, h, length-append (set_bytes row.1.number held) (bytes_of (without_empty rest)), length-append (set_bytes row.1.number held) (bytes_of rest)))
+  go false e h = rw e (omega (
+    arith,
+    h,
+    length-append (set_bytes row.1.number held) (bytes_of (without_empty rest)),
+    length-append (set_bytes row.1.number held) (bytes_of rest),
+  ))
 shorter (message row inner rest) =
     let full = bytes_of inner in
     let lean = bytes_of (without_empty inner) in
-    omega (arith, shorter rest, shorter_field row.1.number lean full (shorter inner), length-append (set_bytes row.1.number lean) (bytes_of (without_empty rest)), length-append (set_bytes row.1.number full) (bytes_of rest))
+    omega (
+      arith,
+      shorter rest,
+      shorter_field row.1.number lean full (shorter inner),
+      length-append (set_bytes row.1.number lean) (bytes_of (without_empty rest)),
+      length-append (set_bytes row.1.number full) (bytes_of rest),
+    )

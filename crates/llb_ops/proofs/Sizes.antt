@@ -1,5 +1,6 @@
 -- The payloads of records that were read are together no longer than the bytes; nor are those of some of the records.
-use Rattle.std.proofs.Common.{◌≡◌, ℕ, zero, suc, ◌+◌, ◌-◌, ◌≤◌, Bool, true, false, cond, List, [], ◌∷◌, ◌++◌, length, take, Ok, Err, refl, ap, subst, ◌∙◌, arith}
+use Rattle.std.proofs.Common.{◌≡◌, ℕ, zero, suc, ◌+◌, ◌-◌, ◌≤◌, Bool, true, false, cond, List, [], ◌∷◌, ◌++◌, length, take, Ok, Err, refl}
+use Rattle.std.proofs.Common.{ap, subst, ◌∙◌, arith}
 use Rattle.std.specs.Prelude.{◌==◌, filter, fold}
 use Rattle.std.specs.List.{AllByRecursion}
 use Rattle.std.proofs.lemmas.List.{length-append, length-take, length-drop}
@@ -9,12 +10,13 @@ use Rattle.llb_wire.specs.Records.{Record, record_of}
 use Rattle.llb_wire.specs.Laws.Own.{field_local}
 use Rattle.llb_wire.specs.Answer.{◌>>=◌, bind_ok}
 use Rattle.llb_ops.specs.declared.fault.OpFault.TheVariants.{WrongWireType, NotUtf8}
-use Rattle.llb_ops.specs.Records.{Shape, from_wire, first_record, form_of, wire_fits, records_from, texts_fit, parts, all, payloads, joined, kept, since, is_other, member}
+use Rattle.llb_ops.specs.Records.{Shape, from_wire, first_record, form_of, wire_fits, records_from, texts_fit, parts, all, payloads, joined}
+use Rattle.llb_ops.specs.Records.{kept, since, is_other, member}
 use Rattle.llb_ops.proofs.Kept.{wire_ok, ok_list, guard_ended}
 
 -- ---- bytes, and the records that they spell
 
--- a record at the front holds less than the bytes up to its end
+-- a record at the start holds less than the bytes up to its end
 front_size : (bytes : List ℕ) (f : Field) → field_at bytes 0 ≡ Ok f → (length (record_of bytes f).payload + 1 ≤ f.«end») × (f.«end» ≤ length bytes)
 front_size bytes f e =
     let h = field_local bytes f e in
@@ -26,7 +28,8 @@ first_read shape bytes f e =
     let w = guard_ended (wire_fits (form_of shape g.0.number) g.0.wire) WrongWireType g.0 f g.2 in
     wire_ok (field_at bytes 0) f (g.1 ∙ ap (λ z. Ok z) w.1)
 
-records_size : (shape : Shape) (skip : ℕ) (bytes : List ℕ) (rs : List Record) → skip ≤ length bytes → records_from shape skip bytes ≡ Ok rs → length (joined rs) + skip ≤ length bytes
+records_size : (shape : Shape) (skip : ℕ) (bytes : List ℕ) (rs : List Record) → skip ≤ length bytes → records_from shape skip bytes ≡ Ok rs
+    → length (joined rs) + skip ≤ length bytes
 unfolding records_from
 records_size shape zero [] rs le e = subst (λ (xs : List Record). length (joined xs) + 0 ≤ 0) (ok_list [] rs e) (omega arith)
 records_size shape (suc skip) [] rs le e = absurd (omega (arith, le))
@@ -49,7 +52,8 @@ parts_size shape bytes rs e =
 
 -- ---- some of the records
 
-filter_more_size : (p : Record → Bool) (r : Record) (rs : List Record) (b : Bool) → p r ≡ b → length (joined (filter p rs)) ≤ length (joined rs) → length (joined (filter p (r ∷ rs))) ≤ length (joined (r ∷ rs))
+filter_more_size : (p : Record → Bool) (r : Record) (rs : List Record) (b : Bool) → p r ≡ b
+    → length (joined (filter p rs)) ≤ length (joined rs) → length (joined (filter p (r ∷ rs))) ≤ length (joined (r ∷ rs))
 filter_more_size p r rs true e h = rw e (omega (arith, h, length-append r.payload (joined (filter p rs)), length-append r.payload (joined rs)))
 filter_more_size p r rs false e h = rw e (omega (arith, h, length-append r.payload (joined rs)))
 
@@ -64,7 +68,8 @@ joined_push : (rs : List Record) (r : Record) → length (joined (rs ++ r ∷ []
 joined_push [] r = omega (arith, length-append r.payload [])
 joined_push (x ∷ rs) r = omega (arith, joined_push rs r, length-append x.payload (joined (rs ++ r ∷ [])), length-append x.payload (joined rs))
 
-kept_size : (p : Record → Bool) (front : List Record) (r : Record) (b : Bool) → p r ≡ b → length (joined (kept p front r)) ≤ length (joined front) + length r.payload
+kept_size : (p : Record → Bool) (front : List Record) (r : Record) (b : Bool) → p r ≡ b
+    → length (joined (kept p front r)) ≤ length (joined front) + length r.payload
 kept_size p front r true e = rw e (omega arith)
 kept_size p front r false e = rw e (omega (arith, joined_push front r))
 

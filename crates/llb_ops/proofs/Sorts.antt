@@ -1,5 +1,6 @@
 -- The kinds of fields, each read again of what is written.
-use Rattle.std.proofs.Common.{◌≡◌, ℕ, suc, ◌+◌, ◌*◌, ◌<◌, ◌≤◌, ◌^◌, Bool, true, false, eqb, List, [], ◌∷◌, ◌++◌, length, map, Option, Some, None, refl, sym, ap, subst, ◌∙◌, Result, Ok, eq-eqb, arith}
+use Rattle.std.proofs.Common.{◌≡◌, ℕ, suc, ◌+◌, ◌*◌, ◌<◌, ◌≤◌, ◌^◌, Bool, true, false, eqb, List, [], ◌∷◌, ◌++◌, length, map, Option, Some}
+use Rattle.std.proofs.Common.{None, refl, sym, ap, subst, ◌∙◌, Result, Ok, eq-eqb, arith}
 use Rattle.std.specs.Prelude.{nat_le, nat_lt, ◌&&◌}
 use Rattle.std.specs.List.{AllByRecursion}
 use Rattle.std.specs.Bool.{◌==◌, if◌then◌else◌}
@@ -28,7 +29,8 @@ pub record IsOf (shape : Shape) (n : ℕ) (r : Record) : Type 0 where
 pub of_all : (shape : Shape) (n : ℕ) (rs : List Record) → AllByRecursion (IsGood shape) rs → AllByRecursion (IsOf shape n) (all n rs)
 of_all shape n rs good =
     All-map (λ r. (r.number == n ≡ true) × IsGood shape r) (IsOf shape n) (all n rs) (λ r h. record { good = h.1; number = eqb-true r.number n h.0 })
-    (All-both (λ r. r.number == n ≡ true) (IsGood shape) (all n rs) (filter_passes (λ r. r.number == n) rs) (All-filter (IsGood shape) (λ r. r.number == n) rs good))
+    (All-both (λ r. r.number == n ≡ true) (IsGood shape) (all n rs) (filter_passes (λ r. r.number == n) rs)
+    (All-filter (IsGood shape) (λ r. r.number == n) rs good))
 
 pub same_number : (n : ℕ) (rs : List Record) → AllByRecursion (λ r. r.number ≡ n) rs → all n rs ≡ rs
 same_number n rs h = filter_all (λ r. r.number == n) rs (All-map (λ r. r.number ≡ n) (λ r. r.number == n ≡ true) rs (λ r e. eq-eqb r.number n e) h)
@@ -37,7 +39,8 @@ pub all_mine : (n : ℕ) (rs : List Record) → all n (mine (n ∷ []) rs) ≡ a
 all_mine n rs = filter_narrow (λ r. r.number == n) (is_member (n ∷ [])) rs (λ r e. has_one n r.number e)
 
 -- a field of one number, by what it is of its own records
-abbrev pub plain : {shape : Shape} {M A : Type 0} (n : ℕ) (read : List Record → Result A OpFault) (run : List Record → (A → Result M OpFault) → Result M OpFault) (within : List Record → Bool) (write : A → List Record) (bytes : A → List ℕ)
+abbrev pub plain : {shape : Shape} {M A : Type 0} (n : ℕ) (read : List Record → Result A OpFault)
+    (run : List Record → (A → Result M OpFault) → Result M OpFault) (within : List Record → Bool) (write : A → List Record) (bytes : A → List ℕ)
     → ((xs : List Record) (k : A → Result M OpFault) → run xs k ≡ (read xs >>= k))
     → ((a : A) → spelled (write a) ≡ bytes a)
     → ((a : A) → AllByRecursion (λ r. r.number ≡ n) (write a))
@@ -104,9 +107,11 @@ number_spelled n v = go (eqb v 0) refl where
   go true e = rw e refl
   go false e = rw e (append-nil _)
 
-abbrev pub numeric : {shape : Shape} {M A : Type 0} (n : ℕ) (decode : ℕ → A) (encode : A → ℕ) → Recodes decode encode → is_number n ≡ true → form_of shape n ≡ Some form.Number → FieldOf shape M A
+abbrev pub numeric : {shape : Shape} {M A : Type 0} (n : ℕ) (decode : ℕ → A) (encode : A → ℕ) → Recodes decode encode → is_number n ≡ true
+    → form_of shape n ≡ Some form.Number → FieldOf shape M A
 numeric {shape} {M} {A} n decode encode code range named =
-    plain {shape = shape} {M = M} {A = A} n (λ xs. Ok (decode (number xs))) (λ xs k. k (decode (number xs))) (λ xs. true) (λ a. a_number n (encode a)) (λ a. number_field n (encode a))
+    plain {shape = shape} {M = M} {A = A} n (λ xs. Ok (decode (number xs))) (λ xs k. k (decode (number xs))) (λ xs. true)
+    (λ a. a_number n (encode a)) (λ a. number_field n (encode a))
     (λ xs k. refl)
     (λ a. number_spelled n (encode a))
     (λ a. a_number_of (λ r. r.number ≡ n) n (encode a) (eqb (encode a) 0) refl refl)
@@ -132,7 +137,8 @@ payload_short n bytes short =
     let size = varint_text (length bytes) in
     omega (arith, short, length-append tag (size ++ bytes), length-append size bytes)
 
-pub bytes_written : (shape : Shape) (n : ℕ) (bytes : List ℕ) → is_number n ≡ true → wire_fits (form_of shape n) wire.Len ≡ true → text_ok (form_of shape n) bytes ≡ true → IsWritten shape (bytes_part n bytes)
+pub bytes_written : (shape : Shape) (n : ℕ) (bytes : List ℕ) → is_number n ≡ true → wire_fits (form_of shape n) wire.Len ≡ true
+    → text_ok (form_of shape n) bytes ≡ true → IsWritten shape (bytes_part n bytes)
 bytes_written shape n bytes range fits text =
     λ short. record {
       fits = record { part = bytes_part_is n bytes (number_some n range) (number_small n range) (payload_short n bytes short); wire = fits };
@@ -155,7 +161,8 @@ unfolding bytes_field set_bytes
 bytes_spelled n [] = refl
 bytes_spelled n (b ∷ bytes) = let e : eqb (suc (length bytes)) 0 ≡ false = ne_eqb _ _ (omega arith) in rw e (append-nil _)
 
-abbrev pub string : {shape : Shape} {M : Type 0} (n : ℕ) → is_number n ≡ true → wire_fits (form_of shape n) wire.Len ≡ true → text_ok (form_of shape n) [] ≡ true → FieldOf shape M (List ℕ)
+abbrev pub string : {shape : Shape} {M : Type 0} (n : ℕ) → is_number n ≡ true → wire_fits (form_of shape n) wire.Len ≡ true
+    → text_ok (form_of shape n) [] ≡ true → FieldOf shape M (List ℕ)
 string {shape} {M} n range fits empty =
     plain {shape = shape} {M = M} {A = List ℕ} n (λ xs. Ok (payload xs)) (λ xs k. k (payload xs)) (λ xs. true) (some_bytes n) (bytes_field n)
     (λ xs k. refl)
@@ -163,7 +170,8 @@ string {shape} {M} n range fits empty =
     (λ a. some_of (λ r. r.number ≡ n) n a refl)
     (λ xs a good e.
     let texts = All-map (IsOf shape n) (λ r. text_ok (form_of shape n) r.payload ≡ true) xs (λ r h. text_of shape n r h) good in
-    let text : text_ok (form_of shape n) a ≡ true = subst (λ (b : List ℕ). text_ok (form_of shape n) b ≡ true) (ok_is (payload xs) a e) (last_payload (λ b. text_ok (form_of shape n) b ≡ true) xs empty texts) in
+    let text : text_ok (form_of shape n) a ≡ true = subst (λ (b : List ℕ). text_ok (form_of shape n) b ≡ true) (ok_is (payload xs) a e)
+    (last_payload (λ b. text_ok (form_of shape n) b ≡ true) xs empty texts) in
     some_of (IsWritten shape) n a (bytes_written shape n a range fits text))
     (λ xs a good e short. ap (λ b. Ok b) (payload_read n a))
     (λ xs a e w. refl)
@@ -173,7 +181,8 @@ unfolding set_bytes
 set_spelled n bytes = append-nil _
 
 -- a text or bytes that are written also where they are empty
-abbrev pub set_string : {shape : Shape} {M : Type 0} (n : ℕ) → is_number n ≡ true → wire_fits (form_of shape n) wire.Len ≡ true → text_ok (form_of shape n) [] ≡ true → FieldOf shape M (List ℕ)
+abbrev pub set_string : {shape : Shape} {M : Type 0} (n : ℕ) → is_number n ≡ true → wire_fits (form_of shape n) wire.Len ≡ true
+    → text_ok (form_of shape n) [] ≡ true → FieldOf shape M (List ℕ)
 set_string {shape} {M} n range fits empty =
     plain {shape = shape} {M = M} {A = List ℕ} n (λ xs. Ok (payload xs)) (λ xs k. k (payload xs)) (λ xs. true) (λ a. bytes_part n a ∷ []) (set_bytes n)
     (λ xs k. refl)
@@ -181,7 +190,8 @@ set_string {shape} {M} n range fits empty =
     (λ a. (refl, tt))
     (λ xs a good e.
     let texts = All-map (IsOf shape n) (λ r. text_ok (form_of shape n) r.payload ≡ true) xs (λ r h. text_of shape n r h) good in
-    let text : text_ok (form_of shape n) a ≡ true = subst (λ (b : List ℕ). text_ok (form_of shape n) b ≡ true) (ok_is (payload xs) a e) (last_payload (λ b. text_ok (form_of shape n) b ≡ true) xs empty texts) in
+    let text : text_ok (form_of shape n) a ≡ true = subst (λ (b : List ℕ). text_ok (form_of shape n) b ≡ true) (ok_is (payload xs) a e)
+    (last_payload (λ b. text_ok (form_of shape n) b ≡ true) xs empty texts) in
     (bytes_written shape n a range fits text, tt))
     (λ xs a good e short. refl)
     (λ xs a e w. refl)
@@ -196,14 +206,17 @@ abbrev pub a_message : {M : Type 0} → (M → List ℕ) → ℕ → Option M �
 a_message write n None = []
 a_message write n (Some m) = bytes_part n (write m) ∷ []
 
-message_written : {M : Type 0} (shape : Shape) (write : M → List ℕ) (n : ℕ) (m : M) → is_number n ≡ true → HoldsBytes shape n → IsWritten shape (bytes_part n (write m))
+message_written : {M : Type 0} (shape : Shape) (write : M → List ℕ) (n : ℕ) (m : M) → is_number n ≡ true → HoldsBytes shape n
+    → IsWritten shape (bytes_part n (write m))
 message_written shape write n m range named =
     bytes_written shape n (write m) range (ap (λ o. wire_fits o wire.Len) named) (ap (λ o. text_ok o (write m)) named)
 
-pub message_short : {M : Type 0} (read : List ℕ → Result M OpFault) (write : M → List ℕ) (n : ℕ) (m : M) → ((bytes : List ℕ) × (read bytes ≡ Ok m)) → Returns read write → IsShort (bytes_part n (write m)) → read (write m) ≡ Ok m
+pub message_short : {M : Type 0} (read : List ℕ → Result M OpFault) (write : M → List ℕ) (n : ℕ) (m : M)
+    → ((bytes : List ℕ) × (read bytes ≡ Ok m)) → Returns read write → IsShort (bytes_part n (write m)) → read (write m) ≡ Ok m
 message_short read write n m from returns short = returns from.0 m from.1 (payload_short n (write m) short)
 
-pub one_from : {M : Type 0} (read : List ℕ → Result M OpFault) (xs : List Record) (m : M) (b : Bool) → eqb (length xs) 0 ≡ b → one read xs ≡ Ok (Some m) → (bytes : List ℕ) × (read bytes ≡ Ok m)
+pub one_from : {M : Type 0} (read : List ℕ → Result M OpFault) (xs : List Record) (m : M) (b : Bool) → eqb (length xs) 0 ≡ b
+    → one read xs ≡ Ok (Some m) → (bytes : List ℕ) × (read bytes ≡ Ok m)
 unfolding one
 one_from read xs m true e h = absurd (let k = rw e at h in none_some m k) where
   none_some : {M : Type 0} (m : M) → ok_of {A = Option M} None ≡ ok_of (Some m) → ⊥
@@ -214,7 +227,8 @@ one_from read xs m false e h =
       some_is : {M : Type 0} (x y : M) → ok_of {A = Option M} (Some x) ≡ ok_of (Some y) → x ≡ y
       some_is x y k = cc
 
-one_again : {M : Type 0} (read : List ℕ → Result M OpFault) (write : M → List ℕ) (n : ℕ) (m : M) → read (write m) ≡ Ok m → one read (a_message write n (Some m)) ≡ Ok (Some m)
+one_again : {M : Type 0} (read : List ℕ → Result M OpFault) (write : M → List ℕ) (n : ℕ) (m : M) → read (write m) ≡ Ok m
+    → one read (a_message write n (Some m)) ≡ Ok (Some m)
 unfolding one
 one_again read write n m h = rw (append-nil (write m), h) refl
 
@@ -222,11 +236,13 @@ pub message_own : {M : Type 0} (write : M → List ℕ) (n : ℕ) (o : Option M)
 message_own write n None = tt
 message_own write n (Some m) = (refl, tt)
 
-pub message_are : {M : Type 0} (shape : Shape) (write : M → List ℕ) (n : ℕ) (o : Option M) → is_number n ≡ true → HoldsBytes shape n → AllByRecursion (IsWritten shape) (a_message write n o)
+pub message_are : {M : Type 0} (shape : Shape) (write : M → List ℕ) (n : ℕ) (o : Option M) → is_number n ≡ true → HoldsBytes shape n
+    → AllByRecursion (IsWritten shape) (a_message write n o)
 message_are shape write n None range named = tt
 message_are shape write n (Some m) range named = (message_written shape write n m range named, tt)
 
-pub message_back : {M : Type 0} (read : List ℕ → Result M OpFault) (write : M → List ℕ) (n : ℕ) (xs : List Record) (o : Option M) → Returns read write → one read xs ≡ Ok o → AllByRecursion IsShort (a_message write n o) → one read (a_message write n o) ≡ Ok o
+pub message_back : {M : Type 0} (read : List ℕ → Result M OpFault) (write : M → List ℕ) (n : ℕ) (xs : List Record) (o : Option M)
+    → Returns read write → one read xs ≡ Ok o → AllByRecursion IsShort (a_message write n o) → one read (a_message write n o) ≡ Ok o
 unfolding one
 message_back read write n xs None returns e short = refl
 message_back read write n xs (Some m) returns e short =
@@ -237,7 +253,8 @@ unfolding message_field set_bytes
 message_spelled write n None = refl
 message_spelled write n (Some m) = append-nil _
 
-abbrev pub message : {shape : Shape} {W M : Type 0} (n : ℕ) (read : List ℕ → Result M OpFault) (write : M → List ℕ) → Returns read write → is_number n ≡ true → HoldsBytes shape n → FieldOf shape W (Option M)
+abbrev pub message : {shape : Shape} {W M : Type 0} (n : ℕ) (read : List ℕ → Result M OpFault) (write : M → List ℕ) → Returns read write
+    → is_number n ≡ true → HoldsBytes shape n → FieldOf shape W (Option M)
 message {shape} {W} {M} n read write returns range named =
     plain {shape = shape} {M = W} {A = Option M} n (one read) (λ xs k. one read xs >>= k) (λ xs. true) (a_message write n) (message_field write n)
     (λ xs k. refl)
@@ -256,11 +273,13 @@ pub messages_own : {M : Type 0} (write : M → List ℕ) (n : ℕ) (ms : List M)
 messages_own write n [] = tt
 messages_own write n (m ∷ ms) = (refl, messages_own write n ms)
 
-pub messages_are : {M : Type 0} (shape : Shape) (write : M → List ℕ) (n : ℕ) (ms : List M) → is_number n ≡ true → HoldsBytes shape n → AllByRecursion (IsWritten shape) (some_messages write n ms)
+pub messages_are : {M : Type 0} (shape : Shape) (write : M → List ℕ) (n : ℕ) (ms : List M) → is_number n ≡ true → HoldsBytes shape n
+    → AllByRecursion (IsWritten shape) (some_messages write n ms)
 messages_are shape write n [] range named = tt
 messages_are shape write n (m ∷ ms) range named = (message_written shape write n m range named, messages_are shape write n ms range named)
 
-pub messages_back : {M : Type 0} (read : List ℕ → Result M OpFault) (write : M → List ℕ) (n : ℕ) (xs : List Record) (ms : List M) → Returns read write → each read xs ≡ Ok ms → AllByRecursion IsShort (some_messages write n ms) → each read (some_messages write n ms) ≡ Ok ms
+pub messages_back : {M : Type 0} (read : List ℕ → Result M OpFault) (write : M → List ℕ) (n : ℕ) (xs : List Record) (ms : List M)
+    → Returns read write → each read xs ≡ Ok ms → AllByRecursion IsShort (some_messages write n ms) → each read (some_messages write n ms) ≡ Ok ms
 unfolding each
 messages_back read write n xs [] returns e short = refl
 messages_back read write n [] (m ∷ ms) returns e short = absurd (nothing e) where
@@ -292,9 +311,11 @@ unfolding messages_field set_bytes
 messages_spelled write n [] = refl
 messages_spelled write n (m ∷ ms) = ap (λ xs. (bytes_part n (write m)).text ++ xs) (messages_spelled write n ms)
 
-abbrev pub messages : {shape : Shape} {W M : Type 0} (n : ℕ) (read : List ℕ → Result M OpFault) (write : M → List ℕ) → Returns read write → is_number n ≡ true → HoldsBytes shape n → FieldOf shape W (List M)
+abbrev pub messages : {shape : Shape} {W M : Type 0} (n : ℕ) (read : List ℕ → Result M OpFault) (write : M → List ℕ) → Returns read write
+    → is_number n ≡ true → HoldsBytes shape n → FieldOf shape W (List M)
 messages {shape} {W} {M} n read write returns range named =
-    plain {shape = shape} {M = W} {A = List M} n (each read) (λ xs k. each read xs >>= k) (λ xs. nat_le (length xs) field_limit) (some_messages write n) (messages_field write n)
+    plain {shape = shape} {M = W} {A = List M} n (each read) (λ xs k. each read xs >>= k) (λ xs. nat_le (length xs) field_limit)
+    (some_messages write n) (messages_field write n)
     (λ xs k. refl)
     (messages_spelled write n)
     (messages_own write n)
@@ -316,7 +337,8 @@ unfolding each_field set_bytes
 strings_spelled n [] = refl
 strings_spelled n (a ∷ items) = ap (λ xs. (bytes_part n a).text ++ xs) (strings_spelled n items)
 
-pub strings_are : (shape : Shape) (n : ℕ) (xs : List Record) → is_number n ≡ true → wire_fits (form_of shape n) wire.Len ≡ true → AllByRecursion (IsOf shape n) xs → AllByRecursion (IsWritten shape) (some_strings n (payloads xs))
+pub strings_are : (shape : Shape) (n : ℕ) (xs : List Record) → is_number n ≡ true → wire_fits (form_of shape n) wire.Len ≡ true
+    → AllByRecursion (IsOf shape n) xs → AllByRecursion (IsWritten shape) (some_strings n (payloads xs))
 strings_are shape n [] range fits good = tt
 strings_are shape n (r ∷ xs) range fits good = (bytes_written shape n r.payload range fits (text_of shape n r good.0), strings_are shape n xs range fits good.1)
 
@@ -326,13 +348,16 @@ strings_read n (a ∷ items) = ap (λ xs. a ∷ xs) (strings_read n items)
 
 abbrev pub strings : {shape : Shape} {M : Type 0} (n : ℕ) → is_number n ≡ true → wire_fits (form_of shape n) wire.Len ≡ true → FieldOf shape M (List (List ℕ))
 strings {shape} {M} n range fits =
-    plain {shape = shape} {M = M} {A = List (List ℕ)} n (λ xs. Ok (payloads xs)) (λ xs k. k (payloads xs)) (λ xs. nat_le (length xs) field_limit) (some_strings n) (each_field n)
+    plain {shape = shape} {M = M} {A = List (List ℕ)} n (λ xs. Ok (payloads xs)) (λ xs k. k (payloads xs))
+    (λ xs. nat_le (length xs) field_limit) (some_strings n) (each_field n)
     (λ xs k. refl)
     (strings_spelled n)
     (strings_own n)
-    (λ xs a good e. subst (λ (items : List (List ℕ)). AllByRecursion (IsWritten shape) (some_strings n items)) (ok_is (payloads xs) a e) (strings_are shape n xs range fits good))
+    (λ xs a good e. subst (λ (items : List (List ℕ)). AllByRecursion (IsWritten shape) (some_strings n items)) (ok_is (payloads xs) a e)
+    (strings_are shape n xs range fits good))
     (λ xs a good e short. ap (λ items. Ok items) (strings_read n a))
-    (λ xs a e w. ap (λ k. nat_le k field_limit) (length-map a (λ bytes. bytes_part n bytes) ∙ ap length (sym (ok_is (payloads xs) a e)) ∙ length-map xs (λ r. r.payload)) ∙ w)
+    (λ xs a e w. ap (λ k. nat_le k field_limit) (length-map a (λ bytes. bytes_part n bytes) ∙ ap length (sym (ok_is (payloads xs) a e))
+    ∙ length-map xs (λ r. r.payload)) ∙ w)
 
 -- ---- what each message of a list was read of
 
@@ -356,7 +381,8 @@ each_read read (x ∷ xs) (m ∷ ms) e =
       tail_is : {M : Type 0} (x y : M) (xs ys : List M) → x ∷ xs ≡ y ∷ ys → xs ≡ ys
       tail_is x y xs ys e = cc
 
-pub each_back : {M : Type 0} (read : List ℕ → Result M OpFault) (write : M → List ℕ) (n : ℕ) (ms : List M) → Returns read write → AllByRecursion (IsRead read) ms → AllByRecursion IsShort (some_messages write n ms) → each read (some_messages write n ms) ≡ Ok ms
+pub each_back : {M : Type 0} (read : List ℕ → Result M OpFault) (write : M → List ℕ) (n : ℕ) (ms : List M) → Returns read write
+    → AllByRecursion (IsRead read) ms → AllByRecursion IsShort (some_messages write n ms) → each read (some_messages write n ms) ≡ Ok ms
 unfolding each
 each_back read write n [] returns from short = refl
 each_back read write n (m ∷ ms) returns from short =

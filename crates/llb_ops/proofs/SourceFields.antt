@@ -47,7 +47,8 @@ source_op_told =
       tells = λ rs a good e.
           let was = was_settled (all 2 rs) a e in
           let from = was_read was.0 a was.2 (each_read attribute_entry_of (all 2 rs) was.0 was.1) in
-          tells_messages name.SourceOp name.AttributeEntry 1 false (row_at name.SourceOp 2) attribute_entry_of attribute_entry_bytes lean_entry_bytes (map entry_of a) attribute_entry_has
+          tells_messages name.SourceOp name.AttributeEntry 1 false (row_at name.SourceOp 2) attribute_entry_of attribute_entry_bytes
+          lean_entry_bytes (map entry_of a) attribute_entry_has
           (is_repeated (next_is refl refl) (next_is refl refl) refl refl refl) refl from;
       few = λ rs a good e w.
           none_repeated 2 (some_messages attribute_entry_bytes 2 (map entry_of a)) (messages_own attribute_entry_bytes 2 (map entry_of a))

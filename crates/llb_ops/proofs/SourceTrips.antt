@@ -17,7 +17,8 @@ use Rattle.llb_ops.specs.Writing.{attribute_entry_bytes, source_op_bytes, messag
 use Rattle.llb_ops.proofs.Texts.{empty_utf8}
 use Rattle.llb_ops.proofs.FieldOf.{IsShort, FieldOf, Returns, end, both, returns_by, ok_is}
 use Rattle.llb_ops.proofs.Settled.{settled_apart, settles_again, settled_hold, settled_length}
-use Rattle.llb_ops.proofs.Sorts.{string, set_string, some_messages, messages_spelled, messages_own, messages_are, IsRead, each_read, each_back, each_length, plain}
+use Rattle.llb_ops.proofs.Sorts.{string, set_string, some_messages, messages_spelled, messages_own, messages_are, IsRead, each_read}
+use Rattle.llb_ops.proofs.Sorts.{each_back, each_length, plain}
 
 abbrev attribute_entry_fields : FieldOf attribute_entry_shape AttributeEntry (List ℕ × (List ℕ × Unit {0}))
 attribute_entry_fields = both (set_string 1 refl refl empty_utf8) (both (set_string 2 refl refl empty_utf8) end refl) refl
@@ -49,7 +50,8 @@ was_settled xs a e =
 pub was_read : (es : List AttributeEntry) (a : List Held) → settled es ≡ a → AllByRecursion (IsRead attribute_entry_of) es
     → AllByRecursion (IsRead attribute_entry_of) (map entry_of a)
 was_read es a is h =
-    all_entries a (subst (λ (ps : List Held). AllByRecursion (λ p. IsRead attribute_entry_of (entry_of p)) ps) is (settled_hold (IsRead attribute_entry_of) es h)) where
+    all_entries a (subst (λ (ps : List Held). AllByRecursion (λ p. IsRead attribute_entry_of (entry_of p)) ps) is
+    (settled_hold (IsRead attribute_entry_of) es h)) where
       all_entries : (ps : List Held) → AllByRecursion (λ p. IsRead attribute_entry_of (entry_of p)) ps
           → AllByRecursion (IsRead attribute_entry_of) (map entry_of ps)
       all_entries [] h = tt
@@ -62,7 +64,8 @@ pub attributes_back : (write : AttributeEntry → List ℕ) (n : ℕ) (xs : List
 attributes_back write n xs a returns e short =
     let was = was_settled xs a e in
     let from = was_read was.0 a was.2 (each_read attribute_entry_of xs was.0 was.1) in
-    let again : settled (map entry_of a) ≡ a = subst (λ (ps : List Held). settled (map entry_of ps) ≡ ps) was.2 (settles_again (settled was.0) (settled_apart was.0)) in
+    let again : settled (map entry_of a) ≡ a = subst (λ (ps : List Held). settled (map entry_of ps) ≡ ps) was.2
+    (settles_again (settled was.0) (settled_apart was.0)) in
     rw (each_back attribute_entry_of write n (map entry_of a) returns from short, again) refl
 
 pub attributes_limit : (write : AttributeEntry → List ℕ) (n : ℕ) (xs : List Record) (a : List Held) → attributes_read xs ≡ Ok a
@@ -75,7 +78,8 @@ attributes_limit write n xs a e w =
 
 abbrev pub attributes_field : (write : AttributeEntry → List ℕ) → Returns attribute_entry_of write → FieldOf source_op_shape SourceOp (List Held)
 attributes_field write returns =
-    plain {shape = source_op_shape} {M = SourceOp} {A = List Held} 2 attributes_read (λ xs k. each attribute_entry_of xs >>= λ es. k (settled es)) (λ xs. nat_le (length xs) field_limit)
+    plain {shape = source_op_shape} {M = SourceOp} {A = List Held} 2 attributes_read
+    (λ xs k. each attribute_entry_of xs >>= λ es. k (settled es)) (λ xs. nat_le (length xs) field_limit)
     (λ a. some_messages write 2 (map entry_of a)) (λ a. messages_field write 2 (map entry_of a))
     (λ xs k. goes_on (each attribute_entry_of xs) k)
     (λ a. messages_spelled write 2 (map entry_of a))

@@ -1,5 +1,6 @@
 -- The records that are read are those that the bytes spell by the grammar.
-use Rattle.std.proofs.Common.{◌≡◌, ℕ, zero, suc, ◌+◌, ◌-◌, ◌<◌, ◌≤◌, Bool, true, false, cond, ltb, List, [], ◌∷◌, ◌++◌, length, drop, Result, Ok, Err, refl, sym, ap, subst, ◌∙◌, arith}
+use Rattle.std.proofs.Common.{◌≡◌, ℕ, zero, suc, ◌+◌, ◌-◌, ◌<◌, ◌≤◌, Bool, true, false, cond, ltb, List, [], ◌∷◌, ◌++◌, length, drop}
+use Rattle.std.proofs.Common.{Result, Ok, Err, refl, sym, ap, subst, ◌∙◌, arith}
 use Rattle.std.specs.List.{AllByRecursion, flat_map}
 use Rattle.std.proofs.lemmas.Bool.{le-ltb}
 use Rattle.std.proofs.lemmas.List.{length-append, drop_at}
@@ -25,7 +26,8 @@ use Rattle.llb_ops.proofs.Kept.{wire_ok, guard_ended, ok_list}
 nothing_spelled : (rs : List Record) → ◌≡◌ {A = Result (List Record) OpFault} (Ok []) (Ok rs) → SpellRecords [] rs
 nothing_spelled rs e = let h : [] ≡ rs = cc in subst (λ (xs : List Record). SpellRecords [] xs) h spelled_none
 
-pub records_found : (shape : Shape) (skip : ℕ) (bytes : List ℕ) (rs : List Record) → AreBytes bytes → records_from shape skip bytes ≡ Ok rs → SpellRecords (drop skip bytes) rs
+pub records_found : (shape : Shape) (skip : ℕ) (bytes : List ℕ) (rs : List Record) → AreBytes bytes → records_from shape skip bytes ≡ Ok rs
+    → SpellRecords (drop skip bytes) rs
 unfolding records_from
 records_found shape zero [] rs are e = nothing_spelled rs e
 records_found shape (suc skip) [] rs are e = nothing_spelled rs e
@@ -38,7 +40,8 @@ records_found shape zero (b ∷ bytes) rs are e =
     let got : field_at (b ∷ bytes) 0 ≡ Ok f.0 = wire_ok (field_at (b ∷ bytes) 0) f.0 (g.1 ∙ ap (λ z. Ok z) w.1) in
     let found = record_found (b ∷ bytes) f.0 are got in
     let left : drop f.0.«end» (b ∷ bytes) ≡ drop (f.0.«end» - 1) bytes = drop_pred f.0.«end» b bytes (omega (arith, found.begins, found.ordered)) in
-    let others : SpellRecords (drop f.0.«end» (b ∷ bytes)) xs.0 = subst (λ (ys : List ℕ). SpellRecords ys xs.0) (sym left) (records_found shape (f.0.«end» - 1) bytes xs.0 are.1 xs.1) in
+    let others : SpellRecords (drop f.0.«end» (b ∷ bytes)) xs.0 = subst (λ (ys : List ℕ). SpellRecords ys xs.0) (sym left)
+    (records_found shape (f.0.«end» - 1) bytes xs.0 are.1 xs.1) in
     let h : record_of (b ∷ bytes) f.0 ∷ xs.0 ≡ rs = ok_list (record_of (b ∷ bytes) f.0 ∷ xs.0) rs xs.2 in
     subst (λ (ys : List Record). SpellRecords (b ∷ bytes) ys) h (spelled_next (b ∷ bytes) f.0 xs.0 are got others)
 
@@ -55,18 +58,22 @@ parts_found shape bytes rs are e =
 abbrev typed : Shape → List Record → Result (List Record) OpFault
 typed shape rs = cond (wires_fit shape rs) (Ok rs) (Err WrongWireType)
 
-more_typed : (r : Record) (rs : List Record) (b : Bool) → (cond {A = Result (List Record) OpFault} b (Ok rs) (Err WrongWireType) >>= λ xs. Ok (r ∷ xs)) ≡ cond b (Ok (r ∷ rs)) (Err WrongWireType)
+more_typed : (r : Record) (rs : List Record) (b : Bool)
+    → (cond {A = Result (List Record) OpFault} b (Ok rs) (Err WrongWireType) >>= λ xs. Ok (r ∷ xs)) ≡ cond b (Ok (r ∷ rs)) (Err WrongWireType)
 more_typed r rs true = refl
 more_typed r rs false = refl
 
-front_typed : (shape : Shape) (bytes : List ℕ) (f : Field) (r : Record) (rs : List Record) (fits : Bool) → 0 < length bytes → field_at bytes 0 ≡ Ok f → wire_fits (form_of shape f.number) f.wire ≡ fits → 0 < f.«end»
-    → record_of bytes f ≡ r → wire_fits (form_of shape r.number) r.wire ≡ fits → records_from shape 0 (drop f.«end» bytes) ≡ typed shape rs → records_from shape 0 bytes ≡ typed shape (r ∷ rs)
+front_typed : (shape : Shape) (bytes : List ℕ) (f : Field) (r : Record) (rs : List Record) (fits : Bool) → 0 < length bytes
+    → field_at bytes 0 ≡ Ok f → wire_fits (form_of shape f.number) f.wire ≡ fits → 0 < f.«end»
+    → record_of bytes f ≡ r → wire_fits (form_of shape r.number) r.wire ≡ fits → records_from shape 0 (drop f.«end» bytes) ≡ typed shape rs
+    → records_from shape 0 bytes ≡ typed shape (r ∷ rs)
 unfolding records_from
 front_typed shape [] f r rs fits long e here some same there rest = absurd (omega (arith, long))
 front_typed shape (b ∷ bytes) f r rs false long e here some same there rest = rw (e, here, there) refl
 front_typed shape (b ∷ bytes) f r rs true long e here some same there rest =
     let left : drop f.«end» (b ∷ bytes) ≡ drop (f.«end» - 1) bytes = drop_pred f.«end» b bytes some in
-    let read : records_from shape (f.«end» - 1) bytes ≡ typed shape rs = parts_skip shape (f.«end» - 1) bytes ∙ ap (λ (xs : List ℕ). records_from shape 0 xs) (sym left) ∙ rest in
+    let read : records_from shape (f.«end» - 1) bytes ≡ typed shape rs = parts_skip shape (f.«end» - 1) bytes
+    ∙ ap (λ (xs : List ℕ). records_from shape 0 xs) (sym left) ∙ rest in
     rw (e, here, read, same, there) (more_typed r rs (wires_fit shape rs))
 
 spelled_typed : (shape : Shape) (rs : List Record) → AllByRecursion IsRecord rs → records_from shape 0 (flat_map (λ r. r.text) rs) ≡ typed shape rs
@@ -77,10 +84,14 @@ spelled_typed shape (r ∷ rs) each =
     let some = some_text r each.0 in
     let none : 0 + length r.text ≡ length r.text = omega arith in
     let behind : drop (length r.text) (r.text ++ rest) ≡ rest = drop_at r.text rest (length r.text) refl in
-    front_typed shape (r.text ++ rest) (placed 0 r) r rs (wire_fits (form_of shape r.number) r.wire) (omega (arith, some, length-append r.text rest)) (record_read r rest each.0) refl (omega (arith, some))
-    (record_kept r rest each.0) refl (ap (λ (xs : List ℕ). records_from shape 0 xs) (ap (λ (k : ℕ). drop k (r.text ++ rest)) none ∙ behind) ∙ spelled_typed shape rs each.1)
+    front_typed shape (r.text ++ rest) (placed 0 r) r rs (wire_fits (form_of shape r.number) r.wire)
+    (omega (arith, some, length-append r.text rest)) (record_read r rest each.0) refl (omega (arith, some))
+    (record_kept r rest each.0) refl (ap (λ (xs : List ℕ). records_from shape 0 xs) (ap (λ (k : ℕ). drop k (r.text ++ rest)) none ∙ behind)
+    ∙ spelled_typed shape rs each.1)
 
-then_texts : (shape : Shape) (rs : List Record) (wires : Bool) → (cond {A = Result (List Record) OpFault} wires (Ok rs) (Err WrongWireType) >>= λ xs. cond (texts_fit shape xs) (Ok xs) (Err NotUtf8)) ≡ cond wires (cond (texts_fit shape rs) (Ok rs) (Err NotUtf8)) (Err WrongWireType)
+then_texts : (shape : Shape) (rs : List Record) (wires : Bool)
+    → (cond {A = Result (List Record) OpFault} wires (Ok rs) (Err WrongWireType) >>= λ xs. cond (texts_fit shape xs) (Ok xs) (Err NotUtf8))
+    ≡ cond wires (cond (texts_fit shape rs) (Ok rs) (Err NotUtf8)) (Err WrongWireType)
 then_texts shape rs true = refl
 then_texts shape rs false = refl
 
@@ -96,7 +107,8 @@ not_long : (long : Bool) (r : Result Op OpFault) (op : Op) → cond long (Err Ov
 not_long true r op e = absurd cc
 not_long false r op e = e
 
-op_found : (bytes : List ℕ) (op : Op) → AreBytes bytes → op_of bytes ≡ Ok op → (rs : List Record) × SpellRecords bytes rs × (fitting op_shape rs ≡ Ok rs) × (op_in rs ≡ Ok op)
+op_found : (bytes : List ℕ) (op : Op) → AreBytes bytes → op_of bytes ≡ Ok op → (rs : List Record) × SpellRecords bytes rs
+    × (fitting op_shape rs ≡ Ok rs) × (op_in rs ≡ Ok op)
 unfolding op_of message_of
 op_found bytes op are e =
     let r = bind_ok (parts op_shape bytes) op_in op (not_long (ltb entry_limit (length bytes)) (op_message_of bytes) op e) in

@@ -1,5 +1,6 @@
 -- Splitting bytes into records, as a loop does.
-use Rattle.std.proofs.Common.{◌≡◌, ℕ, zero, suc, ◌-◌, ◌<◌, true, false, eqb, List, [], ◌∷◌, ◌++◌, length, drop, Option, Some, None, Result, Ok, Err, refl, sym, ap, ◌∙◌, append_assoc, arith}
+use Rattle.std.proofs.Common.{◌≡◌, ℕ, zero, suc, ◌-◌, ◌<◌, true, false, eqb, List, [], ◌∷◌, ◌++◌, length, drop, Option, Some, None, Result}
+use Rattle.std.proofs.Common.{Ok, Err, refl, sym, ap, ◌∙◌, append_assoc, arith}
 use Rattle.std.proofs.lemmas.Bool.{ne_eqb}
 use Rattle.std.proofs.lemmas.List.{append-nil, length-drop}
 use Rattle.llb_wire.specs.declared.fault.WireFault.{WireFault}
@@ -16,7 +17,8 @@ use Rattle.llb_ops.specs.Records.{Shape, view, form_of, wire_fits, records_from,
 abbrev pub with_front : List Record → Result (List Record) OpFault → Result (List Record) OpFault
 with_front front read = read >>= λ rs. Ok (front ++ rs)
 
-regroup : (front : List Record) (r : Record) (read : Result (List Record) OpFault) → with_front front (read >>= λ rs. Ok (r ∷ rs)) ≡ with_front (front ++ r ∷ []) read
+regroup : (front : List Record) (r : Record) (read : Result (List Record) OpFault)
+    → with_front front (read >>= λ rs. Ok (r ∷ rs)) ≡ with_front (front ++ r ∷ []) read
 regroup front r (Ok rs) = ap (λ (x : List Record). Ok x) (simp append_assoc)
 regroup front r (Err f) = refl
 
@@ -26,7 +28,7 @@ parts_skip shape zero bytes = refl
 parts_skip shape (suc skip) [] = refl
 parts_skip shape (suc skip) (b ∷ bytes) = parts_skip shape skip bytes
 
--- what is read at the front of some bytes, as the next record
+-- what is read at the start of some bytes, as the next record
 abbrev next_is : Result Field WireFault → Result (Option Field) WireFault
 next_is (Ok f) = Ok (Some f)
 next_is (Err e) = Err e
@@ -64,7 +66,8 @@ unfolding records_from
 parts_err shape [] d e = let h = nothing in absurd cc
 parts_err shape (b ∷ bytes) d e = let h = err_is (field_at (b ∷ bytes) 0) d (sym (next_cons b bytes) ∙ sym e) in rw h refl
 
-pub parts_wrong : (shape : Shape) (bytes : List ℕ) (f : Field) → Ok (Some f) ≡ next_field bytes 0 → wire_fits (form_of shape f.number) f.wire ≡ false → records_from shape 0 bytes ≡ Err WrongWireType
+pub parts_wrong : (shape : Shape) (bytes : List ℕ) (f : Field) → Ok (Some f) ≡ next_field bytes 0
+    → wire_fits (form_of shape f.number) f.wire ≡ false → records_from shape 0 bytes ≡ Err WrongWireType
 unfolding records_from
 parts_wrong shape [] f e fails = let h = nothing in absurd cc
 parts_wrong shape (b ∷ bytes) f e fails = let h = some_is (field_at (b ∷ bytes) 0) f (sym (next_cons b bytes) ∙ sym e) in rw (h, fails) refl
@@ -73,7 +76,8 @@ pub drop_pred : (n b : ℕ) (bytes : List ℕ) → 0 < n → drop n (b ∷ bytes
 drop_pred zero b bytes lt = absurd (omega arith)
 drop_pred (suc n) b bytes lt = let e : suc n - 1 ≡ n = omega arith in rw e refl
 
-pub parts_more : (shape : Shape) (bytes : List ℕ) (f : Field) → Ok (Some f) ≡ next_field bytes 0 → wire_fits (form_of shape f.number) f.wire ≡ true → 0 < f.«end»
+pub parts_more : (shape : Shape) (bytes : List ℕ) (f : Field) → Ok (Some f) ≡ next_field bytes 0
+    → wire_fits (form_of shape f.number) f.wire ≡ true → 0 < f.«end»
     → records_from shape 0 bytes ≡ (records_from shape 0 (drop f.«end» bytes) >>= λ rs. Ok (record_of bytes f ∷ rs))
 unfolding records_from
 parts_more shape [] f e fits some = let h = nothing in absurd cc
@@ -82,8 +86,9 @@ parts_more shape (b ∷ bytes) f e fits some =
     let one : drop f.«end» (b ∷ bytes) ≡ drop (f.«end» - 1) bytes = drop_pred f.«end» b bytes some in
     rw (h, fits, one, ← parts_skip shape (f.«end» - 1) bytes) refl
 
--- the record that was taken is in front of the others
-pub is_front : (shape : Shape) (bytes : List ℕ) (f : Field) (front : Front) → Ok (Some f) ≡ next_field bytes 0 → wire_fits (form_of shape f.number) f.wire ≡ true → IsWithin bytes 0 f
+-- the record that was taken is before the others
+pub is_front : (shape : Shape) (bytes : List ℕ) (f : Field) (front : Front) → Ok (Some f) ≡ next_field bytes 0
+    → wire_fits (form_of shape f.number) f.wire ≡ true → IsWithin bytes 0 f
     → view front.record ≡ record_of bytes f → front.after.now ≡ drop f.«end» bytes → IsFront shape bytes front
 is_front shape bytes f front e fits within seen left = record {
   reads = parts_more shape bytes f e fits (omega (arith, within.begins, within.ordered))
@@ -94,9 +99,11 @@ is_front shape bytes f front e fits within seen left = record {
 
 -- the loop goes on, and ends
 
-pub goes_on : (shape : Shape) (front : List Record) (r : Record) (bytes after : List ℕ) (total : Result (List Record) OpFault) → records_from shape 0 bytes ≡ (records_from shape 0 after >>= λ rs. Ok (r ∷ rs))
+pub goes_on : (shape : Shape) (front : List Record) (r : Record) (bytes after : List ℕ) (total : Result (List Record) OpFault)
+    → records_from shape 0 bytes ≡ (records_from shape 0 after >>= λ rs. Ok (r ∷ rs))
     → with_front front (records_from shape 0 bytes) ≡ total → with_front (front ++ r ∷ []) (records_from shape 0 after) ≡ total
 goes_on shape front r bytes after total more so_far = sym (regroup front r (records_from shape 0 after)) ∙ ap (with_front front) (sym more) ∙ so_far
 
-pub is_done : (shape : Shape) (front : List Record) (bytes : List ℕ) (total : Result (List Record) OpFault) → records_from shape 0 bytes ≡ Ok [] → with_front front (records_from shape 0 bytes) ≡ total → total ≡ Ok front
+pub is_done : (shape : Shape) (front : List Record) (bytes : List ℕ) (total : Result (List Record) OpFault)
+    → records_from shape 0 bytes ≡ Ok [] → with_front front (records_from shape 0 bytes) ≡ total → total ≡ Ok front
 is_done shape front bytes total none so_far = sym so_far ∙ ap (with_front front) none ∙ ap (λ (x : List Record). Ok x) (append-nil front)

@@ -1,4 +1,4 @@
--- Bytes that are fields by the table when fields stand behind them: for one field of each sort, and one behind the other.
+-- Bytes that are fields by the table when fields stand after them: for one field of each sort, and one after the other.
 use Rattle.std.proofs.Common.{◌≡◌, ℕ, ◌≤◌, Bool, true, false, List, [], ◌∷◌, ◌++◌, length, refl, sym, ap, subst, ◌∙◌, append_assoc, arith}
 use Rattle.std.specs.Prelude.{nat_lt, not, ◌&&◌, ◌||◌, ◌==◌}
 use Rattle.llb_ops.specs.declared.table.MessageName.{MessageName}
@@ -8,7 +8,7 @@ use Rattle.llb_ops.specs.Writing.{set_number, set_bytes}
 use Rattle.llb_ops.specs.Fields.{Fields, extra, number, bytes, message, bytes_of, IsNext, may_be_empty, IsNumberOf, IsBytesOf, AreFields, without_empty}
 use Rattle.llb_ops.proofs.Few.{NoneOften, numbers_of, AreInnerFew}
 
--- bytes that are fields behind the field `last`, with these numbers; without empty keys and values of entries they are the bytes `spare`
+-- bytes that are fields after the field `last`, with these numbers; without empty keys and values of entries they are the bytes `spare`
 pub record From (m : MessageName) (last : ℕ) (set : Bool) (ns full spare : List ℕ) : Type 0 where
   pub fields : Fields
   pub are : AreFields m last set fields
@@ -45,12 +45,26 @@ more s t b e = grind arith
 
 pub weaken : (m : MessageName) (k n : ℕ) (s t : Bool) (fs : Fields) → k ≤ n → AtMost s t → AreFields m n t fs → AreFields m k s fs
 weaken m k n s t (extra b) le few h = h
-weaken m k n s t (number row v rest) le few (a, b, c, d) =
-    (next_earlier m k n s t row le few a, b, c, weaken m row.1.number row.1.number (s || row.1.member) (t || row.1.member) rest (omega arith) (more s t row.1.member few) d)
-weaken m k n s t (bytes row held rest) le few (a, b, c, d) =
-    (next_earlier m k n s t row le few a, b, c, weaken m row.1.number row.1.number (s || row.1.member) (t || row.1.member) rest (omega arith) (more s t row.1.member few) d)
-weaken m k n s t (message row inner rest) le few (a, b, d) =
-    (next_earlier m k n s t row le few a, b, weaken m row.1.number row.1.number (s || row.1.member) (t || row.1.member) rest (omega arith) (more s t row.1.member few) d)
+weaken m k n s t (number row v rest) le few (a, b, c, d) = (
+  next_earlier m k n s t row le few a,
+  b,
+  c,
+  weaken m row.1.number row.1.number (s || row.1.member) (t || row.1.member) rest
+      (omega arith) (more s t row.1.member few) d,
+)
+weaken m k n s t (bytes row held rest) le few (a, b, c, d) = (
+  next_earlier m k n s t row le few a,
+  b,
+  c,
+  weaken m row.1.number row.1.number (s || row.1.member) (t || row.1.member) rest
+      (omega arith) (more s t row.1.member few) d,
+)
+weaken m k n s t (message row inner rest) le few (a, b, d) = (
+  next_earlier m k n s t row le few a,
+  b,
+  weaken m row.1.number row.1.number (s || row.1.member) (t || row.1.member) rest (omega arith)
+      (more s t row.1.member few) d,
+)
 
 above : (n g : ℕ) (rep mem s : Bool) → (nat_lt n g || (rep && (n == g))) && not (mem && s) ≡ true → n ≤ g
 above n g rep mem s e = grind arith
@@ -59,7 +73,7 @@ left_most : (s b : Bool) → s || (s || b) ≡ s || b
 left_most true b = refl
 left_most false b = refl
 
--- ---- nothing, one field, and one behind the other
+-- ---- nothing, one field, and one after the other
 
 -- a field that is left out
 pub tells_nothing : (m : MessageName) (last next : ℕ) (set then_set : Bool) → last ≤ next → AtMost set then_set → Tells m last set next then_set [] [] []
@@ -77,7 +91,8 @@ tells_nothing m last next set then_set le few = record {
 pub tells_left_out : (m : MessageName) (last : ℕ) (set : Bool) (row : Row) → IsNext m last set row
     → Tells m last set row.1.number (set || row.1.member) [] [] []
 tells_left_out m last set row next =
-    tells_nothing m last row.1.number set (set || row.1.member) (above last row.1.number row.1.repeated row.1.member set next.follows) (left_most set row.1.member)
+    tells_nothing m last row.1.number set (set || row.1.member) (above last row.1.number row.1.repeated row.1.member set next.follows)
+    (left_most set row.1.member)
 
 pub tells_then : {m : MessageName} {a b c : ℕ} {s t u : Bool} {ns ms x x_spare y y_spare : List ℕ} → Tells m a s b t ns x x_spare → Tells m b t c u ms y y_spare
     → Tells m a s c u (ns ++ ms) (x ++ y) (x_spare ++ y_spare)

@@ -41,14 +41,16 @@ and_both : (a b : Bool) → a && b ≡ true → (a ≡ true) × (b ≡ true)
 and_both true b e = (refl, e)
 and_both false b e = absurd cc
 
-texts_more : (shape : Shape) (n : ℕ) (r : Record) (rs : List Record) (b : Bool) → eqb r.number n ≡ b → form_of shape n ≡ Some form.Text → text_fits shape r ≡ true → AllByRecursion (λ x. is_utf8 x.payload ≡ true) (all n rs) → AllByRecursion (λ x. is_utf8 x.payload ≡ true) (all n (r ∷ rs))
+texts_more : (shape : Shape) (n : ℕ) (r : Record) (rs : List Record) (b : Bool) → eqb r.number n ≡ b → form_of shape n ≡ Some form.Text
+    → text_fits shape r ≡ true → AllByRecursion (λ x. is_utf8 x.payload ≡ true) (all n rs) → AllByRecursion (λ x. is_utf8 x.payload ≡ true) (all n (r ∷ rs))
 texts_more shape n r rs true e named fit rest =
     let text : form_of shape r.number ≡ Some form.Text = subst (λ (k : ℕ). form_of shape k ≡ Some form.Text) (sym (eqb-true r.number n e)) named in
     let utf8 : is_utf8 r.payload ≡ true = subst (λ (o : Option Form). text_ok o r.payload ≡ true) text fit in
     rw e (utf8, rest)
 texts_more shape n r rs false e named fit rest = rw e rest
 
-texts_of : (shape : Shape) (n : ℕ) (rs : List Record) → form_of shape n ≡ Some form.Text → texts_fit shape rs ≡ true → AllByRecursion (λ r. is_utf8 r.payload ≡ true) (all n rs)
+texts_of : (shape : Shape) (n : ℕ) (rs : List Record) → form_of shape n ≡ Some form.Text → texts_fit shape rs ≡ true
+    → AllByRecursion (λ r. is_utf8 r.payload ≡ true) (all n rs)
 texts_of shape n [] named fit = tt
 texts_of shape n (r ∷ rs) named fit =
     let both = and_both (text_fits shape r) (texts_fit shape rs) fit in
@@ -57,11 +59,13 @@ texts_of shape n (r ∷ rs) named fit =
 pub empty_utf8 : is_utf8 [] ≡ true
 empty_utf8 = is_utf8-from_IsUtf8 [] ([], (refl, refl))
 
-pub text_is_utf8 : (shape : Shape) (n : ℕ) (rs : List Record) → form_of shape n ≡ Some form.Text → texts_fit shape rs ≡ true → is_utf8 (payload (all n rs)) ≡ true
+pub text_is_utf8 : (shape : Shape) (n : ℕ) (rs : List Record) → form_of shape n ≡ Some form.Text → texts_fit shape rs ≡ true
+    → is_utf8 (payload (all n rs)) ≡ true
 text_is_utf8 shape n rs named fit = last_payload (λ bytes. is_utf8 bytes ≡ true) (all n rs) empty_utf8 (texts_of shape n rs named fit)
 
 -- the record at a place of a field of texts is UTF-8
-pub text_at : (shape : Shape) (n : ℕ) (rs : List Held) (i : ℕ) (d : Held) → i < length rs → (get_or rs i d).number ≡ n → form_of shape n ≡ Some form.Text → texts_fit shape (views rs) ≡ true → is_utf8 (get_or rs i d).payload.now ≡ true
+pub text_at : (shape : Shape) (n : ℕ) (rs : List Held) (i : ℕ) (d : Held) → i < length rs → (get_or rs i d).number ≡ n
+    → form_of shape n ≡ Some form.Text → texts_fit shape (views rs) ≡ true → is_utf8 (get_or rs i d).payload.now ≡ true
 text_at shape n [] i d lt e named fit = absurd (omega (arith, lt))
 text_at shape n (r ∷ rs) zero d lt e named fit =
     let both = and_both (text_fits shape (view r)) (texts_fit shape (views rs)) fit in

@@ -14,7 +14,8 @@ use Rattle.llb_ops.specs.declared.shape.Form.TheVariants as form
 use Rattle.llb_ops.specs.declared.table.MessageName.{MessageName}
 use Rattle.llb_ops.specs.declared.table.FieldKind.TheVariants.{Message, Int64, Int32, Bool as Flag}
 use Rattle.llb_ops.specs.Table.{Row, once, rows_of, by_number, shape_of}
-use Rattle.llb_ops.specs.Records.{Shape, int64, int32, flag, chosen, one_of, form_of, wire_fits, text_ok, all, number, payload, payloads, one, each, parts, unnamed}
+use Rattle.llb_ops.specs.Records.{Shape, int64, int32, flag, chosen, one_of, form_of, wire_fits, text_ok, all, number, payload, payloads}
+use Rattle.llb_ops.specs.Records.{one, each, parts, unnamed}
 use Rattle.llb_ops.specs.Writing.{bit, set_number, set_bytes}
 use Rattle.llb_ops.specs.Fields.{extra, bytes, may_follow, IsNext, may_be_empty, IsNumberOf, IsBytesOf}
 use Rattle.llb_ops.proofs.Again.{bytes_part, number_part, spelled}
@@ -52,10 +53,11 @@ pub record Told (m : MessageName) (W A : Type 0) (last : ℕ) (set : Bool) (next
   pub few : (rs : List Record) (a : A) → AllByRecursion (IsGood (shape_of m)) rs → field.read rs ≡ Ok a → field.within rs ≡ true
       → NoneOften (numbered (field.write a))
 
-abbrev pub next_is : {m : MessageName} {last : ℕ} {set : Bool} {row : Row} → by_number row.1.number (rows_of m) ≡ Some row → may_follow last set row.1 ≡ true → IsNext m last set row
+abbrev pub next_is : {m : MessageName} {last : ℕ} {set : Bool} {row : Row} → by_number row.1.number (rows_of m) ≡ Some row
+    → may_follow last set row.1 ≡ true → IsNext m last set row
 next_is known follows = record { known = known; follows = follows }
 
--- ---- none, and one behind the other
+-- ---- none, and one after the other
 
 pub tells_up_to_here : (m : MessageName) (last : ℕ) (set : Bool) → Tells m last set last set [] [] []
 tells_up_to_here m last true = tells_nothing m last last true true (omega arith) refl
@@ -85,7 +87,8 @@ told_both {m} {W} {A} {B} {a} {b} {c} {s} {t} {u} x y e d = record {
   lean = both x.lean y.lean d;
   tells = λ rs p good h.
       let k = pair_parts x.field.read y.field.read rs p h in
-      tells_pair m a b c s t u (x.field.write p.0) (y.field.write p.1) (x.lean.write p.0) (y.lean.write p.1) (x.tells rs p.0 good k.0) (y.tells rs p.1 good k.1);
+      tells_pair m a b c s t u (x.field.write p.0) (y.field.write p.1) (x.lean.write p.0) (y.lean.write p.1) (x.tells rs p.0 good k.0)
+      (y.tells rs p.1 good k.1);
   few = λ rs p good h w.
       let k = pair_parts x.field.read y.field.read rs p h in
       let v = and_both (x.field.within rs) (y.field.within rs) w in
@@ -117,7 +120,8 @@ told_number m last set row decode encode code fits next range named = record {
   lean = numeric row.1.number decode encode code range named;
   tells = λ rs a good e.
       let is = ok_is (decode (number (all row.1.number rs))) a e in
-      tells_a_number m last set row (encode a) (eqb (encode a) 0) refl next (subst (λ x. IsNumberOf row.1.kind (encode x)) is (fits (number (all row.1.number rs))));
+      tells_a_number m last set row (encode a) (eqb (encode a) 0) refl next
+      (subst (λ x. IsNumberOf row.1.kind (encode x)) is (fits (number (all row.1.number rs))));
   few = λ rs a good e w. few_number row.1.number (encode a);
 }
 
@@ -143,14 +147,16 @@ unfolding set_bytes
 tells_some_bytes m last set row [] next fits plain = tells_left_out m last set row next
 tells_some_bytes m last set row (b ∷ held) next fits plain =
     let e : eqb (suc (length held)) 0 ≡ false = ne_eqb _ _ (omega arith) in
-    rw (e, append-nil (bytes_part row.1.number (b ∷ held)).text) (tells_bytes m last set row (b ∷ held) next fits (some_is_not_empty b held (may_be_empty row.1)) plain)
+    rw (e, append-nil (bytes_part row.1.number (b ∷ held)).text)
+    (tells_bytes m last set row (b ∷ held) next fits (some_is_not_empty b held (may_be_empty row.1)) plain)
 
 -- the bytes of a text or byte string that was read
 pub read_text : (shape : Shape) (n : ℕ) (rs : List Record) (a : List ℕ) → AllByRecursion (IsGood shape) rs → text_ok (form_of shape n) [] ≡ true
     → ok_of (payload (all n rs)) ≡ ok_of a → text_ok (form_of shape n) a ≡ true
 read_text shape n rs a good empty e =
     let texts = All-map (IsOf shape n) (λ r. text_ok (form_of shape n) r.payload ≡ true) (all n rs) (λ r h. text_of shape n r h) (of_all shape n rs good) in
-    subst (λ (b : List ℕ). text_ok (form_of shape n) b ≡ true) (ok_is (payload (all n rs)) a e) (last_payload (λ b. text_ok (form_of shape n) b ≡ true) (all n rs) empty texts)
+    subst (λ (b : List ℕ). text_ok (form_of shape n) b ≡ true) (ok_is (payload (all n rs)) a e)
+    (last_payload (λ b. text_ok (form_of shape n) b ≡ true) (all n rs) empty texts)
 
 -- what a field may hold
 abbrev pub Holds : MessageName → Row → Type 0
@@ -207,7 +213,7 @@ told_key m last set row holds next of may range fits empty = record {
 
 -- ---- fields that are repeated
 
--- a row that stands behind others, and again behind itself
+-- a row that stands after others, and again after itself
 pub record IsRepeated (m : MessageName) (last : ℕ) (set : Bool) (row : Row) : Type 0 where
   pub first : IsNext m last set row
   pub again : IsNext m row.1.number set row
@@ -215,7 +221,8 @@ pub record IsRepeated (m : MessageName) (last : ℕ) (set : Bool) (row : Row) : 
   pub may : may_be_empty row.1 ≡ true
   pub plain : row.1.of_entry ≡ false
 
-abbrev pub is_repeated : {m : MessageName} {last : ℕ} {set : Bool} {row : Row} → IsNext m last set row → IsNext m row.1.number set row → set || row.1.member ≡ set → may_be_empty row.1 ≡ true → row.1.of_entry ≡ false
+abbrev pub is_repeated : {m : MessageName} {last : ℕ} {set : Bool} {row : Row} → IsNext m last set row → IsNext m row.1.number set row
+    → set || row.1.member ≡ set → may_be_empty row.1 ≡ true → row.1.of_entry ≡ false
     → IsRepeated m last set row
 is_repeated first again stays may plain = record { first = first; again = again; stays = stays; may = may; plain = plain }
 
@@ -240,7 +247,8 @@ pub tells_read_items : (m : MessageName) (last : ℕ) (set : Bool) (row : Row) (
     → IsRepeated m last set row → AllByRecursion (IsOf (shape_of m) row.1.number) xs → items_ok (payloads xs) ≡ items_ok items
     → Leads m last set row.1.number set (some_strings row.1.number items) (some_strings row.1.number items)
 tells_read_items m last set row xs items holds h good e =
-    tells_items m last set row items h (subst (λ (bs : List (List ℕ)). AllByRecursion (IsBytesOf row.1.kind) bs) (ok_is (payloads xs) items e) (each_holds xs good)) where
+    tells_items m last set row items h (subst (λ (bs : List (List ℕ)). AllByRecursion (IsBytesOf row.1.kind) bs)
+    (ok_is (payloads xs) items e) (each_holds xs good)) where
       each_holds : (xs : List Record) → AllByRecursion (IsOf (shape_of m) row.1.number) xs → AllByRecursion (IsBytesOf row.1.kind) (payloads xs)
       each_holds [] good = tt
       each_holds (x ∷ xs) good = (holds x.payload (text_of (shape_of m) row.1.number x good.0), each_holds xs good.1)
@@ -257,7 +265,8 @@ told_items m {W} last set row holds h range fits = record {
 
 -- ---- messages
 
-pub tells_a_message : {M : Type 0} (m sub : MessageName) (last : ℕ) (set : Bool) (row : Row) (read : List ℕ → Result M OpFault) (write lean : M → List ℕ) (xs : List Record) (o : Option M) → HasFrom sub read write lean
+pub tells_a_message : {M : Type 0} (m sub : MessageName) (last : ℕ) (set : Bool) (row : Row) (read : List ℕ → Result M OpFault)
+    (write lean : M → List ℕ) (xs : List Record) (o : Option M) → HasFrom sub read write lean
     → IsNext m last set row → row.1.kind ≡ Message sub → one read xs ≡ Ok o
     → Leads m last set row.1.number (set || row.1.member) (a_message write row.1.number o) (a_message lean row.1.number o)
 unfolding set_bytes
@@ -282,7 +291,8 @@ told_message m sub last set row read write returns has next kind range named = r
   few = λ rs a good e w. few_message write row.1.number a;
 }
 
-pub tells_messages : {M : Type 0} (m sub : MessageName) (last : ℕ) (set : Bool) (row : Row) (read : List ℕ → Result M OpFault) (write lean : M → List ℕ) (ms : List M) → HasFrom sub read write lean
+pub tells_messages : {M : Type 0} (m sub : MessageName) (last : ℕ) (set : Bool) (row : Row) (read : List ℕ → Result M OpFault)
+    (write lean : M → List ℕ) (ms : List M) → HasFrom sub read write lean
     → IsRepeated m last set row → row.1.kind ≡ Message sub → AllByRecursion (IsRead read) ms
     → Leads m last set row.1.number set (some_messages write row.1.number ms) (some_messages lean row.1.number ms)
 unfolding set_bytes
@@ -294,7 +304,8 @@ tells_messages m sub last set row read write lean (x ∷ ms) has h kind from =
     tells_then (subst (λ (t : Bool). Tells m last set row.1.number t (row.1.number ∷ []) text lean_text) h.stays one)
     (tells_messages m sub row.1.number set row read write lean ms has (behind_itself m last set row h) kind from.1)
 
-abbrev pub told_messages : (m sub : MessageName) {W M : Type 0} (last : ℕ) (set : Bool) (row : Row) (read : List ℕ → Result M OpFault) (write : M → List ℕ) → Returns read write → HasFrom sub read write write
+abbrev pub told_messages : (m sub : MessageName) {W M : Type 0} (last : ℕ) (set : Bool) (row : Row) (read : List ℕ → Result M OpFault)
+    (write : M → List ℕ) → Returns read write → HasFrom sub read write write
     → IsRepeated m last set row → row.1.kind ≡ Message sub → is_number row.1.number ≡ true → HoldsBytes (shape_of m) row.1.number
     → Told m W (List M) last set row.1.number set
 told_messages m sub {W} last set row read write returns has h kind range named = record {
@@ -305,7 +316,7 @@ told_messages m sub {W} last set row read write returns has h kind range named =
       ((messages {shape = shape_of m} {W = W} row.1.number read write returns range named).limit rs a good e w);
 }
 
--- ---- the member of a oneof, with nothing but extra bytes behind it
+-- ---- the member of a oneof, with nothing but extra bytes after it
 
 up_to : {m : MessageName} {a b c : ℕ} {s t : Bool} {ns full spare : List ℕ} → b ≤ c → AtMost t t → Tells m a s b t ns full spare → Tells m a s c t ns full spare
 up_to {m} {a} {b} {c} {s} {t} {ns} {full} {spare} le few h = record {
@@ -314,7 +325,8 @@ up_to {m} {a} {b} {c} {s} {t} {ns} {full} {spare} le few h = record {
   tells_back : (ms later later_spare : List ℕ) → From m c t ms later later_spare → From m b t ms later later_spare
   tells_back ms later later_spare x = (tells_nothing m b c t t le few).tells ms later later_spare x
 
-pub tells_member : {A : Type 0} (m : MessageName) (last top : ℕ) (ns : List ℕ) (read : ℕ → List Record → Result A OpFault) (write lean : A → Record) (rs : List Record) (o : Option A) → last ≤ top → AllByRecursion (IsGood (shape_of m)) rs
+pub tells_member : {A : Type 0} (m : MessageName) (last top : ℕ) (ns : List ℕ) (read : ℕ → List Record → Result A OpFault)
+    (write lean : A → Record) (rs : List Record) (o : Option A) → last ≤ top → AllByRecursion (IsGood (shape_of m)) rs
     → ((n : ℕ) (xs : List Record) (a : A) → read n xs ≡ Ok a → (k : ℕ) × (k ≤ top) × LeadsBy m last false k true (write a) (lean a))
     → one_of ns read rs ≡ Ok o → Leads m last false top true (a_member write o) (a_member lean o)
 tells_member m last top ns read write lean rs None le good each e = tells_nothing m last top false true le refl
@@ -345,7 +357,8 @@ no_fields m last set rs good = record {
 }
 
 -- a message that is told by its fields
-pub has_by : {m : MessageName} {W A : Type 0} {next : ℕ} {then_set : Bool} (t : Told m W A 0 false next then_set) (make : A → List ℕ → W) (read : List ℕ → Result W OpFault) (write lean : W → List ℕ)
+pub has_by : {m : MessageName} {W A : Type 0} {next : ℕ} {then_set : Bool} (t : Told m W A 0 false next then_set) (make : A → List ℕ → W)
+    (read : List ℕ → Result W OpFault) (write lean : W → List ℕ)
     → ((bytes : List ℕ) → read bytes ≡ (parts (shape_of m) bytes >>= message_run t.field make))
     → ((a : A) (more : List ℕ) → write (make a more) ≡ t.field.bytes [] a ++ more)
     → ((a : A) (more : List ℕ) → lean (make a more) ≡ t.lean.bytes [] a ++ more)

@@ -24,10 +24,16 @@ use Rattle.llb_ops.specs.declared.owners.UserOpt.{UserOpt}
 use Rattle.llb_ops.specs.declared.owners.User.{User}
 use Rattle.llb_ops.specs.declared.owners.User.TheVariants.{ByName, ById}
 use Rattle.llb_ops.specs.Records.{int64, int32, uint32, flag, number, joined, is_member, one_of, message_of}
-use Rattle.llb_ops.specs.Messages.{input_shape, input_of, users, user_of, user_opt_shape, user_opt_of, chown_opt_shape, chown_opt_of, mk_file_shape, mk_file_of, mk_dir_shape, mk_dir_of, copy_file_shape, copy_file_of, copy_file_with, rm_shape, rm_of, action_shape, action_kinds, action_kind_of, action_of, file_op_shape, file_op_of, exec_op_of, source_op_of, merge_op_of, op_shape, kinds, kind_of, op_message_of, op_of, action_in, chown_opt_in, copy_file_in, file_op_in, input_in, mk_dir_in, mk_file_in, op_in, rm_in, user_opt_in}
+use Rattle.llb_ops.specs.Messages.{input_shape, input_of, users, user_of, user_opt_shape, user_opt_of, chown_opt_shape, chown_opt_of}
+use Rattle.llb_ops.specs.Messages.{mk_file_shape, mk_file_of, mk_dir_shape, mk_dir_of, copy_file_shape, copy_file_of, copy_file_with}
+use Rattle.llb_ops.specs.Messages.{rm_shape, rm_of, action_shape, action_kinds, action_kind_of, action_of, file_op_shape, file_op_of}
+use Rattle.llb_ops.specs.Messages.{exec_op_of, source_op_of, merge_op_of, op_shape, kinds, kind_of, op_message_of, op_of, action_in}
+use Rattle.llb_ops.specs.Messages.{chown_opt_in, copy_file_in, file_op_in, input_in, mk_dir_in, mk_file_in, op_in, rm_in, user_opt_in}
 use Rattle.llb_ops.specs.Limits.{entry_limit}
 use Rattle.llb_ops.specs.Laws.{IsReadAgain}
-use Rattle.llb_ops.specs.Writing.{bit, input_bytes, user_bytes, user_opt_bytes, chown_opt_bytes, mk_file_bytes, mk_dir_bytes, copy_file_bytes, rm_bytes, exec_op_bytes, source_op_bytes, merge_op_bytes, action_kind_bytes, action_bytes, file_op_bytes, kind_bytes, op_bytes, set_bytes, set_number}
+use Rattle.llb_ops.specs.Writing.{bit, input_bytes, user_bytes, user_opt_bytes, chown_opt_bytes, mk_file_bytes, mk_dir_bytes}
+use Rattle.llb_ops.specs.Writing.{copy_file_bytes, rm_bytes, exec_op_bytes, source_op_bytes, merge_op_bytes, action_kind_bytes}
+use Rattle.llb_ops.specs.Writing.{action_bytes, file_op_bytes, kind_bytes, op_bytes, set_bytes, set_number}
 use Rattle.llb_ops.proofs.Again.{number_part, bytes_part}
 use Rattle.llb_ops.proofs.Texts.{empty_utf8}
 use Rattle.llb_ops.proofs.Numbers.{from_signed, int64_recodes, int32_recodes, flag_recodes}
@@ -68,7 +74,8 @@ abbrev pub UserRead : User → Type 0
 UserRead (ByName name) = Unit {0}
 UserRead (ById id) = id < 2 ^ 32
 
-pub user_cases : (first : Bool) (bytes : List ℕ) (v : ℕ) (a : User) → cond {A = Result User OpFault} first (Ok (ByName bytes)) (Ok (ById (uint32 v))) ≡ Ok a → UserRead a
+pub user_cases : (first : Bool) (bytes : List ℕ) (v : ℕ) (a : User)
+    → cond {A = Result User OpFault} first (Ok (ByName bytes)) (Ok (ById (uint32 v))) ≡ Ok a → UserRead a
 user_cases true bytes v a e = subst UserRead (ok_is (ByName bytes) a e) tt
 user_cases false bytes v a e = let small : uint32 v < 2 ^ 32 = omega arith in subst UserRead (ok_is (ById (uint32 v)) a e) small
 
@@ -96,7 +103,8 @@ unfolding message_of user_opt_in user_opt_bytes
 user_opt_returns = returns_by user_opt_fields user_opt_made user_opt_of user_opt_bytes refl (λ bytes. refl) (λ a extra. refl)
 
 abbrev chown_opt_fields : FieldOf chown_opt_shape ChownOpt (Option UserOpt × (Option UserOpt × Unit {0}))
-chown_opt_fields = both (message 1 user_opt_of user_opt_bytes user_opt_returns refl refl) (both (message 2 user_opt_of user_opt_bytes user_opt_returns refl refl) end refl) refl
+chown_opt_fields = both (message 1 user_opt_of user_opt_bytes user_opt_returns refl refl)
+    (both (message 2 user_opt_of user_opt_bytes user_opt_returns refl refl) end refl) refl
 
 abbrev pub chown_opt_made : Option UserOpt × (Option UserOpt × Unit {0}) → List ℕ → ChownOpt
 chown_opt_made a extra = record { user = a.0; group = a.1.0; extra = extra }
@@ -137,7 +145,8 @@ pub mk_dir_returns : Returns mk_dir_of mk_dir_bytes
 unfolding message_of mk_dir_in mk_dir_bytes
 mk_dir_returns = returns_by mk_dir_fields mk_dir_made mk_dir_of mk_dir_bytes refl (λ bytes. refl) (λ a extra. refl)
 
-abbrev copy_file_fields : FieldOf copy_file_shape CopyFile (List ℕ × (List ℕ × (Option ChownOpt × (ℤ × (Bool × (Bool × (Bool × (Bool × (Bool × (Bool × (ℤ × (List (List ℕ) × (List (List ℕ) × Unit {0})))))))))))))
+abbrev copy_file_fields : FieldOf copy_file_shape CopyFile
+    (List ℕ × (List ℕ × (Option ChownOpt × (ℤ × (Bool × (Bool × (Bool × (Bool × (Bool × (Bool × (ℤ × (List (List ℕ) × (List (List ℕ) × Unit {0})))))))))))))
 copy_file_fields =
     both (string 1 refl refl empty_utf8)
     (both (string 2 refl refl empty_utf8)
@@ -153,8 +162,25 @@ copy_file_fields =
     (both (strings 12 refl refl)
     (both (strings 13 refl refl) end refl) refl) refl) refl) refl) refl) refl) refl) refl) refl) refl) refl) refl
 
-abbrev pub copy_file_made : List ℕ × (List ℕ × (Option ChownOpt × (ℤ × (Bool × (Bool × (Bool × (Bool × (Bool × (Bool × (ℤ × (List (List ℕ) × (List (List ℕ) × Unit {0})))))))))))) → List ℕ → CopyFile
-copy_file_made a extra = record { src = a.0; dest = a.1.0; owner = a.1.1.0; mode = a.1.1.1.0; follow_symlink = a.1.1.1.1.0; dir_copy_contents = a.1.1.1.1.1.0; attempt_unpack_docker_compatibility = a.1.1.1.1.1.1.0; create_dest_path = a.1.1.1.1.1.1.1.0; allow_wildcard = a.1.1.1.1.1.1.1.1.0; allow_empty_wildcard = a.1.1.1.1.1.1.1.1.1.0; timestamp = a.1.1.1.1.1.1.1.1.1.1.0; include_patterns = a.1.1.1.1.1.1.1.1.1.1.1.0; exclude_patterns = a.1.1.1.1.1.1.1.1.1.1.1.1.0; extra = extra }
+abbrev pub copy_file_made : List ℕ
+    × (List ℕ × (Option ChownOpt
+    × (ℤ × (Bool × (Bool × (Bool × (Bool × (Bool × (Bool × (ℤ × (List (List ℕ) × (List (List ℕ) × Unit {0})))))))))))) → List ℕ → CopyFile
+copy_file_made a extra = record {
+  src = a.0;
+  dest = a.1.0;
+  owner = a.1.1.0;
+  mode = a.1.1.1.0;
+  follow_symlink = a.1.1.1.1.0;
+  dir_copy_contents = a.1.1.1.1.1.0;
+  attempt_unpack_docker_compatibility = a.1.1.1.1.1.1.0;
+  create_dest_path = a.1.1.1.1.1.1.1.0;
+  allow_wildcard = a.1.1.1.1.1.1.1.1.0;
+  allow_empty_wildcard = a.1.1.1.1.1.1.1.1.1.0;
+  timestamp = a.1.1.1.1.1.1.1.1.1.1.0;
+  include_patterns = a.1.1.1.1.1.1.1.1.1.1.1.0;
+  exclude_patterns = a.1.1.1.1.1.1.1.1.1.1.1.1.0;
+  extra = extra;
+}
 
 pub copy_file_returns : Returns copy_file_of copy_file_bytes
 unfolding message_of copy_file_in copy_file_with copy_file_bytes
@@ -199,13 +225,16 @@ ActionRead (action.MkDir m) = IsRead mk_dir_of m
 ActionRead (action.Rm m) = IsRead rm_of m
 
 -- a member that is a message is what the message's bytes are read as
-of_message : {M A : Type 0} (P : A → Type 0) (read : List ℕ → Result M OpFault) (make : M → A) (bytes : List ℕ) (a : A) → (read bytes >>= λ m. Ok (make m)) ≡ Ok a → ((m : M) → read bytes ≡ Ok m → P (make m)) → P a
+of_message : {M A : Type 0} (P : A → Type 0) (read : List ℕ → Result M OpFault) (make : M → A) (bytes : List ℕ) (a : A)
+    → (read bytes >>= λ m. Ok (make m)) ≡ Ok a → ((m : M) → read bytes ≡ Ok m → P (make m)) → P a
 of_message P read make bytes a e h =
     let m = bind_ok (read bytes) (λ m. Ok (make m)) a e in
     subst P (ok_is (make m.0) a m.2) (h m.0 m.1)
 
 action_cases : (b4 b5 b6 : Bool) (bytes : List ℕ) (a : ActionKind)
-    → cond {A = Result ActionKind OpFault} b4 (copy_file_of bytes >>= λ m. Ok (action.Copy m)) (cond b5 (mk_file_of bytes >>= λ m. Ok (action.MkFile m)) (cond b6 (mk_dir_of bytes >>= λ m. Ok (action.MkDir m)) (rm_of bytes >>= λ m. Ok (action.Rm m)))) ≡ Ok a → ActionRead a
+    → cond {A = Result ActionKind OpFault} b4 (copy_file_of bytes >>= λ m. Ok (action.Copy m))
+    (cond b5 (mk_file_of bytes >>= λ m. Ok (action.MkFile m))
+    (cond b6 (mk_dir_of bytes >>= λ m. Ok (action.MkDir m)) (rm_of bytes >>= λ m. Ok (action.Rm m)))) ≡ Ok a → ActionRead a
 action_cases true b5 b6 bytes a e = of_message ActionRead copy_file_of (λ m. action.Copy m) bytes a e (λ m h. (bytes, h))
 action_cases false true b6 bytes a e = of_message ActionRead mk_file_of (λ m. action.MkFile m) bytes a e (λ m h. (bytes, h))
 action_cases false false true bytes a e = of_message ActionRead mk_dir_of (λ m. action.MkDir m) bytes a e (λ m h. (bytes, h))
@@ -292,7 +321,10 @@ KindRead bytes (Merge m) = merge_op_of bytes ≡ Ok m
 KindRead bytes (Diff held) = Unit {0}
 
 kind_cases : (b2 b3 b4 b5 b6 : Bool) (bytes : List ℕ) (a : Kind)
-    → cond {A = Result Kind OpFault} b2 (exec_op_of bytes >>= λ m. Ok (Exec m)) (cond b3 (source_op_of bytes >>= λ m. Ok (Source m)) (cond b4 (file_op_of bytes >>= λ m. Ok (File m)) (cond b5 (Ok (Build bytes)) (cond b6 (merge_op_of bytes >>= λ m. Ok (Merge m)) (Ok (Diff bytes)))))) ≡ Ok a → KindRead bytes a
+    → cond {A = Result Kind OpFault} b2 (exec_op_of bytes >>= λ m. Ok (Exec m))
+    (cond b3 (source_op_of bytes >>= λ m. Ok (Source m))
+    (cond b4 (file_op_of bytes >>= λ m. Ok (File m))
+    (cond b5 (Ok (Build bytes)) (cond b6 (merge_op_of bytes >>= λ m. Ok (Merge m)) (Ok (Diff bytes)))))) ≡ Ok a → KindRead bytes a
 kind_cases true b3 b4 b5 b6 bytes a e = of_message (KindRead bytes) exec_op_of (λ m. Exec m) bytes a e (λ m h. h)
 kind_cases false true b4 b5 b6 bytes a e = of_message (KindRead bytes) source_op_of (λ m. Source m) bytes a e (λ m h. h)
 kind_cases false false true b5 b6 bytes a e = of_message (KindRead bytes) file_op_of (λ m. File m) bytes a e (λ m h. h)
@@ -315,7 +347,8 @@ kind_written (Diff bytes) = bytes_written op_shape 7 bytes refl refl refl
 pub kind_again : (bytes : List ℕ) (a : Kind) → KindRead bytes a → IsShort (kind_record a) → one_of kinds kind_of (kind_record a ∷ []) ≡ Ok (Some a)
 unfolding kind_of
 kind_again bytes (Exec m) h short = rw (append-nil (exec_op_bytes m), message_short exec_op_of exec_op_bytes 2 m (bytes, h) exec_op_returns short) refl
-kind_again bytes (Source m) h short = rw (append-nil (source_op_bytes m), message_short source_op_of source_op_bytes 3 m (bytes, h) source_op_returns short) refl
+kind_again bytes (Source m) h short =
+    rw (append-nil (source_op_bytes m), message_short source_op_of source_op_bytes 3 m (bytes, h) source_op_returns short) refl
 kind_again bytes (File m) h short = rw (append-nil (file_op_bytes m), message_short file_op_of file_op_bytes 4 m (bytes, h) file_op_returns short) refl
 kind_again bytes (Build held) h short = ap (λ b. Ok (Some (Build b))) (append-nil held)
 kind_again bytes (Merge m) h short = rw (append-nil (merge_op_bytes m), message_short merge_op_of merge_op_bytes 6 m (bytes, h) merge_op_returns short) refl

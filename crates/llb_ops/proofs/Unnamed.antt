@@ -32,7 +32,8 @@ with_first m r (Ok rs) e = rw (no_text (form_of (shape_of m) r.number) r.payload
     go true = rw e refl
     go false = refl
 
-with_named : (m : MessageName) (r : Record) (read : Result (List Record) OpFault) → is_none (form_of (shape_of m) r.number) ≡ false → only_unnamed m (settled m (read >>= λ rs. Ok (r ∷ rs))) ≡ false
+with_named : (m : MessageName) (r : Record) (read : Result (List Record) OpFault) → is_none (form_of (shape_of m) r.number) ≡ false
+    → only_unnamed m (settled m (read >>= λ rs. Ok (r ∷ rs))) ≡ false
 with_named m r (Err f) e = refl
 with_named m r (Ok rs) e = go (texts_fit (shape_of m) (r ∷ rs))
   where
@@ -40,11 +41,14 @@ with_named m r (Ok rs) e = go (texts_fit (shape_of m) (r ∷ rs))
     go true = rw e refl
     go false = refl
 
-pub goes_on : (m : MessageName) (r : Record) (bytes after : List ℕ) → records_from (shape_of m) 0 bytes ≡ (records_from (shape_of m) 0 after >>= λ rs. Ok (r ∷ rs))
+pub goes_on : (m : MessageName) (r : Record) (bytes after : List ℕ)
+    → records_from (shape_of m) 0 bytes ≡ (records_from (shape_of m) 0 after >>= λ rs. Ok (r ∷ rs))
     → is_none (form_of (shape_of m) r.number) ≡ true → are_unnamed m bytes ≡ are_unnamed m after
-goes_on m r bytes after reads e = of_settled m bytes ∙ ap (λ x. only_unnamed m (settled m x)) reads ∙ with_first m r (records_from (shape_of m) 0 after) e ∙ sym (of_settled m after)
+goes_on m r bytes after reads e = of_settled m bytes ∙ ap (λ x. only_unnamed m (settled m x)) reads
+    ∙ with_first m r (records_from (shape_of m) 0 after) e ∙ sym (of_settled m after)
 
-pub is_named : (m : MessageName) (r : Record) (bytes after : List ℕ) → records_from (shape_of m) 0 bytes ≡ (records_from (shape_of m) 0 after >>= λ rs. Ok (r ∷ rs))
+pub is_named : (m : MessageName) (r : Record) (bytes after : List ℕ)
+    → records_from (shape_of m) 0 bytes ≡ (records_from (shape_of m) 0 after >>= λ rs. Ok (r ∷ rs))
     → is_none (form_of (shape_of m) r.number) ≡ false → are_unnamed m bytes ≡ false
 is_named m r bytes after reads e = of_settled m bytes ∙ ap (λ x. only_unnamed m (settled m x)) reads ∙ with_named m r (records_from (shape_of m) 0 after) e
 

@@ -1,4 +1,4 @@
--- What is read is within the limits: each message by what it is of its records.
+-- What is read is within the limits: each message by what it is from its records.
 use Rattle.std.proofs.Common.{◌≡◌, ℕ, ◌≤◌, Bool, true, false, cond, ltb, List, [], ◌∷◌, Option, Some, None, Result, Ok, Err, length, refl, ap, subst, arith}
 use Rattle.std.specs.Prelude.{nat_le, IfOk}
 use Rattle.std.specs.List.{AllByRecursion}
@@ -24,10 +24,15 @@ use Rattle.llb_ops.specs.declared.source.SourceOp.{SourceOp}
 use Rattle.llb_ops.specs.Limits.{field_limit, entry_limit, entries_limit}
 use Rattle.llb_ops.specs.Attributes.{settled}
 use Rattle.llb_ops.specs.Records.{Shape, parts, message_of, all, payloads, joined, one, each, one_of, member, member_of, chosen, within_limits}
-use Rattle.llb_ops.specs.Messages.{chown_opt_of, copy_file_of, copy_file_in, copy_file_shape, copy_file_with, action_of, action_in, action_shape, action_kinds, action_kind_of, file_op_of, file_op_in, file_op_shape, meta_of, meta_in, meta_shape, mount_of, exec_op_of, exec_op_in, exec_op_shape, merge_input_of, merge_op_of, merge_op_in, merge_op_shape, attribute_entry_of, source_op_of, source_op_in, source_op_shape, input_of, kinds, kind_of, op_shape, op_in, op_message_of}
+use Rattle.llb_ops.specs.Messages.{chown_opt_of, copy_file_of, copy_file_in, copy_file_shape, copy_file_with, action_of, action_in}
+use Rattle.llb_ops.specs.Messages.{action_shape, action_kinds, action_kind_of, file_op_of, file_op_in, file_op_shape, meta_of, meta_in}
+use Rattle.llb_ops.specs.Messages.{meta_shape, mount_of, exec_op_of, exec_op_in, exec_op_shape, merge_input_of, merge_op_of, merge_op_in}
+use Rattle.llb_ops.specs.Messages.{merge_op_shape, attribute_entry_of, source_op_of, source_op_in, source_op_shape, input_of, kinds}
+use Rattle.llb_ops.specs.Messages.{kind_of, op_shape, op_in, op_message_of}
 use Rattle.llb_ops.specs.Definition.{definition_of, are_short}
 use Rattle.llb_ops.specs.Faults.{Gives}
-use Rattle.llb_ops.specs.Within.{IsFew, IsMetaWithin, IsMetaOptWithin, IsExecWithin, IsCopyWithin, IsActionWithin, IsFileWithin, IsKindWithin, IsWithinLimits, AreWithinLimits}
+use Rattle.llb_ops.specs.Within.{IsFew, IsMetaWithin, IsMetaOptWithin, IsExecWithin, IsCopyWithin, IsActionWithin, IsFileWithin}
+use Rattle.llb_ops.specs.Within.{IsKindWithin, IsWithinLimits, AreWithinLimits}
 use Rattle.llb_ops.proofs.Kept.{guard_ended}
 use Rattle.llb_ops.proofs.FieldOf.{and_both, ok_is}
 use Rattle.llb_ops.proofs.Picks.{All-map}
@@ -38,11 +43,13 @@ use Rattle.llb_ops.proofs.Admission.{still_fit}
 use Rattle.llb_ops.proofs.Sizes.{parts_size, all_size, member_size, each_size}
 
 -- the records that a message was read of, whose payloads are together no longer than its bytes
-sized_read_of : {M : Type 0} (shape : Shape) (read : List Record → Result M OpFault) (bytes : List ℕ) (m : M) → message_of shape read bytes ≡ Ok m → (rs : List Record) × (read rs ≡ Ok m) × (length (joined rs) ≤ length bytes)
+sized_read_of : {M : Type 0} (shape : Shape) (read : List Record → Result M OpFault) (bytes : List ℕ) (m : M)
+    → message_of shape read bytes ≡ Ok m → (rs : List Record) × (read rs ≡ Ok m) × (length (joined rs) ≤ length bytes)
 unfolding message_of
 sized_read_of shape read bytes m e = let r = bind_ok (parts shape bytes) read m e in (r.0, r.2, parts_size shape bytes r.0 r.1)
 
-read_of : {M : Type 0} (shape : Shape) (read : List Record → Result M OpFault) (bytes : List ℕ) (m : M) → message_of shape read bytes ≡ Ok m → (rs : List Record) × (read rs ≡ Ok m)
+read_of : {M : Type 0} (shape : Shape) (read : List Record → Result M OpFault) (bytes : List ℕ) (m : M)
+    → message_of shape read bytes ≡ Ok m → (rs : List Record) × (read rs ≡ Ok m)
 read_of shape read bytes m e = let r = sized_read_of shape read bytes m e in (r.0, r.1)
 
 -- the records of the first field, and the limit on the others
@@ -68,7 +75,8 @@ copy_within bytes m e =
     let w = guard_ended (within_limits (12 ∷ 13 ∷ []) rs) OverLimit (copy_file_with rs o.0) m o.2 in
     let include = first_few 12 (13 ∷ []) rs w.0 in
     let exclude = first_few 13 [] rs include.1 in
-    subst (λ (x : CopyFile). IsCopyWithin x) w.1 (record { include_patterns = few_payloads (all 12 rs) include.0; exclude_patterns = few_payloads (all 13 rs) exclude.0 })
+    subst (λ (x : CopyFile). IsCopyWithin x) w.1
+    (record { include_patterns = few_payloads (all 12 rs) include.0; exclude_patterns = few_payloads (all 13 rs) exclude.0 })
 
 action_kind_within : (a : ActionKind) → ActionRead a → IsActionWithin (Some a)
 action_kind_within (action.Copy m) h = copy_within h.0 m h.1
@@ -121,7 +129,8 @@ meta_within bytes m size e =
       short = All-from_recursion (λ (a : List ℕ). length a ≤ entry_limit) (payloads (all 1 rs)) texts;
     })
 
-meta_opt_within : (xs : List Record) (b : Bool) (o : Option Meta) → length (joined xs) ≤ entry_limit → cond {A = Result (Option Meta) OpFault} b (Ok None) (meta_of (joined xs) >>= λ m. Ok (Some m)) ≡ Ok o → IsMetaOptWithin o
+meta_opt_within : (xs : List Record) (b : Bool) (o : Option Meta) → length (joined xs) ≤ entry_limit
+    → cond {A = Result (Option Meta) OpFault} b (Ok None) (meta_of (joined xs) >>= λ m. Ok (Some m)) ≡ Ok o → IsMetaOptWithin o
 meta_opt_within xs true o size e = subst (λ (x : Option Meta). IsMetaOptWithin x) (ok_is None o e) tt
 meta_opt_within xs false o size e =
     let m = bind_ok (meta_of (joined xs)) (λ m. Ok (Some m)) o e in
@@ -186,7 +195,8 @@ kind_member : (c : Option ℕ) (rs : List Record) (o : Option Kind) → length (
 kind_member None rs o size e = subst (λ (x : Option Kind). IsKindWithin x) (ok_is None o e) tt
 kind_member (Some n) rs o size e =
     let a = bind_ok (kind_of n (member kinds n rs)) (λ a. some_kind (Some a)) o e in
-    subst (λ (x : Option Kind). IsKindWithin x) (ok_is (Some a.0) o a.2) (kind_within (joined (member kinds n rs)) a.0 (omega (arith, size, member_size kinds n rs)) (kind_from n (member kinds n rs) a.0 a.1))
+    subst (λ (x : Option Kind). IsKindWithin x) (ok_is (Some a.0) o a.2)
+    (kind_within (joined (member kinds n rs)) a.0 (omega (arith, size, member_size kinds n rs)) (kind_from n (member kinds n rs) a.0 a.1))
 
 message_within : (bytes : List ℕ) (op : Op) → length bytes ≤ entry_limit → op_message_of bytes ≡ Ok op → IsWithinLimits op
 unfolding op_in
@@ -201,7 +211,8 @@ message_within bytes op size e =
       kind = kind_member (chosen kinds rs) rs k.0 (omega (arith, size, r.2)) k.1;
     })
 
-pub op_read_within : (bytes : List ℕ) (r : Result Op OpFault) → length bytes ≤ entry_limit → Gives {X = Op} {Y = Op} (λ op. op) r (op_message_of bytes) → IfOk r IsWithinLimits
+pub op_read_within : (bytes : List ℕ) (r : Result Op OpFault) → length bytes ≤ entry_limit
+    → Gives {X = Op} {Y = Op} (λ op. op) r (op_message_of bytes) → IfOk r IsWithinLimits
 op_read_within bytes (Ok op) size h = message_within bytes op size h
 op_read_within bytes (Err e) size h = tt
 
@@ -213,9 +224,13 @@ each_short (e ∷ es) h =
     let both = and_both (nat_le (length e) entry_limit) (are_short es) h in
     (leb-true (length e) entry_limit both.0, each_short es both.1)
 
-fit_within : (es : List (List ℕ)) (a b : Bool) → ltb entries_limit (length es) ≡ a → are_short es ≡ b → cond {A = Result (List (List ℕ)) OpFault} a (Err OverLimit) (cond b (Ok es) (Err OverLimit)) ≡ Ok es → AreWithinLimits es
+fit_within : (es : List (List ℕ)) (a b : Bool) → ltb entries_limit (length es) ≡ a → are_short es ≡ b
+    → cond {A = Result (List (List ℕ)) OpFault} a (Err OverLimit) (cond b (Ok es) (Err OverLimit)) ≡ Ok es → AreWithinLimits es
 fit_within es true b f g e = absurd cc
-fit_within es false true f g e = record { few = ltb-false entries_limit (length es) f; short = All-from_recursion (λ (e : List ℕ). length e ≤ entry_limit) es (each_short es g) }
+fit_within es false true f g e = record {
+  few = ltb-false entries_limit (length es) f;
+  short = All-from_recursion (λ (e : List ℕ). length e ≤ entry_limit) es (each_short es g);
+}
 fit_within es false false f g e = absurd cc
 
 pub entries_within : (bytes : List ℕ) (es : List (List ℕ)) → definition_of bytes ≡ Ok es → AreWithinLimits es

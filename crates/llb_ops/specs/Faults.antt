@@ -4,7 +4,7 @@ use Rattle.llb_wire.specs.Answer as answer
 use Rattle.llb_ops.specs.declared.fault.OpFault.{OpFault}
 use Rattle.llb_ops.specs.declared.fault.OpFault.TheVariants.{Wire, WrongWireType, NotUtf8, OverLimit, Memory}
 
--- want of memory, which no rule gives
+-- out of memory, which no rule gives
 abbrev pub is_memory : OpFault → Bool
 is_memory Memory = true
 is_memory (Wire f) = false

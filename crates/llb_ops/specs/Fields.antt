@@ -1,4 +1,4 @@
--- The fields of a message as its bytes have them one behind the other, and when they are those of canonical bytes: by the table
+-- The fields of a message as its bytes have them one after the other, and when they are those of canonical bytes: by the table
 -- (`ops.proto` of BuildKit) and the encoding guide of Protocol Buffers ("Message Structure", "Field Presence", "Oneofs", "Maps").
 use Rattle.std.specs.Prelude.{◌≡◌, ℕ, ◌+◌, ◌≤◌, List, ◌++◌, length, Some, Result, Ok, Err, Bool, true, false, is_none, nat_lt}
 use Rattle.std.specs.Prelude.{◌==◌, ◌&&◌, ◌||◌, not, if◌then◌else◌}
@@ -19,7 +19,7 @@ use Rattle.llb_ops.specs.Records.{form_of, parts, int32, int64, uint32, flag}
 use Rattle.llb_ops.specs.Messages.{op_of}
 use Rattle.llb_ops.specs.Writing.{bit, set_number, set_bytes, op_bytes}
 
--- fields with their rows of the table, a number as its varint spells it; the extra bytes stand behind all
+-- fields with their rows of the table, a number as its varint spells it; the extra bytes stand after all
 pub data Fields : Type 0 where
   extra : List ℕ → Fields
   number : Row → ℕ → Fields → Fields
@@ -35,7 +35,7 @@ bytes_of (message row inner rest) = set_bytes row.1.number (bytes_of inner) ++ b
 
 -- ---- by the table
 
--- Behind the field `last`: numbers ascend, and only a repeated field stands again. `set` says that a member of the oneof stands
+-- After the field `last`: numbers ascend, and only a repeated field stands again. `set` says that a member of the oneof stands
 -- already, and then no other may.
 abbrev pub may_follow : ℕ → Bool → NamedField → Bool
 may_follow last set f = (nat_lt last f.number || (f.repeated && (last == f.number))) && not (f.member && set)
@@ -83,15 +83,17 @@ only_unnamed m (Err f) = false
 unfoldable pub are_unnamed : MessageName → List ℕ → Bool
 are_unnamed m more = only_unnamed m (parts (shape_of m) more)
 
--- the fields of a message in canonical bytes, behind the field `last` and with or without a member of the oneof before
+-- the fields of a message in canonical bytes, after the field `last` and with or without a member of the oneof before
 abbrev pub AreFields : MessageName → ℕ → Bool → Fields → Type 0
 AreFields m last set (extra more) = AreUnnamed m more
 AreFields m last set (number row v rest) =
     IsNext m last set row × IsNumberOf row.1.kind v × (not (v == 0) || may_be_empty row.1 ≡ true) × AreFields m row.1.number (set || row.1.member) rest
 AreFields m last set (bytes row held rest) =
-    IsNext m last set row × IsBytesOf row.1.kind held × (not (length held == 0) || may_be_empty row.1 ≡ true) × AreFields m row.1.number (set || row.1.member) rest
+    IsNext m last set row × IsBytesOf row.1.kind held × (not (length held == 0) || may_be_empty row.1 ≡ true)
+    × AreFields m row.1.number (set || row.1.member) rest
 AreFields m last set (message row inner rest) =
-    IsNext m last set row × ((sub : MessageName) × (row.1.kind ≡ Message sub) × AreFields sub 0 false inner) × AreFields m row.1.number (set || row.1.member) rest
+    IsNext m last set row × ((sub : MessageName) × (row.1.kind ≡ Message sub) × AreFields sub 0 false inner)
+    × AreFields m row.1.number (set || row.1.member) rest
 
 -- ---- entries of a map
 
@@ -108,7 +110,7 @@ without_empty (message row inner rest) = message row (without_empty inner) (with
 abbrev pub one_more_of : ℕ → ℕ → ℕ → ℕ
 one_more_of last count n = if last == n then count + 1 else 1
 
--- behind the field `last`, which stands so often, no field stands more often than a field may, nor in a message among them
+-- after the field `last`, which stands so often, no field stands more often than a field may, nor in a message among them
 abbrev pub AreFew : ℕ → ℕ → Fields → Type 0
 AreFew last count (extra more) = Unit {0}
 AreFew last count (number row v rest) = (one_more_of last count row.1.number ≤ field_limit) × AreFew row.1.number (one_more_of last count row.1.number) rest

@@ -1,4 +1,4 @@
--- What each message is of its records, with its fields of the table (`ops.proto` of BuildKit). The order of the lines is the
+-- What each message is from its records, with its fields of the table (`ops.proto` of BuildKit). The order of the lines is the
 -- order of the faults: the records, the message fields by their numbers, the limits.
 use Rattle.std.specs.Prelude.{ℕ, List, [], ◌∷◌, length, Option, Result, Ok, Err, nat_lt, ◌==◌, if◌then◌else◌}
 use Rattle.llb_wire.specs.Answer.{◌>>=◌}
@@ -34,7 +34,8 @@ use Rattle.llb_ops.specs.declared.source.AttributeEntry.{AttributeEntry}
 use Rattle.llb_ops.specs.Table.{shape_of, members_of, repeated_of}
 use Rattle.llb_ops.specs.Limits.{entry_limit}
 use Rattle.llb_ops.specs.Attributes.{settled}
-use Rattle.llb_ops.specs.Records.{Shape, message_of, all, payload, payloads, number, flag, uint32, int32, int64, joined, one, each, one_of, within_limits, unnamed}
+use Rattle.llb_ops.specs.Records.{Shape, message_of, all, payload, payloads, number, flag, uint32, int32, int64, joined, one, each, one_of}
+use Rattle.llb_ops.specs.Records.{within_limits, unnamed}
 
 abbrev pub input_shape : Shape
 input_shape = shape_of message.Input
@@ -113,7 +114,7 @@ mk_dir_of = message_of mk_dir_shape mk_dir_in
 abbrev pub copy_file_shape : Shape
 copy_file_shape = shape_of message.FileActionCopy
 
--- what a copy is of its records, but for the owner
+-- what a copy is from its records, but for the owner
 unfoldable pub copy_file_with : List Record → Option ChownOpt → CopyFile
 copy_file_with rs owner = record {
   src = payload (all 1 rs);

@@ -1,6 +1,8 @@
 -- The records of a message, and what each kind of field is of them (the encoding guide of Protocol Buffers: "Message
 -- Structure", "Last One Wins", "Optional and Repeated Elements", "Oneofs"). A record stands without a place in the bytes.
-use Rattle.std.specs.Prelude.{◌≡◌, ◌<◌, ℕ, zero, suc, ◌-◌, List, [], ◌∷◌, ◌++◌, length, map, Option, Some, None, Result, Ok, Err, Bool, true, false, nat_le, ◌==◌, not, if◌then◌else◌, find, option_map, fold, ◌&&◌, filter, slice_get, is_none, ℤ, ◌%◌, ◌^◌}
+use Rattle.std.specs.Prelude.{◌≡◌, ◌<◌, ℕ, zero, suc, ◌-◌, List, [], ◌∷◌, ◌++◌, length, map, Option, Some, None, Result, Ok, Err, Bool}
+use Rattle.std.specs.Prelude.{true, false, nat_le, ◌==◌, not, if◌then◌else◌, find, option_map, fold, ◌&&◌, filter, slice_get, is_none, ℤ}
+use Rattle.std.specs.Prelude.{◌%◌, ◌^◌}
 use Rattle.std.specs.List.{list_all, list_any, flat_map}
 use Rattle.std.specs.Str.{is_utf8}
 use Rattle.std.specs.Option.{option_map_or}
@@ -52,11 +54,11 @@ abbrev pub from_wire : {A : Type 0} → Result A WireFault → Result A OpFault
 from_wire (Ok x) = Ok x
 from_wire (Err f) = Err (Wire f)
 
--- the record at the front
+-- the record at the start
 abbrev pub first_record : Shape → List ℕ → Result Field OpFault
 first_record shape bytes = from_wire (field_at bytes 0) >>= λ f. if wire_fits (form_of shape f.number) f.wire then Ok f else Err WrongWireType
 
--- the records behind so many bytes of a record that was read before
+-- the records after that many bytes of a record that was read before
 unfoldable pub records_from : Shape → ℕ → List ℕ → Result (List Record) OpFault
 records_from shape skip [] = Ok []
 records_from shape (suc skip) (b ∷ bytes) = records_from shape skip bytes
@@ -65,18 +67,18 @@ records_from shape zero (b ∷ bytes) = do
   rs ← records_from shape (f.«end» - 1) bytes
   Ok (record_of (b ∷ bytes) f ∷ rs)
 
--- the record in front of others
+-- the record before others
 pub record IsFront (shape : Shape) (bytes : List ℕ) (f : Front) : Type 0 where
   pub reads : records_from shape 0 bytes ≡ (records_from shape 0 f.after.now >>= λ rs. Ok (view f.record ∷ rs))
   pub shorter : length f.after.now < length bytes
 
--- what the next record says of all: the first fault, the end, or a record in front of others
+-- what the next record says of all: the first fault, the end, or a record before others
 abbrev pub Starts : Shape → List ℕ → Result (Option Front) OpFault → Type 0
 Starts shape bytes (Ok None) = records_from shape 0 bytes ≡ Ok []
 Starts shape bytes (Ok (Some f)) = IsFront shape bytes f
 Starts shape bytes (Err e) = records_from shape 0 bytes ≡ Err e
 
--- ---- behind the last record: its texts are UTF-8
+-- ---- after the last record: its texts are UTF-8
 
 abbrev pub text_ok : Option Form → List ℕ → Bool
 text_ok (Some Text) payload = is_utf8 payload
@@ -102,11 +104,11 @@ wires_fit shape rs = list_all (λ r. wire_fits (form_of shape r.number) r.wire) 
 abbrev pub fitting : Shape → List Record → Result (List Record) OpFault
 fitting shape rs = if wires_fit shape rs then (if texts_fit shape rs then Ok rs else Err NotUtf8) else Err WrongWireType
 
--- a message is what it is of its records
+-- a message is what it is from its records
 unfoldable pub message_of : {A : Type 0} → Shape → (List Record → Result A OpFault) → List ℕ → Result A OpFault
 message_of shape read bytes = parts shape bytes >>= read
 
--- ---- what a field is of its records
+-- ---- what a field is from its records
 
 -- the records of one field, in order
 abbrev pub all : ℕ → List Record → List Record
@@ -141,7 +143,7 @@ flag n = not (n == 0)
 abbrev pub payloads : List Record → List (List ℕ)
 payloads rs = map (λ r. r.payload) rs
 
--- a message that stands once is the reading of its payloads, one behind the other
+-- a message that stands once is the reading of its payloads, one after the other
 abbrev pub joined : List Record → List ℕ
 joined rs = flat_map (λ r. r.payload) rs
 
@@ -178,7 +180,7 @@ since p rs = fold (kept p) [] rs
 abbrev pub is_other : List ℕ → ℕ → Record → Bool
 is_other members n r = is_member members r && not (r.number == n)
 
--- the records of a member that count: those behind the last record of another one
+-- the records of a member that count: those after the last record of another one
 abbrev pub member : List ℕ → ℕ → List Record → List Record
 member members n rs = all n (since (is_other members n) rs)
 
@@ -190,7 +192,7 @@ member_of members read (Some n) rs = read n (member members n rs) >>= λ a. Ok (
 abbrev pub one_of : {A : Type 0} → List ℕ → (ℕ → List Record → Result A OpFault) → List Record → Result (Option A) OpFault
 one_of members read rs = member_of members read (chosen members rs) rs
 
--- ---- behind all fields: no repeated field has too many records
+-- ---- after all fields: no repeated field has too many records
 
 abbrev pub within_limits : List ℕ → List Record → Bool
 within_limits repeated rs = list_all (λ n. nat_le (length (all n rs)) field_limit) repeated

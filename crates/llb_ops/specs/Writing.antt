@@ -97,7 +97,8 @@ mk_dir_bytes m = bytes_field 1 m.path ++ signed_field 2 m.mode ++ flag_field 3 m
 
 unfoldable pub copy_file_bytes : CopyFile → List ℕ
 copy_file_bytes m = bytes_field 1 m.src ++ bytes_field 2 m.dest ++ message_field chown_opt_bytes 3 m.owner ++ signed_field 4 m.mode
-    ++ flag_field 5 m.follow_symlink ++ flag_field 6 m.dir_copy_contents ++ flag_field 7 m.attempt_unpack_docker_compatibility ++ flag_field 8 m.create_dest_path
+    ++ flag_field 5 m.follow_symlink ++ flag_field 6 m.dir_copy_contents ++ flag_field 7 m.attempt_unpack_docker_compatibility
+    ++ flag_field 8 m.create_dest_path
     ++ flag_field 9 m.allow_wildcard ++ flag_field 10 m.allow_empty_wildcard ++ signed_field 11 m.timestamp ++ each_field 12 m.include_patterns
     ++ each_field 13 m.exclude_patterns ++ m.extra
 

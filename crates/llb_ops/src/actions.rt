@@ -1,4 +1,4 @@
-//! What is done by a file action: each kind by what it is of its records, and its canonical bytes.
+//! What is done by a file action: each kind by what it is from its records, and its canonical bytes.
 
 ghost use Rattle.std.specs.Prelude.{◌≡◌, IfOk, true};
 ghost use Rattle.llb_ops.specs.Records.{views, texts_fit};
@@ -145,7 +145,7 @@ pub struct CopyFile {
     pub extra: Bytes,
 }
 
-// A copy of its records, but for the owner.
+// A copy from its records, but for the owner.
 #[tactic(auto, unfolding(crate::specs::Messages::copy_file_with))]
 fn copy_file_with(
     alloc: Global,

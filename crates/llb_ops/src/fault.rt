@@ -1,4 +1,4 @@
-//! Why bytes are not read as a message. A fault prints what stands behind the word `fault` in a refusal.
+//! Why bytes are not read as a message. A fault prints what stands after the word `fault` in a refusal.
 
 use llb_wire::{Memory, WireFault};
 use std::alloc::AllocFailed;

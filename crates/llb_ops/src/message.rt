@@ -5,7 +5,8 @@ ghost use Rattle.llb_wire.specs.Records.{Record as Read};
 ghost use Rattle.llb_ops.specs.declared.fault.OpFault.{OpFault};
 ghost use Rattle.llb_ops.specs.Faults.{Gives};
 ghost use Rattle.llb_ops.specs.Table.{shape_of};
-ghost use Rattle.llb_ops.specs.Records.{Shape, views, all, texts_fit, message_of, joined as joined_of, one as one_rule, each as each_rule, one_of as one_of_rule};
+ghost use Rattle.llb_ops.specs.Records.{Shape, views, all, texts_fit, message_of, joined as joined_of, one as one_rule, each as each_rule};
+ghost use Rattle.llb_ops.specs.Records.{one_of as one_of_rule};
 
 use crate::fault::OpFault;
 use crate::records::{Record, chosen, count, joined, lone_payload, parts, room_for, since};
@@ -13,7 +14,7 @@ use crate::table::MessageName;
 use llb_wire::{Boxed, Many, Memory};
 use std::alloc::Global;
 
-/// A message: the fields that it names, what it is of its records, and its canonical bytes.
+/// A message: the fields that it names, what it is from its records, and its canonical bytes.
 pub trait Message: Drop {
     ghost shape: { Shape };
 
@@ -54,7 +55,7 @@ impl<M: Message> Message for Boxed<M> {
     }
 }
 
-/// A member of a oneof: what the one of a number is of its records, and its canonical bytes.
+/// A member of a oneof: what the one of a number is from its records, and its canonical bytes.
 pub trait Member: Drop {
     ghost reading: { ℕ → List Read → Result Self OpFault };
 
@@ -76,7 +77,7 @@ pub fn read_message<M: Message>(alloc: Global, bytes: &[u8]) -> Result<M, OpFaul
     M::read(alloc, &records)
 }
 
-/// A message of the payloads of its records, one behind the other. That of a single record is read where it lies.
+/// A message of the payloads of its records, one after the other. That of a single record is read where it lies.
 pub fn joined_message<M: Message>(
     alloc: Global,
     records: &[Record<'_>],
@@ -91,7 +92,7 @@ pub fn joined_message<M: Message>(
     read_message(alloc, &bytes)
 }
 
-/// A message that stands once: its payloads, one behind the other.
+/// A message that stands once: its payloads, one after the other.
 #[tactic(auto, unfolding(crate::specs::Records::one))]
 pub fn one<M: Message>(
     alloc: Global,

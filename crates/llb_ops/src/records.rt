@@ -8,7 +8,11 @@ ghost use Rattle.llb_ops.specs.Faults.{Gives};
 ghost use Rattle.llb_ops.specs.declared.shape.Form.TheVariants as form;
 ghost use Rattle.llb_ops.specs.Table.{shape_of};
 ghost use Rattle.llb_ops.specs.Fields.{are_unnamed};
-ghost use Rattle.llb_ops.specs.Records.{view, views, form_of, wire_fits, records_from, Starts, texts_fit, text_fits, parts as parts_of, all as all_of, last_of, number as number_of, payload as payload_of, payloads, uint32, int32, int64, flag, joined as joined_of, unnamed as unnamed_of, chosen as chosen_of, since as since_of, is_member as is_member_of, is_other as is_other_of, member as member_of, within_limits as within_limits_of};
+ghost use Rattle.llb_ops.specs.Records.{view, views, form_of, wire_fits, records_from, Starts, texts_fit, text_fits, parts as parts_of};
+ghost use Rattle.llb_ops.specs.Records.{all as all_of, last_of, number as number_of, payload as payload_of, payloads, uint32, int32, int64};
+ghost use Rattle.llb_ops.specs.Records.{flag, joined as joined_of, unnamed as unnamed_of, chosen as chosen_of, since as since_of};
+ghost use Rattle.llb_ops.specs.Records.{is_member as is_member_of, is_other as is_other_of, member as member_of};
+ghost use Rattle.llb_ops.specs.Records.{within_limits as within_limits_of};
 
 use crate::fault::OpFault;
 use crate::shape::{FIELD_LIMIT, Form};
@@ -27,7 +31,7 @@ pub struct Record<'a> {
     pub text: &'a [u8],
 }
 
-/// The record at the front of some bytes, and the bytes after it.
+/// The record at the start of some bytes, and the bytes after it.
 #[derive(Clone, Copy)]
 pub struct Front<'a> {
     pub record: Record<'a>,
@@ -75,7 +79,7 @@ fn front_of<'a>(bytes: &'a [u8], field: &Field) -> Front<'a>
     Front { record, after }
 }
 
-/// The record at the front of a message's bytes, and the bytes after it: `None` at the end. A field that the message
+/// The record at the start of a message's bytes, and the bytes after it: `None` at the end. A field that the message
 /// names has its wire type.
 pub fn next_part<'a>(message: MessageName, bytes: &'a [u8]) -> Result<Option<Front<'a>>, OpFault>
     ensures { Starts (shape_of message) bytes.now result }
@@ -281,7 +285,7 @@ pub fn lone_payload<'a>(records: &[Record<'a>], number: u32) -> Option<&'a [u8]>
     Some(last_payload(records, number))
 }
 
-/// The payloads of a field, one behind the other.
+/// The payloads of a field, one after the other.
 pub fn joined(alloc: Global, records: &[Record<'_>], number: u32) -> Result<Vec<u8>, Memory>
     ensures { IfOk result (λ v. v.items ≡ joined_of (all_of number (views records.now))) }
 {
@@ -339,7 +343,7 @@ fn is_other(members: &[u32], number: u32, part: &Record<'_>) -> bool
     members.contains(&part.number) && part.number != number
 }
 
-/// The records behind the last one of another member of a oneof.
+/// The records after the last one of another member of a oneof.
 pub fn since<'r, 'a>(records: &'r [Record<'a>], members: &[u32], number: u32) -> &'r [Record<'a>]
     ensures { views result.now ≡ since_of (is_other_of members.now number) (views records.now) }
 {

@@ -29,7 +29,7 @@ pub struct Attributes {
     held: IndexMap<Text, Attribute>,
 }
 
-/// What stands behind a key.
+/// What stands after a key.
 #[derive(Drop)]
 pub struct Attribute {
     pub value: Text,

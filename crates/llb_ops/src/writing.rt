@@ -1,7 +1,8 @@
-//! Fields in their canonical bytes, one behind the other.
+//! Fields in their canonical bytes, one after the other.
 
 ghost use Rattle.std.specs.Prelude.{◌≡◌, ◌<◌, ◌++◌, ◌≤◌, OnOk};
-ghost use Rattle.llb_ops.specs.Writing.{set_number, set_bytes, number_field, bytes_field, signed_field, flag_field, message_field, messages_field, each_field, one_of_field};
+ghost use Rattle.llb_ops.specs.Writing.{set_number, set_bytes, number_field, bytes_field, signed_field, flag_field, message_field};
+ghost use Rattle.llb_ops.specs.Writing.{messages_field, each_field, one_of_field};
 
 use crate::message::{Member, Message};
 use llb_wire::{Bytes, Memory, Text, Wire, write_record};

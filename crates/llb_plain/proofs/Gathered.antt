@@ -13,7 +13,7 @@ edge_at es i = get_or es i (record { vertex = 0; index = 0 })
 abbrev behind : List TreeMap → Option (List TreeMap) → Option (List TreeMap)
 behind trees o = option_map (λ (more : List TreeMap). trees ++ more) o
 
--- behind the trees so far come those of the edges that are left
+-- after the trees so far come those of the edges that are left
 abbrev pub GatheredSoFar : (ℕ → Option Ending) → List Edge → ℕ → List TreeMap → Type 0
 GatheredSoFar E es i trees = option_map (λ (more : List TreeMap). trees ++ more) (inputs_from E (drop i es)) ≡ inputs_from E es
 

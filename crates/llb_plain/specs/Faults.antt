@@ -1,10 +1,10 @@
--- How the calls of this crate answer: what their rule gives, or the want of memory. A rule never gives the want of memory.
+-- How the calls of this crate answer: what their rule gives, or out of memory. A rule never gives out of memory.
 use Rattle.std.specs.Prelude.{◌≡◌, Bool, true, false, Result, Ok, Err}
 use Rattle.llb_wire.specs.Answer as answer
 use Rattle.llb_plain.specs.declared.fault.PlainFault.{PlainFault}
 use Rattle.llb_plain.specs.declared.fault.PlainFault.TheVariants.{MissingLocal, HasCache, Memory}
 
--- want of memory, which no rule gives
+-- out of memory, which no rule gives
 abbrev pub is_memory : PlainFault → Bool
 is_memory Memory = true
 is_memory (MissingLocal name) = false
@@ -21,7 +21,7 @@ may_want_memory (Err (MissingLocal name)) = true
 may_want_memory (Err (HasCache v)) = false
 may_want_memory (Err Memory) = false
 
--- want of memory comes last
+-- out of memory comes last
 abbrev pub MemoryLast : {X Y : Type 0} → Result X PlainFault → Result Y PlainFault → Type 0
 MemoryLast (Ok x) rule = Unit {0}
 MemoryLast (Err e) rule = is_memory e ≡ true → may_want_memory rule ≡ true

@@ -60,7 +60,8 @@ fn next(
 ) -> Result<Outcome, PlainFault>
     requires kind { IsVertexOf vertex.now vertex.now.op.kind }
     requires cacheless { has_cache vertex.now ≡ false }
-    ensures { (graph : Numbered) → Gives outcome_of result (Ok (next_outcome (record { graph = graph; locals = locals.now }) (map outcome_of before.now) vertex.now)) }
+    ensures { (graph : Numbered)
+        → Gives outcome_of result (Ok (next_outcome (record { graph = graph; locals = locals.now }) (map outcome_of before.now) vertex.now)) }
 {
     match gathered(alloc, before, vertex.inputs.as_slice())? {
         Some(inputs) => run(alloc, vertex, locals, inputs),

@@ -59,7 +59,7 @@ impl ReadyQueue {
         (ReadyPass { pass: first }, ReadyPass { pass: second })
     }
 
-    /// Joins two passes: their parts are added, and behind what the first put and took comes what the other one did.
+    /// Joins two passes: their parts are added, and after what the first put and took comes what the other one did.
     pub fn join(&self, pass: ReadyPass, other: ReadyPass) -> ReadyPass
         requires { IsReadyPassOf self.now pass × IsReadyPassOf self.now other }
         ensures pass { IsReadyPassOf self.now result }
@@ -90,7 +90,7 @@ impl ReadyQueue {
         }
     }
 
-    /// Takes the number at the front. `None`: at one moment of the call the queue was empty.
+    /// Takes the number at the start. `None`: at one moment of the call the queue was empty.
     pub fn take<R: Wait>(&self, rt: &R, pass: &mut ReadyPass) -> Option<u32>
         requires { IsReadyPassOf self.now pass.old }
         ensures pass { IsReadyPassOf self.now pass.new }

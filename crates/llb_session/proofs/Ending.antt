@@ -156,7 +156,7 @@ ends_last limit room s t q a b c o o1 o2 r l none end last =
 
 -- ---- a piece that is not heard to its end
 
--- what of it was heard, behind all before
+-- what of it was heard, after all before
 record Piece (limit : ℕ) (s : Stepping) (r : Standing) (a c o o2 : Option (List ℕ)) (result : Result Bool SessionFault) : Type 0 where
   heard : List ℕ
   behind : List ℕ
@@ -200,7 +200,7 @@ pub ends_fault : (limit room : ℕ) (s : Stepping) (q r : Standing) (a b c o o1 
 ends_fault limit room s q r a b c o o1 o2 fits over e l taken few h =
     fault_of limit s r a c o o2 e (piece_of limit room s q r a b c o o1 o2 fits over (Err e) l taken few h)
 
--- bytes behind the limit are left
+-- bytes after the limit are left
 pub ends_long : (limit room : ℕ) (s : Stepping) (q r : Standing) (a b c o o1 o2 : Option (List ℕ)) (fits over : List ℕ)
     → Listened limit room s q a b o o1 → Consumes b c (fits ++ over) → length fits ≡ room → 0 < length over → Hears q fits r o1 o2 (Ok true)
     → Converses limit s r.session a c o o2 (Err TooLong)

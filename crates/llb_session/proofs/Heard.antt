@@ -39,7 +39,7 @@ cut_none p t o o' is (said, answers, (front, rest, split, printed)) = record {
   printed = printed;
 }
 
--- ---- behind bytes that were heard
+-- ---- after bytes that were heard
 
 -- the text of the lines that ended is out
 pub went_none : (p : Standing) (o : Option (List ℕ)) → IsLine p.line → Went p [] p o o
@@ -112,7 +112,7 @@ hears_after p q r bytes more text o o1 o2 result talked out h = record {
   comes = comes_after p q r bytes h.heard h.unheard text o o1 o2 result talked out h.comes;
 }
 
--- ---- bytes behind those that were heard
+-- ---- bytes after those that were heard
 
 over : (p q : Standing) (heard unheard more : List ℕ) (o o' : Option (List ℕ)) (e : SessionFault)
     → Comes p heard unheard q o o' (Err e) → Comes p heard (unheard ++ more) q o o' (Err e)

@@ -1,4 +1,4 @@
--- Lines that bytes spell: more lines behind them, one more byte, and how many they are.
+-- Lines that bytes spell: more lines after them, one more byte, and how many they are.
 use Rattle.std.proofs.Common.{◌≡◌, ◌≢◌, ℕ, ◌+◌, ◌≤◌, List, [], ◌∷◌, ◌++◌, length, refl, sym, ap, ◌∙◌, append_assoc, append-nil, length-append, arith}
 use Rattle.std.proofs.lemmas.List.Elements.{All-nil, All-cons, All-push, All-append}
 use Rattle.llb_session.specs.Conversation.{IsLine, ended, Spelled}
@@ -7,7 +7,7 @@ pub ended-append : (ls ms : List (List ℕ)) → ended (ls ++ ms) ≡ ended ls +
 ended-append [] ms = refl
 ended-append (l ∷ ls) ms = ap (λ e. l ++ 10 ∷ e) (ended-append ls ms) ∙ sym (append_assoc l (10 ∷ ended ls) (ended ms))
 
--- what is begun behind some lines is ended and begun anew by more bytes
+-- what is begun after some lines is ended and begun anew by more bytes
 pub Spelled-more : (ls ms : List (List ℕ)) (line rest bytes more : List ℕ)
     → Spelled ls line bytes → Spelled ms rest (line ++ more) → Spelled (ls ++ ms) rest (bytes ++ more)
 Spelled-more ls ms line rest bytes more a b = record {

@@ -5,7 +5,7 @@ use Rattle.llb_session.specs.Answers.{Answers}
 use Rattle.llb_session.specs.Conversation.{IsLine, Spelled, Talks, Standing, Talked}
 use Rattle.llb_session.proofs.Lines.{Spelled-more, Spelled-none, few_lines}
 
--- more lines behind some
+-- more lines after some
 pub Talks-more : (ls ms : List (List ℕ)) (s t u : Stepping) (n m : ℕ) (text more : List ℕ) → m ≡ n + length ls
     → Talks s n ls text t → Talks t m ms more u → Talks s n (ls ++ ms) (text ++ more) u
 Talks-more [] ms s t u n m text more at (none, same) b =
@@ -20,7 +20,7 @@ Talks-more (l ∷ ls) ms s t u n m text more at (said, later, v, first, behind, 
 pub Talks-one : (s t : Stepping) (n : ℕ) (line text : List ℕ) → Answers s n line text t → Talks s n (line ∷ []) text t
 Talks-one s t n line text a = (text, [], t, a, (refl, refl), sym (append-nil text))
 
--- more bytes behind some
+-- more bytes after some
 pub Talked-more : (p q r : Standing) (bytes more text said : List ℕ) → Talked p bytes text q → Talked q more said r → Talked p (bytes ++ more) (text ++ said) r
 Talked-more p q r bytes more text said a b = record {
   lines = a.lines ++ b.lines;

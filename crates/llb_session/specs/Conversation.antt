@@ -17,13 +17,13 @@ abbrev pub ended : List (List ℕ) → List ℕ
 ended [] = []
 ended (line ∷ lines) = line ++ 10 ∷ ended lines
 
--- bytes are lines, each with its end, and behind them a rest without one
+-- bytes are lines, each with its end, and after them a rest without one
 pub record Spelled (lines : List (List ℕ)) (rest bytes : List ℕ) : Type 0 where
   pub are : bytes ≡ ended lines ++ rest
   pub each : All IsLine lines
   pub begun : IsLine rest
 
--- behind the last line end: no line, or one without its end
+-- after the last line end: no line, or one without its end
 abbrev pub last_line : List ℕ → List (List ℕ)
 last_line [] = []
 last_line (b ∷ rest) = (b ∷ rest) ∷ []
@@ -67,7 +67,7 @@ pub record Quit (p : Standing) (bytes : List ℕ) (t : Stepping) (out out' : Opt
   pub before : Answered p bytes t out out'
   pub quits : Quits before.at.line
 
--- the line that is begun is answered too, and of its answer a front is out
+-- the line that is begun is answered too, and of its answer a prefix is out
 pub record CutShort (p : Standing) (bytes : List ℕ) (t : Stepping) (out out' : Option (List ℕ)) : Type 0 where
   pub text : List ℕ
   pub at : Standing
@@ -112,7 +112,7 @@ EndsSo limit s heard unheard t left' out out' (Err Read) = (unheard ≡ []) × A
 EndsSo limit s heard unheard t left' out out' (Err Memory) = Answered (opening s) heard t out out'
 EndsSo limit s heard unheard t left' out out' (Err TooLong) = (length heard ≡ limit) × (0 < length unheard) × Answered (opening s) heard t out out'
 
--- A conversation takes bytes from its reader, and hears them from the front, no more than the limit. Without a fault it ends where the
+-- A conversation takes bytes from its reader, and hears them from the start, no more than the limit. Without a fault it ends where the
 -- input ends or a line ends the session.
 pub record Converses (limit : ℕ) (s t : Stepping) (left left' out out' : Option (List ℕ)) (result : Result (Unit {0}) SessionFault) : Type 0 where
   pub heard : List ℕ

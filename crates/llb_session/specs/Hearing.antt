@@ -38,7 +38,7 @@ pub record Went (p : Standing) (bytes : List ℕ) (q : Standing) (out out' : Opt
   pub talked : Talked p bytes text q
   pub printed : Appends out out' text
 
--- what comes of bytes that were heard, where some behind them were not
+-- what comes of bytes that were heard, where some after them were not
 abbrev pub Comes : Standing → List ℕ → List ℕ → Standing → Option (List ℕ) → Option (List ℕ) → Result Bool SessionFault → Type 0
 Comes p heard unheard q out out' (Ok true) = (unheard ≡ []) × Went p heard q out out'
 Comes p heard unheard q out out' (Ok false) = AtLineEnd heard (λ bytes. Quit p bytes q.session out out')
@@ -47,7 +47,7 @@ Comes p heard unheard q out out' (Err Memory) = Answered p heard q.session out o
 Comes p heard unheard q out out' (Err Read) = ⊥
 Comes p heard unheard q out out' (Err TooLong) = ⊥
 
--- bytes are heard, from the front
+-- bytes are heard, from the start
 pub record Hears (p : Standing) (bytes : List ℕ) (q : Standing) (out out' : Option (List ℕ)) (result : Result Bool SessionFault) : Type 0 where
   pub heard : List ℕ
   pub unheard : List ℕ

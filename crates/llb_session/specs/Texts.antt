@@ -43,7 +43,7 @@ ended (Some text) = text ++ codes "\n"
 abbrev pub record_line : Stepping → ℕ → List ℕ
 record_line s i = ended (option_map (record_text s.board.build.graph.vertices i) (record_at s i))
 
--- the lines of so many events behind the first ones
+-- the lines of that many events after the first ones
 unfoldable pub record_lines : Stepping → ℕ → ℕ → List ℕ
 record_lines s from zero = []
 record_lines s from (suc k) = record_lines s from k ++ record_line s (from + k + 1)
@@ -56,6 +56,6 @@ tree_lines (Some t) = tree_text t
 abbrev pub fault_line : StepperFault → List ℕ
 fault_line e = codes "fault " ++ (stepper_text e ++ codes "\n")
 
--- how many events are left behind one that was taken back
+-- how many events are left after one that was taken back
 abbrev pub back_line : ℕ → List ℕ
 back_line left = codes "back " ++ (decimal left ++ codes "\n")

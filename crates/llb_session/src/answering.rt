@@ -171,7 +171,7 @@ fn put<W: Write>(bytes: &[u8], out: &mut W) -> Result<bool, Failed>
 /// Answers line `number` of a session, counted from 1, on the stepper, and writes the answer to `out`: no line where it is granted and
 /// prints nothing; `fault 173` and its number where it asks for nothing; `fault` and 171, 172 or 174 where what it asks for is refused,
 /// and then nothing is changed. Where memory is refused for the line of a refusal itself it is `fault 174`. False where the line ends
-/// the session; nothing is written then. `Failed` where the writer failed, and a front of the answer is out.
+/// the session; nothing is written then. `Failed` where the writer failed, and a prefix of the answer is out.
 pub fn answer<W: Write>(
     alloc: Global,
     stepper: &mut Stepper,

@@ -104,7 +104,7 @@ fn conclude<W: Write>(
 }
 
 /// Answers the lines that are read from `commands`, each as soon as it has ended, under its number from 1, and flushes each answer before
-/// more is read. A last line without its end counts; nothing behind the last line end is no line. A line that says quit ends the session.
+/// more is read. A last line without its end counts; nothing after the last line end is no line. A line that says quit ends the session.
 /// No more than `limit` bytes are heard, and the end is met in `reads` reads; an interrupted read is done again, and counts.
 pub fn converse<R: Read, W: Write>(
     alloc: Global,

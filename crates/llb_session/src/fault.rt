@@ -1,4 +1,4 @@
-//! Why a conversation ends before its end. A fault prints what stands behind the word `fault`, and takes no memory for it.
+//! Why a conversation ends before its end. A fault prints what stands after the word `fault`, and takes no memory for it.
 
 use thiserror::Error;
 

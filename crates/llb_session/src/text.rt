@@ -68,7 +68,7 @@ pub(crate) fn line_text(
     Ok(text)
 }
 
-/// The lines of the record behind the first `from` events, up to that of event `to`.
+/// The lines of the record after the first `from` events, up to that of event `to`.
 #[tactic(auto, unfolding(crate::specs::Texts::record_lines))]
 pub(crate) fn record_text(
     alloc: Global,
@@ -110,7 +110,7 @@ pub(crate) fn fault_line(alloc: Global, fault: &StepperFault) -> Result<String, 
     format!(in alloc; "fault {fault}\n")
 }
 
-/// The line behind an event that was taken back: how many are left.
+/// The line after an event that was taken back: how many are left.
 pub(crate) fn back_line(alloc: Global, left: usize) -> Result<String, AllocError>
     ensures { IfOk result (λ s. string_bytes s ≡ back_line left) }
 {

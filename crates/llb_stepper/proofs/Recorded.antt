@@ -35,7 +35,7 @@ last_of before b e r given = by_table (table before.build before.state e) given
     by_table (Some a) is =
         let same : (let p : Seen × Reply = (after_event before e a.0, a.1) in p) ≡ (b, r) = cc in ap (λ (p : Seen × Reply). p.0.events) (sym same)
 
--- the event of which so many are behind it
+-- the event of which that many are after it
 pub record IsRecorded (b : Seen) (us : List Walked) (k : ℕ) (q : short.Reply) : Type 0 where
   pub event : Event
   pub reply : Reply

@@ -23,7 +23,7 @@ use Rattle.llb_stepper.specs.Stepping.{meets_from, run_on, then_on}
 abbrev Answer : Type 0
 Answer = Seen × Reply
 
--- what a loop over events keeps: s at first, t behind i of them
+-- what a loop over events keeps: s at first, t after i of them
 pub record GoneTo (s : Stepping) (es : List Event) (t : Stepping) (i : ℕ) : Type 0 where
   pub leads : run_on s.board (take i es) ≡ Some t.board
   pub past : drop i (line t) ≡ line s

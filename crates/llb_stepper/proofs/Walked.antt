@@ -1,4 +1,4 @@
--- What a walk of the board tells of the table: the board behind the event, and the reply.
+-- What a walk of the board tells of the table: the board after the event, and the reply.
 use Rattle.std.proofs.Common.{◌≡◌, suc, ◌+◌, Bool, true, false, List, [], ◌∷◌, ◌++◌, length, reverse, Option, Some, None, option_map}
 use Rattle.std.proofs.Common.{is_some, refl, sym, ap, ◌∙◌, subst}
 use Rattle.std.proofs.lemmas.List.{reverse-append, length-reverse, length-append}
@@ -30,7 +30,7 @@ Walk = Result (Seen × short.Reply) WalkFault
 inside : {x y : Seen × short.Reply} → ◌≡◌ {A = Walk} (Ok x) (Ok y) → x ≡ y
 inside e = cc
 
--- an event that is granted: the board behind it, and the reply that is told
+-- an event that is granted: the board after it, and the reply that is told
 by_grant : {C F : Type 0} (b n : Seen) (e : Event) (q : short.Reply) (fault : C → F) (out : F → WalkFault) (o : Result (State × Reply) C)
     → told_as out (recorded b e fault o) ≡ Ok (n, q) → (r : Reply) × (option_map {U = Seen × Reply} (λ a. (after_event b e a.0, a.1)) (result_ok o)
     ≡ Some (n, r)) × (q ≡ told r)
@@ -101,7 +101,7 @@ module _ (b n : Seen) (e : Event) (ws : List Walked) (w : Walked) (back : undone
   pub walked_more : CanUndo w.undo n → AreWalked b (reverse ws) → AreWalked n (reverse (ws ++ w ∷ []))
   walked_more can before = subst (AreWalked n) (sym turned) (can, follows, subst (λ x. AreWalked x (reverse ws)) (sym back) before)
 
-  -- and the stepper is behind it
+  -- and the stepper is after it
   pub stepping_more : (breaks : List Break) → stepping n (ws ++ w ∷ []) breaks ≡ onward (stepping b ws breaks) n
   stepping_more breaks =
       ap (λ us. record { board = n; past = past_of n us; breaks = breaks }) turned
@@ -120,7 +120,7 @@ module _ (b n : Seen) (e : Event) (ws : List Walked) (w : Walked) (back : undone
         told_by ∙ any_told e a.0 ks ∙ ap (list_any (meets e a.0)) breaks,
       )
 
--- ---- a chosen event is refused for want of memory alone
+-- ---- a chosen event is refused only where it is out of memory
 
 refused_by : (s : Stepping) (o : Walk) (f : StepperFault) → done_by s o ≡ Err f → (g : WalkFault) × (o ≡ Err g)
 refused_by s (Ok p) f is = absurd cc

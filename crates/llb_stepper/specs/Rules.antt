@@ -12,7 +12,7 @@ use Rattle.llb_stepper.specs.declared.fault.StepperFault.{StepperFault}
 use Rattle.llb_stepper.specs.declared.fault.StepperFault.TheVariants as fault
 use Rattle.llb_stepper.specs.Stepping.{Stepping, GoesBack, answered, onward, meets, meets_at, run_on}
 
--- want of memory, of the board or of the stepper itself
+-- out of memory, of the board or of the stepper itself
 abbrev pub stepper_memory : StepperFault → Bool
 stepper_memory (fault.Board e) = walk_memory e
 stepper_memory fault.NothingBefore = false
@@ -30,7 +30,7 @@ done_by s (Err e) = Err (fault.Board e)
 abbrev pub done_of : Stepping → Event → Result Stepping StepperFault
 done_of s e = done_by s (walk_of s.board e)
 
--- the chosen event is refused for want of memory alone
+-- the chosen event is refused only where it is out of memory
 abbrev pub ChosenIsDone : Stepping → Type 0
 ChosenIsDone s = (e : Event) (fault : StepperFault) → chosen s.board.build s.board.state ≡ Some e → done_of s e ≡ Err fault → stepper_memory fault ≡ true
 

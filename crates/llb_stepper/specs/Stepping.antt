@@ -18,11 +18,11 @@ pub record Stepping : Type 0 where
 
 -- ---- one event
 
--- the board behind an event that the table grants, and the reply
+-- the board after an event that the table grants, and the reply
 abbrev pub answered : Seen → Event → Option (Seen × Reply)
 answered b e = option_map (λ (a : State × Reply). (after_event b e a.0, a.1)) (table b.build b.state e)
 
--- a stepper on another board, behind the one that it was on
+-- a stepper on another board, after the one that it was on
 abbrev pub onward : Stepping → Seen → Stepping
 onward s b = record s { board = b; past = s.board ∷ s.past }
 
@@ -82,7 +82,7 @@ abbrev pub then_on : Option (Seen × Reply) → (Seen → Option Seen) → Optio
 then_on None go = None
 then_on (Some p) go = go p.0
 
--- the board behind events, each of which is granted
+-- the board after events, each of which is granted
 unfoldable pub run_on : Seen → List Event → Option Seen
 run_on b [] = Some b
 run_on b (e ∷ es) = then_on (answered b e) (λ c. run_on c es)

@@ -83,7 +83,7 @@ impl Stepper {
         self.breaks.clear();
     }
 
-    /// One event: 171 with the board's refusal, or 174. Want of memory, 171 141 or 174, may come at any growth.
+    /// One event: 171 with the board's refusal, or 174. Out of memory, 171 141 or 174, may come at any growth.
     pub fn do_event(&mut self, event: Event) -> Result<(), StepperFault>
         ensures gives { GivesEvent (λ _. self.new) result (done_of self.old (event_of event)) }
         ensures err { OnErr result (self.new ≡ self.old) }
@@ -251,7 +251,7 @@ impl Stepper {
     }
 }
 
-/// A law: the chosen event is refused for want of memory alone.
+/// A law: the chosen event is refused only where it is out of memory.
 pub fn chosen_is_done(stepper: &Stepper)
     ensures { ChosenIsDone stepper.now }
 {

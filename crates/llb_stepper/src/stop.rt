@@ -7,14 +7,14 @@ ghost use Rattle.llb_stepper.specs.Told.{meets_told};
 
 use llb_board::{Event, Reply, Settled};
 
-/// Where a walk stops: behind an event that meets it.
+/// Where a walk stops: after an event that meets it.
 #[derive(Clone, Copy, Debug, PartialEq, Eq)]
 pub enum Break {
-    /// Behind a claim of that vertex.
+    /// After a claim of that vertex.
     Claims(u32),
-    /// Behind a settle of that vertex.
+    /// After a settle of that vertex.
     Settles(u32),
-    /// Behind a settle of a vertex that failed.
+    /// After a settle of a vertex that failed.
     Fails,
 }
 

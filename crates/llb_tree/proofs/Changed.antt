@@ -1,5 +1,6 @@
 -- What a tree is after a node, or nothing, is set at a path: each edit's map.
-use Rattle.std.proofs.Common.{◌≡◌, ℕ, ◌+◌, ◌≤◌, List, [], ◌∷◌, ◌++◌, length, map, Option, Some, None, is_some, Bool, true, false, not, cond, ◌&&◌, Ok, refl, sym, ap, subst, ◌∙◌, true≢false, arith, length-append}
+use Rattle.std.proofs.Common.{◌≡◌, ℕ, ◌+◌, ◌≤◌, List, [], ◌∷◌, ◌++◌, length, map, Option, Some, None, is_some, Bool, true, false, not, cond}
+use Rattle.std.proofs.Common.{◌&&◌, Ok, refl, sym, ap, subst, ◌∙◌, true≢false, arith, length-append}
 use Rattle.std.proofs.lemmas.List.{append-nil}
 use Rattle.std.specs.Cmp.{tied_itself}
 use Rattle.std.specs.Cmp.Lexicographic.{nat_list_cmp_total, bytes_decides}
@@ -20,7 +21,8 @@ use Rattle.llb_tree.specs.Inside.{walk_below, get-tree_at}
 use Rattle.llb_tree.proofs.Grafted.{get_inside, get_outside}
 
 -- a fact of all paths is one of those at or below a path and one of the others
-pub by_place : (p : List (List ℕ)) (C : List (List ℕ) → Type 0) → ((q : List (List ℕ)) → C (p ++ q)) → ((q : List (List ℕ)) → is_within p q ≡ false → C q) → (q : List (List ℕ)) → C q
+pub by_place : (p : List (List ℕ)) (C : List (List ℕ) → Type 0) → ((q : List (List ℕ)) → C (p ++ q))
+    → ((q : List (List ℕ)) → is_within p q ≡ false → C q) → (q : List (List ℕ)) → C q
 by_place p C in' out q = by_test (is_within p q) refl
   where
     by_test : (b : Bool) → is_within p q ≡ b → C q
@@ -29,7 +31,8 @@ by_place p C in' out q = by_test (is_within p q) refl
 
 pub set_inside : (p q : List (List ℕ)) (t : Option TreeMap) (old : Look) → set_look p t old (p ++ q) ≡ look_in t q
 set_inside [] q t old = refl
-set_inside (n ∷ p) q t old = ap (λ o. cond (is_eq o) (set_look p t (λ r. old (n ∷ r)) (p ++ q)) (old (n ∷ (p ++ q)))) (tied n) ∙ set_inside p q t (λ r. old (n ∷ r))
+set_inside (n ∷ p) q t old = ap (λ o. cond (is_eq o) (set_look p t (λ r. old (n ∷ r)) (p ++ q)) (old (n ∷ (p ++ q)))) (tied n)
+    ∙ set_inside p q t (λ r. old (n ∷ r))
   where
     tied : (n : List ℕ) → name_cmp n n ≡ Equal
     tied n = tied_itself nat_list_cmp_total n
@@ -39,7 +42,8 @@ set_outside [] q t old out = absurd (true≢false out)
 set_outside (n ∷ p) [] t old out = refl
 set_outside (n ∷ p) (m ∷ q) t old out = by_name (name_cmp m n) refl (set_outside p q t (λ r. old (n ∷ r)))
   where
-    by_name : (o : Ordering) → name_cmp m n ≡ o → (is_within p q ≡ false → set_look p t (λ r. old (n ∷ r)) q ≡ old (n ∷ q)) → cond (is_eq o) (set_look p t (λ r. old (n ∷ r)) q) (old (m ∷ q)) ≡ old (m ∷ q)
+    by_name : (o : Ordering) → name_cmp m n ≡ o → (is_within p q ≡ false → set_look p t (λ r. old (n ∷ r)) q ≡ old (n ∷ q))
+        → cond (is_eq o) (set_look p t (λ r. old (n ∷ r)) q) (old (m ∷ q)) ≡ old (m ∷ q)
     by_name Less is rest = refl
     by_name Greater is rest = refl
     by_name Equal is rest =
@@ -59,11 +63,15 @@ apart p q out = by_tie (path_cmp q p) refl
     by_tie Greater is = refl
     by_tie Equal is = absurd (true≢false (sym (ap (is_within p) (path_cmp-IsAntisymmetric q p is) ∙ within_itself p) ∙ out))
 
-put_same : (t new : TreeMap) (p : List (List ℕ)) (one : Option TreeMap) (e : Entry) → look_in one [] ≡ Some e → ((n : List ℕ) (q : List (List ℕ)) → look_in one (n ∷ q) ≡ finite.get t (p ++ (n ∷ q)))
+put_same : (t new : TreeMap) (p : List (List ℕ)) (one : Option TreeMap) (e : Entry) → look_in one [] ≡ Some e
+    → ((n : List ℕ) (q : List (List ℕ)) → look_in one (n ∷ q) ≡ finite.get t (p ++ (n ∷ q)))
     → ((q : List (List ℕ)) → finite.get new q ≡ set_look p one (finite.get t) q) → new ≡ finite.insert t p e
-put_same t new p one e here more is = finite.same_map path_cmp-IsTotalOrder path_cmp-IsAntisymmetric new (finite.insert t p e) (by_place p (λ q. finite.get new q ≡ finite.get (finite.insert t p e) q)
-    (λ q. is (p ++ q) ∙ set_inside p q one (finite.get t) ∙ below q ∙ sym (finite.get-insert path_cmp-IsTotalOrder t p e (p ++ q) ∙ ap (λ b. cond b (Some e) (finite.get t (p ++ q))) (tied_below p q)))
-    (λ q out. is q ∙ set_outside p q one (finite.get t) out ∙ sym (finite.get-insert path_cmp-IsTotalOrder t p e q ∙ ap (λ b. cond b (Some e) (finite.get t q)) (apart p q out))))
+put_same t new p one e here more is = finite.same_map path_cmp-IsTotalOrder path_cmp-IsAntisymmetric new (finite.insert t p e)
+    (by_place p (λ q. finite.get new q ≡ finite.get (finite.insert t p e) q)
+    (λ q. is (p ++ q) ∙ set_inside p q one (finite.get t) ∙ below q
+    ∙ sym (finite.get-insert path_cmp-IsTotalOrder t p e (p ++ q) ∙ ap (λ b. cond b (Some e) (finite.get t (p ++ q))) (tied_below p q)))
+    (λ q out. is q ∙ set_outside p q one (finite.get t) out
+    ∙ sym (finite.get-insert path_cmp-IsTotalOrder t p e q ∙ ap (λ b. cond b (Some e) (finite.get t q)) (apart p q out))))
   where
     below : (q : List (List ℕ)) → look_in one q ≡ cond (is_eq (path_cmp q [])) (Some e) (finite.get t (p ++ q))
     below [] = here
@@ -74,7 +82,8 @@ pub dir_put : (t new one : TreeMap) (p : List (List ℕ)) (m : MetaValue) → ((
 dir_put t new one p m made is = put_same t new p (Some one) (Dir m) (made []) (λ n q. made (n ∷ q)) is
 
 -- below what is no directory there is nothing
-pub nothing_below : (t : TreeMap) (p : List (List ℕ)) (n : List ℕ) (q : List (List ℕ)) → IsTree t → file_fits (finite.get t p) ≡ Ok tt → finite.get t (p ++ (n ∷ q)) ≡ None
+pub nothing_below : (t : TreeMap) (p : List (List ℕ)) (n : List ℕ) (q : List (List ℕ)) → IsTree t → file_fits (finite.get t p) ≡ Ok tt
+    → finite.get t (p ++ (n ∷ q)) ≡ None
 nothing_below t p n q tree fits = by_entry (finite.get t (p ++ (n ∷ q))) refl
   where
     no_dir : (o : Option Entry) (os : List (Option Entry)) → file_fits o ≡ Ok tt → all_dirs (o ∷ os) ≡ Ok tt → ⊥
@@ -85,22 +94,28 @@ nothing_below t p n q tree fits = by_entry (finite.get t (p ++ (n ∷ q))) refl
     by_entry : (o : Option Entry) → finite.get t (p ++ (n ∷ q)) ≡ o → o ≡ None
     by_entry None is = refl
     by_entry (Some e) is =
-        absurd (no_dir (finite.get t (p ++ [])) (map (λ r. finite.get t (p ++ (n ∷ r))) (parents q)) (ap (λ x. file_fits (finite.get t x)) (append-nil p) ∙ fits)
+        absurd (no_dir (finite.get t (p ++ [])) (map (λ r. finite.get t (p ++ (n ∷ r))) (parents q))
+        (ap (λ x. file_fits (finite.get t x)) (append-nil p) ∙ fits)
         (sym (walk-cons (λ r. finite.get t (p ++ r)) n q) ∙ walk_below (finite.get t) p (n ∷ q) (tree.closed (p ++ (n ∷ q)) (ap is_some is))))
 
-pub file_put : (t new one : TreeMap) (p : List (List ℕ)) (m : MetaValue) (b : List ℕ) → IsTree t → file_fits (finite.get t p) ≡ Ok tt → ((q : List (List ℕ)) → finite.get one q ≡ file_look m b q)
+pub file_put : (t new one : TreeMap) (p : List (List ℕ)) (m : MetaValue) (b : List ℕ) → IsTree t → file_fits (finite.get t p) ≡ Ok tt
+    → ((q : List (List ℕ)) → finite.get one q ≡ file_look m b q)
     → ((q : List (List ℕ)) → finite.get new q ≡ set_look p (Some one) (finite.get t) q) → new ≡ finite.insert t p (File m b)
 file_put t new one p m b tree fits made is = put_same t new p (Some one) (File m b) (made []) (λ n q. made (n ∷ q) ∙ sym (nothing_below t p n q tree fits)) is
 
 -- ---- a path taken away, and a tree put
 
 pub taken_away : (t new : TreeMap) (p : List (List ℕ)) → ((q : List (List ℕ)) → finite.get new q ≡ set_look p None (finite.get t) q) → new ≡ without t p
-taken_away t new p is = finite.same_map path_cmp-IsTotalOrder path_cmp-IsAntisymmetric new (without t p) (by_place p (λ q. finite.get new q ≡ finite.get (without t p) q)
-    (λ q. is (p ++ q) ∙ set_inside p q None (finite.get t) ∙ sym (get-without t p (p ++ q) ∙ ap (λ b. cond (not b) (finite.get t (p ++ q)) None) (within-append p q)))
+taken_away t new p is = finite.same_map path_cmp-IsTotalOrder path_cmp-IsAntisymmetric new (without t p)
+    (by_place p (λ q. finite.get new q ≡ finite.get (without t p) q)
+    (λ q. is (p ++ q) ∙ set_inside p q None (finite.get t)
+    ∙ sym (get-without t p (p ++ q) ∙ ap (λ b. cond (not b) (finite.get t (p ++ q)) None) (within-append p q)))
     (λ q out. is q ∙ set_outside p q None (finite.get t) out ∙ sym (get-without t p q ∙ ap (λ b. cond (not b) (finite.get t q) None) out)))
 
-pub tree_put : (t new other : TreeMap) (p : List (List ℕ)) → ((q : List (List ℕ)) → finite.get new q ≡ set_look p (Some other) (finite.get t) q) → new ≡ with_tree t p other
-tree_put t new other p is = finite.same_map path_cmp-IsTotalOrder path_cmp-IsAntisymmetric new (with_tree t p other) (by_place p (λ q. finite.get new q ≡ finite.get (with_tree t p other) q)
+pub tree_put : (t new other : TreeMap) (p : List (List ℕ))
+    → ((q : List (List ℕ)) → finite.get new q ≡ set_look p (Some other) (finite.get t) q) → new ≡ with_tree t p other
+tree_put t new other p is = finite.same_map path_cmp-IsTotalOrder path_cmp-IsAntisymmetric new (with_tree t p other)
+    (by_place p (λ q. finite.get new q ≡ finite.get (with_tree t p other) q)
     (λ q. is (p ++ q) ∙ set_inside p q (Some other) (finite.get t) ∙ sym (get_inside t p other q))
     (λ q out. is q ∙ set_outside p q (Some other) (finite.get t) out ∙ sym (get_outside t p other q out)))
 
@@ -120,7 +135,8 @@ pub height_from : (t : TreeMap) (n : ℕ) → IsDeep t n → height t ≤ n + 1
 height_from t n deep = height_le t (n + 1) (λ q there. let h = deep q there in omega arith)
 
 -- a tree that is changed at or below a path
-pub whole_set : (t new : TreeMap) (p : List (List ℕ)) (one : Option TreeMap) (d n : ℕ) → IsWhole t d → IsTree new → d ≤ n → n ≤ 128 → ((q : List (List ℕ)) → is_some (look_in one q) ≡ true → length p + length q ≤ n)
+pub whole_set : (t new : TreeMap) (p : List (List ℕ)) (one : Option TreeMap) (d n : ℕ) → IsWhole t d → IsTree new → d ≤ n → n ≤ 128
+    → ((q : List (List ℕ)) → is_some (look_in one q) ≡ true → length p + length q ≤ n)
     → ((q : List (List ℕ)) → finite.get new q ≡ set_look p one (finite.get t) q) → IsWhole new n
 whole_set t new p one d n whole tree le short below is = record {
   tree = tree;

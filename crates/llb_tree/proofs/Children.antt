@@ -29,15 +29,18 @@ or_None (Some x) = refl
 -- no child of a name that is below all
 none_below : (n : List ℕ) (q : List (List ℕ)) (ks : List Child) → T (below_all name_cmp n (map pair_of ks)) → look_kids ks n q ≡ None
 none_below n q [] h = refl
-none_below n q (k ∷ ks) h = ap (λ o. option_or (cond (is_eq o) (finite.get k.node q) None) (look_kids ks n q)) (is_less _ (and_first _ _ h)) ∙ none_below n q ks (and_second _ _ h)
+none_below n q (k ∷ ks) h = ap (λ o. option_or (cond (is_eq o) (finite.get k.node q) None) (look_kids ks n q))
+    (is_less _ (and_first _ _ h)) ∙ none_below n q ks (and_second _ _ h)
 
 look_child : (n : List ℕ) (q : List (List ℕ)) (ks : List Child) → AreSorted ks → look_kids ks n q ≡ look_in (child n ks) q
 look_child n q [] h = refl
 look_child n q (k ∷ ks) h =
-    elim (name_cmp n (name_of k)) as (λ o. name_cmp n (name_of k) ≡ o → option_or (cond (is_eq o) (finite.get k.node q) None) (look_kids ks n q) ≡ look_in (cond (is_eq o) (Some k.node) (child n ks)) q) [
+    elim (name_cmp n (name_of k)) as (λ o. name_cmp n (name_of k) ≡ o
+    → option_or (cond (is_eq o) (finite.get k.node q) None) (look_kids ks n q) ≡ look_in (cond (is_eq o) (Some k.node) (child n ks)) q) [
       | Less ↦ λ _. look_child n q ks (and_second _ _ h)
       | Equal ↦ λ e. let same : n ≡ name_of k = name_cmp-IsAntisymmetric n (name_of k) e in
-          ap (option_or (finite.get k.node q)) (none_below n q ks (subst (λ m. T (below_all name_cmp m (map pair_of ks))) (sym same) (and_first _ _ h))) ∙ or_None (finite.get k.node q)
+          ap (option_or (finite.get k.node q))
+          (none_below n q ks (subst (λ m. T (below_all name_cmp m (map pair_of ks))) (sym same) (and_first _ _ h))) ∙ or_None (finite.get k.node q)
       | Greater ↦ λ _. look_child n q ks (and_second _ _ h)
     ] refl
 
@@ -51,7 +54,8 @@ read_root k v view = sym (get-root k) ∙ ap (λ t. finite.get t []) view
 pub read_file : (k : Kind) (v : TreeMap) (n : List ℕ) (q : List (List ℕ)) → map_of k ≡ v → kids_of k ≡ [] → None ≡ finite.get v (n ∷ q)
 read_file k v n q view none = sym (ap (λ t. finite.get t (n ∷ q)) (sym view) ∙ get-below k n q ∙ ap (λ ks. look_kids ks n q) none)
 
-module _ (k : Kind) (ks : List Child) (v : TreeMap) (n : List ℕ) (q : List (List ℕ)) (view : map_of k ≡ v) (is : kids_of k ≡ ks) (sorted : AreSorted (kids_of k)) where
+module _ (k : Kind) (ks : List Child) (v : TreeMap) (n : List ℕ) (q : List (List ℕ)) (view : map_of k ≡ v) (is : kids_of k ≡ ks)
+    (sorted : AreSorted (kids_of k)) where
   read_child : finite.get v (n ∷ q) ≡ look_in (child n ks) q
   read_child = ap (λ t. finite.get t (n ∷ q)) (sym view) ∙ get-child k n q sorted ∙ ap (λ x. look_in (child n x) q) is
 
@@ -61,7 +65,8 @@ module _ (k : Kind) (ks : List Child) (v : TreeMap) (n : List ℕ) (q : List (Li
   pub read_gap : (i : ℕ) → Err i ≡ place n ks → None ≡ finite.get v (n ∷ q)
   read_gap i at = sym (read_child ∙ ap (λ o. look_in o q) ((is_gap n ks i (sym at)).none (subst AreSorted is sorted)))
 
-pub file_alone : (m : MetaValue) (b c : List ℕ) → c ≡ b → (q : List (List ℕ)) → finite.get {R = path_cmp} (finite.insert finite.empty [] (File m c)) q ≡ file_look m b q
+pub file_alone : (m : MetaValue) (b c : List ℕ) → c ≡ b → (q : List (List ℕ))
+    → finite.get {R = path_cmp} (finite.insert finite.empty [] (File m c)) q ≡ file_look m b q
 file_alone m b c is [] = finite.get-insert path_cmp-IsTotalOrder finite.empty [] (File m c) [] ∙ ap (λ x. Some (File m x)) is
 file_alone m b c is (n ∷ q) = finite.get-insert path_cmp-IsTotalOrder finite.empty [] (File m c) (n ∷ q) ∙ finite.get-empty path_cmp (n ∷ q)
 
@@ -69,17 +74,20 @@ abbrev pub bare : MetaValue → TreeMap
 bare m = finite.insert finite.empty [] (Dir m)
 
 -- a directory with nothing below it, where nothing was
-pub dir_alone : (m : MetaValue) (look : Look) → ((n : List ℕ) (q : List (List ℕ)) → None ≡ look (n ∷ q)) → (q : List (List ℕ)) → finite.get (bare m) q ≡ dir_look m look q
+pub dir_alone : (m : MetaValue) (look : Look) → ((n : List ℕ) (q : List (List ℕ)) → None ≡ look (n ∷ q)) → (q : List (List ℕ))
+    → finite.get (bare m) q ≡ dir_look m look q
 dir_alone m look none [] = finite.get-insert path_cmp-IsTotalOrder finite.empty [] (Dir m) []
 dir_alone m look none (n ∷ q) = finite.get-insert path_cmp-IsTotalOrder finite.empty [] (Dir m) (n ∷ q) ∙ finite.get-empty path_cmp (n ∷ q) ∙ none n q
 
 -- the same below another mode and owner
-pub dir_kept : (k : Kind) (old : Kind) (v : TreeMap) (m : MetaValue) → own_entry k ≡ Dir m → kids_of k ≡ kids_of old → map_of old ≡ v → (q : List (List ℕ)) → finite.get (map_of k) q ≡ dir_look m (finite.get v) q
+pub dir_kept : (k : Kind) (old : Kind) (v : TreeMap) (m : MetaValue) → own_entry k ≡ Dir m → kids_of k ≡ kids_of old → map_of old ≡ v
+    → (q : List (List ℕ)) → finite.get (map_of k) q ≡ dir_look m (finite.get v) q
 dir_kept k old v m own kids view [] = get-root k ∙ ap Some own
 dir_kept k old v m own kids view (n ∷ q) = get-below k n q ∙ ap (λ ks. look_kids ks n q) kids ∙ sym (get-below old n q) ∙ ap (λ t. finite.get t (n ∷ q)) view
 
 -- a node is what stands at it and what is found in its children
-pub node_is : (k : Kind) (t : TreeMap) → AreSorted (kids_of k) → finite.get t [] ≡ Some (own_entry k) → ((n : List ℕ) (q : List (List ℕ)) → finite.get t (n ∷ q) ≡ look_in (child n (kids_of k)) q) → map_of k ≡ t
+pub node_is : (k : Kind) (t : TreeMap) → AreSorted (kids_of k) → finite.get t [] ≡ Some (own_entry k)
+    → ((n : List ℕ) (q : List (List ℕ)) → finite.get t (n ∷ q) ≡ look_in (child n (kids_of k)) q) → map_of k ≡ t
 node_is k t h root below = finite.same_map path_cmp-IsTotalOrder path_cmp-IsAntisymmetric (map_of k) t by_path
   where
     by_path : (q : List (List ℕ)) → finite.get (map_of k) q ≡ finite.get t q
@@ -87,7 +95,8 @@ node_is k t h root below = finite.same_map path_cmp-IsTotalOrder path_cmp-IsAnti
     by_path (n ∷ q) = get-child k n q h ∙ sym (below n q)
 
 -- the children of a directory are less high than it
-pub kids_below : (k : Kind) (m : MetaValue) (kids : Arc (Vec Child Global) Global) (v : TreeMap) (ks : List Child) → map_of k ≡ v → k ≡ kind.Dir m kids → ks ≡ (arc_value kids).items → most deep-Child ks ≤ height v
+pub kids_below : (k : Kind) (m : MetaValue) (kids : Arc (Vec Child Global) Global) (v : TreeMap) (ks : List Child) → map_of k ≡ v
+    → k ≡ kind.Dir m kids → ks ≡ (arc_value kids).items → most deep-Child ks ≤ height v
 kids_below k m kids v ks view is same =
     subst (λ x. most deep-Child ks ≤ height x) (ap map_of (sym is) ∙ view)
     (subst (λ xs. most deep-Child xs ≤ height (map_of (kind.Dir m kids))) (sym same) (let all = falls (kind.Dir m kids) in omega arith))

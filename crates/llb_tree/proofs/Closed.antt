@@ -1,5 +1,6 @@
 -- Edits keep the parents of every path.
-use Rattle.std.proofs.Common.{◌≡◌, ℕ, List, [], ◌∷◌, map, Option, Some, None, IsSome, is_some, Bool, true, false, cond, Ok, refl, sym, ap, subst, ◌∙◌, true≢false, arith}
+use Rattle.std.proofs.Common.{◌≡◌, ℕ, List, [], ◌∷◌, map, Option, Some, None, IsSome, is_some, Bool, true, false, cond, Ok, refl, sym, ap}
+use Rattle.std.proofs.Common.{subst, ◌∙◌, true≢false, arith}
 use Rattle.std.specs.declared.cmp.Ordering.{Ordering}
 use Rattle.std.specs.declared.cmp.Ordering.TheVariants.{Less, Equal, Greater}
 use Rattle.std.specs.Ordering.{is_eq, eq_by_cmp}
@@ -17,7 +18,8 @@ tied Equal e = refl
 tied Greater e = absurd (true≢false (sym e))
 
 -- a path is p, or what is there stays
-pub get-insert_cases : (P : Option Entry → Type 0) (t : TreeMap) (p : List (List ℕ)) (e : Entry) (q : List (List ℕ)) → (q ≡ p → P (Some e)) → P (finite.get t q) → P (finite.get (finite.insert t p e) q)
+pub get-insert_cases : (P : Option Entry → Type 0) (t : TreeMap) (p : List (List ℕ)) (e : Entry) (q : List (List ℕ)) → (q ≡ p → P (Some e))
+    → P (finite.get t q) → P (finite.get (finite.insert t p e) q)
 get-insert_cases P t p e q here there = subst P (sym (finite.get-insert path_cmp-IsTotalOrder t p e q)) (by_test (eq_by_cmp path_cmp q p) refl)
   where
     by_test : (b : Bool) → eq_by_cmp path_cmp q p ≡ b → P (cond b (Some e) (finite.get t q))
@@ -30,7 +32,8 @@ walk_more f g more [] walks = refl
 walk_more f g more (n ∷ p) walks =
     by_root (f []) refl (sym (walk-cons f n p) ∙ walks) (walk_more (λ q. f (n ∷ q)) (λ q. g (n ∷ q)) (λ r. more (n ∷ r)) p)
   where
-    by_root : (e : Option Entry) → f [] ≡ e → all_dirs (e ∷ map (λ q. f (n ∷ q)) (parents p)) ≡ Ok tt → (walk (λ q. f (n ∷ q)) p ≡ Ok tt → walk (λ q. g (n ∷ q)) p ≡ Ok tt) → walk g (n ∷ p) ≡ Ok tt
+    by_root : (e : Option Entry) → f [] ≡ e → all_dirs (e ∷ map (λ q. f (n ∷ q)) (parents p)) ≡ Ok tt
+        → (walk (λ q. f (n ∷ q)) p ≡ Ok tt → walk (λ q. g (n ∷ q)) p ≡ Ok tt) → walk g (n ∷ p) ≡ Ok tt
     by_root None is walks rest = absurd (cc)
     by_root (Some (File m b)) is walks rest = absurd (cc)
     by_root (Some (Dir m)) is walks rest =
@@ -42,7 +45,8 @@ stands_there p e can q d same is = let own : e ≡ d = cc in subst (λ x. CanSta
 
 module _ (t : TreeMap) (tree : IsTree t) (p : List (List ℕ)) (walks : walk (finite.get t) p ≡ Ok tt) where
   -- an entry that takes no directory's place keeps the tree
-  pub IsTree-insert : (e : Entry) → CanStand p e → ((q : List (List ℕ)) → IsDirAt (finite.get t) q → q ≡ p → (m : MetaValue) × (Some e ≡ Some (Dir m))) → IsTree (finite.insert t p e)
+  pub IsTree-insert : (e : Entry) → CanStand p e → ((q : List (List ℕ)) → IsDirAt (finite.get t) q → q ≡ p
+      → (m : MetaValue) × (Some e ≡ Some (Dir m))) → IsTree (finite.insert t p e)
   IsTree-insert e can dirs =
       let more : (q : List (List ℕ)) → IsDirAt (finite.get t) q → IsDirAt (finite.get (finite.insert t p e)) q =
       λ q dir. get-insert_cases (λ o. (m : MetaValue) × (o ≡ Some (Dir m))) t p e q (dirs q dir) dir in
@@ -58,7 +62,8 @@ module _ (t : TreeMap) (tree : IsTree t) (p : List (List ℕ)) (walks : walk (fi
 
   pub IsTree-insert_file : (m : MetaValue) (b : List ℕ) → IsPath p → IsMeta m → AreBytes b
       → file_fits (finite.get t p) ≡ Ok tt → IsTree (finite.insert t p (File m b))
-  IsTree-insert_file m b path is bytes fits = IsTree-insert (File m b) (record { path = path; meta = is; bytes = bytes }) (λ q dir same. let e = sym (ap file_fits (ap (finite.get t) (sym same) ∙ dir.1)) ∙ fits in absurd (cc))
+  IsTree-insert_file m b path is bytes fits = IsTree-insert (File m b) (record { path = path; meta = is; bytes = bytes })
+      (λ q dir same. let e = sym (ap file_fits (ap (finite.get t) (sym same) ∙ dir.1)) ∙ fits in absurd (cc))
 
 abbrev single : MetaValue → TreeMap
 single m = finite.insert finite.empty [] (Dir m)
@@ -77,5 +82,6 @@ IsTree-empty m is = record {
   root = (m, finite.get-insert path_cmp-IsTotalOrder finite.empty [] (Dir m) []);
   closed = λ q. get-insert_cases (λ o. IsSome o → walk (finite.get (single m)) q ≡ Ok tt) finite.empty [] (Dir m) q
       (λ same _. ap (walk (finite.get (single m))) same) (none_there q);
-  stands = λ q d. get-insert_cases (λ o. o ≡ Some d → CanStand q d) finite.empty [] (Dir m) q (stands_there [] (Dir m) (record { path = root_path; meta = is; bytes = tt }) q d) (none_stands q d);
+  stands = λ q d. get-insert_cases (λ o. o ≡ Some d → CanStand q d) finite.empty [] (Dir m) q
+      (stands_there [] (Dir m) (record { path = root_path; meta = is; bytes = tt }) q d) (none_stands q d);
 }

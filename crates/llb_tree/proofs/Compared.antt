@@ -153,7 +153,7 @@ module _ (a b : Kind) (v w : TreeMap) (view : map_of a ≡ v) (view2 : map_of b 
 
 -- ---- what the children so far say
 
--- so many children on both sides are the same, and the rest decides
+-- that many children on both sides are the same, and the rest decides
 pub record SoFar (ks ls : List Child) (i : ℕ) : Type 0 where
   pub rest : Alike ks ls ↔ Alike (drop i ks) (drop i ls)
   pub sorted : AreSorted (drop i ks)

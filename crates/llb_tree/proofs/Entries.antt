@@ -41,7 +41,7 @@ module _ {K X : Type 0} {R : K → K → Ordering} (o : IsTotalOrder R) where
   below-append x [] fs h g = g
   below-append x (e ∷ es) fs h g = and_both _ _ (and_first _ _ h) (below-append x es fs (and_second _ _ h) g)
 
--- behind a name, all that begins with it is before what begins with a later one
+-- after a name, all that begins with it is before what begins with a later one
 abbrev prefixed : List ℕ → List Pair → List Pair
 prefixed n es = map (λ (e : Pair). (n ∷ e.0, e.1)) es
 

@@ -32,7 +32,7 @@ kid_below (kind.Dir m kids) j d lt =
     let all = falls (kind.Dir m kids) in
     omega (arith, kid, all)
 
--- the first so many children go no deeper than that
+-- the first that many children go no deeper than that
 abbrev pub AllWithin : List Child → ℕ → ℕ → Type 0
 AllWithin ks i n = (j : ℕ) (d : Child) → j < i → height (get_or ks j d).node ≤ n
 

@@ -1,5 +1,6 @@
 -- A tree with another one at a path.
-use Rattle.std.proofs.Common.{◌≡◌, ℕ, ◌+◌, ◌≤◌, nat_lt, Bool, true, false, not, cond, ◌&&◌, List, [], ◌∷◌, ◌++◌, length, drop, map, Option, Some, None, IsSome, is_some, Result, Ok, Err, refl, sym, ap, subst, ◌∙◌, true≢false, arith, length-append}
+use Rattle.std.proofs.Common.{◌≡◌, ℕ, ◌+◌, ◌≤◌, nat_lt, Bool, true, false, not, cond, ◌&&◌, List, [], ◌∷◌, ◌++◌, length, drop, map, Option}
+use Rattle.std.proofs.Common.{Some, None, IsSome, is_some, Result, Ok, Err, refl, sym, ap, subst, ◌∙◌, true≢false, arith, length-append}
 use Rattle.std.proofs.lemmas.Bool.{ltb-false}
 use Rattle.std.proofs.lemmas.List.Elements.{All-head, All-tail, All-append, All-map}
 use Rattle.std.specs.declared.cmp.Ordering.{Ordering}
@@ -27,7 +28,9 @@ tied Greater t = absurd (true≢false (sym t))
 
 -- ---- looking among entries
 
-find_first_of : (q : List (List ℕ)) (e : Pair) (xs ys : List Pair) (b : Bool) → (finite.find path_cmp q xs ≡ None → finite.find path_cmp q (xs ++ ys) ≡ finite.find path_cmp q ys) → cond b (Some e.1) (finite.find path_cmp q xs) ≡ None → cond b (Some e.1) (finite.find path_cmp q (xs ++ ys)) ≡ finite.find path_cmp q ys
+find_first_of : (q : List (List ℕ)) (e : Pair) (xs ys : List Pair) (b : Bool)
+    → (finite.find path_cmp q xs ≡ None → finite.find path_cmp q (xs ++ ys) ≡ finite.find path_cmp q ys)
+    → cond b (Some e.1) (finite.find path_cmp q xs) ≡ None → cond b (Some e.1) (finite.find path_cmp q (xs ++ ys)) ≡ finite.find path_cmp q ys
 find_first_of q e xs ys true rest none = absurd (true≢false (ap is_some none))
 find_first_of q e xs ys false rest none = rest none
 
@@ -40,7 +43,8 @@ find_front q [] ys none = none
 find_front q (e ∷ xs) ys none = ap (λ o. cond (eq_by_cmp path_cmp q e.0) (Some e.1) o) (find_front q xs ys none)
 
 -- a path is not found where a test tells them all apart from it
-find_apart : (p q : List (List ℕ)) (b : Bool) (es : List Pair) → (is_within p q ≡ b → ⊥) → All (λ (e : Pair). is_within p e.0 ≡ b) es → finite.find path_cmp q es ≡ None
+find_apart : (p q : List (List ℕ)) (b : Bool) (es : List Pair) → (is_within p q ≡ b → ⊥) → All (λ (e : Pair). is_within p e.0 ≡ b) es
+    → finite.find path_cmp q es ≡ None
 find_apart p q b [] apart all = refl
 find_apart p q b (e ∷ es) apart all = by_tie (eq_by_cmp path_cmp q e.0) refl ∙ find_apart p q b es apart (All-tail (λ (x : Pair). is_within p x.0 ≡ b) e es all)
   where
@@ -61,13 +65,16 @@ module _ (t : TreeMap) (p : List (List ℕ)) (other : TreeMap) where
   pub get_inside : (q : List (List ℕ)) → finite.get (with_tree t p other) (p ++ q) ≡ finite.get other q
   get_inside q =
       finite.get-from_entries path_cmp-IsTotalOrder (map (moved 0 p) (finite.entries other) ++ finite.entries (without t p)) (p ++ q)
-      ∙ find_front (p ++ q) (map (moved 0 p) (finite.entries other)) (finite.entries (without t p)) (sym (finite.get-entries (without t p) (p ++ q)) ∙ get-without t p (p ++ q) ∙ ap (λ b. cond (not b) (finite.get t (p ++ q)) None) (within-append p q))
+      ∙ find_front (p ++ q) (map (moved 0 p) (finite.entries other)) (finite.entries (without t p))
+      (sym (finite.get-entries (without t p) (p ++ q)) ∙ get-without t p (p ++ q)
+      ∙ ap (λ b. cond (not b) (finite.get t (p ++ q)) None) (within-append p q))
       ∙ find_moved p q (finite.entries other) ∙ sym (finite.get-entries other q)
 
   pub get_outside : (q : List (List ℕ)) → is_within p q ≡ false → finite.get (with_tree t p other) q ≡ finite.get t q
   get_outside q out =
       finite.get-from_entries path_cmp-IsTotalOrder (map (moved 0 p) (finite.entries other) ++ finite.entries (without t p)) q
-      ∙ find_past q (map (moved 0 p) (finite.entries other)) (finite.entries (without t p)) (find_apart p q true _ (λ is. true≢false (sym is ∙ out)) (all_moved p (finite.entries other)))
+      ∙ find_past q (map (moved 0 p) (finite.entries other)) (finite.entries (without t p))
+      (find_apart p q true _ (λ is. true≢false (sym is ∙ out)) (all_moved p (finite.entries other)))
       ∙ sym (finite.get-entries (without t p) q) ∙ get-without t p q ∙ ap (λ b. cond (not b) (finite.get t q) None) out
 
 -- ---- the tree is one
@@ -80,7 +87,8 @@ walk_to f g (n ∷ p) same =
     ∙ onward (g []) (walk_to (λ r. f (n ∷ r)) (λ r. g (n ∷ r)) p (λ r out. same (n ∷ r) (ap (λ b. b && is_within p r) ((bytes_decides n n).1 refl) ∙ out)))
     ∙ sym (walk-cons g n p)
   where
-    onward : (o : Option Entry) → walk (λ r. f (n ∷ r)) p ≡ walk (λ r. g (n ∷ r)) p → all_dirs (o ∷ map (λ r. f (n ∷ r)) (parents p)) ≡ all_dirs (o ∷ map (λ r. g (n ∷ r)) (parents p))
+    onward : (o : Option Entry) → walk (λ r. f (n ∷ r)) p ≡ walk (λ r. g (n ∷ r)) p
+        → all_dirs (o ∷ map (λ r. f (n ∷ r)) (parents p)) ≡ all_dirs (o ∷ map (λ r. g (n ∷ r)) (parents p))
     onward None is = refl
     onward (Some (File m b)) is = refl
     onward (Some (Dir m)) is = is
@@ -90,7 +98,9 @@ walk_joined : (look : Look) (p q : List (List ℕ)) → walk look p ≡ Ok tt �
 walk_joined look [] q to from = from
 walk_joined look (n ∷ p) q to from = walk-cons look n (p ++ q) ∙ go (look []) (walk_joined (λ r. look (n ∷ r)) p q) (sym (walk-cons look n p) ∙ to)
   where
-    go : (o : Option Entry) → (walk (λ r. look (n ∷ r)) p ≡ Ok tt → walk (λ r. look (n ∷ (p ++ r))) q ≡ Ok tt → walk (λ r. look (n ∷ r)) (p ++ q) ≡ Ok tt) → all_dirs (o ∷ map (λ r. look (n ∷ r)) (parents p)) ≡ Ok tt → all_dirs (o ∷ map (λ r. look (n ∷ r)) (parents (p ++ q))) ≡ Ok tt
+    go : (o : Option Entry) → (walk (λ r. look (n ∷ r)) p ≡ Ok tt → walk (λ r. look (n ∷ (p ++ r))) q ≡ Ok tt
+        → walk (λ r. look (n ∷ r)) (p ++ q) ≡ Ok tt) → all_dirs (o ∷ map (λ r. look (n ∷ r)) (parents p)) ≡ Ok tt
+        → all_dirs (o ∷ map (λ r. look (n ∷ r)) (parents (p ++ q))) ≡ Ok tt
     go None rest is = absurd cc
     go (Some (File m b)) rest is = absurd cc
     go (Some (Dir m)) rest is = rest is from
@@ -102,13 +112,15 @@ fits_first n r is = go (nat_lt 128 n) refl is
     go true lt is = absurd cc
     go false lt is = (ltb-false 128 n lt, is)
 
-fits_there : (p q : List (List ℕ)) (e : Entry) (es : List Pair) → places_fit p (map (λ x. x.0) es) ≡ Ok tt → finite.find path_cmp q es ≡ Some e → length p + length q ≤ 128
+fits_there : (p q : List (List ℕ)) (e : Entry) (es : List Pair) → places_fit p (map (λ x. x.0) es) ≡ Ok tt
+    → finite.find path_cmp q es ≡ Some e → length p + length q ≤ 128
 fits_there p q e [] fit is = absurd cc
 fits_there p q e (x ∷ es) fit is =
     let parts = fits_first (length p + length x.0) (places_fit p (map (λ y. y.0) es)) fit in
     by_tie (eq_by_cmp path_cmp q x.0) refl (fits_there p q e es parts.1) parts.0 is
   where
-    by_tie : (t : Bool) → eq_by_cmp path_cmp q x.0 ≡ t → (finite.find path_cmp q es ≡ Some e → length p + length q ≤ 128) → length p + length x.0 ≤ 128 → cond t (Some x.1) (finite.find path_cmp q es) ≡ Some e → length p + length q ≤ 128
+    by_tie : (t : Bool) → eq_by_cmp path_cmp q x.0 ≡ t → (finite.find path_cmp q es ≡ Some e → length p + length q ≤ 128)
+        → length p + length x.0 ≤ 128 → cond t (Some x.1) (finite.find path_cmp q es) ≡ Some e → length p + length q ≤ 128
     by_tie true t rest le is = subst (λ y. length p + length y ≤ 128) (sym (path_cmp-IsAntisymmetric q x.0 (tied _ t))) le
     by_tie false t rest le is = rest is
 
@@ -116,7 +128,8 @@ empty : (q : List (List ℕ)) → length q ≡ 0 → q ≡ []
 empty [] none = refl
 empty (n ∷ q) none = absurd (omega arith)
 
-module _ (t : TreeMap) (tree : IsTree t) (p : List (List ℕ)) (path : IsPath p) (other : TreeMap) (tree2 : IsTree other) (walks : walk (finite.get t) p ≡ Ok tt) (fit : places_fit p (finite.keys other) ≡ Ok tt) where
+module _ (t : TreeMap) (tree : IsTree t) (p : List (List ℕ)) (path : IsPath p) (other : TreeMap) (tree2 : IsTree other)
+    (walks : walk (finite.get t) p ≡ Ok tt) (fit : places_fit p (finite.keys other) ≡ Ok tt) where
   abbrev pub grafted : TreeMap
   grafted = with_tree t p other
 
@@ -136,16 +149,28 @@ module _ (t : TreeMap) (tree : IsTree t) (p : List (List ℕ)) (path : IsPath p)
         (λ q none. (tree2.root.0, get_inside t p other q ∙ ap (finite.get other) (empty q (omega (arith, none, length-append p q))) ∙ tree2.root.1))
         (λ q out none. (tree.root.0, sym (same_above q out) ∙ ap (finite.get t) (empty q none) ∙ tree.root.1)) [] refl;
     closed = by_place (λ q. IsSome (finite.get grafted q) → walk (finite.get grafted) q ≡ Ok tt)
-        (λ q there. walk_joined (finite.get grafted) p q (sym (walk_to (finite.get t) (finite.get grafted) p same_above) ∙ walks) (ap (λ look. walk look q) (λ i r. get_inside t p other r i) ∙ tree2.closed q (subst IsSome (get_inside t p other q) there)))
-        (λ q out there. sym (walk_beside (finite.get t) (finite.get grafted) p q same_above out) ∙ tree.closed q (subst IsSome (get_outside t p other q out) there));
+        (λ q there. walk_joined (finite.get grafted) p q (sym (walk_to (finite.get t) (finite.get grafted) p same_above) ∙ walks)
+        (ap (λ look. walk look q) (λ i r. get_inside t p other r i) ∙ tree2.closed q (subst IsSome (get_inside t p other q) there)))
+        (λ q out there. sym (walk_beside (finite.get t) (finite.get grafted) p q same_above out)
+        ∙ tree.closed q (subst IsSome (get_outside t p other q out) there));
     stands = λ q e. by_place (λ q. finite.get grafted q ≡ Some e → CanStand q e)
         (λ q is.
         let there = sym (get_inside t p other q) ∙ is in
         let can = tree2.stands q e there in
         let le = fits_there p q e (finite.entries other) fit (sym (finite.get-entries other q) ∙ there) in
-        record { path = record { short = omega (arith, le, length-append p q); named = All-append (λ n. is_name n ≡ true) p q path.named can.path.named }; meta = can.meta; bytes = can.bytes })
+        record {
+          path = record {
+            short = omega (arith, le, length-append p q);
+            named =
+                All-append (λ n. is_name n ≡ true) p q path.named can.path.named;
+          };
+          meta = can.meta;
+          bytes = can.bytes;
+        })
         (λ q out is. tree.stands q e (sym (get_outside t p other q out) ∙ is)) q;
   }
 
-pub graft-Ok : (t : TreeMap) (p : List (List ℕ)) (other : TreeMap) → walk (finite.get t) p ≡ Ok tt → places_fit p (finite.keys other) ≡ Ok tt → graft t p other ≡ Ok (with_tree t p other)
-graft-Ok t p other walks fit = ap (λ r. r >>= λ _. places_fit p (finite.keys other) >>= λ _. Ok (with_tree t p other)) walks ∙ ap (λ r. r >>= λ _. Ok (with_tree t p other)) fit
+pub graft-Ok : (t : TreeMap) (p : List (List ℕ)) (other : TreeMap) → walk (finite.get t) p ≡ Ok tt
+    → places_fit p (finite.keys other) ≡ Ok tt → graft t p other ≡ Ok (with_tree t p other)
+graft-Ok t p other walks fit = ap (λ r. r >>= λ _. places_fit p (finite.keys other) >>= λ _. Ok (with_tree t p other)) walks
+    ∙ ap (λ r. r >>= λ _. Ok (with_tree t p other)) fit

@@ -1,6 +1,7 @@
 -- The text of a path, its names with `/` between them, reads as the path: the parts are the names again, and each is
 -- entered. Nothing here is about how a text is read in the code.
-use Rattle.std.proofs.Common.{◌≡◌, ℕ, ◌+◌, ◌-◌, ◌<◌, ◌≤◌, ◌==◌, true, false, ◌||◌, if◌then◌else◌, List, [], ◌∷◌, ◌++◌, length, take, Ok, Err, refl, sym, ap, ◌∙◌, arith, append_assoc, length-append}
+use Rattle.std.proofs.Common.{◌≡◌, ℕ, ◌+◌, ◌-◌, ◌<◌, ◌≤◌, ◌==◌, true, false, ◌||◌, if◌then◌else◌, List, [], ◌∷◌, ◌++◌, length, take, Ok}
+use Rattle.std.proofs.Common.{Err, refl, sym, ap, ◌∙◌, arith, append_assoc, length-append}
 use Rattle.std.specs.List.{All}
 use Rattle.std.proofs.lemmas.Bool.{lt-ltb}
 use Rattle.std.proofs.lemmas.List.{append-nil}
@@ -19,7 +20,8 @@ Named name = is_name name ≡ true
 enter_name : (path : List (List ℕ)) (name : List ℕ) → is_name name ≡ true → length path < 128 → enter path name ≡ Ok (path ++ name ∷ [])
 enter_name path name is room =
     let tests = passes_tests name is in
-    (λ i. if tests.some i || tests.dot i then Ok path else (if tests.dots i then Ok (take (length path - 1) path) else ((if is i then Ok name else Err BadName) >>= below path)))
+    (λ i. if tests.some i || tests.dot i then
+    Ok path else (if tests.dots i then Ok (take (length path - 1) path) else ((if is i then Ok name else Err BadName) >>= below path)))
     ∙ ap (λ b. if b then Ok (path ++ name ∷ []) else Err BadName) (lt-ltb _ _ room)
 
 follow_names : (path names : List (List ℕ)) → All Named names → length path + length names ≤ 128 → follow path names ≡ Ok (path ++ names)
@@ -30,7 +32,8 @@ follow_names path (name ∷ names) all room =
     ∙ ap Ok (append_assoc path (name ∷ []) names)
 
 by_byte : (name : List ℕ) → is_name name ≡ true → All (λ b. (b == 47) ≡ false) name
-by_byte name is = All-weaker (λ b. is_name_byte b ≡ true) (λ b. (b == 47) ≡ false) no_slash name (AllPass-from_list_all is_name_byte name (passes_tests name is).plain)
+by_byte name is = All-weaker (λ b. is_name_byte b ≡ true) (λ b. (b == 47) ≡ false) no_slash name
+    (AllPass-from_list_all is_name_byte name (passes_tests name is).plain)
 
 parts_joined : (name : List ℕ) (names : List (List ℕ)) → All Named (name ∷ names) → parts_of (joined (name ∷ names)) ≡ name ∷ names
 parts_joined name [] all = slice_split_none (λ b. b == 47) name (by_byte name (All-head Named name [] all))

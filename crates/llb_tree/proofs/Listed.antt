@@ -1,5 +1,6 @@
 -- The names one below a path.
-use Rattle.std.proofs.Common.{◌≡◌, ℕ, zero, suc, ◌<◌, ◌==◌, Bool, true, false, cond, ◌&&◌, List, [], ◌∷◌, ◌++◌, length, drop, take, get_or, map, None, Ok, Err, T, refl, sym, ap, subst, ◌∙◌, arith, append_assoc}
+use Rattle.std.proofs.Common.{◌≡◌, ℕ, zero, suc, ◌<◌, ◌==◌, Bool, true, false, cond, ◌&&◌, List, [], ◌∷◌, ◌++◌, length, drop, take, get_or}
+use Rattle.std.proofs.Common.{map, None, Ok, Err, T, refl, sym, ap, subst, ◌∙◌, arith, append_assoc}
 use Rattle.std.proofs.lemmas.List.{map-append, append-nil}
 use Rattle.std.proofs.lemmas.Grind.{flat_map-append}
 use Rattle.std.proofs.lemmas.Bool.Decides.{nat_tests}
@@ -26,7 +27,7 @@ list-Ok t p there = ap (λ r. r >>= λ _. Ok (flat_map (name_below p) (finite.ke
 abbrev pub tops : List Pair → List (List ℕ)
 tops es = flat_map (name_below []) (map (λ e. e.0) es)
 
--- what is not below a path gives no name, and what is gives that behind the path
+-- what is not below a path gives no name, and what is gives that after the path
 names_inside : (p : List (List ℕ)) (es : List Pair) → flat_map (name_below p) (map (λ e. e.0) es) ≡ tops (inside p es)
 names_inside p [] = refl
 names_inside p (e ∷ es) = by_test (is_within p e.0) refl (names_inside p es)
@@ -69,7 +70,7 @@ entries-inside t m p is =
     ap finite.entries (finite.same_map path_cmp-IsTotalOrder path_cmp-IsAntisymmetric m (tree_at t p) (λ q. is q ∙ sym (get-tree_at t p q)))
     ∙ entries-from_entries path_cmp-IsTotalOrder (inside p (finite.entries t)) (sorted_inside p (finite.entries t) (finite.entries_sorted t))
 
--- behind its own entry, a child is one name deep
+-- after its own entry, a child is one name deep
 no_tops : (n : List ℕ) (x : List (List ℕ)) (es : List Pair) → T (below_all path_cmp x es) → tops (map (λ (e : Pair). (n ∷ e.0, e.1)) es) ≡ []
 no_tops n x [] h = refl
 no_tops n x ((m ∷ q, e) ∷ es) h = let deep : (suc (suc (length q)) == 1) ≡ false = grind (arith, nat_tests) in

@@ -9,7 +9,8 @@ take_more [] i d h = absurd (omega arith)
 take_more (k ∷ ks) zero d h = refl
 take_more (k ∷ ks) (suc i) d h = ap (λ es. pair_of k ∷ es) (take_more ks i d (omega arith))
 
-pub map_pushed : (ks old new : List Child) (i : ℕ) (made kid : Child) → map pair_of old ≡ take i (map pair_of ks) → new ≡ old ++ made ∷ [] → kid ≡ get_or ks i kid → pair_of made ≡ pair_of kid → i < length ks → map pair_of new ≡ take (i + 1) (map pair_of ks)
+pub map_pushed : (ks old new : List Child) (i : ℕ) (made kid : Child) → map pair_of old ≡ take i (map pair_of ks) → new ≡ old ++ made ∷ []
+    → kid ≡ get_or ks i kid → pair_of made ≡ pair_of kid → i < length ks → map pair_of new ≡ take (i + 1) (map pair_of ks)
 map_pushed ks old new i made kid so_far pushed is same h =
     ap (map pair_of) pushed ∙ map-append pair_of old (made ∷ []) ∙ ap (λ es. es ++ pair_of made ∷ []) so_far
     ∙ ap (λ e. take i (map pair_of ks) ++ e ∷ []) (same ∙ ap pair_of is) ∙ take_more ks i kid h ∙ ap (λ j. take j (map pair_of ks)) (sym (add-one i))

@@ -7,9 +7,11 @@ use Rattle.std.specs.Str.{IsUtf8, is_utf8}
 use Rattle.llb_tree.specs.Path.{is_dot, is_dots, is_name, is_name_byte}
 
 -- a text that passes the other tests is a name where its bytes are those of a name
-pub name_by_bytes : (part : List ℕ) (plain : Bool) → (length part == 0) ≡ false → length part ≤ 255 → is_dot part ≡ false → is_dots part ≡ false → plain ≡ list_all is_name_byte part → IsUtf8 part → plain ≡ is_name part
+pub name_by_bytes : (part : List ℕ) (plain : Bool) → (length part == 0) ≡ false → length part ≤ 255 → is_dot part ≡ false
+    → is_dots part ≡ false → plain ≡ list_all is_name_byte part → IsUtf8 part → plain ≡ is_name part
 name_by_bytes part plain some short dot dots is text =
-    is ∙ sym (and_true (list_all is_name_byte part)) ∙ sym (λ i. not (some i) && le-leb _ _ short i && not (dot i) && not (dots i) && list_all is_name_byte part && is_utf8-from_IsUtf8 part text i)
+    is ∙ sym (and_true (list_all is_name_byte part))
+    ∙ sym (λ i. not (some i) && le-leb _ _ short i && not (dot i) && not (dots i) && list_all is_name_byte part && is_utf8-from_IsUtf8 part text i)
   where
     and_true : (b : Bool) → b && true ≡ b
     and_true true = refl

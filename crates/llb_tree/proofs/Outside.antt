@@ -1,5 +1,6 @@
 -- A tree without what is at or below a path.
-use Rattle.std.proofs.Common.{◌≡◌, ◌≢◌, ℕ, Bool, true, false, not, cond, nat_eq, ◌&&◌, List, [], ◌∷◌, map, Option, Some, None, IsSome, is_some, Ok, refl, sym, ap, subst, ◌∙◌, true≢false}
+use Rattle.std.proofs.Common.{◌≡◌, ◌≢◌, ℕ, Bool, true, false, not, cond, nat_eq, ◌&&◌, List, [], ◌∷◌, map, Option, Some, None, IsSome}
+use Rattle.std.proofs.Common.{is_some, Ok, refl, sym, ap, subst, ◌∙◌, true≢false}
 use Rattle.std.specs.declared.cmp.Ordering.TheVariants.{Equal}
 use Rattle.std.specs.Cmp.Lexicographic.{pointwise}
 use Rattle.std.specs.FinMap as finite
@@ -21,19 +22,25 @@ pub walk_beside : (f g : Look) (p q : List (List ℕ)) → ((r : List (List ℕ)
 walk_beside f g p [] same beside = refl
 walk_beside f g [] (n ∷ q) same beside = absurd (true≢false beside)
 walk_beside f g (m ∷ p) (n ∷ q) same beside =
-    walk-cons f n q ∙ (λ i. all_dirs (same [] refl i ∷ map (λ r. f (n ∷ r)) (parents q))) ∙ by_name (pointwise nat_eq m n) refl (walk_beside (λ r. f (n ∷ r)) (λ r. g (n ∷ r)) p q) beside ∙ sym (walk-cons g n q)
+    walk-cons f n q ∙ (λ i. all_dirs (same [] refl i ∷ map (λ r. f (n ∷ r)) (parents q)))
+    ∙ by_name (pointwise nat_eq m n) refl (walk_beside (λ r. f (n ∷ r)) (λ r. g (n ∷ r)) p q) beside ∙ sym (walk-cons g n q)
   where
-    onward : (o : Option Entry) → walk (λ r. f (n ∷ r)) q ≡ walk (λ r. g (n ∷ r)) q → all_dirs (o ∷ map (λ r. f (n ∷ r)) (parents q)) ≡ all_dirs (o ∷ map (λ r. g (n ∷ r)) (parents q))
+    onward : (o : Option Entry) → walk (λ r. f (n ∷ r)) q ≡ walk (λ r. g (n ∷ r)) q
+        → all_dirs (o ∷ map (λ r. f (n ∷ r)) (parents q)) ≡ all_dirs (o ∷ map (λ r. g (n ∷ r)) (parents q))
     onward None is = refl
     onward (Some (File m b)) is = refl
     onward (Some (Dir m)) is = is
 
-    by_name : (b : Bool) → pointwise nat_eq m n ≡ b → (((r : List (List ℕ)) → is_within p r ≡ false → f (n ∷ r) ≡ g (n ∷ r)) → is_within p q ≡ false → walk (λ r. f (n ∷ r)) q ≡ walk (λ r. g (n ∷ r)) q) → (pointwise nat_eq m n && is_within p q) ≡ false → all_dirs (g [] ∷ map (λ r. f (n ∷ r)) (parents q)) ≡ all_dirs (g [] ∷ map (λ r. g (n ∷ r)) (parents q))
-    by_name true is rest beside = onward (g []) (rest (λ r out. same (n ∷ r) (ap (λ b. b && is_within p r) is ∙ out)) (ap (λ b. b && is_within p q) (sym is) ∙ beside))
+    by_name : (b : Bool) → pointwise nat_eq m n ≡ b → (((r : List (List ℕ)) → is_within p r ≡ false → f (n ∷ r) ≡ g (n ∷ r))
+        → is_within p q ≡ false → walk (λ r. f (n ∷ r)) q ≡ walk (λ r. g (n ∷ r)) q) → (pointwise nat_eq m n && is_within p q) ≡ false
+        → all_dirs (g [] ∷ map (λ r. f (n ∷ r)) (parents q)) ≡ all_dirs (g [] ∷ map (λ r. g (n ∷ r)) (parents q))
+    by_name true is rest beside =
+        onward (g []) (rest (λ r out. same (n ∷ r) (ap (λ b. b && is_within p r) is ∙ out)) (ap (λ b. b && is_within p q) (sym is) ∙ beside))
     by_name false is rest beside = onward (g []) (ap (λ h. walk h q) (λ i r. same (n ∷ r) (ap (λ b. b && is_within p r) is) i))
 
 module _ (t : TreeMap) (tree : IsTree t) (n : List ℕ) (p : List (List ℕ)) where
-  left_there : {C : Type 0} (q : List (List ℕ)) (e : Option Entry) → finite.get (without t (n ∷ p)) q ≡ e → IsSome e → (is_within (n ∷ p) q ≡ false → finite.get t q ≡ e → C) → C
+  left_there : {C : Type 0} (q : List (List ℕ)) (e : Option Entry) → finite.get (without t (n ∷ p)) q ≡ e → IsSome e
+      → (is_within (n ∷ p) q ≡ false → finite.get t q ≡ e → C) → C
   left_there {C = C} q e is there go = by_test (is_within (n ∷ p) q) refl
     where
       by_test : (b : Bool) → is_within (n ∷ p) q ≡ b → C
@@ -44,7 +51,8 @@ module _ (t : TreeMap) (tree : IsTree t) (n : List ℕ) (p : List (List ℕ)) wh
   IsTree-without = record {
     root = (tree.root.0, get-without t (n ∷ p) [] ∙ tree.root.1);
     closed = λ q there. left_there q (finite.get (without t (n ∷ p)) q) refl there (λ out is.
-        sym (walk_beside (finite.get t) (finite.get (without t (n ∷ p))) (n ∷ p) q (λ r beside. sym (get-without t (n ∷ p) r ∙ ap (λ b. cond (not b) (finite.get t r) None) beside)) out)
+        sym (walk_beside (finite.get t) (finite.get (without t (n ∷ p))) (n ∷ p) q
+        (λ r beside. sym (get-without t (n ∷ p) r ∙ ap (λ b. cond (not b) (finite.get t r) None) beside)) out)
         ∙ tree.closed q (subst IsSome (sym is) there));
     stands = λ q e is. left_there q (Some e) is refl (λ out same. tree.stands q e same);
   }

@@ -4,7 +4,8 @@ use Rattle.llb_wire.specs.Answer.{◌>>=◌}
 use Rattle.llb_tree.specs.declared.fault.TreeFault.{TreeFault}
 use Rattle.llb_tree.specs.Path.{enter, follow, depth}
 
-module _ (path : List (List ℕ)) (parts : List (List ℕ)) (i : ℕ) (part : List ℕ) (r : Result (List (List ℕ)) TreeFault) (lt : i < length parts) (is : part ≡ get_or parts i part) (so_far : follow path (drop i parts) ≡ r) where
+module _ (path : List (List ℕ)) (parts : List (List ℕ)) (i : ℕ) (part : List ℕ) (r : Result (List (List ℕ)) TreeFault)
+    (lt : i < length parts) (is : part ≡ get_or parts i part) (so_far : follow path (drop i parts) ≡ r) where
   -- the part at hand decides
   at_part : (enter path part >>= λ next. follow next (drop (i + 1) parts)) ≡ r
   at_part =
@@ -23,7 +24,8 @@ drop_all [] = refl
 drop_all (x ∷ xs) = drop_all xs
 
 -- no part is left
-pub follow_ends : (path : List (List ℕ)) (parts : List (List ℕ)) (i : ℕ) (r : Result (List (List ℕ)) TreeFault) → i ≡ length parts → follow path (drop i parts) ≡ r → r ≡ Ok path
+pub follow_ends : (path : List (List ℕ)) (parts : List (List ℕ)) (i : ℕ) (r : Result (List (List ℕ)) TreeFault) → i ≡ length parts
+    → follow path (drop i parts) ≡ r → r ≡ Ok path
 follow_ends path parts i r ends so_far = sym so_far ∙ ap (follow path) (ap (λ n. drop n parts) ends ∙ drop_all parts)
 
 -- ---- how many names there are

@@ -1,5 +1,6 @@
 -- A node, or nothing, set at a path.
-use Rattle.std.proofs.Common.{◌≡◌, ◌++◌, ℕ, zero, suc, ◌-◌, ◌<◌, ◌≤◌, List, [], ◌∷◌, length, map, take, drop, get_or, set, Option, Some, None, refl, sym, ap, ◌∙◌, cond, not, Bool, OnOk, OnErr, IfOk, add-one, ◌+◌, Result, Ok, Err, T, subst, arith}
+use Rattle.std.proofs.Common.{◌≡◌, ◌++◌, ℕ, zero, suc, ◌-◌, ◌<◌, ◌≤◌, List, [], ◌∷◌, length, map, take, drop, get_or, set, Option, Some}
+use Rattle.std.proofs.Common.{None, refl, sym, ap, ◌∙◌, cond, not, Bool, OnOk, OnErr, IfOk, add-one, ◌+◌, Result, Ok, Err, T, subst, arith}
 use Rattle.std.specs.declared.cmp.Ordering.{Ordering}
 use Rattle.std.specs.declared.cmp.Ordering.TheVariants.{Less, Equal, Greater}
 use Rattle.std.specs.List.{remove, insert, flat_map}
@@ -20,11 +21,13 @@ use Rattle.llb_tree.proofs.Placed.{is_found, is_gap, later_Ok}
 use Rattle.llb_tree.proofs.Children.{get-child}
 
 -- one child is written anew
-sets_put : (n : List ℕ) (p : List (List ℕ)) (t : Option TreeMap) (old new : Pairs) (k : TreeMap) → T (finite.is_sorted name_cmp old) → new ≡ put name_cmp n k old → ((q : List (List ℕ)) → finite.get k q ≡ set_look p t (look_in (finite.find name_cmp n old)) q) → Sets n p t old new
+sets_put : (n : List ℕ) (p : List (List ℕ)) (t : Option TreeMap) (old new : Pairs) (k : TreeMap) → T (finite.is_sorted name_cmp old)
+    → new ≡ put name_cmp n k old → ((q : List (List ℕ)) → finite.get k q ≡ set_look p t (look_in (finite.find name_cmp n old)) q) → Sets n p t old new
 sets_put n p t old new k h is changed = record {
   sorted = subst (λ es. T (finite.is_sorted name_cmp es)) (sym is) (is_sorted-put name_cmp nat_list_cmp_total n k old h);
   children = λ m q. ap (λ o. look_in o q) (ap (finite.find name_cmp m) is ∙ find-put name_cmp nat_list_cmp_total m n k old)
-      ∙ elim (name_cmp m n) as (λ o. look_in (cond (is_eq o) (Some k) (finite.find name_cmp m old)) q ≡ cond (is_eq o) (set_look p t (look_in (finite.find name_cmp n old)) q) (look_in (finite.find name_cmp m old) q)) [
+      ∙ elim (name_cmp m n) as (λ o. look_in (cond (is_eq o) (Some k) (finite.find name_cmp m old)) q
+      ≡ cond (is_eq o) (set_look p t (look_in (finite.find name_cmp n old)) q) (look_in (finite.find name_cmp m old) q)) [
         | Less ↦ refl
         | Equal ↦ changed q
         | Greater ↦ refl
@@ -32,14 +35,18 @@ sets_put n p t old new k h is changed = record {
 }
 
 -- the child that is found, changed
-pub sets_found : (n : List ℕ) (p : List (List ℕ)) (t : Option TreeMap) (ks : List Child) (i : ℕ) (kid new : Child) → AreSorted ks → Ok i ≡ place n ks → kid ≡ get_or ks i kid → name_of new ≡ name_of kid → ((q : List (List ℕ)) → finite.get new.node q ≡ set_look p t (finite.get kid.node) q) → Sets n p t (map pair_of ks) (map pair_of (set ks i new))
+pub sets_found : (n : List ℕ) (p : List (List ℕ)) (t : Option TreeMap) (ks : List Child) (i : ℕ) (kid new : Child) → AreSorted ks
+    → Ok i ≡ place n ks → kid ≡ get_or ks i kid → name_of new ≡ name_of kid
+    → ((q : List (List ℕ)) → finite.get new.node q ≡ set_look p t (finite.get kid.node) q) → Sets n p t (map pair_of ks) (map pair_of (set ks i new))
 sets_found n p t ks i kid new h at is same changed =
     sets_put n p t (map pair_of ks) (map pair_of (set ks i new)) new.node h ((is_found n ks i (sym at)).written kid new (same ∙ ap name_of is))
     (λ q. changed q ∙ ap (λ o. set_look p t (look_in o) q) (sym ((is_found n ks i (sym at)).found kid ∙ ap (λ (k : Child). Some k.node) (sym is))))
 
 -- a child where there was none
-pub sets_gap : (n : List ℕ) (ks : List Child) (i : ℕ) (new : Child) → AreSorted ks → Err i ≡ place n ks → name_of new ≡ n → Sets n [] (Some new.node) (map pair_of ks) (map pair_of (insert ks i new))
-sets_gap n ks i new h at same = sets_put n [] (Some new.node) (map pair_of ks) (map pair_of (insert ks i new)) new.node h ((is_gap n ks i (sym at)).written new same) (λ q. refl)
+pub sets_gap : (n : List ℕ) (ks : List Child) (i : ℕ) (new : Child) → AreSorted ks → Err i ≡ place n ks → name_of new ≡ n
+    → Sets n [] (Some new.node) (map pair_of ks) (map pair_of (insert ks i new))
+sets_gap n ks i new h at same = sets_put n [] (Some new.node) (map pair_of ks) (map pair_of (insert ks i new)) new.node h
+    ((is_gap n ks i (sym at)).written new same) (λ q. refl)
 
 -- nothing where there was nothing
 pub sets_nothing : (n : List ℕ) (ks : List Child) (i : ℕ) → AreSorted ks → Err i ≡ place n ks → Sets n [] None (map pair_of ks) (map pair_of ks)
@@ -65,12 +72,16 @@ removed : (n : List ℕ) (ks : List Child) (i : ℕ) → AreSorted ks → place 
 removed n [] i h e = absurd (cc)
 removed n (k ∷ ks) i h e = by_cmp (λ j e. removed n ks j (and_second _ _ h) e) (name_cmp n (name_of k)) refl e
   where
-    by_cmp : ((j : ℕ) → place n ks ≡ Ok j → map pair_of (remove ks j) ≡ where_key name_cmp (others n) (map pair_of ks)) → (o : Ordering) → name_cmp n (name_of k) ≡ o → by_order o (Err 0) (Ok 0) (later (place n ks)) ≡ Ok i → map pair_of (remove (k ∷ ks) i) ≡ cond (not (is_eq (name_cmp n (name_of k)))) (pair_of k ∷ where_key name_cmp (others n) (map pair_of ks)) (where_key name_cmp (others n) (map pair_of ks))
+    by_cmp : ((j : ℕ) → place n ks ≡ Ok j → map pair_of (remove ks j) ≡ where_key name_cmp (others n) (map pair_of ks)) → (o : Ordering)
+        → name_cmp n (name_of k) ≡ o → by_order o (Err 0) (Ok 0) (later (place n ks)) ≡ Ok i
+        → map pair_of (remove (k ∷ ks) i) ≡ cond (not (is_eq (name_cmp n (name_of k))))
+        (pair_of k ∷ where_key name_cmp (others n) (map pair_of ks)) (where_key name_cmp (others n) (map pair_of ks))
     by_cmp rests Less is e = absurd (cc)
     by_cmp rests Equal is e =
         let at : 0 ≡ i = cc in
         ap (λ j. map pair_of (remove (k ∷ ks) j)) (sym at)
-        ∙ sym (kept_all n (map pair_of ks) (subst (λ m. T (below_all name_cmp m (map pair_of ks))) (sym (name_cmp-IsAntisymmetric n (name_of k) is)) (and_first _ _ h)))
+        ∙ sym (kept_all n (map pair_of ks) (subst (λ m. T (below_all name_cmp m (map pair_of ks)))
+        (sym (name_cmp-IsAntisymmetric n (name_of k) is)) (and_first _ _ h)))
         ∙ sym (ap (λ o. cond (not (is_eq o)) (pair_of k ∷ where_key name_cmp (others n) (map pair_of ks)) (where_key name_cmp (others n) (map pair_of ks))) is)
     by_cmp rests Greater is e =
         let below = later_Ok (place n ks) i e in
@@ -82,7 +93,8 @@ removed n (k ∷ ks) i h e = by_cmp (λ j e. removed n ks j (and_second _ _ h) e
 pub sets_removed : (n : List ℕ) (ks : List Child) (i : ℕ) → AreSorted ks → Ok i ≡ place n ks → Sets n [] None (map pair_of ks) (map pair_of (remove ks i))
 sets_removed n ks i h at = record {
   sorted = subst (λ es. T (finite.is_sorted name_cmp es)) (sym pairs) (is_sorted-where_key name_cmp (others n) (map pair_of ks) h);
-  children = λ m q. ap (λ o. look_in o q) (ap (finite.find name_cmp m) pairs ∙ find-where_key name_cmp (others n) m (λ x t. ap (others n) (sym (name_cmp-IsAntisymmetric m x t))) (map pair_of ks))
+  children = λ m q. ap (λ o. look_in o q) (ap (finite.find name_cmp m) pairs
+      ∙ find-where_key name_cmp (others n) m (λ x t. ap (others n) (sym (name_cmp-IsAntisymmetric m x t))) (map pair_of ks))
       ∙ ap (λ o. look_in (cond (not (is_eq o)) (child m ks) None) q) (nat_list_cmp_total.antisymm n m)
       ∙ elim (name_cmp m n) as (λ o. look_in (cond (not (is_eq (ordering_reverse o))) (child m ks) None) q ≡ cond (is_eq o) None (look_in (child m ks) q)) [
         | Less ↦ refl
@@ -96,7 +108,9 @@ sets_removed n ks i h at = record {
 
 -- ---- a directory with its children set
 
-pub dir_set : (k m : Kind) (n : List ℕ) (p : List (List ℕ)) (t : Option TreeMap) → own_entry m ≡ own_entry k → AreSorted (kids_of k) → Sets n p t (map pair_of (kids_of k)) (map pair_of (kids_of m)) → (q : List (List ℕ)) → finite.get (map_of m) q ≡ set_look (n ∷ p) t (finite.get (map_of k)) q
+pub dir_set : (k m : Kind) (n : List ℕ) (p : List (List ℕ)) (t : Option TreeMap) → own_entry m ≡ own_entry k → AreSorted (kids_of k)
+    → Sets n p t (map pair_of (kids_of k)) (map pair_of (kids_of m)) → (q : List (List ℕ))
+    → finite.get (map_of m) q ≡ set_look (n ∷ p) t (finite.get (map_of k)) q
 dir_set k m n p t own h g [] = get-root m ∙ ap Some own ∙ sym (get-root k)
 dir_set k m n p t own h g (x ∷ q) =
     get-child m x q g.sorted ∙ g.children x q
@@ -133,8 +147,10 @@ pub split_names : (names : List (List ℕ)) (n : List ℕ) → 1 ≤ length name
 split_names [] n h is = absurd (omega arith)
 split_names (m ∷ p) n h is = (λ i. sym is i ∷ sym (take_whole p (suc (length p) - 1) (omega arith)) i)
 
-pub node_set : (k m : Kind) (v : TreeMap) (names : List (List ℕ)) (n : List ℕ) (t : Option TreeMap) → map_of k ≡ v → own_entry m ≡ own_entry k → AreSorted (kids_of k) → 1 ≤ length names → n ≡ get_or names 0 n
-    → Sets n (take (length names - 1) (drop 1 names)) t (map pair_of (kids_of k)) (map pair_of (kids_of m)) → (q : List (List ℕ)) → finite.get (map_of m) q ≡ set_look names t (finite.get v) q
+pub node_set : (k m : Kind) (v : TreeMap) (names : List (List ℕ)) (n : List ℕ) (t : Option TreeMap) → map_of k ≡ v
+    → own_entry m ≡ own_entry k → AreSorted (kids_of k) → 1 ≤ length names → n ≡ get_or names 0 n
+    → Sets n (take (length names - 1) (drop 1 names)) t (map pair_of (kids_of k)) (map pair_of (kids_of m)) → (q : List (List ℕ))
+    → finite.get (map_of m) q ≡ set_look names t (finite.get v) q
 node_set k m v names n t view own h some is g q = dir_set k m _ _ t own h g q ∙ (λ i. set_look (sym (split_names names n some is) i) t (finite.get (view i)) q)
 
 pub same_Ok : {X : Type 0} (x y : X) → ◌≡◌ {A = Result X TreeFault} (Ok x) (Ok y) → x ≡ y
@@ -144,7 +160,8 @@ pub if_ok : {A E : Type 0} {P Q : A → Type 0} (r : Result A E) → ((x : A) �
 if_ok (Ok x) f h = f x h
 if_ok (Err e) f h = tt
 
-pub take_next : (names : List (List ℕ)) (i : ℕ) (n : List ℕ) (q : List (List ℕ)) → i < length names → n ≡ get_or names i n → take i names ++ n ∷ q ≡ take (i + 1) names ++ q
+pub take_next : (names : List (List ℕ)) (i : ℕ) (n : List ℕ) (q : List (List ℕ)) → i < length names → n ≡ get_or names i n
+    → take i names ++ n ∷ q ≡ take (i + 1) names ++ q
 take_next names i n q lt is = go names i lt is ∙ ap (λ j. take j names ++ q) (sym (add-one i))
   where
     go : (names : List (List ℕ)) (i : ℕ) → i < length names → n ≡ get_or names i n → take i names ++ n ∷ q ≡ take (suc i) names ++ q

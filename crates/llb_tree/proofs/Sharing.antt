@@ -1,5 +1,6 @@
 -- What a path shares with another one from the root on, as parts of a text lead from it.
-use Rattle.std.proofs.Common.{◌≡◌, ◌⊎◌, inl, inr, ℕ, zero, suc, ◌+◌, ◌-◌, ◌<◌, ◌≤◌, ◌==◌, ◌||◌, nat_lt, Bool, true, false, nat_eq, List, [], ◌∷◌, ◌++◌, length, take, slice_get, Some, Ok, Err, if◌then◌else◌, refl, sym, ap, ◌∙◌, subst, arith}
+use Rattle.std.proofs.Common.{◌≡◌, ◌⊎◌, inl, inr, ℕ, zero, suc, ◌+◌, ◌-◌, ◌<◌, ◌≤◌, ◌==◌, ◌||◌, nat_lt, Bool, true, false, nat_eq, List, []}
+use Rattle.std.proofs.Common.{◌∷◌, ◌++◌, length, take, slice_get, Some, Ok, Err, if◌then◌else◌, refl, sym, ap, ◌∙◌, subst, arith}
 use Rattle.std.proofs.lemmas.List.{take_all, length-take-le, length_push}
 use Rattle.std.specs.Cmp.Lexicographic.{pointwise, bytes_decides}
 use Rattle.llb_wire.specs.Answer.{◌>>=◌}
@@ -9,12 +10,13 @@ use Rattle.llb_tree.specs.Shared.{shared}
 
 -- ---- where a part leads
 
--- to the front of a path, or to one name more
+-- to the start of a path, or to one name more
 abbrev Leads : List (List ℕ) → List ℕ → List (List ℕ) → Type 0
 Leads path part after = (after ≡ take (length after) path) ⊎ (after ≡ path ++ part ∷ [])
 
 led : (a b c d : Bool) (path : List (List ℕ)) (part : List ℕ) (after : List (List ℕ)) →
-    (if a then Ok path else (if b then Ok (take (length path - 1) path) else ((if c then Ok part else Err BadName) >>= λ name. if d then Ok (path ++ name ∷ []) else Err BadName))) ≡ Ok after
+    (if a then Ok path else (if b then Ok (take (length path - 1) path) else ((if c then Ok part else Err BadName)
+    >>= λ name. if d then Ok (path ++ name ∷ []) else Err BadName))) ≡ Ok after
     → Leads path part after
 led true b c d path part after e =
     let same : path ≡ after = cc in
@@ -37,7 +39,8 @@ back path part after (inl front) below = front
 back path part after (inr more) below = absurd (let n : length after ≡ length path + 1 = ap length more ∙ length_push path part in omega (arith, n, below))
 
 ahead : (path : List (List ℕ)) (part : List ℕ) (after : List (List ℕ)) → Leads path part after → length path < length after → after ≡ path ++ part ∷ []
-ahead path part after (inl front) above = absurd (let n : length after ≤ length path = subst (λ (q : List (List ℕ)). length q ≤ length path) (sym front) (short (length after) path) in omega (arith, n, above))
+ahead path part after (inl front) above = absurd (let n : length after ≤ length path =
+    subst (λ (q : List (List ℕ)). length q ≤ length path) (sym front) (short (length after) path) in omega (arith, n, above))
   where
     short : (n : ℕ) (xs : List (List ℕ)) → length (take n xs) ≤ length xs
     short zero xs = omega arith
@@ -75,7 +78,8 @@ kept (m ∷ names) path zero below = omega (arith, below)
 kept (m ∷ names) [] (suc n) below = refl
 kept (m ∷ names) (p ∷ path) (suc n) below = kept_case (pointwise nat_eq m p) (shared names path) (shared names (take n path)) n below (kept names path n)
 
-more : (names path : List (List ℕ)) (x : List ℕ) → shared names path ≡ length path → slice_get names (length path) ≡ Some x → shared names (path ++ x ∷ []) ≡ suc (length path)
+more : (names path : List (List ℕ)) (x : List ℕ) → shared names path ≡ length path → slice_get names (length path) ≡ Some x
+    → shared names (path ++ x ∷ []) ≡ suc (length path)
 more [] path x all at = absurd cc
 more (m ∷ names) [] x all at =
     let same : m ≡ x = cc in
@@ -92,7 +96,8 @@ none_case : (b : Bool) (s : ℕ) → (b ≡ true → ⊥) → (if b then suc s e
 none_case true s h = absurd (h refl)
 none_case false s h = refl
 
-other : (names path : List (List ℕ)) (x : List ℕ) → (shared names path ≡ length path → slice_get names (length path) ≡ Some x → ⊥) → shared names (path ++ x ∷ []) ≡ shared names path
+other : (names path : List (List ℕ)) (x : List ℕ) → (shared names path ≡ length path → slice_get names (length path) ≡ Some x → ⊥)
+    → shared names (path ++ x ∷ []) ≡ shared names path
 other [] path x apart = refl
 other (m ∷ names) [] x apart = none_case (pointwise nat_eq m x) (shared names []) (λ is. apart refl (ap (λ n. Some n) ((bytes_decides m x).0 is)))
 other (m ∷ names) (p ∷ path) x apart =
@@ -119,7 +124,8 @@ module _ (names path : List (List ℕ)) (part : List ℕ) (after : List (List �
       omega (arith, longer, shares)
 
   -- a name that it has not
-  pub shared_still : length path < length after → (shared names path ≡ length path → slice_get names (length path) ≡ Some part → ⊥) → shared names path ≡ shared names after
+  pub shared_still : length path < length after → (shared names path ≡ length path → slice_get names (length path) ≡ Some part → ⊥)
+      → shared names path ≡ shared names after
   shared_still above apart = sym (ap (shared names) (ahead path part after (leads path part after enters) above) ∙ other names path part apart)
 
 -- ---- all parts

@@ -1,5 +1,6 @@
--- The steps of a walk: down to a child, up from a directory, and behind what is below the present entry.
-use Rattle.std.proofs.Common.{◌≡◌, ℕ, ◌+◌, ◌-◌, ◌<◌, ◌≤◌, Bool, true, false, not, ◌&&◌, nat_eq, cond, List, [], ◌∷◌, ◌++◌, length, take, map, T, refl, sym, ap, subst, ◌∙◌, true≢false, arith, append_assoc, length-append}
+-- The steps of a walk: down to a child, up from a directory, and after what is below the present entry.
+use Rattle.std.proofs.Common.{◌≡◌, ℕ, ◌+◌, ◌-◌, ◌<◌, ◌≤◌, Bool, true, false, not, ◌&&◌, nat_eq, cond, List, [], ◌∷◌, ◌++◌, length, take}
+use Rattle.std.proofs.Common.{map, T, refl, sym, ap, subst, ◌∙◌, true≢false, arith, append_assoc, length-append}
 use Rattle.std.proofs.lemmas.List.{map-append, append-nil, take_at, drop_at}
 use Rattle.std.proofs.lemmas.List.Elements.{All-cons, All-drop, filter-append}
 use Rattle.std.specs.declared.cmp.Ordering.TheVariants.{Less}
@@ -55,7 +56,7 @@ AreBehind-push [] (x ∷ ls) n l h b s = absurd h
 AreBehind-push (m ∷ p) [] n l h b s = absurd h
 AreBehind-push (m ∷ p) (x ∷ ls) n l h b s = (h.0, AreBehind-push p ls n l h.1 b s)
 
--- what is left at a child, and behind it
+-- what is left at a child, and after it
 pub entered : (p : List (List ℕ)) (ls : List (List Child)) (k : Child) (l : List Child) → AreBehind p ls
     → map (moved 0 (p ++ name_of k ∷ [])) (finite.entries k.node) ++ behind (p ++ name_of k ∷ []) (ls ++ l ∷ [])
     ≡ map (moved 0 p) (flat (k ∷ l)) ++ behind p ls
@@ -118,7 +119,7 @@ pub behind-nil : (p : List (List ℕ)) → behind p [] ≡ []
 behind-nil [] = refl
 behind-nil (n ∷ p) = refl
 
--- ---- behind what is below the present entry
+-- ---- after what is below the present entry
 
 beside_moved : (p : List (List ℕ)) (es : List Pair) → where_key path_cmp (λ q. not (is_within p q)) (map (moved 0 p) es) ≡ []
 beside_moved p [] = refl

@@ -30,17 +30,21 @@ same_path p q h = path_cmp-IsAntisymmetric p q (is_equal (path_cmp p q) h)
     is_equal Greater h = cc
 
 -- what bounds the paths with an entry bounds the height
-most_le : (n : ℕ) (es : List (List (List ℕ) × Entry)) → ((q : List (List ℕ)) → is_some (find path_cmp q es) ≡ true → length q + 1 ≤ n) → most (λ (e : List (List ℕ) × Entry). length e.0 + 1) es ≤ n
+most_le : (n : ℕ) (es : List (List (List ℕ) × Entry)) → ((q : List (List ℕ)) → is_some (find path_cmp q es) ≡ true → length q + 1 ≤ n)
+    → most (λ (e : List (List ℕ) × Entry). length e.0 + 1) es ≤ n
 most_le n [] h = omega arith
 most_le n (e ∷ es) h =
     let here : length e.0 + 1 ≤ n = h e.0 (ap (λ o. is_some (cond (is_eq o) (Some e.1) (find path_cmp e.0 es))) (tied_itself path_cmp-IsTotalOrder e.0)) in
-    let rest = most_le n es (λ q some. h q (elim (eq_by_cmp path_cmp q e.0) as (λ b. is_some (cond b (Some e.1) (find path_cmp q es)) ≡ true) [ true ↦ refl | false ↦ some ])) in
+    let rest = most_le n es (λ q some. h q (elim (eq_by_cmp path_cmp q e.0) as
+    (λ b. is_some (cond b (Some e.1) (find path_cmp q es)) ≡ true) [ true ↦ refl | false ↦ some ])) in
     omega arith
 
-le_most : (q : List (List ℕ)) (es : List (List (List ℕ) × Entry)) → is_some (find path_cmp q es) ≡ true → length q + 1 ≤ most (λ (e : List (List ℕ) × Entry). length e.0 + 1) es
+le_most : (q : List (List ℕ)) (es : List (List (List ℕ) × Entry)) → is_some (find path_cmp q es) ≡ true
+    → length q + 1 ≤ most (λ (e : List (List ℕ) × Entry). length e.0 + 1) es
 le_most q [] h = cc
 le_most q (e ∷ es) h =
-    elim (eq_by_cmp path_cmp q e.0) as (λ b. eq_by_cmp path_cmp q e.0 ≡ b → is_some (cond b (Some e.1) (find path_cmp q es)) ≡ true → length q + 1 ≤ max (length e.0 + 1) (most (λ (e : List (List ℕ) × Entry). length e.0 + 1) es)) [
+    elim (eq_by_cmp path_cmp q e.0) as (λ b. eq_by_cmp path_cmp q e.0 ≡ b → is_some (cond b (Some e.1) (find path_cmp q es)) ≡ true
+    → length q + 1 ≤ max (length e.0 + 1) (most (λ (e : List (List ℕ) × Entry). length e.0 + 1) es)) [
       | true ↦ λ t _. let same : length q ≡ length e.0 = ap length (same_path q e.0 t) in omega arith
       | false ↦ λ _ some. let rest = le_most q es some in omega arith
     ] refl h
@@ -63,7 +67,9 @@ or_right (Some x) b h = refl
 kids_le : (n : ℕ) (ks : List Child) → ((m : List ℕ) (q : List (List ℕ)) → is_some (look_kids ks m q) ≡ true → length q + 1 ≤ n) → most deep-Child ks ≤ n + 1
 kids_le n [] h = omega arith
 kids_le n (k ∷ ks) h =
-    let here : height k.node ≤ n = height_le k.node n (λ q some. h (name_of k) q (or_left _ _ (ap (λ o. is_some (cond (is_eq o) (finite.get k.node q) None)) (tied_itself nat_list_cmp_total (name_of k)) ∙ some))) in
+    let here : height k.node ≤ n =
+    height_le k.node n (λ q some. h (name_of k) q
+    (or_left _ _ (ap (λ o. is_some (cond (is_eq o) (finite.get k.node q) None)) (tied_itself nat_list_cmp_total (name_of k)) ∙ some))) in
     let rest = kids_le n ks (λ m q some. h m q (or_right (cond (is_eq (name_cmp m (name_of k))) (finite.get k.node q) None) _ some)) in
     omega arith
 
@@ -73,5 +79,6 @@ falls (kind.Dir m kids) =
     let k = kind.Dir m kids in
     let ks = (arc_value kids).items in
     let root : 0 + 1 ≤ height (map_of k) = le_height (map_of k) [] (ap is_some (get-root k)) in
-    let all : most deep-Child ks ≤ (height (map_of k) - 1) + 1 = kids_le (height (map_of k) - 1) ks (λ m q some. let h : length (m ∷ q) + 1 ≤ height (map_of k) = le_height (map_of k) (m ∷ q) (ap is_some (get-below k m q) ∙ some) in omega arith) in
+    let all : most deep-Child ks ≤ (height (map_of k) - 1) + 1 = kids_le (height (map_of k) - 1) ks
+    (λ m q some. let h : length (m ∷ q) + 1 ≤ height (map_of k) = le_height (map_of k) (m ∷ q) (ap is_some (get-below k m q) ∙ some) in omega arith) in
     omega arith

@@ -1,11 +1,11 @@
--- How the calls of this crate answer: what their rule gives, or the want of memory. A rule is a function into values
--- or faults that never gives the want of memory.
+-- How the calls of this crate answer: what their rule gives, or out of memory. A rule is a function into values
+-- or faults that never gives out of memory.
 use Rattle.std.specs.Prelude.{Bool, true, false, Result}
 use Rattle.llb_wire.specs.Answer as answer
 use Rattle.llb_tree.specs.declared.fault.TreeFault.{TreeFault}
 use Rattle.llb_tree.specs.declared.fault.TreeFault.TheVariants.{NotFound, NotDir, IsDir, Conflict, Root, BadName, Memory}
 
--- want of memory, which no rule gives
+-- out of memory, which no rule gives
 abbrev pub is_memory : TreeFault → Bool
 is_memory Memory = true
 is_memory NotFound = false
@@ -19,6 +19,6 @@ is_memory BadName = false
 abbrev pub Gives : {X Y : Type 0} → (X → Y) → Result X TreeFault → Result Y TreeFault → Type 0
 Gives = answer.Gives is_memory
 
--- and want of memory comes last: it is answered only where the rule has no refusal
+-- and out of memory comes last: it is answered only where the rule has no refusal
 abbrev pub MemoryLast : {X Y : Type 0} → Result X TreeFault → Result Y TreeFault → Type 0
 MemoryLast = answer.MemoryLast is_memory

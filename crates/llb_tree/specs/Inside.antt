@@ -1,5 +1,6 @@
 -- The tree of what is at or below a path.
-use Rattle.std.proofs.Common.{◌≡◌, ℕ, Bool, true, false, cond, List, [], ◌∷◌, ◌++◌, length, drop, map, Option, Some, None, IsSome, Ok, refl, sym, ap, subst, ◌∙◌, true≢false, arith, length-append}
+use Rattle.std.proofs.Common.{◌≡◌, ℕ, Bool, true, false, cond, List, [], ◌∷◌, ◌++◌, length, drop, map, Option, Some, None, IsSome, Ok, refl}
+use Rattle.std.proofs.Common.{sym, ap, subst, ◌∙◌, true≢false, arith, length-append}
 use Rattle.std.proofs.lemmas.List.{drop_at, append-nil}
 use Rattle.std.proofs.lemmas.List.Elements.{All-drop}
 use Rattle.std.specs.declared.cmp.Ordering.TheVariants.{Less, Equal, Greater}
@@ -35,9 +36,12 @@ find_inside p q [] = refl
 find_inside p q (e ∷ es) = by_test (is_within p e.0) refl (find_inside p q es)
   where
     by_test : (b : Bool) → is_within p e.0 ≡ b → finite.find path_cmp q (inside p es) ≡ finite.find path_cmp (p ++ q) es
-        → finite.find path_cmp q (map (moved (length p) []) (cond b (e ∷ where_key path_cmp (is_within p) es) (where_key path_cmp (is_within p) es))) ≡ finite.find path_cmp (p ++ q) (e ∷ es)
+        → finite.find path_cmp q
+        (map (moved (length p) []) (cond b (e ∷ where_key path_cmp (is_within p) es) (where_key path_cmp (is_within p) es)))
+        ≡ finite.find path_cmp (p ++ q) (e ∷ es)
     by_test true is rest =
-        let ties : eq_by_cmp path_cmp q (drop (length p) e.0) ≡ eq_by_cmp path_cmp (p ++ q) e.0 = ap is_eq (sym (cmp-append p q (drop (length p) e.0)) ∙ ap (path_cmp (p ++ q)) (sym (within_split p e.0 is))) in
+        let ties : eq_by_cmp path_cmp q (drop (length p) e.0) ≡ eq_by_cmp path_cmp (p ++ q) e.0 =
+        ap is_eq (sym (cmp-append p q (drop (length p) e.0)) ∙ ap (path_cmp (p ++ q)) (sym (within_split p e.0 is))) in
         λ i. cond (ties i) (Some e.1) (rest i)
     by_test false is rest = rest ∙ sym (by_tie (eq_by_cmp path_cmp (p ++ q) e.0) refl)
       where
@@ -51,7 +55,8 @@ find_inside p q (e ∷ es) = by_test (is_within p e.0) refl (find_inside p q es)
         by_tie true t = absurd (true≢false (sym (within-append p q) ∙ ap (is_within p) (path_cmp-IsAntisymmetric (p ++ q) e.0 (tied _ t)) ∙ is))
 
 pub get-tree_at : (t : TreeMap) (p q : List (List ℕ)) → finite.get (tree_at t p) q ≡ finite.get t (p ++ q)
-get-tree_at t p q = finite.get-from_entries path_cmp-IsTotalOrder (inside p (finite.entries t)) q ∙ find_inside p q (finite.entries t) ∙ sym (finite.get-entries t (p ++ q))
+get-tree_at t p q = finite.get-from_entries path_cmp-IsTotalOrder (inside p (finite.entries t)) q ∙ find_inside p q (finite.entries t)
+    ∙ sym (finite.get-entries t (p ++ q))
 
 -- a walk goes on below
 rest_walks : (o : Option Entry) (os : List (Option Entry)) → all_dirs (o ∷ os) ≡ Ok tt → all_dirs os ≡ Ok tt
@@ -61,7 +66,8 @@ rest_walks (Some (Dir m)) os is = is
 
 pub walk_below : (look : Look) (p q : List (List ℕ)) → walk look (p ++ q) ≡ Ok tt → walk (λ r. look (p ++ r)) q ≡ Ok tt
 walk_below look [] q is = is
-walk_below look (n ∷ p) q is = walk_below (λ r. look (n ∷ r)) p q (rest_walks (look []) (map (λ r. look (n ∷ r)) (parents (p ++ q))) (sym (walk-cons look n (p ++ q)) ∙ is))
+walk_below look (n ∷ p) q is = walk_below (λ r. look (n ∷ r)) p q
+    (rest_walks (look []) (map (λ r. look (n ∷ r)) (parents (p ++ q))) (sym (walk-cons look n (p ++ q)) ∙ is))
 
 path_below : (p q : List (List ℕ)) → IsPath (p ++ q) → IsPath q
 path_below p q is = record {
@@ -79,7 +85,8 @@ IsTree-tree_at t p tree there =
     let root = dir_is (finite.get t p) there in
     record {
       root = (root.0, get-tree_at t p [] ∙ ap (finite.get t) (append-nil p) ∙ root.1);
-      closed = λ q here. ap (λ look. walk look q) (λ i r. get-tree_at t p r i) ∙ walk_below (finite.get t) p q (tree.closed (p ++ q) (subst IsSome (get-tree_at t p q) here));
+      closed = λ q here. ap (λ look. walk look q) (λ i r. get-tree_at t p r i)
+          ∙ walk_below (finite.get t) p q (tree.closed (p ++ q) (subst IsSome (get-tree_at t p q) here));
       stands = λ q e is.
           let can = tree.stands (p ++ q) e (sym (get-tree_at t p q) ∙ is) in
           record { path = path_below p q can.path; meta = can.meta; bytes = can.bytes };

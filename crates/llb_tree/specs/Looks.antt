@@ -21,15 +21,19 @@ look_kids (k ∷ ks) n p = option_or (cond (is_eq (name_cmp n (name_of k))) (fin
 pub find_append : (q : List (List ℕ)) (xs ys : List (List (List ℕ) × Entry)) → find path_cmp q (xs ++ ys) ≡ option_or (find path_cmp q xs) (find path_cmp q ys)
 find_append q [] ys = refl
 find_append q (e ∷ xs) ys =
-    elim (eq_by_cmp path_cmp q e.0) as (λ b. cond b (Some e.1) (find path_cmp q (xs ++ ys)) ≡ option_or (cond b (Some e.1) (find path_cmp q xs)) (find path_cmp q ys)) [
+    elim (eq_by_cmp path_cmp q e.0) as (λ b. cond b (Some e.1) (find path_cmp q (xs ++ ys))
+    ≡ option_or (cond b (Some e.1) (find path_cmp q xs)) (find path_cmp q ys)) [
       | true ↦ refl
       | false ↦ find_append q xs ys
     ]
 
-pub find_prefixed : (n m : List ℕ) (q : List (List ℕ)) (es : List (List (List ℕ) × Entry)) → find path_cmp (n ∷ q) (map (λ (e : List (List ℕ) × Entry). (m ∷ e.0, e.1)) es) ≡ cond (is_eq (name_cmp n m)) (find path_cmp q es) None
+pub find_prefixed : (n m : List ℕ) (q : List (List ℕ)) (es : List (List (List ℕ) × Entry))
+    → find path_cmp (n ∷ q) (map (λ (e : List (List ℕ) × Entry). (m ∷ e.0, e.1)) es) ≡ cond (is_eq (name_cmp n m)) (find path_cmp q es) None
 find_prefixed n m q [] = elim (is_eq (name_cmp n m)) as (λ b. find {X = Entry} path_cmp (n ∷ q) [] ≡ cond b None None) [ true ↦ refl | false ↦ refl ]
 find_prefixed n m q (e ∷ es) =
-    elim (name_cmp n m) as (λ o. find path_cmp (n ∷ q) (map (λ (e : List (List ℕ) × Entry). (m ∷ e.0, e.1)) es) ≡ cond (is_eq o) (find path_cmp q es) None → cond (is_eq (ordering_then o (path_cmp q e.0))) (Some e.1) (find path_cmp (n ∷ q) (map (λ (e : List (List ℕ) × Entry). (m ∷ e.0, e.1)) es)) ≡ cond (is_eq o) (find path_cmp q (e ∷ es)) None) [
+    elim (name_cmp n m) as (λ o. find path_cmp (n ∷ q) (map (λ (e : List (List ℕ) × Entry). (m ∷ e.0, e.1)) es)
+    ≡ cond (is_eq o) (find path_cmp q es) None → cond (is_eq (ordering_then o (path_cmp q e.0))) (Some e.1)
+    (find path_cmp (n ∷ q) (map (λ (e : List (List ℕ) × Entry). (m ∷ e.0, e.1)) es)) ≡ cond (is_eq o) (find path_cmp q (e ∷ es)) None) [
       | Less ↦ λ h. h
       | Equal ↦ λ h. ap (cond (eq_by_cmp path_cmp q e.0) (Some e.1)) h
       | Greater ↦ λ h. h
@@ -39,7 +43,8 @@ pub find_flat : (n : List ℕ) (q : List (List ℕ)) (ks : List Child) → find 
 find_flat n q [] = refl
 find_flat n q (k ∷ ks) =
     find_append (n ∷ q) (below k) (flat ks)
-    ∙ ap (λ o. option_or o (find path_cmp (n ∷ q) (flat ks))) (find_prefixed n (name_of k) q (finite.entries k.node) ∙ ap (λ o. cond (is_eq (name_cmp n (name_of k))) o None) (sym (finite.get-entries k.node q)))
+    ∙ ap (λ o. option_or o (find path_cmp (n ∷ q) (flat ks))) (find_prefixed n (name_of k) q (finite.entries k.node)
+    ∙ ap (λ o. cond (is_eq (name_cmp n (name_of k))) o None) (sym (finite.get-entries k.node q)))
     ∙ ap (option_or (cond (is_eq (name_cmp n (name_of k))) (finite.get k.node q) None)) (find_flat n q ks)
 
 -- what is found below a node

@@ -100,9 +100,10 @@ Pairs = List (List ℕ × TreeMap)
 -- the children after a tree, or nothing, is set at a path below one of them
 pub record Sets (n : List ℕ) (p : List (List ℕ)) (t : Option TreeMap) (old new : Pairs) : Type 0 where
   pub sorted : T (finite.is_sorted name_cmp new)
-  pub children : (m : List ℕ) (q : List (List ℕ)) → look_in (finite.find name_cmp m new) q ≡ cond (is_eq (name_cmp m n)) (set_look p t (look_in (finite.find name_cmp n old)) q) (look_in (finite.find name_cmp m old) q)
+  pub children : (m : List ℕ) (q : List (List ℕ)) → look_in (finite.find name_cmp m new) q
+      ≡ cond (is_eq (name_cmp m n)) (set_look p t (look_in (finite.find name_cmp n old)) q) (look_in (finite.find name_cmp m old) q)
 
--- a node that is a tree, whose paths have at most so many names
+-- a node that is a tree, whose paths have at most that many names
 pub record IsWhole (root : TreeMap) (depth : ℕ) : Type 0 where
   pub tree : base.IsTree root
   pub deep : base.height root ≤ depth + 1

@@ -1,6 +1,7 @@
 -- Names and paths: which byte strings are names, the order of paths, and the path that a text reads as. A path is the
 -- list of its names from the root down, so the root is the empty list.
-use Rattle.std.specs.Prelude.{◌≡◌, ℕ, ◌-◌, ◌≤◌, ◌==◌, nat_eq, nat_le, nat_lt, Bool, ◌&&◌, ◌||◌, not, IsTrue, if◌then◌else◌, List, [], ◌∷◌, ◌++◌, length, take, Result, Ok, Err}
+use Rattle.std.specs.Prelude.{◌≡◌, ℕ, ◌-◌, ◌≤◌, ◌==◌, nat_eq, nat_le, nat_lt, Bool, ◌&&◌, ◌||◌, not, IsTrue, if◌then◌else◌, List, [], ◌∷◌}
+use Rattle.std.specs.Prelude.{◌++◌, length, take, Result, Ok, Err}
 use Rattle.std.specs.List.{All, list_all, slice_split, join_with_byte, starts_with}
 use Rattle.std.specs.Str.{is_utf8}
 use Rattle.std.specs.declared.cmp.Ordering.{Ordering}
@@ -79,7 +80,7 @@ depth (Err e) = Err e
 abbrev pub joined : List (List ℕ) → List ℕ
 joined = join_with_byte 47
 
--- a path's text reads as the path, and so it does behind a `/`
+-- a path's text reads as the path, and so it does after a `/`
 pub record ReadsBack (path : List (List ℕ)) : Type 0 where
   pub relative : path_of (joined path) ≡ Ok path
   pub absolute : path_of (47 ∷ joined path) ≡ Ok path

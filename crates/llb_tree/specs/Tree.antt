@@ -1,7 +1,8 @@
 -- A tree as a map from paths to entries: what makes it a tree, the walk over the parents of a path, and the edits, each
 -- the map after it or the first fault. Nothing here knows how a tree is kept.
 use denote.Param.Weighed.{most}
-use Rattle.std.specs.Prelude.{◌≡◌, ℕ, Bool, true, false, List, [], ◌∷◌, ◌++◌, ◌==◌, ◌+◌, ◌&&◌, nat_lt, if◌then◌else◌, length, drop, map, Option, Some, None, IsSome, not, Result, Ok, Err, refl}
+use Rattle.std.specs.Prelude.{◌≡◌, ℕ, Bool, true, false, List, [], ◌∷◌, ◌++◌, ◌==◌, ◌+◌, ◌&&◌, nat_lt, if◌then◌else◌, length, drop, map}
+use Rattle.std.specs.Prelude.{Option, Some, None, IsSome, not, Result, Ok, Err, refl}
 use Rattle.std.specs.List.{flat_map}
 use Rattle.std.specs.FinMap as finite
 use Rattle.std.specs.FinMap.{FinMap}
@@ -39,7 +40,8 @@ unpacked-packed (Dir m) = refl
 unpacked-packed (File m bytes) = refl
 
 abbrev pub coded_entry : Coded Entry
-coded_entry = code_by ((ℕ × (ℕ × ℕ)) × Option (List ℕ)) (coded× (coded× coded_ℕ (coded× coded_ℕ coded_ℕ)) (coded_option (coded_list coded_ℕ))) packed unpacked unpacked-packed
+coded_entry = code_by ((ℕ × (ℕ × ℕ)) × Option (List ℕ))
+    (coded× (coded× coded_ℕ (coded× coded_ℕ coded_ℕ)) (coded_option (coded_list coded_ℕ))) packed unpacked unpacked-packed
 
 -- a tree, from whole paths to entries
 abbrev pub TreeMap : Type 0
@@ -111,7 +113,7 @@ remove t p = not_root p >>= λ _. found (finite.get t p) >>= λ _. Ok (without t
 abbrev pub dir_there : TreeMap → List (List ℕ) → Result (Unit {0}) TreeFault
 dir_there t p = all_dirs (finite.get t p ∷ [])
 
--- an entry with other names in front of its path in place of so many
+-- an entry with other names before its path in place of that many
 abbrev pub moved : ℕ → List (List ℕ) → List (List ℕ) × Entry → List (List ℕ) × Entry
 moved n front e = (front ++ drop n e.0, e.1)
 

@@ -10,12 +10,12 @@ use Rattle.llb_tree.specs.Nodes.{flat, pair_of, AreSorted}
 use Rattle.llb_tree.specs.declared.node.Child.{Child}
 use Rattle.llb_tree.specs.declared.node.Node.{Node}
 
--- behind the first, and behind all that is below it
+-- after the first, and after all that is below it
 abbrev pub past : List (List (List ℕ) × Entry) → List (List (List ℕ) × Entry)
 past [] = []
 past (e ∷ es) = where_key path_cmp (λ q. not (is_within e.0 q)) es
 
--- the children behind those that a path leads through
+-- the children after those that a path leads through
 abbrev pub levels_of : List (Bor (List Child)) → List (List Child)
 levels_of = map (λ l. l.now)
 
@@ -25,7 +25,7 @@ behind [] ls = []
 behind (n ∷ p) [] = []
 behind (n ∷ p) (l ∷ ls) = map (λ e. (n ∷ e.0, e.1)) (behind p ls) ++ flat l
 
--- one row of children for each name, in order and behind it
+-- one row of children for each name, in order and after it
 abbrev pub AreBehind : List (List ℕ) → List (List Child) → Type 0
 AreBehind [] [] = Unit {0}
 AreBehind [] (l ∷ ls) = ⊥

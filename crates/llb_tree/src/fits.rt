@@ -29,7 +29,7 @@ impl Tree {
 }
 
 impl Node {
-    // Whether what is at and below this is on at most so many levels. A file and an empty directory are on one.
+    // Whether what is at and below this is on at most that many levels. A file and an empty directory are on one.
     pub(crate) fn is_within(&self, levels: usize) -> bool
         ensures { IsTrue result ↔ (height self.now ≤ levels) }
     {

@@ -32,8 +32,8 @@ impl Child {
 }
 
 impl Node {
-    /// The children in the order of their names; a file has none. Behind a node's own entry come those of its children, child
-    /// by child, each with the child's name in front of its path. Takes no memory.
+    /// The children in the order of their names; a file has none. After a node's own entry come those of its children, child
+    /// by child, each with the child's name before its path. Takes no memory.
     pub fn children(&self) -> &[Child]
         ensures entries { (e : base.Entry) → finite.get self.now [] ≡ Some e → finite.entries self.now ≡ ([], e) ∷ flat result.now }
         ensures order { AreSorted result.now }

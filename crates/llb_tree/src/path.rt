@@ -162,7 +162,7 @@ impl Path {
     }
 }
 
-// Puts copies of names behind others.
+// Puts copies of names after others.
 pub(crate) fn push_names(names: &mut Vec<Name>, more: &[Name]) -> Result<(), TreeFault>
     ensures gives { Gives (λ _. names.new.items) result (Ok (names.old.items ++ more.now)) }
     ensures named { All (λ n. IsTrue (is_name n)) names.old.items → All (λ n. IsTrue (is_name n)) names.new.items }
@@ -175,7 +175,7 @@ pub(crate) fn push_names(names: &mut Vec<Name>, more: &[Name]) -> Result<(), Tre
     Ok(())
 }
 
-// How many names there are where a text leads from a path of so many, or why it leads nowhere. Takes no memory.
+// How many names there are where a text leads from a path of that many, or why it leads nowhere. Takes no memory.
 fn depth_of(start: usize, text: &str) -> Result<usize, TreeFault>
     ensures depth { (path : List (List ℕ)) → length path ≡ start → result ≡ depth (follow path (parts_of text.now)) }
     ensures known { IfErr result (λ e. is_memory e ≡ false) }
@@ -187,7 +187,7 @@ fn depth_of(start: usize, text: &str) -> Result<usize, TreeFault>
     Ok(names)
 }
 
-/// How many names there are behind a part, where so many are before it.
+/// How many names there are after a part, where that many are before it.
 pub(crate) fn depth_after(names: usize, part: &str) -> Result<usize, TreeFault>
     ensures depth { (path : List (List ℕ)) → length path ≡ names → result ≡ depth (enter path part.now) }
     ensures known { IfErr result (λ e. is_memory e ≡ false) }

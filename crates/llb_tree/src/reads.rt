@@ -27,7 +27,7 @@ impl Path {
     }
 }
 
-// How many first names are shared behind a part, with so many names there.
+// How many first names are shared after a part, with that many names there.
 fn shared_after(names: &[Name], depth: usize, same: usize, part: &str, next: usize) -> usize
     ensures { (path after : List (List ℕ)) → length path ≡ depth → shared names.now path ≡ same → enter path part.now ≡ Ok after → length after ≡ next
         → result ≡ shared names.now after }

@@ -5,7 +5,8 @@
 ghost use Rattle.std.specs.Prelude.{◌≡◌, ◌++◌, ℕ, List, Ok, Err, MatchResult, IfOk, IfErr, OnOk, OnErr, false, option_map};
 ghost use Rattle.std.specs.FinMap as finite;
 ghost use Rattle.llb_tree.specs.Path.{is_within};
-ghost use Rattle.llb_tree.specs.Tree.{is_memory, Gives, MemoryLast, IsTree, empty_tree, put_file, put_dir, remove, subtree, graft, is_dir, dir_there, file_fits, dir_fits, found};
+ghost use Rattle.llb_tree.specs.Tree.{is_memory, Gives, MemoryLast, IsTree, empty_tree, put_file, put_dir, remove, subtree, graft, is_dir};
+ghost use Rattle.llb_tree.specs.Tree.{dir_there, file_fits, dir_fits, found};
 ghost use Rattle.llb_tree.specs.Nodes.{seen};
 
 use crate::fault::TreeFault;

@@ -37,7 +37,7 @@ impl<'a> Model for Walk<'a> {
     ghost invariant = { λ w. GoesOn w.present w.path w.levels.items };
 }
 
-// Goes down to a child; what is behind it is left for later.
+// Goes down to a child; what is after it is left for later.
 fn enter<'a>(
     path: &mut Path,
     levels: &mut Vec<&'a [Child]>,
@@ -131,7 +131,7 @@ impl<'a> Walk<'a> {
         Ok(())
     }
 
-    /// Goes behind the first entry that is left and all that is below it, at which it does not look; 27 `Memory`. At the end
+    /// Goes after the first entry that is left and all that is below it, at which it does not look; 27 `Memory`. At the end
     /// it stays there, and after a refusal it is there.
     pub fn skip(&mut self) -> Result<(), TreeFault>
         ensures gives { Gives (λ _. self.new) result (Ok (past self.old)) }

@@ -1,5 +1,7 @@
 -- A text that has all its parts is the line of an entry: each field that is read is the one that is written.
-use Rattle.std.proofs.Common.{◌≡◌, ◌≢◌, ℕ, zero, suc, ◌+◌, ◌-◌, ◌*◌, ◌/◌, ◌%◌, ◌^◌, ◌<◌, ◌≤◌, nat_lt, nat_eq, nat_le, ◌==◌, Bool, true, false, not, cond, ◌&&◌, ◌||◌, List, [], ◌∷◌, ◌++◌, length, get_or, Option, Some, None, refl, sym, ap, subst, ◌∙◌, true≢false, arith, inl, inr, ◌⊎◌}
+use Rattle.std.proofs.Common.{◌≡◌, ◌≢◌, ℕ, zero, suc, ◌+◌, ◌-◌, ◌*◌, ◌/◌, ◌%◌, ◌^◌, ◌<◌, ◌≤◌, nat_lt, nat_eq, nat_le, ◌==◌, Bool, true}
+use Rattle.std.proofs.Common.{false, not, cond, ◌&&◌, ◌||◌, List, [], ◌∷◌, ◌++◌, length, get_or, Option, Some, None, refl, sym, ap, subst}
+use Rattle.std.proofs.Common.{◌∙◌, true≢false, arith, inl, inr, ◌⊎◌}
 use Rattle.std.specs.Prelude.{codes}
 use Rattle.std.proofs.lemmas.Bool.{and_parts, cases_lt, eq-eqb, eqb-true, leb-true, ltb-true, lt-ltb, le-ltb}
 use Rattle.std.proofs.lemmas.Fmt.{decimal_digit}
@@ -21,7 +23,8 @@ use Rattle.llb_treetext.specs.Reading.{IsRow, Begins}
 use Rattle.llb_treetext.specs.Lines.{Spells}
 use Rattle.llb_treetext.specs.declared.parts.Parts.{Parts}
 use Rattle.std.specs.Option.{option_map}
-use Rattle.llb_treetext.specs.Fields.{Fields, on, cut_at, mode_in, number_from, decimal_in, meta_in, are_names, is_path, dir_parts, file_parts, parts_in, parts_seen, parts_from, row_from}
+use Rattle.llb_treetext.specs.Fields.{Fields, on, cut_at, mode_in, number_from, decimal_in, meta_in, are_names, is_path, dir_parts}
+use Rattle.llb_treetext.specs.Fields.{file_parts, parts_in, parts_seen, parts_from, row_from}
 use Rattle.llb_treetext.proofs.Written.{by_kind, path_joined, grouped, parts_are, row_from_is}
 use Rattle.llb_treetext.proofs.Rows.{Pair, dir_is_row, file_is_row}
 
@@ -36,11 +39,12 @@ cond_some false o y is = absurd cc
 some_is : {A : Type 0} (x y : A) → ◌≡◌ {A = Option A} (Some x) (Some y) → x ≡ y
 some_is x y is = cc
 
--- ---- the text up to a byte, and behind it
+-- ---- the text up to a byte, and after it
 
 pub cut_gives : (c : ℕ) (text a b : List ℕ) → cut_at c text ≡ Some (a, b) → text ≡ a ++ c ∷ b
 cut_gives c text a b is =
-    let found = cond_some (nat_lt (position_or_len (λ b. nat_eq b c) text) (length text)) (Some (before_first (λ b. nat_eq b c) text, after_first (λ b. nat_eq b c) text)) (a, b) is in
+    let found = cond_some (nat_lt (position_or_len (λ b. nat_eq b c) text) (length text))
+    (Some (before_first (λ b. nat_eq b c) text, after_first (λ b. nat_eq b c) text)) (a, b) is in
     let first : position_or_len (λ b. nat_eq b c) text < length text = ltb-true _ _ found.0 in
     let two = some_is (before_first (λ b. nat_eq b c) text, after_first (λ b. nat_eq b c) text) (a, b) found.1 in
     split_at_first (λ b. nat_eq b c) text 0 first
@@ -59,7 +63,8 @@ four (a ∷ b ∷ c ∷ d ∷ []) m long all is =
     let last = and_parts (is_octal_digit d) _ three.1 in
     digits (octal_bounds a one.0) (octal_bounds b two.0) (octal_bounds c three.0) (octal_bounds d last.0) (omega (arith, is))
   where
-    digits : (48 ≤ a) × (a ≤ 55) → (48 ≤ b) × (b ≤ 55) → (48 ≤ c) × (c ≤ 55) → (48 ≤ d) × (d ≤ 55) → (a - 48) * 512 + (b - 48) * 64 + (c - 48) * 8 + (d - 48) ≡ m
+    digits : (48 ≤ a) × (a ≤ 55) → (48 ≤ b) × (b ≤ 55) → (48 ≤ c) × (c ≤ 55) → (48 ≤ d) × (d ≤ 55)
+        → (a - 48) * 512 + (b - 48) * 64 + (c - 48) * 8 + (d - 48) ≡ m
         → (a ∷ b ∷ c ∷ d ∷ [] ≡ mode_text m) × (m ≤ 4095)
     digits (la, ha) (lb, hb) (lc, hc) (ld, hd) is =
         let w : (48 + m / 512 ≡ a) = omega (arith, is, la, ha, lb, hb, lc, hc, ld, hd) in
@@ -67,7 +72,8 @@ four (a ∷ b ∷ c ∷ d ∷ []) m long all is =
         let y : (48 + m / 8 % 8 ≡ c) = omega (arith, is, la, ha, lb, hb, lc, hc, ld, hd) in
         let z : (48 + m % 8 ≡ d) = omega (arith, is, la, ha, lb, hb, lc, hc, ld, hd) in (
           (λ i. sym w i ∷ sym x i ∷ sym y i ∷ sym z i ∷ [])
-              ∙ sym (λ i. decimal_digit (m / 512) (omega (arith, w, ha)) i ++ (decimal_digit (m / 64 % 8) (omega arith) i ++ (decimal_digit (m / 8 % 8) (omega arith) i ++ decimal_digit (m % 8) (omega arith) i))),
+              ∙ sym (λ i. decimal_digit (m / 512) (omega (arith, w, ha)) i
+              ++ (decimal_digit (m / 64 % 8) (omega arith) i ++ (decimal_digit (m / 8 % 8) (omega arith) i ++ decimal_digit (m % 8) (omega arith) i))),
           omega (arith, w, ha),
         )
 four [] m long all is = absurd (omega (arith, long))
@@ -97,16 +103,22 @@ decimal_gives text n is =
     let own = some_is k n same.1 in
     ((bytes_decides text (decimal k)).0 same.0 ∙ ap decimal own, subst (λ v. v < 2 ^ 32) own (number_small 0 text k (omega arith) reads))
 
-meta_gives : (mode uid gid : ℕ) (m : MetaValue) → mode ≤ 4095 → uid < 2 ^ 32 → gid < 2 ^ 32 → meta_of mode uid gid ≡ Some m → IsMeta m × (m.mode ≡ mode) × (m.uid ≡ uid) × (m.gid ≡ gid)
+meta_gives : (mode uid gid : ℕ) (m : MetaValue) → mode ≤ 4095 → uid < 2 ^ 32 → gid < 2 ^ 32 → meta_of mode uid gid ≡ Some m
+    → IsMeta m × (m.mode ≡ mode) × (m.uid ≡ uid) × (m.gid ≡ gid)
 meta_gives mode uid gid m small u g is = go (nat_lt 4095 mode) is
   where
     go : (t : Bool) → cond t None (Some (record { mode = mode; uid = uid; gid = gid })) ≡ Some m → IsMeta m × (m.mode ≡ mode) × (m.uid ≡ uid) × (m.gid ≡ gid)
     go true is = absurd cc
     go false is =
-        let own : record { mode = mode; uid = uid; gid = gid } ≡ m = some_is _ m is in
-        (subst IsMeta own (record { mode = small; uid = u; gid = g }), sym (ap (λ (v : MetaValue). v.mode) own), sym (ap (λ (v : MetaValue). v.uid) own), sym (ap (λ (v : MetaValue). v.gid) own))
+        let own : record { mode = mode; uid = uid; gid = gid } ≡ m = some_is _ m is in (
+          subst IsMeta own (record { mode = small; uid = u; gid = g }),
+          sym (ap (λ (v : MetaValue). v.mode) own),
+          sym (ap (λ (v : MetaValue). v.uid) own),
+          sym (ap (λ (v : MetaValue). v.gid) own),
+        )
 
-meta_written : (m : MetaValue) → IsMeta m → (text a t b u c rest : List ℕ) → text ≡ a ++ 32 ∷ t → t ≡ b ++ 32 ∷ u → u ≡ c ++ 32 ∷ rest → a ≡ mode_text m.mode → b ≡ decimal m.uid → c ≡ decimal m.gid → text ≡ meta_text m ++ rest
+meta_written : (m : MetaValue) → IsMeta m → (text a t b u c rest : List ℕ) → text ≡ a ++ 32 ∷ t → t ≡ b ++ 32 ∷ u → u ≡ c ++ 32 ∷ rest
+    → a ≡ mode_text m.mode → b ≡ decimal m.uid → c ≡ decimal m.gid → text ≡ meta_text m ++ rest
 meta_written m is text a t b u c rest one two three mode uid gid =
     let back : u ≡ decimal m.gid ++ 32 ∷ rest = three ∙ ap (λ w. w ++ 32 ∷ rest) gid in
     let middle : t ≡ decimal m.uid ++ 32 ∷ (decimal m.gid ++ 32 ∷ rest) = two ∙ (λ i. uid i ++ 32 ∷ back i) in
@@ -127,7 +139,8 @@ meta_in_gives text x is =
     let e = decimal_gives g.0 gid gid_is in
     let v = meta_gives mode uid gid meta o.1 d.1 e.1 meta_is in
     let own : (meta, g.1) ≡ x = some_is (meta, g.1) x is in
-    let text_is = meta_written meta v.0 text m.0 m.1 u.0 u.1 g.0 g.1 (cut_gives 32 text m.0 m.1 cut_m) (cut_gives 32 m.1 u.0 u.1 cut_u) (cut_gives 32 u.1 g.0 g.1 cut_g)
+    let text_is = meta_written meta v.0 text m.0 m.1 u.0 u.1 g.0 g.1 (cut_gives 32 text m.0 m.1 cut_m) (cut_gives 32 m.1 u.0 u.1 cut_u)
+    (cut_gives 32 u.1 g.0 g.1 cut_g)
     (o.0 ∙ ap mode_text (sym v.1)) (d.0 ∙ ap decimal (sym v.2)) (e.0 ∙ ap decimal (sym v.3)) in
     (subst (λ (y : MetaValue × List ℕ). IsMeta y.0) own v.0, subst (λ (y : MetaValue × List ℕ). text ≡ meta_text y.0 ++ y.1) own text_is)
 
@@ -161,16 +174,25 @@ lower_digit c is =
       | inl low ↦
           let both = and_parts (nat_le 48 c) (nat_le c 57) low in
           let from = leb-true 48 c both.0 in
-          let to = leb-true c 57 both.1 in
-          (c - 48, omega (arith, from, to), digit_at 16 (c - 48) refl (omega (arith, from, to)) ∙ ap (λ t. cond t (48 + (c - 48)) (87 + (c - 48))) (lt-ltb (c - 48) 10 (omega (arith, from, to))) ∙ omega (arith, from))
+          let to = leb-true c 57 both.1 in (
+            c - 48,
+            omega (arith, from, to),
+            digit_at 16 (c - 48) refl (omega (arith, from, to))
+                ∙ ap (λ t. cond t (48 + (c - 48)) (87 + (c - 48))) (lt-ltb (c - 48) 10 (omega (arith, from, to))) ∙ omega (arith, from),
+          )
       | inr high ↦
           let both = and_parts (nat_le 97 c) (nat_le c 102) high in
           let from = leb-true 97 c both.0 in
-          let to = leb-true c 102 both.1 in
-          (c - 87, omega (arith, from, to), digit_at 16 (c - 87) refl (omega (arith, from, to)) ∙ ap (λ t. cond t (48 + (c - 87)) (87 + (c - 87))) (le-ltb (c - 87) 10 (omega (arith, from, to))) ∙ omega (arith, from))
+          let to = leb-true c 102 both.1 in (
+            c - 87,
+            omega (arith, from, to),
+            digit_at 16 (c - 87) refl (omega (arith, from, to))
+                ∙ ap (λ t. cond t (48 + (c - 87)) (87 + (c - 87))) (le-ltb (c - 87) 10 (omega (arith, from, to))) ∙ omega (arith, from),
+          )
     ]
 
-digits_give : (digits : List ℕ) → list_all is_lower digits ≡ true → length digits % 2 ≡ 0 → (content : List ℕ) × AreBytes content × (encode_with lower_digits content ≡ digits)
+digits_give : (digits : List ℕ) → list_all is_lower digits ≡ true → length digits % 2 ≡ 0
+    → (content : List ℕ) × AreBytes content × (encode_with lower_digits content ≡ digits)
 unfolding encode_with
 digits_give [] all even = ([], tt, refl)
 digits_give (a ∷ []) all even = absurd (omega (arith, even))
@@ -187,7 +209,8 @@ digits_give (a ∷ b ∷ digits) all even =
       λ i. (ap (λ n. get_or lower_digits n 0) high ∙ k_is) i ∷ (ap (λ n. get_or lower_digits n 0) low ∙ j_is) i ∷ same i,
     )
 
-content_given : (digits content : List ℕ) → AreBytes content → encode_with lower_digits content ≡ digits → not (length digits == 0) ≡ true → (content : List ℕ) × AreBytes content × (digits ≡ hex_text content)
+content_given : (digits content : List ℕ) → AreBytes content → encode_with lower_digits content ≡ digits → not (length digits == 0) ≡ true
+    → (content : List ℕ) × AreBytes content × (digits ≡ hex_text content)
 unfolding encode_with
 content_given digits [] bytes same some = absurd (true≢false (sym some ∙ ap (λ t. not t) (eq-eqb (length digits) 0 (ap length (sym same)))))
 content_given digits (b ∷ content) bytes same some = (b ∷ content, bytes, sym same)
@@ -211,7 +234,11 @@ path_gives (b ∷ names) is =
     let both = and_parts (b == 47) _ is in
     let slash : b ≡ 47 = eqb-true b 47 both.0 in
     elim (or_parts (length names == 0) (are_names names) both.1) [
-      | inl none ↦ ([], record { short = omega arith; named = All-nil (λ name. is_name name ≡ true) }, (λ i. slash i ∷ no_length names (eqb-true (length names) 0 none) i))
+      | inl none ↦ (
+        [],
+        record { short = omega arith; named = All-nil (λ name. is_name name ≡ true) },
+        (λ i. slash i ∷ no_length names (eqb-true (length names) 0 none) i),
+      )
       | inr named ↦
           let all = and_parts (list_all is_name (parts_of names)) _ named in (
             parts_of names,
@@ -230,14 +257,16 @@ path_gives (b ∷ names) is =
 abbrev pub IsLineOf : List ℕ → Fields → Type 0
 IsLineOf line x = (row : Pair) × IsRow row × (line ≡ row_text row) × (x ≡ parts_from row)
 
-dir_gives : (line : List ℕ) (m : MetaValue) (path : List ℕ) (x : Fields) → IsMeta m → line ≡ codes "d " ++ (meta_text m ++ path) → dir_parts m path ≡ Some x → IsLineOf line x
+dir_gives : (line : List ℕ) (m : MetaValue) (path : List ℕ) (x : Fields) → IsMeta m → line ≡ codes "d " ++ (meta_text m ++ path)
+    → dir_parts m path ≡ Some x → IsLineOf line x
 dir_gives line m path x meta text is =
     let tests = cond_some (is_path path) (Some (m, None, path)) x is in
     let (p, stands, same) = path_gives path tests.0 in
     let own : (m, None, path) ≡ x = some_is _ x tests.1 in
     ((p, Dir m), dir_is_row p m stands meta, text ∙ ap (λ t. codes "d " ++ (meta_text m ++ t)) same, sym own ∙ (λ i. (m, None, same i)))
 
-file_gives : (line : List ℕ) (m : MetaValue) (digits path : List ℕ) (x : Fields) → IsMeta m → line ≡ codes "f " ++ (meta_text m ++ (digits ++ 32 ∷ path)) → file_parts m digits path ≡ Some x → IsLineOf line x
+file_gives : (line : List ℕ) (m : MetaValue) (digits path : List ℕ) (x : Fields) → IsMeta m
+    → line ≡ codes "f " ++ (meta_text m ++ (digits ++ 32 ∷ path)) → file_parts m digits path ≡ Some x → IsLineOf line x
 file_gives line m digits path x meta text is =
     let tests = cond_some (is_hex digits && is_path path && not (nat_lt (length path) 2)) (Some (m, Some digits, path)) x is in
     let all = and_parts _ (not (nat_lt (length path) 2)) tests.0 in
@@ -245,8 +274,13 @@ file_gives line m digits path x meta text is =
     let (content, bytes, own) = content_gives digits both.0 in
     let (p, stands, same) = path_gives path both.1 in
     let named : p ≢ [] = λ at. true≢false (sym all.1 ∙ ap (λ t. not (nat_lt (length t) 2)) (same ∙ ap path_text at)) in
-    let found : (m, Some digits, path) ≡ x = some_is _ x tests.1 in
-    ((p, File m content), file_is_row p m content stands meta bytes named, text ∙ (λ i. codes "f " ++ (meta_text m ++ (own i ++ 32 ∷ same i))), sym found ∙ (λ i. (m, Some (own i), same i)))
+    let found : (m, Some digits, path) ≡ x = some_is _ x tests.1 in (
+      (p, File m content),
+      file_is_row p m content stands meta bytes named,
+      text
+          ∙ (λ i. codes "f " ++ (meta_text m ++ (own i ++ 32 ∷ same i))),
+      sym found ∙ (λ i. (m, Some (own i), same i)),
+    )
 
 pub line_gives : (line : List ℕ) (x : Fields) → parts_in line ≡ Some x → IsLineOf line x
 line_gives line x is =
@@ -256,15 +290,19 @@ line_gives line x is =
     let text : line ≡ k.0 ++ 32 ∷ (meta_text m.0 ++ m.1) = cut_gives 32 line k.0 k.1 cut_k ∙ ap (λ t. k.0 ++ 32 ∷ t) meta.1 in
     by_dir k m meta.0 text (pointwise nat_eq k.0 (codes "d")) refl is
   where
-    by_file : (k : List ℕ × List ℕ) (m : MetaValue × List ℕ) → IsMeta m.0 → line ≡ k.0 ++ 32 ∷ (meta_text m.0 ++ m.1) → (t : Bool) → pointwise nat_eq k.0 (codes "f") ≡ t
+    by_file : (k : List ℕ × List ℕ) (m : MetaValue × List ℕ) → IsMeta m.0 → line ≡ k.0 ++ 32 ∷ (meta_text m.0 ++ m.1) → (t : Bool)
+        → pointwise nat_eq k.0 (codes "f") ≡ t
         → cond t (on (cut_at 32 m.1) (λ c. file_parts m.0 c.0 c.1)) None ≡ Some x → IsLineOf line x
     by_file k m meta text false kind is = absurd cc
     by_file k m meta text true kind is =
         let (c, cut_c, is) = on_some (cut_at 32 m.1) (λ c. file_parts m.0 c.0 c.1) x is in
-        file_gives line m.0 c.0 c.1 x meta (text ∙ (λ i. (bytes_decides k.0 (codes "f")).0 kind i ++ 32 ∷ (meta_text m.0 ++ cut_gives 32 m.1 c.0 c.1 cut_c i))) is
+        file_gives line m.0 c.0 c.1 x meta (text
+        ∙ (λ i. (bytes_decides k.0 (codes "f")).0 kind i ++ 32 ∷ (meta_text m.0 ++ cut_gives 32 m.1 c.0 c.1 cut_c i))) is
 
-    by_dir : (k : List ℕ × List ℕ) (m : MetaValue × List ℕ) → IsMeta m.0 → line ≡ k.0 ++ 32 ∷ (meta_text m.0 ++ m.1) → (t : Bool) → pointwise nat_eq k.0 (codes "d") ≡ t
-        → cond t (dir_parts m.0 m.1) (cond (pointwise nat_eq k.0 (codes "f")) (on (cut_at 32 m.1) (λ c. file_parts m.0 c.0 c.1)) None) ≡ Some x → IsLineOf line x
+    by_dir : (k : List ℕ × List ℕ) (m : MetaValue × List ℕ) → IsMeta m.0 → line ≡ k.0 ++ 32 ∷ (meta_text m.0 ++ m.1) → (t : Bool)
+        → pointwise nat_eq k.0 (codes "d") ≡ t
+        → cond t (dir_parts m.0 m.1) (cond (pointwise nat_eq k.0 (codes "f")) (on (cut_at 32 m.1) (λ c. file_parts m.0 c.0 c.1)) None)
+        ≡ Some x → IsLineOf line x
     by_dir k m meta text true kind is = dir_gives line m.0 m.1 x meta (text ∙ (λ i. (bytes_decides k.0 (codes "d")).0 kind i ++ 32 ∷ (meta_text m.0 ++ m.1))) is
     by_dir k m meta text false kind is = by_file k m meta text (pointwise nat_eq k.0 (codes "f")) refl is
 

@@ -47,6 +47,6 @@ module _ {A : Type 0} (line : A → List ℕ) (text done : List ℕ) (es : List 
           part_after a b c done (line e ++ rest) before (part_then b c (line e) rest part.1),
         )
 
-    -- and where memory is refused behind a line
+    -- and where memory is refused after a line
     pub stops_between : is_memory fault ≡ true → Writes is_memory a b failed text (Err fault)
     stops_between memory = ((λ other. absurd (true≢false (sym memory ∙ other))), (done, flat_map line es, parts, before))

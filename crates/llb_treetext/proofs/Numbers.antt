@@ -1,5 +1,7 @@
--- Decimal digits behind a number, one at a time; and the digits that are written for a number give it back.
-use Rattle.std.proofs.Common.{◌≡◌, ℕ, zero, suc, ◌+◌, ◌-◌, ◌*◌, ◌/◌, ◌%◌, ◌^◌, ◌<◌, ◌≤◌, nat_lt, nat_eq, Bool, true, false, cond, List, [], ◌∷◌, ◌++◌, length, get_or, drop, Some, None, refl, sym, ap, ◌∙◌, arith, add-one, ◌==◌, inl, inr, length-append}
+-- Decimal digits after a number, one at a time; and the digits that are written for a number give it back.
+use Rattle.std.proofs.Common.{◌≡◌, ℕ, zero, suc, ◌+◌, ◌-◌, ◌*◌, ◌/◌, ◌%◌, ◌^◌, ◌<◌, ◌≤◌, nat_lt, nat_eq, Bool, true, false, cond, List, []}
+use Rattle.std.proofs.Common.{◌∷◌, ◌++◌, length, get_or, drop, Some, None, refl, sym, ap, ◌∙◌, arith, add-one, ◌==◌, inl, inr}
+use Rattle.std.proofs.Common.{length-append}
 use Rattle.std.proofs.Math.Seq.{drop-cons}
 use Rattle.std.proofs.lemmas.Bool.{cases_lt, eqb-true, lt-ltb, le-ltb}
 use Rattle.std.proofs.lemmas.Fmt.{decimal_by_steps, decimal_digit, decimal_step, decimal_nonempty}
@@ -43,15 +45,18 @@ module _ (n k d : ℕ) (text : List ℕ) (lt : k < length text) (digit : d ≡ g
 
 -- ---- what is written is read
 
-number_behind : (n k : ℕ) (xs : List ℕ) (b : ℕ) → k * 10 + (b - 48) < 2 ^ 32 → number_from n xs ≡ Some k → number_from n (xs ++ b ∷ []) ≡ Some (k * 10 + (b - 48))
+number_behind : (n k : ℕ) (xs : List ℕ) (b : ℕ) → k * 10 + (b - 48) < 2 ^ 32 → number_from n xs ≡ Some k
+    → number_from n (xs ++ b ∷ []) ≡ Some (k * 10 + (b - 48))
 unfolding number_from
 number_behind n k [] b small is =
     let same : n ≡ k = cc in
     ap (λ m. number_from m (b ∷ [])) same ∙ number_more k b [] small ∙ number_none (k * 10 + (b - 48))
 number_behind n k (x ∷ xs) b small is = go (nat_lt (n * 10 + (x - 48)) (2 ^ 32)) refl (number_behind (n * 10 + (x - 48)) k xs b small) is
   where
-    go : (t : Bool) → nat_lt (n * 10 + (x - 48)) (2 ^ 32) ≡ t → (number_from (n * 10 + (x - 48)) xs ≡ Some k → number_from (n * 10 + (x - 48)) (xs ++ b ∷ []) ≡ Some (k * 10 + (b - 48)))
-        → cond t (number_from (n * 10 + (x - 48)) xs) None ≡ Some k → cond (nat_lt (n * 10 + (x - 48)) (2 ^ 32)) (number_from (n * 10 + (x - 48)) (xs ++ b ∷ [])) None ≡ Some (k * 10 + (b - 48))
+    go : (t : Bool) → nat_lt (n * 10 + (x - 48)) (2 ^ 32) ≡ t
+        → (number_from (n * 10 + (x - 48)) xs ≡ Some k → number_from (n * 10 + (x - 48)) (xs ++ b ∷ []) ≡ Some (k * 10 + (b - 48)))
+        → cond t (number_from (n * 10 + (x - 48)) xs) None ≡ Some k
+        → cond (nat_lt (n * 10 + (x - 48)) (2 ^ 32)) (number_from (n * 10 + (x - 48)) (xs ++ b ∷ [])) None ≡ Some (k * 10 + (b - 48))
     go false t rest is = absurd cc
     go true t rest is = ap (λ t. cond t (number_from (n * 10 + (x - 48)) (xs ++ b ∷ [])) None) t ∙ rest is
 
@@ -64,13 +69,15 @@ number_written n small = decimal_by_steps (λ n ds. n < 2 ^ 32 → number_from 0
         value : (n : ℕ) → 0 * 10 + (48 + n - 48) ≡ n
         value n = omega arith
 
-    more : (n : ℕ) (ds : List ℕ) → 10 ≤ n → (n / 10 < 2 ^ 32 → number_from 0 ds ≡ Some (n / 10)) → n < 2 ^ 32 → number_from 0 (ds ++ ((48 + n % 10) ∷ [])) ≡ Some n
+    more : (n : ℕ) (ds : List ℕ) → 10 ≤ n → (n / 10 < 2 ^ 32 → number_from 0 ds ≡ Some (n / 10)) → n < 2 ^ 32
+        → number_from 0 (ds ++ ((48 + n % 10) ∷ [])) ≡ Some n
     more n ds le rest small =
         let value : n / 10 * 10 + (48 + n % 10 - 48) ≡ n = omega arith in
         number_behind 0 (n / 10) ds (48 + n % 10) (omega (arith, value)) (rest (omega arith)) ∙ ap (λ v. Some v) value
 
 pub decimal_written : (n : ℕ) → n < 2 ^ 32 → decimal_in (decimal n) ≡ Some n
-decimal_written n small = ap (λ o. on o (λ k. cond (pointwise nat_eq (decimal n) (decimal k)) (Some k) None)) (number_written n small) ∙ ap (λ t. cond t (Some n) None) ((bytes_decides (decimal n) (decimal n)).1 refl)
+decimal_written n small = ap (λ o. on o (λ k. cond (pointwise nat_eq (decimal n) (decimal k)) (Some k) None)) (number_written n small)
+    ∙ ap (λ t. cond t (Some n) None) ((bytes_decides (decimal n) (decimal n)).1 refl)
 
 -- what two lists end in
 
@@ -108,7 +115,8 @@ module _ (text front : List ℕ) (last n : ℕ) (is : text ≡ front ++ last ∷
     step : decimal n ≡ decimal (n / 10) ++ (48 + n % 10) ∷ []
     step = decimal_step n more (omega arith)
 
-    pub last_of_more : (b : Bool) → last ≡ 48 + n % 10 → (b ≡ true → front ≡ decimal (n / 10)) × (front ≡ decimal (n / 10) → b ≡ true) → (b ≡ true → text ≡ decimal n) × (text ≡ decimal n → b ≡ true)
+    pub last_of_more : (b : Bool) → last ≡ 48 + n % 10 → (b ≡ true → front ≡ decimal (n / 10)) × (front ≡ decimal (n / 10) → b ≡ true)
+        → (b ≡ true → text ≡ decimal n) × (text ≡ decimal n → b ≡ true)
     last_of_more b same rest = (
       λ h. is ∙ (λ i. rest.0 h i ++ same i ∷ []) ∙ sym step,
       λ own. rest.1 (front_same front (decimal (n / 10)) last (48 + n % 10) (sym is ∙ own ∙ step)),

@@ -1,5 +1,6 @@
 -- The last path of a tree tells where the next row goes.
-use Rattle.std.proofs.Common.{◌≡◌, ◌≢◌, ℕ, ◌+◌, ◌==◌, Bool, true, false, List, [], ◌∷◌, ◌++◌, length, map, drop, Option, Some, None, is_some, IsSome, Ok, T, refl, sym, ap, subst, ◌∙◌, true≢false, arith, length-append}
+use Rattle.std.proofs.Common.{◌≡◌, ◌≢◌, ℕ, ◌+◌, ◌==◌, Bool, true, false, List, [], ◌∷◌, ◌++◌, length, map, drop, Option, Some, None}
+use Rattle.std.proofs.Common.{is_some, IsSome, Ok, T, refl, sym, ap, subst, ◌∙◌, true≢false, arith, length-append}
 use Rattle.std.specs.Prelude.{slice_get}
 use Rattle.std.proofs.lemmas.List.{append-nil}
 use Rattle.std.proofs.lemmas.List.Elements.{All-nil, All-cons, All-head, All-tail}
@@ -21,7 +22,8 @@ use Rattle.llb_treetext.specs.Placing.{GoesOn, IsFront, IsLast, is_dir, opens, t
 use Rattle.llb_treetext.specs.declared.judge.Place.{Place}
 use Rattle.llb_treetext.proofs.Rows.{Pair}
 use Rattle.llb_treetext.proofs.Unique.{there, entry_is_row, at_end}
-use Rattle.llb_treetext.proofs.Placing.{walk-cons, find_behind, entries_put, goes_on, put_ok, not_there, not_root, less_true, get-insert_cases, root_entries, root_front}
+use Rattle.llb_treetext.proofs.Placing.{walk-cons, find_behind, entries_put, goes_on, put_ok, not_there, not_root, less_true}
+use Rattle.llb_treetext.proofs.Placing.{get-insert_cases, root_entries, root_front}
 use Rattle.llb_treetext.proofs.Trails.{Named, NoSlash, slashless, trail_is, no_names_left, names_more, names_split, opens_tail, names_front, trail_order}
 
 -- ---- the walk to a path through its directory
@@ -68,7 +70,8 @@ last_name (n ∷ m ∷ p) some = let (d, (k, is)) = last_name (m ∷ p) (λ at. 
 
 named_front : (d : List (List ℕ)) (r : List (List ℕ)) → Named (d ++ r) → Named d
 named_front [] r named = All-nil (λ name. is_name name ≡ true)
-named_front (n ∷ d) r named = All-cons (λ name. is_name name ≡ true) n d (All-head (λ name. is_name name ≡ true) n (d ++ r) named) (named_front d r (All-tail (λ name. is_name name ≡ true) n (d ++ r) named))
+named_front (n ∷ d) r named = All-cons (λ name. is_name name ≡ true) n d (All-head (λ name. is_name name ≡ true) n (d ++ r) named)
+    (named_front d r (All-tail (λ name. is_name name ≡ true) n (d ++ r) named))
 
 pub named_end : (d : List (List ℕ)) (n : List ℕ) → Named (d ++ n ∷ []) → is_name n ≡ true
 named_end [] n named = All-head (λ name. is_name name ≡ true) n [] named
@@ -87,12 +90,13 @@ module _ (t : TreeMap) (tree : IsTree t) (place : Place) (last : IsLast t place)
   comes : (p : List (List ℕ)) → comes_next (finite.entries t) p ≡ is_lt (path_cmp last.row.0 p)
   comes p = ap (λ es. comes_next es p) last.entries ∙ comes_last last.front last.row p
 
-  -- whether a path is behind all others
-  pub order_is : (p : List (List ℕ)) (names : List ℕ) → IsPath p → names ≡ names_text p → is_lt (trail_cmp place.names.now names) ≡ comes_next (finite.entries t) p
+  -- whether a path is after all others
+  pub order_is : (p : List (List ℕ)) (names : List ℕ) → IsPath p → names ≡ names_text p
+      → is_lt (trail_cmp place.names.now names) ≡ comes_next (finite.entries t) p
   order_is p names path same =
       (λ i. is_lt (trail_cmp (last.names i) (same i))) ∙ ap is_lt (trail_order last.row.0 p last_row.stands.path.named path.named) ∙ sym (comes p)
 
-  -- what is there is not behind all others
+  -- what is there is not after all others
   not_behind : (d : List (List ℕ)) (e : Entry) → finite.get t d ≡ Some e → comes_next (finite.entries t) d ≡ false
   not_behind d e is = go (comes_next (finite.entries t) d) refl (finite.entries t) refl
     where
@@ -101,12 +105,17 @@ module _ (t : TreeMap) (tree : IsTree t) (place : Place) (last : IsLast t place)
       go true next [] same = let none : ◌≡◌ {A = Option Entry} (Some e) None = sym is ∙ finite.get-entries t d ∙ ap (finite.find path_cmp d) same in absurd cc
       go true next (r ∷ es) same =
           let none : ◌≡◌ {A = Option Entry} (Some e) None = sym is ∙ finite.get-entries t d ∙ ap (finite.find path_cmp d) same
-          ∙ find_behind r es d (subst (λ l. T (finite.is_sorted path_cmp l)) same (finite.entries_sorted t)) (ap (λ l. comes_next l d) (sym same) ∙ next) in absurd cc
+          ∙ find_behind r es d (subst (λ l. T (finite.is_sorted path_cmp l)) same (finite.entries_sorted t))
+          (ap (λ l. comes_next l d) (sym same) ∙ next) in absurd cc
 
   module _ (d : List (List ℕ)) (n : List ℕ) (named : Named (d ++ n ∷ [])) (next : comes_next (finite.entries t) (d ++ n ∷ []) ≡ true) where
     -- a directory there is the last path or above it
     above : IsDirAt (finite.get t) d → (r : List (List ℕ)) × (last.row.0 ≡ d ++ r)
-    above (m, is) = (drop (length d) last.row.0, within_split d last.row.0 (between d last.row.0 (n ∷ []) (sym (comes d) ∙ not_behind d (Dir m) is) (less_true _ (sym (comes (d ++ n ∷ [])) ∙ next))))
+    above (m, is) = (
+      drop (length d) last.row.0,
+      within_split d last.row.0
+          (between d last.row.0 (n ∷ []) (sym (comes d) ∙ not_behind d (Dir m) is) (less_true _ (sym (comes (d ++ n ∷ [])) ∙ next))),
+    )
 
     walks_last : walk (finite.get t) last.row.0 ≡ Ok tt
     walks_last = tree.closed last.row.0 (ap is_some found)
@@ -118,15 +127,19 @@ module _ (t : TreeMap) (tree : IsTree t) (place : Place) (last : IsLast t place)
         at = is ∙ append-nil d
 
         by_entry : (e : Entry) → last.row.1 ≡ e → walk (finite.get t) (d ++ n ∷ []) ≡ Ok tt
-        by_entry (Dir m) own = walk_down (finite.get t) d n m (ap (walk (finite.get t)) (sym at) ∙ walks_last) (ap (finite.get t) (sym at) ∙ found ∙ ap (λ e. Some e) own)
+        by_entry (Dir m) own = walk_down (finite.get t) d n m (ap (walk (finite.get t)) (sym at) ∙ walks_last)
+            (ap (finite.get t) (sym at) ∙ found ∙ ap (λ e. Some e) own)
         by_entry (File m c) own = absurd (true≢false (sym shows ∙ last.kind ∙ ap is_dir own))
     opened (x ∷ r) is shows = walk_through (finite.get t) d n x r (ap (walk (finite.get t)) (sym is) ∙ walks_last)
 
     closed : (r : List (List ℕ)) → last.row.0 ≡ d ++ r → IsDirAt (finite.get t) d → opens (names_text r) place.is_dir ≡ true
-    closed [] is (m, dir) = let same : ◌≡◌ {A = Option Entry} (Some last.row.1) (Some (Dir m)) = sym found ∙ ap (finite.get t) (is ∙ append-nil d) ∙ dir in let own : last.row.1 ≡ Dir m = cc in last.kind ∙ ap is_dir own
+    closed [] is (m, dir) = let same : ◌≡◌ {A = Option Entry} (Some last.row.1) (Some (Dir m)) = sym found
+        ∙ ap (finite.get t) (is ∙ append-nil d) ∙ dir in let own : last.row.1 ≡ Dir m = cc in last.kind ∙ ap is_dir own
     closed (x ∷ r) is dir = refl
 
-    module _ (b : Bool) (dir : List ℕ) (dir_is : dir ≡ names_text d) (holds : b ≡ true → (later : List ℕ) × (place.names.now ≡ dir ++ later) × (opens later place.is_dir ≡ true)) (each : (later : List ℕ) → place.names.now ≡ dir ++ later → b ≡ opens later place.is_dir) where
+    module _ (b : Bool) (dir : List ℕ) (dir_is : dir ≡ names_text d) (holds : b ≡ true
+        → (later : List ℕ) × (place.names.now ≡ dir ++ later) × (opens later place.is_dir ≡ true))
+        (each : (later : List ℕ) → place.names.now ≡ dir ++ later → b ≡ opens later place.is_dir) where
       each_row : (r : List (List ℕ)) → last.row.0 ≡ d ++ r → b ≡ opens (names_text r) place.is_dir
       each_row r is = each (names_text r) (last.names ∙ ap names_text is ∙ names_split d r ∙ ap (λ x. x ++ names_text r) (sym dir_is))
 
@@ -134,7 +147,8 @@ module _ (t : TreeMap) (tree : IsTree t) (place : Place) (last : IsLast t place)
       pub walks : b ≡ true → walk (finite.get t) (d ++ n ∷ []) ≡ Ok tt
       walks is =
           let (later, text, shows) = holds is in
-          let (r, split) = names_front last.row.0 d later last_row.stands.path.named (named_front d (n ∷ []) named) (opens_tail later place.is_dir shows) (sym last.names ∙ text ∙ ap (λ x. x ++ later) dir_is) in
+          let (r, split) = names_front last.row.0 d later last_row.stands.path.named (named_front d (n ∷ []) named)
+          (opens_tail later place.is_dir shows) (sym last.names ∙ text ∙ ap (λ x. x ++ later) dir_is) in
           opened r split (sym (each_row r split) ∙ is)
 
       -- or it is not
@@ -146,15 +160,18 @@ module _ (t : TreeMap) (tree : IsTree t) (place : Place) (last : IsLast t place)
 
   -- ---- the next row
 
-  module _ (row : Pair) (is : IsRow row) (names : List ℕ) (names_is : names ≡ names_text row.0) (b : Bool) (b_is : b ≡ is_lt (trail_cmp place.names.now names)) where
+  module _ (row : Pair) (is : IsRow row) (names : List ℕ) (names_is : names ≡ names_text row.0) (b : Bool)
+      (b_is : b ≡ is_lt (trail_cmp place.names.now names)) where
     next_is : comes_next (finite.entries t) row.0 ≡ b
     next_is = sym (b_is ∙ order_is row.0 names is.stands.path names_is)
 
-    pub out_of_order : (rest later : List ℕ) (n : ℕ) → n ≡ finite.len t + 1 → rest ≡ line_of row ++ later → b ≡ false → IsFault (finite.entries t) rest (Order n)
+    pub out_of_order : (rest later : List ℕ) (n : ℕ) → n ≡ finite.len t + 1 → rest ≡ line_of row ++ later → b ≡ false
+        → IsFault (finite.entries t) rest (Order n)
     out_of_order rest later n number text fails = (number ∙ ap (λ k. k + 1) (finite.len-entries t), (row, (is, (later, text)), next_is ∙ fails))
 
     module _ (next : b ≡ true) (h : Bool) (dir : List ℕ) (dir_of : (front name : List ℕ) → NoSlash name → names ≡ front ++ 47 ∷ name → dir ≡ front)
-        (holds : h ≡ true → (later : List ℕ) × (place.names.now ≡ dir ++ later) × (opens later place.is_dir ≡ true)) (each : (later : List ℕ) → place.names.now ≡ dir ++ later → h ≡ opens later place.is_dir) where
+        (holds : h ≡ true → (later : List ℕ) × (place.names.now ≡ dir ++ later) × (opens later place.is_dir ≡ true))
+        (each : (later : List ℕ) → place.names.now ≡ dir ++ later → h ≡ opens later place.is_dir) where
       behind : comes_next (finite.entries t) row.0 ≡ true
       behind = next_is ∙ next
 
@@ -169,24 +186,34 @@ module _ (t : TreeMap) (tree : IsTree t) (place : Place) (last : IsLast t place)
       next_end = ap (comes_next (finite.entries t)) (sym ends.1.1) ∙ behind
 
       dir_is : dir ≡ names_text ends.0
-      dir_is = dir_of (names_text ends.0) ends.1.0 (slashless ends.1.0 (named_end ends.0 ends.1.0 named)) (names_is ∙ ap names_text ends.1.1 ∙ names_more ends.0 ends.1.0)
+      dir_is = dir_of (names_text ends.0) ends.1.0 (slashless ends.1.0 (named_end ends.0 ends.1.0 named))
+          (names_is ∙ ap names_text ends.1.1 ∙ names_more ends.0 ends.1.0)
 
-      pub no_directory : (rest later : List ℕ) (n : ℕ) → n ≡ finite.len t + 1 → rest ≡ line_of row ++ later → h ≡ false → IsFault (finite.entries t) rest (NoParent n)
+      pub no_directory : (rest later : List ℕ) (n : ℕ) → n ≡ finite.len t + 1 → rest ≡ line_of row ++ later → h ≡ false
+          → IsFault (finite.entries t) rest (NoParent n)
       no_directory rest later n number text fails = (
         number ∙ ap (λ k. k + 1) (finite.len-entries t),
-        (row, (is, (later, text)), behind, λ there. walks_not ends.0 ends.1.0 named next_end h dir dir_is holds each fails (ap (walk (λ q. finite.find path_cmp q (finite.entries t))) (sym ends.1.1) ∙ there)),
+        (
+          row,
+          (is, (later, text)),
+          behind,
+          λ there. walks_not ends.0 ends.1.0 named next_end h dir dir_is holds each fails
+              (ap (walk (λ q. finite.find path_cmp q (finite.entries t))) (sym ends.1.1) ∙ there),
+        ),
       )
 
       pub goes_to : (rest later : List ℕ) (new : Place) → rest ≡ line_of row ++ later → new.names.now ≡ names_text row.0 → new.is_dir ≡ is_dir row.1 → h ≡ true
           → (u : TreeMap) × GoesOn t u rest later × IsLast u new × (finite.len u ≡ finite.len t + 1)
       goes_to rest later new text place_is kind_is there =
-          let walk_is : walk (finite.get t) row.0 ≡ Ok tt = ap (walk (finite.get t)) ends.1.1 ∙ walks ends.0 ends.1.0 named next_end h dir dir_is holds each there in
+          let walk_is : walk (finite.get t) row.0 ≡ Ok tt = ap (walk (finite.get t)) ends.1.1
+          ∙ walks ends.0 ends.1.0 named next_end h dir dir_is holds each there in
           let own = entries_put t tree row is behind in (
             finite.insert t row.0 row.1,
             goes_on t tree row is behind (finite.insert t row.0 row.1) rest later text
                 (put_ok t tree row is behind row.0 row.1 (not_root t tree row is behind) (not_there t tree row is behind) walk_is),
             record { front = finite.entries t; row = row; entries = own; names = place_is; kind = kind_is },
-            finite.len-entries (finite.insert t row.0 row.1) ∙ ap length own ∙ length-append (finite.entries t) (row ∷ []) ∙ ap (λ k. k + 1) (sym (finite.len-entries t)),
+            finite.len-entries (finite.insert t row.0 row.1) ∙ ap length own ∙ length-append (finite.entries t) (row ∷ [])
+                ∙ ap (λ k. k + 1) (sym (finite.len-entries t)),
           )
 
 -- ---- the place of a line
@@ -239,10 +266,17 @@ module _ (m : MetaValue) (is : IsMeta m) where
       by_path q e root at =
           let same : ◌≡◌ {A = Option Entry} (Some (Dir m)) (Some e) = sym root_there ∙ ap (finite.get (root_of m)) (sym root) ∙ at in
           let own : Dir m ≡ e = cc in
-          subst (λ p. CanStand p e) (sym root) (subst (CanStand []) own (record { path = record { short = omega arith; named = All-nil (λ name. is_name name ≡ true) }; meta = is; bytes = tt }))
+          subst (λ p. CanStand p e) (sym root)
+          (subst (CanStand []) own (record {
+            path = record { short = omega arith; named = All-nil (λ name. is_name name ≡ true) };
+            meta = is;
+            bytes = tt;
+          }))
 
-module _ (row : Pair) (is : IsRow row) (bytes later : List ℕ) (text : bytes ≡ line_of row ++ later) (place : Place) (names : place.names.now ≡ names_text row.0) where
-  starts_at : (m : MetaValue) → row.0 ≡ [] → row.1 ≡ Dir m → place.is_dir ≡ is_dir row.1 → (t : TreeMap) × IsFront bytes t later × IsLast t place × (finite.len t ≡ 1)
+module _ (row : Pair) (is : IsRow row) (bytes later : List ℕ) (text : bytes ≡ line_of row ++ later) (place : Place)
+    (names : place.names.now ≡ names_text row.0) where
+  starts_at : (m : MetaValue) → row.0 ≡ [] → row.1 ≡ Dir m → place.is_dir ≡ is_dir row.1
+      → (t : TreeMap) × IsFront bytes t later × IsLast t place × (finite.len t ≡ 1)
   starts_at m at dir kind =
       let same : row ≡ ([], Dir m) = (λ i. (at i, dir i)) in
       let root = subst IsRow same is in (

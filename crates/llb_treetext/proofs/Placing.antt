@@ -1,5 +1,7 @@
--- A row behind all rows of a tree goes to the end of it, where its directories are there; and each row of a tree's text does.
-use Rattle.std.proofs.Common.{◌≡◌, ◌≢◌, ℕ, zero, suc, ◌+◌, ◌<◌, ◌≤◌, ◌==◌, Bool, true, false, cond, ◌&&◌, List, [], ◌∷◌, ◌++◌, length, map, Option, Some, None, IsSome, Result, Ok, Err, T, refl, sym, ap, subst, ◌∙◌, true≢false, arith, append_assoc, length-append, inl, inr}
+-- A row after all rows of a tree goes to the end of it, where its directories are there; and each row of a tree's text does.
+use Rattle.std.proofs.Common.{◌≡◌, ◌≢◌, ℕ, zero, suc, ◌+◌, ◌<◌, ◌≤◌, ◌==◌, Bool, true, false, cond, ◌&&◌, List, [], ◌∷◌, ◌++◌, length, map}
+use Rattle.std.proofs.Common.{Option, Some, None, IsSome, Result, Ok, Err, T, refl, sym, ap, subst, ◌∙◌, true≢false, arith, append_assoc}
+use Rattle.std.proofs.Common.{length-append, inl, inr}
 use Rattle.std.proofs.lemmas.Bool.{eqb-true}
 use Rattle.std.proofs.lemmas.Grind.{flat_map-append}
 use Rattle.std.proofs.lemmas.List.{append-nil}
@@ -25,7 +27,7 @@ use Rattle.llb_treetext.specs.declared.fault.TextFault.TheVariants.{BadLine, Ord
 use Rattle.llb_treetext.proofs.Rows.{Pair}
 use Rattle.llb_treetext.proofs.Unique.{one_answer}
 
--- ---- behind all rows
+-- ---- after all rows
 
 is_less : (o : Ordering) → T (is_lt o) → o ≡ Less
 is_less Less h = refl
@@ -48,18 +50,24 @@ and_second false b h = absurd h
 turned : (p q : List (List ℕ)) → path_cmp p q ≡ Less → path_cmp q p ≡ Greater
 turned p q lt = path_cmp-IsTotalOrder.antisymm q p ∙ ap ordering_reverse lt
 
-first_less : (r : Pair) (rows : List Pair) (p : List (List ℕ)) → T (finite.is_sorted path_cmp (r ∷ rows)) → comes_next (r ∷ rows) p ≡ true → path_cmp r.0 p ≡ Less
+first_less : (r : Pair) (rows : List Pair) (p : List (List ℕ)) → T (finite.is_sorted path_cmp (r ∷ rows)) → comes_next (r ∷ rows) p ≡ true
+    → path_cmp r.0 p ≡ Less
 first_less r [] p h next = less_true _ next
-first_less r (s ∷ rows) p h next = path_cmp-IsTotalOrder.trans r.0 s.0 p (is_less _ (and_first _ _ (and_first _ _ h))) (first_less s rows p (and_second _ _ h) next)
+first_less r (s ∷ rows) p h next = path_cmp-IsTotalOrder.trans r.0 s.0 p (is_less _ (and_first _ _ (and_first _ _ h)))
+    (first_less s rows p (and_second _ _ h) next)
 
-pub find_behind : (r : Pair) (rows : List Pair) (p : List (List ℕ)) → T (finite.is_sorted path_cmp (r ∷ rows)) → comes_next (r ∷ rows) p ≡ true → finite.find path_cmp p (r ∷ rows) ≡ None
+pub find_behind : (r : Pair) (rows : List Pair) (p : List (List ℕ)) → T (finite.is_sorted path_cmp (r ∷ rows))
+    → comes_next (r ∷ rows) p ≡ true → finite.find path_cmp p (r ∷ rows) ≡ None
 find_behind r [] p h next = ap (λ o. cond (is_eq o) (Some r.1) None) (turned r.0 p (first_less r [] p h next))
-find_behind r (s ∷ rows) p h next = ap (λ o. cond (is_eq o) (Some r.1) (finite.find path_cmp p (s ∷ rows))) (turned r.0 p (first_less r (s ∷ rows) p h next)) ∙ find_behind s rows p (and_second _ _ h) next
+find_behind r (s ∷ rows) p h next = ap (λ o. cond (is_eq o) (Some r.1) (finite.find path_cmp p (s ∷ rows)))
+    (turned r.0 p (first_less r (s ∷ rows) p h next)) ∙ find_behind s rows p (and_second _ _ h) next
 
-put_behind : (r : Pair) (rows : List Pair) (p : List (List ℕ)) (e : Entry) → T (finite.is_sorted path_cmp (r ∷ rows)) → comes_next (r ∷ rows) p ≡ true → finite.put path_cmp p e (r ∷ rows) ≡ (r ∷ rows) ++ (p, e) ∷ []
+put_behind : (r : Pair) (rows : List Pair) (p : List (List ℕ)) (e : Entry) → T (finite.is_sorted path_cmp (r ∷ rows))
+    → comes_next (r ∷ rows) p ≡ true → finite.put path_cmp p e (r ∷ rows) ≡ (r ∷ rows) ++ (p, e) ∷ []
 put_behind r [] p e h next = ap (λ o. by_order o ((p, e) ∷ r ∷ []) ((r.0, e) ∷ []) (r ∷ (p, e) ∷ [])) (turned r.0 p (first_less r [] p h next))
 put_behind r (s ∷ rows) p e h next =
-    ap (λ o. by_order o ((p, e) ∷ r ∷ s ∷ rows) ((r.0, e) ∷ s ∷ rows) (r ∷ finite.put path_cmp p e (s ∷ rows))) (turned r.0 p (first_less r (s ∷ rows) p h next))
+    ap (λ o. by_order o ((p, e) ∷ r ∷ s ∷ rows) ((r.0, e) ∷ s ∷ rows) (r ∷ finite.put path_cmp p e (s ∷ rows)))
+    (turned r.0 p (first_less r (s ∷ rows) p h next))
     ∙ ap (λ l. r ∷ l) (put_behind s rows p e (and_second _ _ h) next)
 
 -- ---- a tree with a row more
@@ -69,7 +77,8 @@ tied Less t = absurd (true≢false (sym t))
 tied Equal t = refl
 tied Greater t = absurd (true≢false (sym t))
 
-pub get-insert_cases : (P : Option Entry → Type 0) (t : TreeMap) (p : List (List ℕ)) (e : Entry) (q : List (List ℕ)) → (q ≡ p → P (Some e)) → P (finite.get t q) → P (finite.get (finite.insert t p e) q)
+pub get-insert_cases : (P : Option Entry → Type 0) (t : TreeMap) (p : List (List ℕ)) (e : Entry) (q : List (List ℕ)) → (q ≡ p → P (Some e))
+    → P (finite.get t q) → P (finite.get (finite.insert t p e) q)
 get-insert_cases P t p e q here there = subst P (sym (finite.get-insert path_cmp-IsTotalOrder t p e q)) (by_test (eq_by_cmp path_cmp q p) refl)
   where
     by_test : (b : Bool) → eq_by_cmp path_cmp q p ≡ b → P (cond b (Some e) (finite.get t q))
@@ -89,7 +98,8 @@ walk_more f g more [] walks = refl
 walk_more f g more (n ∷ p) walks =
     by_root (f []) refl (sym (walk-cons f n p) ∙ walks) (walk_more (λ q. f (n ∷ q)) (λ q. g (n ∷ q)) (λ r. more (n ∷ r)) p)
   where
-    by_root : (e : Option Entry) → f [] ≡ e → all_dirs (e ∷ map (λ q. f (n ∷ q)) (parents p)) ≡ Ok tt → (walk (λ q. f (n ∷ q)) p ≡ Ok tt → walk (λ q. g (n ∷ q)) p ≡ Ok tt) → walk g (n ∷ p) ≡ Ok tt
+    by_root : (e : Option Entry) → f [] ≡ e → all_dirs (e ∷ map (λ q. f (n ∷ q)) (parents p)) ≡ Ok tt
+        → (walk (λ q. f (n ∷ q)) p ≡ Ok tt → walk (λ q. g (n ∷ q)) p ≡ Ok tt) → walk g (n ∷ p) ≡ Ok tt
     by_root None is walks rest = absurd cc
     by_root (Some (File m b)) is walks rest = absurd cc
     by_root (Some (Dir m)) is walks rest =
@@ -101,7 +111,8 @@ module _ (t : TreeMap) (tree : IsTree t) (row : Pair) (is : IsRow row) (next : c
   some_rows = go (finite.entries t) refl
     where
       go : (rows : List Pair) → finite.entries t ≡ rows → (r : Pair) × ((rows : List Pair) × (finite.entries t ≡ r ∷ rows))
-      go [] none = let e : ◌≡◌ {A = Option Entry} None (Some (Dir tree.root.0)) = ap (finite.find path_cmp []) (sym none) ∙ sym (finite.get-entries t []) ∙ tree.root.1 in absurd cc
+      go [] none = let e : ◌≡◌ {A = Option Entry} None (Some (Dir tree.root.0)) = ap (finite.find path_cmp []) (sym none)
+          ∙ sym (finite.get-entries t []) ∙ tree.root.1 in absurd cc
       go (r ∷ rows) same = (r, (rows, same))
 
   sorted : T (finite.is_sorted path_cmp (some_rows.0 ∷ some_rows.1.0))
@@ -128,8 +139,10 @@ module _ (t : TreeMap) (tree : IsTree t) (row : Pair) (is : IsRow row) (next : c
   tree_put walks = record {
     root = more [] tree.root;
     closed = λ q there. walk_more (finite.get t) (finite.get (finite.insert t row.0 row.1)) more q
-        (get-insert_cases (λ o. IsSome o → walk (finite.get t) q ≡ Ok tt) t row.0 row.1 q (λ same some. ap (walk (finite.get t)) same ∙ walks) (tree.closed q) there);
-    stands = λ q d. get-insert_cases (λ o. o ≡ Some d → CanStand q d) t row.0 row.1 q (λ same own. let one : row.1 ≡ d = cc in subst (λ x. CanStand x d) (sym same) (subst (CanStand row.0) one is.stands)) (tree.stands q d);
+        (get-insert_cases (λ o. IsSome o → walk (finite.get t) q ≡ Ok tt) t row.0 row.1 q
+        (λ same some. ap (walk (finite.get t)) same ∙ walks) (tree.closed q) there);
+    stands = λ q d. get-insert_cases (λ o. o ≡ Some d → CanStand q d) t row.0 row.1 q
+        (λ same own. let one : row.1 ≡ d = cc in subst (λ x. CanStand x d) (sym same) (subst (CanStand row.0) one is.stands)) (tree.stands q d);
   }
     where
       more : (q : List (List ℕ)) → IsDirAt (finite.get t) q → IsDirAt (finite.get (finite.insert t row.0 row.1)) q
@@ -137,9 +150,11 @@ module _ (t : TreeMap) (tree : IsTree t) (row : Pair) (is : IsRow row) (next : c
           (λ same. let e : ◌≡◌ {A = Option Entry} None (Some (Dir dir.0)) = sym not_there ∙ ap (finite.get t) (sym same) ∙ dir.1 in absurd cc) dir
 
   pub put_ok : (p : List (List ℕ)) (e : Entry) → p ≢ [] → finite.get t p ≡ None → walk (finite.get t) p ≡ Ok tt → put_row t (p, e) ≡ Ok (finite.insert t p e)
-  put_ok p (Dir m) named none walks = ap (λ r. r >>= λ _. dir_fits (finite.get t p) >>= λ _. Ok (finite.insert t p (Dir m))) walks ∙ ap (λ o. dir_fits o >>= λ _. Ok (finite.insert t p (Dir m))) none
+  put_ok p (Dir m) named none walks = ap (λ r. r >>= λ _. dir_fits (finite.get t p) >>= λ _. Ok (finite.insert t p (Dir m))) walks
+      ∙ ap (λ o. dir_fits o >>= λ _. Ok (finite.insert t p (Dir m))) none
   put_ok [] (File m c) named none walks = absurd (named refl)
-  put_ok (n ∷ p) (File m c) named none walks = ap (λ r. r >>= λ _. file_fits (finite.get t (n ∷ p)) >>= λ _. Ok (finite.insert t (n ∷ p) (File m c))) walks ∙ ap (λ o. file_fits o >>= λ _. Ok (finite.insert t (n ∷ p) (File m c))) none
+  put_ok (n ∷ p) (File m c) named none walks = ap (λ r. r >>= λ _. file_fits (finite.get t (n ∷ p))
+      >>= λ _. Ok (finite.insert t (n ∷ p) (File m c))) walks ∙ ap (λ o. file_fits o >>= λ _. Ok (finite.insert t (n ∷ p) (File m c))) none
 
   put_err : (p : List (List ℕ)) (e : Entry) (f : TreeFault) → p ≢ [] → walk (finite.get t) p ≡ Err f → put_row t (p, e) ≡ Err f
   put_err p (Dir m) f named walks = ap (λ r. r >>= λ _. dir_fits (finite.get t p) >>= λ _. Ok (finite.insert t p (Dir m))) walks
@@ -156,7 +171,8 @@ module _ (t : TreeMap) (tree : IsTree t) (row : Pair) (is : IsRow row) (next : c
           let own : finite.insert t row.0 row.1 ≡ new = cc in
           record {
             tree = subst IsTree own (tree_put walks);
-            text = ap (λ l. tree_text t ++ l) begins ∙ sym (append_assoc (tree_text t) (line_of row) later) ∙ ap (λ l. l ++ later) (sym text_put ∙ ap tree_text own);
+            text = ap (λ l. tree_text t ++ l) begins ∙ sym (append_assoc (tree_text t) (line_of row) later)
+                ∙ ap (λ l. l ++ later) (sym text_put ∙ ap tree_text own);
             shorter = omega (arith, ap length begins, length-append (line_of row) later, length-append (row_text row) (10 ∷ []));
           }
 
@@ -199,7 +215,8 @@ root_entry m None is = refl
 root_entry m (Some content) is = let e = is.1 in absurd cc
 
 none_empty : finite.entries (finite.empty {X = Entry} {R = path_cmp}) ≡ []
-none_empty = no_length (finite.entries (finite.empty {X = Entry} {R = path_cmp})) (sym (finite.len-entries (finite.empty {X = Entry} {R = path_cmp})) ∙ finite.len-empty path_cmp Entry)
+none_empty = no_length (finite.entries (finite.empty {X = Entry} {R = path_cmp}))
+    (sym (finite.len-entries (finite.empty {X = Entry} {R = path_cmp})) ∙ finite.len-empty path_cmp Entry)
   where
     no_length : (es : List Pair) → length es ≡ 0 → es ≡ []
     no_length [] is = refl
@@ -209,12 +226,15 @@ module _ (m : MetaValue) where
   pub root_entries : finite.entries (finite.insert empty_tree [] (Dir m)) ≡ ([], Dir m) ∷ []
   root_entries =
       finite.entries-insert path_cmp-IsTotalOrder empty_tree [] (Dir m)
-      ∙ ap (finite.put path_cmp [] (Dir m)) (finite.entries-insert path_cmp-IsTotalOrder finite.empty [] (Dir new_dir_meta) ∙ ap (finite.put path_cmp [] (Dir new_dir_meta)) none_empty)
+      ∙ ap (finite.put path_cmp [] (Dir m)) (finite.entries-insert path_cmp-IsTotalOrder finite.empty [] (Dir new_dir_meta)
+      ∙ ap (finite.put path_cmp [] (Dir new_dir_meta)) none_empty)
 
-  pub root_front : (p : List (List ℕ)) (o : Option (List ℕ)) (t : TreeMap) (bytes later : List ℕ) → IsRow (p, entry_of m o) → bytes ≡ line_of (p, entry_of m o) ++ later → p ≡ [] → finite.insert empty_tree [] (Dir m) ≡ t → IsTree t → IsFront bytes t later
+  pub root_front : (p : List (List ℕ)) (o : Option (List ℕ)) (t : TreeMap) (bytes later : List ℕ) → IsRow (p, entry_of m o)
+      → bytes ≡ line_of (p, entry_of m o) ++ later → p ≡ [] → finite.insert empty_tree [] (Dir m) ≡ t → IsTree t → IsFront bytes t later
   root_front p o t bytes later row begins at is tree = record {
     tree = tree;
-    text = begins ∙ (λ i. line_of (at i, root_entry m o (row.root at) i) ++ later) ∙ ap (λ l. l ++ later) (sym (append-nil (line_of ([], Dir m))) ∙ ap lines_of (sym root_entries) ∙ ap tree_text is);
+    text = begins ∙ (λ i. line_of (at i, root_entry m o (row.root at) i) ++ later)
+        ∙ ap (λ l. l ++ later) (sym (append-nil (line_of ([], Dir m))) ∙ ap lines_of (sym root_entries) ∙ ap tree_text is);
   }
 
 -- ---- the whole text
@@ -256,7 +276,11 @@ module _ (bytes : List ℕ) (t : TreeMap) (rest : List ℕ) (front : IsFront byt
   front_more new later goes = record { tree = goes.tree; text = front.text ∙ goes.text }
 
   pub whole_text : (length rest == 0) ≡ true → IsText bytes t
-  whole_text none = record { tree = front.tree; text = front.text ∙ ap (λ r. tree_text t ++ r) (no_length rest (eqb-true (length rest) 0 none)) ∙ append-nil (tree_text t) }
+  whole_text none = record {
+    tree = front.tree;
+    text = front.text
+        ∙ ap (λ r. tree_text t ++ r) (no_length rest (eqb-true (length rest) 0 none)) ∙ append-nil (tree_text t);
+  }
     where
       no_length : (xs : List ℕ) → length xs ≡ 0 → xs ≡ []
       no_length [] is = refl

@@ -1,6 +1,8 @@
--- Names with a slash before each: their order as bytes is path order, and what is before the last slash, or in front of
+-- Names with a slash before each: their order as bytes is path order, and what is before the last slash, or before
 -- both of two, are names again.
-use Rattle.std.proofs.Common.{◌≡◌, ◌≢◌, ℕ, zero, suc, ◌<◌, ◌≤◌, ◌==◌, nat_lt, Bool, true, false, cond, List, [], ◌∷◌, ◌++◌, length, take, drop, nat_eq, Some, None, take-append-drop, refl, sym, ap, subst, ◌∙◌, true≢false, arith, append_assoc, drop-cons, ◌⊎◌, inl, inr}
+use Rattle.std.proofs.Common.{◌≡◌, ◌≢◌, ℕ, zero, suc, ◌<◌, ◌≤◌, ◌==◌, nat_lt, Bool, true, false, cond, List, [], ◌∷◌, ◌++◌, length, take}
+use Rattle.std.proofs.Common.{drop, nat_eq, Some, None, take-append-drop, refl, sym, ap, subst, ◌∙◌, true≢false, arith, append_assoc}
+use Rattle.std.proofs.Common.{drop-cons, ◌⊎◌, inl, inr}
 use Rattle.std.specs.Prelude.{slice_get}
 use Rattle.std.specs.List.{All}
 use Rattle.std.specs.Cmp.Lexicographic.{pointwise, bytes_decides}
@@ -52,7 +54,8 @@ names_split d r = flat_map-append (λ name. 47 ∷ name) d r
 -- the names of a path's text
 pub trail_is : (p : List (List ℕ)) → IsPath p → trail (path_text p) ≡ names_text p
 trail_is [] path = refl
-trail_is (n ∷ p) path = ap (λ t. cond t [] (names_text (n ∷ p))) (ne_eqb (length (names_text (n ∷ p))) 1 (λ e. omega (arith, e, long_path (n ∷ p) path (λ at. absurd cc))))
+trail_is (n ∷ p) path = ap (λ t. cond t [] (names_text (n ∷ p)))
+    (ne_eqb (length (names_text (n ∷ p))) 1 (λ e. omega (arith, e, long_path (n ∷ p) path (λ at. absurd cc))))
 
 pub no_names_left : (p : List (List ℕ)) → length (names_text p) ≡ 0 → p ≡ []
 no_names_left [] is = refl
@@ -73,11 +76,12 @@ last_slash [] (c ∷ b) x y nx ny same = absurd (none_inside b y x nx cc)
 last_slash (c ∷ a) [] x y nx ny same = let rest : y ≡ a ++ 47 ∷ x = cc in absurd (none_inside a x y ny rest)
 last_slash (c ∷ a) (d ∷ b) x y nx ny same = let one : c ≡ d = cc in let rest = last_slash a b x y nx ny cc in λ i. one i ∷ rest i
 
--- ---- names in front of names
+-- ---- names before names
 
 head_not : (b : ℕ) (m s t : List ℕ) → NoSlash (b ∷ m) → IsTail s → s ≡ b ∷ t → ⊥
 head_not b m s t none (inl nil) same = let e : ◌≡◌ {A = List ℕ} [] (b ∷ t) = sym nil ∙ same in absurd cc
-head_not b m s t none (inr (more, slash)) same = let e : ◌≡◌ {A = List ℕ} (47 ∷ more) (b ∷ t) = sym slash ∙ same in let h : 47 ≡ b = cc in All-head (λ b. b ≢ 47) b m none (sym h)
+head_not b m s t none (inr (more, slash)) same = let e : ◌≡◌ {A = List ℕ} (47 ∷ more) (b ∷ t) = sym slash
+    ∙ same in let h : 47 ≡ b = cc in All-head (λ b. b ≢ 47) b m none (sym h)
 
 same_name : (n m s t : List ℕ) → NoSlash n → NoSlash m → IsTail s → IsTail t → n ++ s ≡ m ++ t → (n ≡ m) × (s ≡ t)
 same_name [] [] s t nn nm ts tt' same = (refl, same)
@@ -102,7 +106,8 @@ names_front [] (m ∷ d) s nq nd tail same = absurd cc
 names_front (n ∷ q) (m ∷ d) s nq nd tail same =
     let bytes : n ++ names_text q ≡ m ++ (names_text d ++ s) =
     (let e : n ++ names_text q ≡ (m ++ names_text d) ++ s = cc in e) ∙ append_assoc m (names_text d) s in
-    let one = same_name n m (names_text q) (names_text d ++ s) (slashless n (All-head (λ name. is_name name ≡ true) n q nq)) (slashless m (All-head (λ name. is_name name ≡ true) m d nd)) (names_tail q) (tail_more d s tail) bytes in
+    let one = same_name n m (names_text q) (names_text d ++ s) (slashless n (All-head (λ name. is_name name ≡ true) n q nq))
+    (slashless m (All-head (λ name. is_name name ≡ true) m d nd)) (names_tail q) (tail_more d s tail) bytes in
     let (r, rest) = names_front q d s (All-tail (λ name. is_name name ≡ true) n q nq) (All-tail (λ name. is_name name ≡ true) m d nd) tail one.1 in
     (r, λ i. one.0 i ∷ rest i)
 
@@ -113,7 +118,8 @@ abbrev Ranks : ℕ → Type 0
 Ranks b = (rank b ≡ b) × (0 < b)
 
 name_ranks : (name : List ℕ) → is_name name ≡ true → All Ranks name
-name_ranks name is = All-weaker (λ b. is_name_byte b ≡ true) Ranks (λ b ok. (ap (λ t. cond t 0 b) (no_slash b ok), let low = from_space b ok in omega (arith, low))) name (name_bytes name is)
+name_ranks name is = All-weaker (λ b. is_name_byte b ≡ true) Ranks
+    (λ b ok. (ap (λ t. cond t 0 b) (no_slash b ok), let low = from_space b ok in omega (arith, low))) name (name_bytes name is)
 
 then_assoc : (o p q : Ordering) → ordering_then o (ordering_then p q) ≡ ordering_then (ordering_then o p) q
 then_assoc Less p q = refl
@@ -122,18 +128,21 @@ then_assoc Greater p q = refl
 
 below : (s : List ℕ) (b : ℕ) (m : List ℕ) → IsTail s → Ranks b → trail_cmp s (b ∷ m) ≡ Less
 below s b m (inl nil) is = ap (λ x. trail_cmp x (b ∷ m)) nil
-below s b m (inr (more, slash)) is = ap (λ x. trail_cmp x (b ∷ m)) slash ∙ ap (λ o. ordering_then o (trail_cmp more m)) (sym (nat_cmp_is 0 (rank b) Less (subst (λ c. 0 < c) (sym is.0) is.1)))
+below s b m (inr (more, slash)) is = ap (λ x. trail_cmp x (b ∷ m)) slash
+    ∙ ap (λ o. ordering_then o (trail_cmp more m)) (sym (nat_cmp_is 0 (rank b) Less (subst (λ c. 0 < c) (sym is.0) is.1)))
 
 above : (s : List ℕ) (b : ℕ) (m : List ℕ) → IsTail s → Ranks b → trail_cmp (b ∷ m) s ≡ Greater
 above s b m (inl nil) is = ap (trail_cmp (b ∷ m)) nil
-above s b m (inr (more, slash)) is = ap (trail_cmp (b ∷ m)) slash ∙ ap (λ o. ordering_then o (trail_cmp m more)) (sym (nat_cmp_is (rank b) 0 Greater (subst (λ c. 0 < c) (sym is.0) is.1)))
+above s b m (inr (more, slash)) is = ap (trail_cmp (b ∷ m)) slash
+    ∙ ap (λ o. ordering_then o (trail_cmp m more)) (sym (nat_cmp_is (rank b) 0 Greater (subst (λ c. 0 < c) (sym is.0) is.1)))
 
 name_order : (n m s t : List ℕ) → All Ranks n → All Ranks m → IsTail s → IsTail t → trail_cmp (n ++ s) (m ++ t) ≡ ordering_then (name_cmp n m) (trail_cmp s t)
 name_order [] [] s t rn rm ts tt' = refl
 name_order [] (b ∷ m) s t rn rm ts tt' = below s b (m ++ t) ts (All-head Ranks b m rm)
 name_order (a ∷ n) [] s t rn rm ts tt' = above t a (n ++ s) tt' (All-head Ranks a n rn)
 name_order (a ∷ n) (b ∷ m) s t rn rm ts tt' =
-    (λ i. ordering_then (nat_cmp ((All-head Ranks a n rn).0 i) ((All-head Ranks b m rm).0 i)) (name_order n m s t (All-tail Ranks a n rn) (All-tail Ranks b m rm) ts tt' i))
+    (λ i. ordering_then (nat_cmp ((All-head Ranks a n rn).0 i) ((All-head Ranks b m rm).0 i))
+    (name_order n m s t (All-tail Ranks a n rn) (All-tail Ranks b m rm) ts tt' i))
     ∙ then_assoc (nat_cmp a b) (name_cmp n m) (trail_cmp s t)
 
 pub trail_order : (q p : List (List ℕ)) → Named q → Named p → trail_cmp (names_text q) (names_text p) ≡ path_cmp q p
@@ -142,7 +151,8 @@ trail_order [] (m ∷ p) nq np = refl
 trail_order (n ∷ q) [] nq np = refl
 trail_order (n ∷ q) (m ∷ p) nq np =
     ap (λ o. ordering_then o (trail_cmp (n ++ names_text q) (m ++ names_text p))) (sym (nat_cmp_is 0 0 Equal refl))
-    ∙ name_order n m (names_text q) (names_text p) (name_ranks n (All-head (λ name. is_name name ≡ true) n q nq)) (name_ranks m (All-head (λ name. is_name name ≡ true) m p np)) (names_tail q) (names_tail p)
+    ∙ name_order n m (names_text q) (names_text p) (name_ranks n (All-head (λ name. is_name name ≡ true) n q nq))
+    (name_ranks m (All-head (λ name. is_name name ≡ true) m p np)) (names_tail q) (names_tail p)
     ∙ ap (ordering_then (name_cmp n m)) (trail_order q p (All-tail (λ name. is_name name ≡ true) n q nq) (All-tail (λ name. is_name name ≡ true) m p np))
 
 -- ---- where one ends
@@ -172,7 +182,7 @@ pub no_bytes : (rest back : List ℕ) → length rest ≡ 0 → rest ++ back ≡
 no_bytes [] back is = refl
 no_bytes (x ∷ rest) back is = absurd (omega (arith, is))
 
--- ---- what is behind a front
+-- ---- what is after a prefix
 
 pub stripped : (names dir later : List ℕ) → pointwise nat_eq (take (length dir) names) dir ≡ true → later ≡ drop (length dir) names → names ≡ dir ++ later
 stripped names dir later same rest = sym (take-append-drop (length dir) names) ∙ (λ i. (bytes_decides (take (length dir) names) dir).0 same i ++ sym rest i)

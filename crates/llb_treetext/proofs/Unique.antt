@@ -1,6 +1,7 @@
--- Two accounts of one text agree: of two lists of rows at its front one goes on where the other ends, and a row of a tree
+-- Two accounts of one text agree: of two lists of rows at its start one goes on where the other ends, and a row of a tree
 -- is no faulty one.
-use Rattle.std.proofs.Common.{◌≡◌, ◌≢◌, ℕ, zero, suc, Bool, true, false, cond, ◌&&◌, List, [], ◌∷◌, ◌++◌, length, map, Option, Some, None, is_some, Ok, Err, T, refl, sym, ap, subst, ◌∙◌, true≢false, arith, append_assoc, length-append, ◌⊎◌, inl, inr}
+use Rattle.std.proofs.Common.{◌≡◌, ◌≢◌, ℕ, zero, suc, Bool, true, false, cond, ◌&&◌, List, [], ◌∷◌, ◌++◌, length, map, Option, Some, None}
+use Rattle.std.proofs.Common.{is_some, Ok, Err, T, refl, sym, ap, subst, ◌∙◌, true≢false, arith, append_assoc, length-append, ◌⊎◌, inl, inr}
 use Rattle.std.specs.Prelude.{slice_get}
 use Rattle.std.proofs.lemmas.List.{append-nil}
 use Rattle.std.specs.declared.cmp.Ordering.{Ordering}
@@ -50,9 +51,11 @@ find_here [] zero x h is = absurd cc
 find_here [] (suc i) x h is = absurd cc
 find_here (e ∷ es) zero x h is =
     let same : e ≡ x = cc in
-    subst (λ (y : Pair). finite.find path_cmp y.0 (e ∷ es) ≡ Some y.1) same (ap (λ r. cond (is_eq r) (Some e.1) (finite.find path_cmp e.0 es)) (tied_itself path_cmp-IsTotalOrder e.0))
+    subst (λ (y : Pair). finite.find path_cmp y.0 (e ∷ es) ≡ Some y.1) same
+    (ap (λ r. cond (is_eq r) (Some e.1) (finite.find path_cmp e.0 es)) (tied_itself path_cmp-IsTotalOrder e.0))
 find_here (e ∷ es) (suc i) x h is =
-    ap (λ r. cond (is_eq r) (Some e.1) (finite.find path_cmp x.0 es)) (path_cmp-IsTotalOrder.antisymm x.0 e.0 ∙ ap ordering_reverse (less_later e.0 es i x (and_first _ _ h) is))
+    ap (λ r. cond (is_eq r) (Some e.1) (finite.find path_cmp x.0 es)) (path_cmp-IsTotalOrder.antisymm x.0 e.0
+    ∙ ap ordering_reverse (less_later e.0 es i x (and_first _ _ h) is))
     ∙ find_here es i x (and_second _ _ h) is
 
 module _ (t : TreeMap) (tree : IsTree t) where
@@ -78,7 +81,7 @@ unfolding AllRows
 before_rows rows (inl none) = subst AllRows (sym none) tt
 before_rows rows (inr (t, tree, same)) = subst AllRows (sym same) (tree_rows t tree)
 
--- ---- two lists of rows at the front of one text
+-- ---- two lists of rows at the start of one text
 
 -- one goes on where the other ends
 record Longer (xs ys : List Pair) (a b : List ℕ) : Type 0 where
@@ -91,13 +94,17 @@ record Longer (xs ys : List Pair) (a b : List ℕ) : Type 0 where
 longer_by : (x y : Pair) (xs ys : List Pair) (a b : List ℕ) → x ≡ y → Longer xs ys a b → Longer (x ∷ xs) (y ∷ ys) a b
 longer_by x y xs ys a b same l = record { row = l.row; more = l.more; rows = λ i. sym same i ∷ l.rows i; is_row = l.is_row; text = l.text }
 
-compared : (xs ys : List Pair) (a b : List ℕ) → AllRows xs → AllRows ys → lines_of xs ++ a ≡ lines_of ys ++ b → ((xs ≡ ys) × (a ≡ b)) ⊎ (Longer xs ys a b ⊎ Longer ys xs b a)
+compared : (xs ys : List Pair) (a b : List ℕ) → AllRows xs → AllRows ys → lines_of xs ++ a ≡ lines_of ys ++ b
+    → ((xs ≡ ys) × (a ≡ b)) ⊎ (Longer xs ys a b ⊎ Longer ys xs b a)
 unfolding AllRows
 compared [] [] a b all other same = inl (refl, same)
-compared [] (y ∷ ys) a b all other same = inr (inl (record { row = y; more = ys; rows = refl; is_row = other.0; text = same ∙ append_assoc (line_of y) (lines_of ys) b }))
-compared (x ∷ xs) [] a b all other same = inr (inr (record { row = x; more = xs; rows = refl; is_row = all.0; text = sym same ∙ append_assoc (line_of x) (lines_of xs) a }))
+compared [] (y ∷ ys) a b all other same =
+    inr (inl (record { row = y; more = ys; rows = refl; is_row = other.0; text = same ∙ append_assoc (line_of y) (lines_of ys) b }))
+compared (x ∷ xs) [] a b all other same =
+    inr (inr (record { row = x; more = xs; rows = refl; is_row = all.0; text = sym same ∙ append_assoc (line_of x) (lines_of xs) a }))
 compared (x ∷ xs) (y ∷ ys) a b all other same =
-    let first = one_line x y (lines_of xs ++ a) (lines_of ys ++ b) all.0 other.0 (sym (append_assoc (line_of x) (lines_of xs) a) ∙ same ∙ append_assoc (line_of y) (lines_of ys) b) in
+    let first = one_line x y (lines_of xs ++ a) (lines_of ys ++ b) all.0 other.0 (sym (append_assoc (line_of x) (lines_of xs) a) ∙ same
+    ∙ append_assoc (line_of y) (lines_of ys) b) in
     elim (compared xs ys a b all.1 other.1 first.1) [
       | inl e ↦ inl ((λ i. first.0 i ∷ e.0 i), e.1)
       | inr e ↦ elim e [ inl l ↦ inr (inl (longer_by x y xs ys a b first.0 l)) | inr l ↦ inr (inr (longer_by y x ys xs b a (sym first.0) l)) ]
@@ -119,7 +126,8 @@ sorted_back : (xs ys : List Pair) → T (finite.is_sorted path_cmp (xs ++ ys)) �
 sorted_back [] ys h = h
 sorted_back (x ∷ xs) ys h = sorted_back xs ys (and_second _ _ h)
 
-last_before : (r : Pair) (rows : List Pair) (row : Pair) (more : List Pair) → T (finite.is_sorted path_cmp ((r ∷ rows) ++ row ∷ more)) → comes_next (r ∷ rows) row.0 ≡ true
+last_before : (r : Pair) (rows : List Pair) (row : Pair) (more : List Pair) → T (finite.is_sorted path_cmp ((r ∷ rows) ++ row ∷ more))
+    → comes_next (r ∷ rows) row.0 ≡ true
 last_before r [] row more h = ap is_lt (is_less _ (and_first _ _ (and_first _ _ h)))
 last_before r (s ∷ rows) row more h = last_before s rows row more (and_second _ _ h)
 
@@ -135,7 +143,10 @@ map-map g f (x ∷ xs) = ap (λ ys. g (f x) ∷ ys) (map-map g f xs)
 walk_before : (f g : Look) (p : List (List ℕ)) → ((r : List (List ℕ)) → path_cmp r p ≡ Less → f r ≡ g r) → map f (parents p) ≡ map g (parents p)
 walk_before f g [] same = refl
 walk_before f g (n ∷ p) same =
-    λ i. same [] refl i ∷ (map-map f (λ q. n ∷ q) (parents p) ∙ walk_before (λ r. f (n ∷ r)) (λ r. g (n ∷ r)) p (λ r lt. same (n ∷ r) (ap (λ o. ordering_then o (path_cmp r p)) (tied_itself nat_list_cmp_total n) ∙ lt)) ∙ sym (map-map g (λ q. n ∷ q) (parents p))) i
+    λ i. same [] refl i ∷ (map-map f (λ q. n ∷ q) (parents p)
+    ∙ walk_before (λ r. f (n ∷ r)) (λ r. g (n ∷ r)) p
+    (λ r lt. same (n ∷ r) (ap (λ o. ordering_then o (path_cmp r p)) (tied_itself nat_list_cmp_total n) ∙ lt))
+    ∙ sym (map-map g (λ q. n ∷ q) (parents p))) i
 
 module _ (t : TreeMap) (tree : IsTree t) (rows : List Pair) (row : Pair) (more : List Pair) (same : finite.entries t ≡ rows ++ row ∷ more) where
   sorted : T (finite.is_sorted path_cmp (rows ++ row ∷ more))
@@ -153,7 +164,9 @@ module _ (t : TreeMap) (tree : IsTree t) (rows : List Pair) (row : Pair) (more :
       by_path : (p : List (List ℕ)) → row.0 ≡ p → rows ≡ [] → comes_next [] p ≡ true
       by_path [] is none = refl
       by_path (n ∷ p) is none =
-          let e : ◌≡◌ {A = Option Entry} None (Some (Dir tree.root.0)) = sym (not_here [] (ap (path_cmp []) is)) ∙ ap (λ l. finite.find path_cmp [] (l ++ row ∷ more)) (sym none) ∙ ap (finite.find path_cmp []) (sym same) ∙ sym (finite.get-entries t []) ∙ tree.root.1 in absurd cc
+          let e : ◌≡◌ {A = Option Entry} None (Some (Dir tree.root.0)) = sym (not_here [] (ap (path_cmp []) is))
+          ∙ ap (λ l. finite.find path_cmp [] (l ++ row ∷ more)) (sym none) ∙ ap (finite.find path_cmp []) (sym same)
+          ∙ sym (finite.get-entries t []) ∙ tree.root.1 in absurd cc
 
       by_rows : (l : List Pair) → rows ≡ l → comes_next l row.0 ≡ true
       by_rows [] is = by_path row.0 refl is
@@ -161,7 +174,8 @@ module _ (t : TreeMap) (tree : IsTree t) (rows : List Pair) (row : Pair) (more :
 
   walks : walk (λ q. finite.find path_cmp q rows) row.0 ≡ Ok tt
   walks =
-      ap all_dirs (walk_before (λ q. finite.find path_cmp q rows) (finite.get t) row.0 (λ r lt. sym (finite.get-entries t r ∙ ap (finite.find path_cmp r) same ∙ find_front r rows (row ∷ more) (not_here r lt))))
+      ap all_dirs (walk_before (λ q. finite.find path_cmp q rows) (finite.get t) row.0
+      (λ r lt. sym (finite.get-entries t r ∙ ap (finite.find path_cmp r) same ∙ find_front r rows (row ∷ more) (not_here r lt))))
       ∙ tree.closed row.0 (ap is_some (there t tree (length rows) row (ap (λ es. slice_get es (length rows)) same ∙ at_end rows row more)))
 
   -- it is not faulty
@@ -175,7 +189,7 @@ module _ (t : TreeMap) (tree : IsTree t) (rows : List Pair) (row : Pair) (more :
       out (ap (λ (x : Pair). walk (λ q. finite.find path_cmp q rows) x.0) one.0 ∙ walks)
   no_fault rest later Memory is text fault = fault
 
--- where rows of a text go on, what is behind the shorter ones is not faulty
+-- where rows of a text go on, what is after the shorter ones is not faulty
 no_fault_before : (xs ys : List Pair) (a b : List ℕ) (e : TextFault) → AreBefore ys → Longer xs ys a b → ¬ IsFault xs a e
 no_fault_before xs ys a b e (inl none) l fault = let long = ap length (sym none ∙ l.rows) in absurd (omega (arith, length-append xs (l.row ∷ l.more), long))
 no_fault_before xs ys a b e (inr (t, tree, same)) l fault = no_fault t tree xs l.row l.more (sym same ∙ l.rows) a (lines_of l.more ++ b) e l.is_row l.text fault
@@ -186,7 +200,8 @@ whole : (bytes : List ℕ) (t : TreeMap) → IsText bytes t → bytes ≡ lines_
 whole bytes t is = is.text ∙ sym (append-nil (tree_text t))
 
 none_behind : (xs ys : List Pair) (a : List ℕ) → ¬ Longer xs ys [] a
-none_behind xs ys a l = let long = ap length l.text in absurd (omega (arith, long, length-append (line_of l.row) (lines_of l.more ++ a), length-append (row_text l.row) (10 ∷ [])))
+none_behind xs ys a l = let long = ap length l.text in
+    absurd (omega (arith, long, length-append (line_of l.row) (lines_of l.more ++ a), length-append (row_text l.row) (10 ∷ [])))
 
 one_tree : (bytes : List ℕ) (t u : TreeMap) → IsText bytes t → IsText bytes u → t ≡ u
 one_tree bytes t u is are =
@@ -196,13 +211,18 @@ one_tree bytes t u is are =
     ]
 
 some_entries : (t : TreeMap) → IsTree t → finite.entries t ≢ []
-some_entries t tree none = let e : ◌≡◌ {A = Option Entry} None (Some (Dir tree.root.0)) = ap (finite.find path_cmp []) (sym none) ∙ sym (finite.get-entries t []) ∙ tree.root.1 in absurd cc
+some_entries t tree none = let e : ◌≡◌ {A = Option Entry} None (Some (Dir tree.root.0)) = ap (finite.find path_cmp []) (sym none)
+    ∙ sym (finite.get-entries t []) ∙ tree.root.1 in absurd cc
 
 apart : (bytes : List ℕ) (t : TreeMap) (e : TextFault) → IsText bytes t → ¬ Stops bytes e
 apart bytes t e is stops =
-    elim (compared stops.rows (finite.entries t) stops.rest [] (before_rows stops.rows stops.before) (tree_rows t is.tree) (sym stops.split ∙ whole bytes t is)) [
+    elim (compared stops.rows (finite.entries t) stops.rest [] (before_rows stops.rows stops.before) (tree_rows t is.tree)
+    (sym stops.split ∙ whole bytes t is)) [
       | inl s ↦ some_entries t is.tree (sym s.0 ∙ stops.more s.1)
-      | inr s ↦ elim s [ inl l ↦ no_fault_before stops.rows (finite.entries t) stops.rest [] e (inr (t, is.tree, refl)) l stops.fault | inr l ↦ none_behind _ _ _ l ]
+      | inr s ↦ elim s [
+        | inl l ↦ no_fault_before stops.rows (finite.entries t) stops.rest [] e (inr (t, is.tree, refl)) l stops.fault
+        | inr l ↦ none_behind _ _ _ l
+      ]
     ]
 
 same_fault : (rows : List Pair) (rest : List ℕ) (e d : TextFault) → IsFault rows rest e → IsFault rows rest d → e ≡ d
@@ -228,7 +248,10 @@ one_fault : (bytes : List ℕ) (e d : TextFault) → Stops bytes e → Stops byt
 one_fault bytes e d s u =
     elim (compared s.rows u.rows s.rest u.rest (before_rows s.rows s.before) (before_rows u.rows u.before) (sym s.split ∙ u.split)) [
       | inl c ↦ same_fault u.rows u.rest e d (subst (λ x. IsFault u.rows x e) c.1 (subst (λ x. IsFault x s.rest e) c.0 s.fault)) u.fault
-      | inr c ↦ elim c [ inl l ↦ absurd (no_fault_before s.rows u.rows s.rest u.rest e u.before l s.fault) | inr l ↦ absurd (no_fault_before u.rows s.rows u.rest s.rest d s.before l u.fault) ]
+      | inr c ↦ elim c [
+        | inl l ↦ absurd (no_fault_before s.rows u.rows s.rest u.rest e u.before l s.fault)
+        | inr l ↦ absurd (no_fault_before u.rows s.rows u.rest s.rest d s.before l u.fault)
+      ]
     ]
 
 pub one_answer : (bytes : List ℕ) → HasOneAnswer bytes

@@ -1,5 +1,7 @@
 -- The line of an entry is read as the entry, and it is a text with no line end in it.
-use Rattle.std.proofs.Common.{◌≡◌, ◌≢◌, ℕ, zero, suc, ◌+◌, ◌-◌, ◌*◌, ◌/◌, ◌%◌, ◌^◌, ◌<◌, ◌≤◌, nat_lt, nat_eq, nat_le, ◌==◌, Bool, true, false, not, cond, ◌&&◌, ◌||◌, true≢false, inl, inr, List, [], ◌∷◌, ◌++◌, length, get_or, take, drop, Option, Some, None, refl, sym, ap, subst, ◌∙◌, arith, append_assoc, length-append}
+use Rattle.std.proofs.Common.{◌≡◌, ◌≢◌, ℕ, zero, suc, ◌+◌, ◌-◌, ◌*◌, ◌/◌, ◌%◌, ◌^◌, ◌<◌, ◌≤◌, nat_lt, nat_eq, nat_le, ◌==◌, Bool, true}
+use Rattle.std.proofs.Common.{false, not, cond, ◌&&◌, ◌||◌, true≢false, inl, inr, List, [], ◌∷◌, ◌++◌, length, get_or, take, drop, Option}
+use Rattle.std.proofs.Common.{Some, None, refl, sym, ap, subst, ◌∙◌, arith, append_assoc, length-append}
 use Rattle.std.specs.Prelude.{codes}
 use Rattle.std.proofs.lemmas.Bool.{cases_lt, and_parts, lt-ltb, le-ltb, lt-leb, le-leb, ltb-true, ltb-false, eq-eqb, ne_eqb}
 use Rattle.std.proofs.lemmas.List.{take_at, append-nil, get_or_past}
@@ -24,7 +26,8 @@ use Rattle.llb_tree.specs.Tree.{Entry, Dir, File}
 use Rattle.llb_treetext.specs.TreeText.{mode_text, meta_text, names_text, path_text, row_text}
 use Rattle.llb_treetext.specs.Reading.{IsRow}
 use Rattle.llb_treetext.specs.Fields as fields
-use Rattle.llb_treetext.specs.Fields.{Fields, on, cut_at, mode_in, decimal_in, are_names, is_path, dir_parts, file_parts, parts_in, parts_from, dir_in, file_in, row_from, row_in}
+use Rattle.llb_treetext.specs.Fields.{Fields, on, cut_at, mode_in, decimal_in, are_names, is_path, dir_parts, file_parts, parts_in}
+use Rattle.llb_treetext.specs.Fields.{parts_from, dir_in, file_in, row_from, row_in}
 use Rattle.llb_treetext.proofs.Names.{name-IsUtf8, passes_tests, from_space}
 use Rattle.llb_treetext.proofs.Numbers.{decimal_written}
 use Rattle.llb_treetext.proofs.Paths.{reads_back, parts_joined}
@@ -52,7 +55,8 @@ module _ (c : ℕ) where
   cut_is w rest all =
       let at = place w rest all in
       let long = length-append w (c ∷ rest) in
-      ap (λ t. cond t (Some (before_first (λ b. nat_eq b c) (w ++ c ∷ rest), after_first (λ b. nat_eq b c) (w ++ c ∷ rest))) None) (lt-ltb _ _ (omega (arith, at, long)))
+      ap (λ t. cond t (Some (before_first (λ b. nat_eq b c) (w ++ c ∷ rest), after_first (λ b. nat_eq b c) (w ++ c ∷ rest))) None)
+      (lt-ltb _ _ (omega (arith, at, long)))
       ∙ (λ i. Some (take (at i) (w ++ c ∷ rest), drop (at i + 1) (w ++ c ∷ rest)))
       ∙ (λ i. Some (take_front w rest i, drop_front w rest (length w + 1) (omega arith) i))
 
@@ -80,11 +84,13 @@ word w rest solid = cut_is 32 w rest (no_space w solid)
 decimal_solid : (n : ℕ) → n < 2 ^ 64 → Solid (decimal n)
 decimal_solid n small = decimal_by_steps (λ n ds. Solid ds)
     (λ n lt. All-cons (λ b. 33 ≤ b) (48 + n) [] (omega arith) (All-nil (λ b. 33 ≤ b)))
-    (λ n ds le solid. All-append (λ b. 33 ≤ b) ds ((48 + n % 10) ∷ []) solid (All-cons (λ b. 33 ≤ b) (48 + n % 10) [] (omega arith) (All-nil (λ b. 33 ≤ b)))) n small
+    (λ n ds le solid. All-append (λ b. 33 ≤ b) ds ((48 + n % 10) ∷ []) solid
+    (All-cons (λ b. 33 ≤ b) (48 + n % 10) [] (omega arith) (All-nil (λ b. 33 ≤ b)))) n small
 
 module _ (m : ℕ) (small : m ≤ 4095) where
   octal_is : mode_text m ≡ (48 + m / 512) ∷ (48 + m / 64 % 8) ∷ (48 + m / 8 % 8) ∷ (48 + m % 8) ∷ []
-  octal_is = λ i. decimal_digit (m / 512) (omega arith) i ++ (decimal_digit (m / 64 % 8) (omega arith) i ++ (decimal_digit (m / 8 % 8) (omega arith) i ++ decimal_digit (m % 8) (omega arith) i))
+  octal_is = λ i. decimal_digit (m / 512) (omega arith) i
+      ++ (decimal_digit (m / 64 % 8) (omega arith) i ++ (decimal_digit (m / 8 % 8) (omega arith) i ++ decimal_digit (m % 8) (omega arith) i))
 
   octal_value : octal ((48 + m / 512) ∷ (48 + m / 64 % 8) ∷ (48 + m / 8 % 8) ∷ (48 + m % 8) ∷ []) ≡ m
   octal_value = omega arith
@@ -93,10 +99,13 @@ module _ (m : ℕ) (small : m ≤ 4095) where
   octal_byte k lt = λ i. le-leb 48 (48 + k) (omega arith) i && le-leb (48 + k) 55 (omega arith) i
 
   all_octal : list_all is_octal_digit ((48 + m / 512) ∷ (48 + m / 64 % 8) ∷ (48 + m / 8 % 8) ∷ (48 + m % 8) ∷ []) ≡ true
-  all_octal = λ i. octal_byte (m / 512) (omega arith) i && (octal_byte (m / 64 % 8) (omega arith) i && (octal_byte (m / 8 % 8) (omega arith) i && (octal_byte (m % 8) (omega arith) i && true)))
+  all_octal = λ i. octal_byte (m / 512) (omega arith) i
+      && (octal_byte (m / 64 % 8) (omega arith) i && (octal_byte (m / 8 % 8) (omega arith) i && (octal_byte (m % 8) (omega arith) i && true)))
 
   mode_is : mode_in (mode_text m) ≡ Some m
-  mode_is = ap mode_in octal_is ∙ ap (λ t. cond t (Some (octal ((48 + m / 512) ∷ (48 + m / 64 % 8) ∷ (48 + m / 8 % 8) ∷ (48 + m % 8) ∷ []))) None) all_octal ∙ ap (λ v. Some v) octal_value
+  mode_is = ap mode_in octal_is
+      ∙ ap (λ t. cond t (Some (octal ((48 + m / 512) ∷ (48 + m / 64 % 8) ∷ (48 + m / 8 % 8) ∷ (48 + m % 8) ∷ []))) None) all_octal
+      ∙ ap (λ v. Some v) octal_value
 
   octal_solid : Solid (mode_text m)
   octal_solid =
@@ -124,13 +133,19 @@ module _ (m : MetaValue) (is : IsMeta m) where
       let uid = decimal_solid m.uid (omega (arith, is.uid)) in
       let gid = decimal_solid m.gid (omega (arith, is.gid)) in
       ap fields.meta_in (grouped rest)
-      ∙ ap (λ o. on o (λ a. on (cut_at 32 a.1) (λ u. on (cut_at 32 u.1) (λ g. on (mode_in a.0) (λ mode. on (decimal_in u.0) (λ uid. on (decimal_in g.0) (λ gid. on (meta_of mode uid gid) (λ meta. Some (meta, g.1)))))))))
+      ∙ ap (λ o. on o (λ a. on (cut_at 32 a.1)
+      (λ u. on (cut_at 32 u.1)
+      (λ g. on (mode_in a.0) (λ mode. on (decimal_in u.0)
+      (λ uid. on (decimal_in g.0) (λ gid. on (meta_of mode uid gid) (λ meta. Some (meta, g.1)))))))))
       (word (mode_text m.mode) (decimal m.uid ++ 32 ∷ (decimal m.gid ++ 32 ∷ rest)) (octal_solid m.mode is.mode))
-      ∙ ap (λ o. on o (λ u. on (cut_at 32 u.1) (λ g. on (mode_in (mode_text m.mode)) (λ mode. on (decimal_in u.0) (λ uid. on (decimal_in g.0) (λ gid. on (meta_of mode uid gid) (λ meta. Some (meta, g.1))))))))
+      ∙ ap (λ o. on o (λ u. on (cut_at 32 u.1) (λ g. on (mode_in (mode_text m.mode))
+      (λ mode. on (decimal_in u.0) (λ uid. on (decimal_in g.0) (λ gid. on (meta_of mode uid gid) (λ meta. Some (meta, g.1))))))))
       (word (decimal m.uid) (decimal m.gid ++ 32 ∷ rest) uid)
-      ∙ ap (λ o. on o (λ g. on (mode_in (mode_text m.mode)) (λ mode. on (decimal_in (decimal m.uid)) (λ uid. on (decimal_in g.0) (λ gid. on (meta_of mode uid gid) (λ meta. Some (meta, g.1)))))))
+      ∙ ap (λ o. on o (λ g. on (mode_in (mode_text m.mode))
+      (λ mode. on (decimal_in (decimal m.uid)) (λ uid. on (decimal_in g.0) (λ gid. on (meta_of mode uid gid) (λ meta. Some (meta, g.1)))))))
       (word (decimal m.gid) rest gid)
-      ∙ ap (λ o. on o (λ mode. on (decimal_in (decimal m.uid)) (λ uid. on (decimal_in (decimal m.gid)) (λ gid. on (meta_of mode uid gid) (λ meta. Some (meta, rest)))))) (mode_is m.mode is.mode)
+      ∙ ap (λ o. on o (λ mode. on (decimal_in (decimal m.uid))
+      (λ uid. on (decimal_in (decimal m.gid)) (λ gid. on (meta_of mode uid gid) (λ meta. Some (meta, rest)))))) (mode_is m.mode is.mode)
       ∙ ap (λ o. on o (λ uid. on (decimal_in (decimal m.gid)) (λ gid. on (meta_of m.mode uid gid) (λ meta. Some (meta, rest))))) (decimal_written m.uid is.uid)
       ∙ ap (λ o. on o (λ gid. on (meta_of m.mode m.uid gid) (λ meta. Some (meta, rest)))) (decimal_written m.gid is.gid)
       ∙ ap (λ o. on o (λ meta. Some (meta, rest))) new_meta
@@ -141,7 +156,8 @@ digit_solid : (c d : ℕ) → hex_digit_value c ≡ Some d → 33 ≤ c
 digit_solid c d is = by_cases (nat_lt c 33) refl
   where
     none : c < 33 → hex_digit_value c ≡ None
-    none lt = (λ i. cond (high 65 (omega arith) i && nat_le c 70) (Some (c - 55)) (cond (high 97 (omega arith) i && nat_le c 102) (Some (c - 87)) (cond (high 48 (omega arith) i && nat_le c 57) (Some (c - 48)) None)))
+    none lt = (λ i. cond (high 65 (omega arith) i && nat_le c 70) (Some (c - 55))
+        (cond (high 97 (omega arith) i && nat_le c 102) (Some (c - 87)) (cond (high 48 (omega arith) i && nat_le c 57) (Some (c - 48)) None)))
       where
         high : (k : ℕ) → c < k → nat_le k c ≡ false
         high k lt = lt-leb k c lt
@@ -161,8 +177,10 @@ unfolding encode_with
 encode_solid [] bytes = All-nil (λ b. 33 ≤ b)
 encode_solid (b ∷ content) bytes =
     let small : b < 256 = bytes.0 in
-    All-cons (λ b. 33 ≤ b) (get_or lower_digits (b / 16) 0) (get_or lower_digits (b % 16) 0 ∷ encode_with lower_digits content) (digit_solid _ (b / 16) (IsDigits-lower_digits (b / 16) (omega arith)))
-    (All-cons (λ b. 33 ≤ b) (get_or lower_digits (b % 16) 0) (encode_with lower_digits content) (digit_solid _ (b % 16) (IsDigits-lower_digits (b % 16) (omega arith)))
+    All-cons (λ b. 33 ≤ b) (get_or lower_digits (b / 16) 0) (get_or lower_digits (b % 16) 0 ∷ encode_with lower_digits content)
+    (digit_solid _ (b / 16) (IsDigits-lower_digits (b / 16) (omega arith)))
+    (All-cons (λ b. 33 ≤ b) (get_or lower_digits (b % 16) 0) (encode_with lower_digits content)
+    (digit_solid _ (b % 16) (IsDigits-lower_digits (b % 16) (omega arith)))
     (encode_solid content bytes.1))
 
 content_solid : (content : List ℕ) → AreBytes content → Solid (hex_text content)
@@ -179,7 +197,8 @@ no_dash b content = and_false (nat_eq (get_or lower_digits (b / 16) 0) 45)
 
 content_is : (content : List ℕ) → AreBytes content → bytes_in (hex_text content) ≡ Some content
 content_is [] bytes = refl
-content_is (b ∷ content) bytes = ap (λ t. cond t (Some []) (result_ok (decode_of (encode_lower (b ∷ content))))) (no_dash b content) ∙ ap result_ok (decode_of-encode_lower (b ∷ content) (byte_at (b ∷ content) bytes))
+content_is (b ∷ content) bytes = ap (λ t. cond t (Some []) (result_ok (decode_of (encode_lower (b ∷ content))))) (no_dash b content)
+    ∙ ap result_ok (decode_of-encode_lower (b ∷ content) (byte_at (b ∷ content) bytes))
 
 -- ---- the path
 
@@ -226,7 +245,8 @@ is_content_text : (content : List ℕ) → AreBytes content → is_hex (hex_text
 is_content_text [] bytes = refl
 is_content_text (b ∷ content) bytes =
     let long = length-encode_with lower_digits (b ∷ content) in
-    (λ i. no_dash b content i || (not (ne_eqb (length (encode_lower (b ∷ content))) 0 (λ e. omega (arith, e, long)) i) && eq-eqb (length (encode_lower (b ∷ content)) % 2) 0 (omega (arith, long)) i && encode_lower_all (b ∷ content) bytes i))
+    (λ i. no_dash b content i || (not (ne_eqb (length (encode_lower (b ∷ content))) 0 (λ e. omega (arith, e, long)) i)
+    && eq-eqb (length (encode_lower (b ∷ content)) % 2) 0 (omega (arith, long)) i && encode_lower_all (b ∷ content) bytes i))
 
 are_names_joined : (name : List ℕ) (names : List (List ℕ)) → IsPath (name ∷ names) → are_names (joined (name ∷ names)) ≡ true
 are_names_joined name names path =
@@ -235,7 +255,8 @@ are_names_joined name names path =
 
 is_path_text : (p : List (List ℕ)) → IsPath p → is_path (path_text p) ≡ true
 is_path_text [] path = refl
-is_path_text (n ∷ p) path = ap is_path (path_joined (n ∷ p)) ∙ ap (λ t. (length (joined (n ∷ p)) == 0) || t) (are_names_joined n p path) ∙ or_true (length (joined (n ∷ p)) == 0)
+is_path_text (n ∷ p) path = ap is_path (path_joined (n ∷ p)) ∙ ap (λ t. (length (joined (n ∷ p)) == 0) || t) (are_names_joined n p path)
+    ∙ or_true (length (joined (n ∷ p)) == 0)
   where
     or_true : (b : Bool) → (b || true) ≡ true
     or_true true = refl
@@ -254,7 +275,8 @@ long_path (n ∷ p) path named = omega (arith, some_name n (All-head (λ name. i
 dir_is : (m : MetaValue) (p : List (List ℕ)) → IsPath p → dir_in m (path_text p) ≡ Some (p, Dir m)
 dir_is m p path = ap (λ o. on o (λ q. Some (q, Dir m))) (path_is p path)
 
-file_is : (m : MetaValue) (content : List ℕ) (p : List (List ℕ)) → AreBytes content → IsPath p → file_in m (hex_text content) (path_text p) ≡ Some (p, File m content)
+file_is : (m : MetaValue) (content : List ℕ) (p : List (List ℕ)) → AreBytes content → IsPath p
+    → file_in m (hex_text content) (path_text p) ≡ Some (p, File m content)
 file_is m content p bytes path =
     ap (λ o. on o (λ c. on (result_ok (path_of (path_text p))) (λ q. Some (q, File m c)))) (content_is content bytes)
     ∙ ap (λ o. on o (λ q. Some (q, File m content))) (path_is p path)
@@ -270,9 +292,11 @@ one_solid c le = All-cons (λ b. 33 ≤ b) c [] le (All-nil (λ b. 33 ≤ b))
 dir_parts_are : (m : MetaValue) (p : List (List ℕ)) → IsPath p → dir_parts m (path_text p) ≡ Some (m, None, path_text p)
 dir_parts_are m p path = ap (λ t. cond {A = Option Fields} t (Some (m, None, path_text p)) None) (is_path_text p path)
 
-file_parts_are : (m : MetaValue) (content : List ℕ) (p : List (List ℕ)) → AreBytes content → IsPath p → p ≢ [] → file_parts m (hex_text content) (path_text p) ≡ Some (m, Some (hex_text content), path_text p)
+file_parts_are : (m : MetaValue) (content : List ℕ) (p : List (List ℕ)) → AreBytes content → IsPath p → p ≢ []
+    → file_parts m (hex_text content) (path_text p) ≡ Some (m, Some (hex_text content), path_text p)
 file_parts_are m content p bytes path named =
-    (λ i. cond {A = Option Fields} (is_content_text content bytes i && is_path_text p path i && not (le-ltb (length (path_text p)) 2 (long_path p path named) i)) (Some (m, Some (hex_text content), path_text p)) None)
+    (λ i. cond {A = Option Fields} (is_content_text content bytes i && is_path_text p path i
+    && not (le-ltb (length (path_text p)) 2 (long_path p path named) i)) (Some (m, Some (hex_text content), path_text p)) None)
 
 -- the parts of the line of an entry
 pub parts_are : (row : List (List ℕ) × Entry) → IsRow row → parts_in (row_text row) ≡ Some (parts_from row)
@@ -282,7 +306,8 @@ parts_are (p, Dir m) is =
     ∙ dir_parts_are m p is.stands.path
 parts_are (p, File m content) is =
     ap (λ o. on o by_kind) (word (102 ∷ []) (meta_text m ++ (hex_text content ++ 32 ∷ path_text p)) (one_solid 102 (omega arith)))
-    ∙ ap (λ o. on o (λ (m : MetaValue × List ℕ). on (cut_at 32 m.1) (λ c. file_parts m.0 c.0 c.1))) (meta_is m is.stands.meta (hex_text content ++ 32 ∷ path_text p))
+    ∙ ap (λ o. on o (λ (m : MetaValue × List ℕ). on (cut_at 32 m.1) (λ c. file_parts m.0 c.0 c.1)))
+    (meta_is m is.stands.meta (hex_text content ++ 32 ∷ path_text p))
     ∙ ap (λ o. on o (λ (c : List ℕ × List ℕ). file_parts m c.0 c.1)) (word (hex_text content) (path_text p) (content_solid content is.stands.bytes))
     ∙ file_parts_are m content p is.stands.bytes is.stands.path (λ at. let one = (is.root at).1 in absurd cc)
 
@@ -293,13 +318,15 @@ row_is row is = ap (λ o. on o row_from) (parts_are row is) ∙ row_from_is row 
 -- ---- no line end, and UTF-8
 
 name_plain : (name : List ℕ) → is_name name ≡ true → Plain name
-name_plain name is = All-weaker (λ b. is_name_byte b ≡ true) (λ b. 32 ≤ b) from_space name (AllPass-from_list_all is_name_byte name (passes_tests name is).plain)
+name_plain name is = All-weaker (λ b. is_name_byte b ≡ true) (λ b. 32 ≤ b) from_space name
+    (AllPass-from_list_all is_name_byte name (passes_tests name is).plain)
 
 names_plain : (p : List (List ℕ)) → All (λ name. is_name name ≡ true) p → Plain (names_text p)
 names_plain [] all = All-nil (λ b. 32 ≤ b)
 names_plain (n ∷ p) all =
     All-cons (λ b. 32 ≤ b) 47 (n ++ names_text p) (omega arith)
-    (All-append (λ b. 32 ≤ b) n (names_text p) (name_plain n (All-head (λ name. is_name name ≡ true) n p all)) (names_plain p (All-tail (λ name. is_name name ≡ true) n p all)))
+    (All-append (λ b. 32 ≤ b) n (names_text p) (name_plain n (All-head (λ name. is_name name ≡ true) n p all))
+    (names_plain p (All-tail (λ name. is_name name ≡ true) n p all)))
 
 path_plain : (p : List (List ℕ)) → IsPath p → Plain (path_text p)
 path_plain [] path = All-cons (λ b. 32 ≤ b) 47 [] (omega arith) (All-nil (λ b. 32 ≤ b))
@@ -311,13 +338,16 @@ words_plain w rest solid plain = All-append (λ b. 32 ≤ b) w (32 ∷ rest) (so
 meta_plain : (m : MetaValue) (rest : List ℕ) → IsMeta m → Plain rest → Plain (meta_text m ++ rest)
 meta_plain m rest is plain = subst Plain (sym (grouped m is rest))
     (words_plain (mode_text m.mode) (decimal m.uid ++ 32 ∷ (decimal m.gid ++ 32 ∷ rest)) (octal_solid m.mode is.mode)
-    (words_plain (decimal m.uid) (decimal m.gid ++ 32 ∷ rest) (decimal_solid m.uid (omega (arith, is.uid))) (words_plain (decimal m.gid) rest (decimal_solid m.gid (omega (arith, is.gid))) plain)))
+    (words_plain (decimal m.uid) (decimal m.gid ++ 32 ∷ rest) (decimal_solid m.uid (omega (arith, is.uid)))
+    (words_plain (decimal m.gid) rest (decimal_solid m.gid (omega (arith, is.gid))) plain)))
 
 pub row_plain : (row : List (List ℕ) × Entry) → IsRow row → Plain (row_text row)
-row_plain (p, Dir m) is = words_plain (100 ∷ []) (meta_text m ++ path_text p) (one_solid 100 (omega arith)) (meta_plain m (path_text p) is.stands.meta (path_plain p is.stands.path))
+row_plain (p, Dir m) is = words_plain (100 ∷ []) (meta_text m ++ path_text p) (one_solid 100 (omega arith))
+    (meta_plain m (path_text p) is.stands.meta (path_plain p is.stands.path))
 row_plain (p, File m content) is =
     words_plain (102 ∷ []) (meta_text m ++ (hex_text content ++ 32 ∷ path_text p)) (one_solid 102 (omega arith))
-    (meta_plain m (hex_text content ++ 32 ∷ path_text p) is.stands.meta (words_plain (hex_text content) (path_text p) (content_solid content is.stands.bytes) (path_plain p is.stands.path)))
+    (meta_plain m (hex_text content ++ 32 ∷ path_text p) is.stands.meta
+    (words_plain (hex_text content) (path_text p) (content_solid content is.stands.bytes) (path_plain p is.stands.path)))
 
 one_text : (c : ℕ) → c < 128 → IsUtf8 (c ∷ [])
 one_text c lt = IsUtf8-from_ascii (c ∷ []) (IsAscii-cons c [] lt IsAscii-nil)
@@ -329,7 +359,8 @@ names_utf8 : (p : List (List ℕ)) → All (λ name. is_name name ≡ true) p �
 names_utf8 [] all = IsUtf8-nil
 names_utf8 (n ∷ p) all =
     IsUtf8-append (47 ∷ []) (n ++ names_text p) (one_text 47 (omega arith))
-    (IsUtf8-append n (names_text p) (name-IsUtf8 n (All-head (λ name. is_name name ≡ true) n p all)) (names_utf8 p (All-tail (λ name. is_name name ≡ true) n p all)))
+    (IsUtf8-append n (names_text p) (name-IsUtf8 n (All-head (λ name. is_name name ≡ true) n p all))
+    (names_utf8 p (All-tail (λ name. is_name name ≡ true) n p all)))
 
 path_utf8 : (p : List (List ℕ)) → IsPath p → IsUtf8 (path_text p)
 path_utf8 [] path = one_text 47 (omega arith)
@@ -347,13 +378,15 @@ octal_utf8 m small =
 meta_utf8 : (m : MetaValue) (rest : List ℕ) → IsMeta m → IsUtf8 rest → IsUtf8 (meta_text m ++ rest)
 meta_utf8 m rest is other = subst IsUtf8 (sym (grouped m is rest))
     (words_utf8 (mode_text m.mode) (decimal m.uid ++ 32 ∷ (decimal m.gid ++ 32 ∷ rest)) (octal_utf8 m.mode is.mode)
-    (words_utf8 (decimal m.uid) (decimal m.gid ++ 32 ∷ rest) (decimal_utf8 m.uid (omega (arith, is.uid))) (words_utf8 (decimal m.gid) rest (decimal_utf8 m.gid (omega (arith, is.gid))) other)))
+    (words_utf8 (decimal m.uid) (decimal m.gid ++ 32 ∷ rest) (decimal_utf8 m.uid (omega (arith, is.uid)))
+    (words_utf8 (decimal m.gid) rest (decimal_utf8 m.gid (omega (arith, is.gid))) other)))
 
 digit_low : (c d : ℕ) → hex_digit_value c ≡ Some d → c < 128
 digit_low c d is = by_cases (nat_lt c 128) refl
   where
     none : 128 ≤ c → hex_digit_value c ≡ None
-    none le = (λ i. cond (past 65 70 (omega arith) i) (Some (c - 55)) (cond (past 97 102 (omega arith) i) (Some (c - 87)) (cond (past 48 57 (omega arith) i) (Some (c - 48)) None)))
+    none le = (λ i. cond (past 65 70 (omega arith) i) (Some (c - 55))
+        (cond (past 97 102 (omega arith) i) (Some (c - 87)) (cond (past 48 57 (omega arith) i) (Some (c - 48)) None)))
       where
         past : (j k : ℕ) → k < c → (nat_le j c && nat_le c k) ≡ false
         past j k lt = ap (λ t. nat_le j c && t) (lt-leb c k lt) ∙ and_false (nat_le j c)
@@ -379,7 +412,9 @@ content_utf8 [] bytes = one_text 45 (omega arith)
 content_utf8 (b ∷ content) bytes = IsUtf8-from_ascii (encode_lower (b ∷ content)) (IsAscii-encode_with lower_digits (b ∷ content) digit_ascii)
 
 pub row_utf8 : (row : List (List ℕ) × Entry) → IsRow row → IsUtf8 (row_text row)
-row_utf8 (p, Dir m) is = words_utf8 (100 ∷ []) (meta_text m ++ path_text p) (one_text 100 (omega arith)) (meta_utf8 m (path_text p) is.stands.meta (path_utf8 p is.stands.path))
+row_utf8 (p, Dir m) is = words_utf8 (100 ∷ []) (meta_text m ++ path_text p) (one_text 100 (omega arith))
+    (meta_utf8 m (path_text p) is.stands.meta (path_utf8 p is.stands.path))
 row_utf8 (p, File m content) is =
     words_utf8 (102 ∷ []) (meta_text m ++ (hex_text content ++ 32 ∷ path_text p)) (one_text 102 (omega arith))
-    (meta_utf8 m (hex_text content ++ 32 ∷ path_text p) is.stands.meta (words_utf8 (hex_text content) (path_text p) (content_utf8 content is.stands.bytes) (path_utf8 p is.stands.path)))
+    (meta_utf8 m (hex_text content ++ 32 ∷ path_text p) is.stands.meta
+    (words_utf8 (hex_text content) (path_text p) (content_utf8 content is.stands.bytes) (path_utf8 p is.stands.path)))

@@ -1,5 +1,5 @@
--- How the calls of this crate answer: what their rule gives, or the want of memory. A rule is a function into values
--- or faults that never gives the want of memory.
+-- How the calls of this crate answer: what their rule gives, or out of memory. A rule is a function into values
+-- or faults that never gives out of memory.
 use Rattle.std.specs.Prelude.{ℕ, List, Bool, true, false, Option, Result}
 use Rattle.llb_wire.specs.Answer as answer
 use Rattle.llb_treetext.specs.Output as output
@@ -8,7 +8,7 @@ use Rattle.llb_treetext.specs.declared.fault.TextFault.TheVariants as text
 use Rattle.llb_treetext.specs.declared.fault.PrintFault.{PrintFault}
 use Rattle.llb_treetext.specs.declared.fault.PrintFault.TheVariants as print
 
--- want of memory, which no rule gives
+-- out of memory, which no rule gives
 abbrev pub is_memory : TextFault → Bool
 is_memory text.Memory = true
 is_memory (text.BadLine n) = false
@@ -19,7 +19,7 @@ is_memory (text.NoParent n) = false
 abbrev pub Gives : {X Y : Type 0} → (X → Y) → Result X TextFault → Result Y TextFault → Type 0
 Gives = answer.Gives is_memory
 
--- and want of memory comes last: it is answered only where the rule has no refusal
+-- and out of memory comes last: it is answered only where the rule has no refusal
 abbrev pub MemoryLast : {X Y : Type 0} → Result X TextFault → Result Y TextFault → Type 0
 MemoryLast = answer.MemoryLast is_memory
 
@@ -27,6 +27,6 @@ abbrev pub is_refused_memory : PrintFault → Bool
 is_refused_memory print.Memory = true
 is_refused_memory print.Write = false
 
--- a text is out, or a front of it where memory was refused or the sink has failed
+-- a text is out, or a prefix of it where memory was refused or the sink has failed
 abbrev pub Prints : Option (List ℕ) → Option (List ℕ) → Bool → List ℕ → Result (Unit {0}) PrintFault → Type 0
 Prints = output.Writes is_refused_memory

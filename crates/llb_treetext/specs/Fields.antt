@@ -1,5 +1,6 @@
 -- What a line is taken apart into: its fields, each as it is written. Only this file and the proofs know how.
-use Rattle.std.specs.Prelude.{ℕ, ◌+◌, ◌-◌, ◌*◌, ◌%◌, ◌^◌, ◌==◌, ◌&&◌, ◌||◌, not, nat_lt, nat_le, nat_eq, Bool, false, if◌then◌else◌, List, [], ◌∷◌, length, codes, Option, Some, None}
+use Rattle.std.specs.Prelude.{ℕ, ◌+◌, ◌-◌, ◌*◌, ◌%◌, ◌^◌, ◌==◌, ◌&&◌, ◌||◌, not, nat_lt, nat_le, nat_eq, Bool, false, if◌then◌else◌, List}
+use Rattle.std.specs.Prelude.{[], ◌∷◌, length, codes, Option, Some, None}
 use Rattle.std.specs.List.{list_all, position_or_len, before_first, after_first}
 use Rattle.std.specs.Option.{option_map}
 use Rattle.std.specs.Fmt.{decimal}
@@ -19,15 +20,16 @@ abbrev pub on : {A B : Type 0} → Option A → (A → Option B) → Option B
 on None f = None
 on (Some x) f = f x
 
--- the bytes up to the first one of a kind, and those behind it
+-- the bytes up to the first one of a kind, and those after it
 abbrev pub cut_at : ℕ → List ℕ → Option (List ℕ × List ℕ)
-cut_at c text = if nat_lt (position_or_len (λ b. nat_eq b c) text) (length text) then Some (before_first (λ b. nat_eq b c) text, after_first (λ b. nat_eq b c) text) else None
+cut_at c text = if nat_lt (position_or_len (λ b. nat_eq b c) text) (length text) then
+    Some (before_first (λ b. nat_eq b c) text, after_first (λ b. nat_eq b c) text) else None
 
 -- four octal digits
 abbrev pub mode_in : List ℕ → Option ℕ
 mode_in text = if length text == 4 then mode_of text else None
 
--- decimal digits behind a number
+-- decimal digits after a number
 unfoldable pub number_from : ℕ → List ℕ → Option ℕ
 number_from n [] = Some n
 number_from n (b ∷ text) = if nat_lt (n * 10 + (b - 48)) (2 ^ 32) then number_from (n * 10 + (b - 48)) text else None
@@ -36,7 +38,7 @@ number_from n (b ∷ text) = if nat_lt (n * 10 + (b - 48)) (2 ^ 32) then number_
 abbrev pub decimal_in : List ℕ → Option ℕ
 decimal_in text = on (number_from 0 text) (λ n. if pointwise nat_eq text (decimal n) then Some n else None)
 
--- the mode and the owners at the front of a text, and what is behind them
+-- the mode and the owners at the start of a text, and what is after them
 abbrev pub meta_in : List ℕ → Option (MetaValue × List ℕ)
 meta_in text = on (cut_at 32 text) (λ m. on (cut_at 32 m.1) (λ u. on (cut_at 32 u.1) (λ g.
     on (mode_in m.0) (λ mode. on (decimal_in u.0) (λ uid. on (decimal_in g.0) (λ gid. on (meta_of mode uid gid) (λ meta. Some (meta, g.1))))))))
@@ -45,7 +47,7 @@ meta_in text = on (cut_at 32 text) (λ m. on (cut_at 32 m.1) (λ u. on (cut_at 3
 abbrev pub are_names : List ℕ → Bool
 are_names text = list_all is_name (parts_of text) && nat_le (length (parts_of text)) 128
 
--- a slash, and names behind it or nothing
+-- a slash, and names after it or nothing
 abbrev pub is_path : List ℕ → Bool
 is_path [] = false
 is_path (b ∷ names) = (b == 47) && ((length names == 0) || are_names names)

@@ -12,7 +12,7 @@ abbrev pub Spells : List ℕ → Option Parts → Type 0
 Spells line None = (row : List (List ℕ) × Entry) → IsRow row → line ≢ row_text row
 Spells line (Some x) = (row : List (List ℕ) × Entry) × IsRow row × (line ≡ row_text row) × (parts_seen x ≡ parts_from row)
 
--- the bytes begin with a line, which has these parts, and these are behind it; or they begin with none
+-- the bytes begin with a line, which has these parts, and these are after it; or they begin with none
 abbrev pub BeginsWith : List ℕ → Option (Parts × Bor (List ℕ)) → Type 0
 BeginsWith bytes None = (row : List (List ℕ) × Entry) → ¬ Begins bytes row
 BeginsWith bytes (Some x) = (row : List (List ℕ) × Entry) × IsRow row × (bytes ≡ line_of row ++ x.1.now) × (parts_seen x.0 ≡ parts_from row)

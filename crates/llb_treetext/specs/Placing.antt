@@ -18,7 +18,7 @@ abbrev pub put_row : TreeMap → List (List ℕ) × Entry → Result TreeMap Tre
 put_row t (p, Dir m) = put_dir t p m
 put_row t (p, File m content) = put_file t p m content
 
--- the line behind some rows is not faulty
+-- the line after some rows is not faulty
 abbrev pub HasNoFault : List (List (List ℕ) × Entry) → List ℕ → Type 0
 HasNoFault rows rest = (e : TextFault) → ¬ IsFault rows rest e
 
@@ -28,7 +28,7 @@ pub record GoesOn (old new : TreeMap) (rest later : List ℕ) : Type 0 where
   pub text : tree_text old ++ rest ≡ tree_text new ++ later
   pub shorter : length later < length rest
 
--- a tree of the lines at the front of a text, and what is left of the text
+-- a tree of the lines at the start of a text, and what is left of the text
 pub record IsFront (bytes : List ℕ) (t : TreeMap) (rest : List ℕ) : Type 0 where
   pub tree : IsTree t
   pub text : bytes ≡ tree_text t ++ rest
@@ -47,7 +47,7 @@ rank b = if b == 47 then 0 else b
 abbrev pub trail_cmp : List ℕ → List ℕ → Ordering
 trail_cmp p q = slice_cmp nat_cmp (map rank p) (map rank q)
 
--- what is behind the names of a directory, where that is the last path or above it
+-- what is after the names of a directory, where that is the last path or above it
 abbrev pub opens : List ℕ → Bool → Bool
 opens [] dir = dir
 opens (b ∷ later) dir = b == 47

@@ -24,7 +24,7 @@ pub record IsText (bytes : List ℕ) (t : TreeMap) : Type 0 where
 abbrev pub AreBefore : List (List (List ℕ) × Entry) → Type 0
 AreBefore rows = (rows ≡ []) ⊎ ((t : TreeMap) × IsTree t × (rows ≡ finite.entries t))
 
--- the root comes first, and then each path behind the last one
+-- the root comes first, and then each path after the last one
 abbrev pub comes_next : List (List (List ℕ) × Entry) → List (List ℕ) → Bool
 comes_next [] [] = true
 comes_next [] (n ∷ p) = false
@@ -35,15 +35,16 @@ comes_next (r ∷ s ∷ rows) p = comes_next (s ∷ rows) p
 abbrev pub Begins : List ℕ → List (List ℕ) × Entry → Type 0
 Begins text row = IsRow row × ((later : List ℕ) × (text ≡ line_of row ++ later))
 
--- what is wrong with the line behind some rows, the first that is: it is no entry's; or its path is not behind the last one;
+-- what is wrong with the line after some rows, the first that is: it is no entry's; or its path is not after the last one;
 -- or that path's directories are not there
 abbrev pub IsFault : List (List (List ℕ) × Entry) → List ℕ → TextFault → Type 0
 IsFault rows rest (BadLine n) = (n ≡ length rows + 1) × ((row : List (List ℕ) × Entry) → ¬ Begins rest row)
 IsFault rows rest (Order n) = (n ≡ length rows + 1) × ((row : List (List ℕ) × Entry) × Begins rest row × (comes_next rows row.0 ≡ false))
-IsFault rows rest (NoParent n) = (n ≡ length rows + 1) × ((row : List (List ℕ) × Entry) × Begins rest row × (comes_next rows row.0 ≡ true) × (walk (λ q. finite.find path_cmp q rows) row.0 ≢ Ok tt))
+IsFault rows rest (NoParent n) = (n ≡ length rows + 1)
+    × ((row : List (List ℕ) × Entry) × Begins rest row × (comes_next rows row.0 ≡ true) × (walk (λ q. finite.find path_cmp q rows) row.0 ≢ Ok tt))
 IsFault rows rest Memory = ⊥
 
--- the text begins with the rows of a tree, or with none, and the line behind them is faulty; no line at all is one with no rows
+-- the text begins with the rows of a tree, or with none, and the line after them is faulty; no line at all is one with no rows
 pub record Stops (bytes : List ℕ) (e : TextFault) : Type 0 where
   pub rows : List (List (List ℕ) × Entry)
   pub rest : List ℕ
@@ -52,12 +53,12 @@ pub record Stops (bytes : List ℕ) (e : TextFault) : Type 0 where
   pub more : rest ≡ [] → rows ≡ []
   pub fault : IsFault rows rest e
 
--- what a text is: the text of a tree, or one with a first faulty line; of want of memory it says nothing
+-- what a text is: the text of a tree, or one with a first faulty line; of memory it says nothing
 abbrev pub Answers : List ℕ → Result TreeMap TextFault → Type 0
 Answers bytes (Ok t) = IsText bytes t
 Answers bytes (Err e) = is_memory e ≡ false → Stops bytes e
 
--- and want of memory comes last: it is answered only of a text that is a tree's
+-- and out of memory comes last: it is answered only of a text that is a tree's
 abbrev pub MemoryIsLast : List ℕ → Result TreeMap TextFault → Type 0
 MemoryIsLast bytes (Ok t) = Unit {0}
 MemoryIsLast bytes (Err e) = is_memory e ≡ true → (t : TreeMap) × IsText bytes t
@@ -68,6 +69,6 @@ pub record HasOneAnswer (bytes : List ℕ) : Type 0 where
   pub apart : (t : TreeMap) (e : TextFault) → IsText bytes t → ¬ Stops bytes e
   pub faults : (e d : TextFault) → Stops bytes e → Stops bytes d → e ≡ d
 
--- what is read of the text of a tree is the tree; want of memory is the one other answer
+-- what is read of the text of a tree is the tree; out of memory is the one other answer
 abbrev pub ReadsBack : TreeMap → Type 0
 ReadsBack t = (r : Result TreeMap TextFault) → Answers (tree_text t) r → MatchResult r (λ u. u ≡ t) (λ e. is_memory e ≡ true)

@@ -1,5 +1,5 @@
 //! A text is looked through without memory. The lines before a line are those of a tree, so the last of them tells whether
-//! the next one lies behind them, and whether its directory is there.
+//! the next one lies after them, and whether its directory is there.
 
 ghost use Rattle.std.specs.Prelude.{◌≡◌, ◌≢◌, ◌+◌, ◌++◌, ◌∷◌, ℕ, List, IsTrue, true};
 ghost use Rattle.std.specs.FinMap as finite;
@@ -82,7 +82,7 @@ fn holds(place: &Place<'_>, dir: &[u8]) -> bool
     }
 }
 
-// The place of the first line, which is the root's, and what is behind the line.
+// The place of the first line, which is the root's, and what is after the line.
 fn first_place(bytes: &[u8]) -> Result<(Place<'_>, &[u8]), TextFault>
     ensures { Starts bytes.now result }
 {
@@ -96,7 +96,7 @@ fn first_place(bytes: &[u8]) -> Result<(Place<'_>, &[u8]), TextFault>
     Ok((place, later))
 }
 
-// The place of the next line, and what is behind the line.
+// The place of the next line, and what is after the line.
 fn next_place<'a>(
     last: &Place<'_>,
     rest: &'a [u8],

@@ -32,7 +32,7 @@ impl<'a> Parts<'a> {
     }
 }
 
-// The text up to the first space, and the text behind it.
+// The text up to the first space, and the text after it.
 fn cut(text: &str) -> Option<(&str, &str)>
     ensures { option_map (λ x. (x.0.now, x.1.now)) result ≡ cut_at 32 text.now }
 {
@@ -94,7 +94,7 @@ fn decimal_of(text: &str) -> Option<u32>
     }
 }
 
-// The mode and the owners at the front of a text, and what is behind them.
+// The mode and the owners at the start of a text, and what is after them.
 fn front(text: &str) -> Option<(Meta, &str)>
     ensures { option_map (λ x. (x.0, x.1.now)) result ≡ meta_in text.now }
 {
@@ -202,7 +202,7 @@ fn line_end(bytes: &[u8]) -> Option<usize>
     bytes.iter().position(|b| *b == b'\n')
 }
 
-// The parts of the line that the bytes begin with, and the bytes behind it.
+// The parts of the line that the bytes begin with, and the bytes after it.
 pub(crate) fn next_parts(bytes: &[u8]) -> Option<(Parts<'_>, &[u8])>
     ensures { BeginsWith bytes.now result }
 {

@@ -30,7 +30,7 @@ fn put(tree: &mut Tree, row: Row) -> Result<(), TreeFault>
     }
 }
 
-// The next line's entry goes to the end of the tree, and what is behind the line is left. Where the line is not faulty,
+// The next line's entry goes to the end of the tree, and what is after the line is left. Where the line is not faulty,
 // nothing but memory can be refused.
 fn read_next<'a>(alloc: Global, tree: &mut Tree, rest: &'a [u8]) -> Result<&'a [u8], Memory>
     requires tree { IsTree tree.old }
@@ -58,7 +58,7 @@ fn root_alone(alloc: Global, meta: Meta) -> Result<Tree, TreeFault>
     Ok(tree)
 }
 
-// The first line's entry as the root of a tree, and what is behind the line.
+// The first line's entry as the root of a tree, and what is after the line.
 fn read_root(alloc: Global, bytes: &[u8]) -> Result<(Tree, &[u8]), Memory>
     requires sound { HasNoFault [] bytes.now }
     ensures { IfOk result (λ x. IsFront bytes.now x.0 x.1.now) }

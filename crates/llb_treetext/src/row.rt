@@ -74,9 +74,10 @@ fn row_from(alloc: Global, parts: &Parts<'_>) -> Result<Option<Row>, Memory>
     }
 }
 
-// The entry whose line the bytes begin with, and the bytes behind it.
+// The entry whose line the bytes begin with, and the bytes after it.
 pub(crate) fn next_row(alloc: Global, bytes: &[u8]) -> Result<Option<(Row, &[u8])>, Memory>
-    ensures { IfOk result (λ o. MatchOption o ((row : List (List ℕ) × TreeEntry) → ¬ Begins bytes.now row) (λ x. IsRow (pair_of x.0) × (bytes.now ≡ line_of (pair_of x.0) ++ x.1.now))) }
+    ensures { IfOk result (λ o. MatchOption o ((row : List (List ℕ) × TreeEntry) → ¬ Begins bytes.now row)
+        (λ x. IsRow (pair_of x.0) × (bytes.now ≡ line_of (pair_of x.0) ++ x.1.now))) }
 {
     let Some((parts, later)) = next_parts(bytes) else {
         return Ok(None);

@@ -1,5 +1,6 @@
 -- A number is found where it is spelled, and each fault stands only where its cause does.
-use Rattle.std.proofs.Common.{◌≡◌, ℕ, zero, suc, ◌+◌, ◌-◌, ◌*◌, ◌≤◌, Bool, true, false, cond, ltb, List, [], ◌∷◌, length, drop, Result, Ok, Err, ◌⊎◌, inl, inr, refl, sym, ap, arith}
+use Rattle.std.proofs.Common.{◌≡◌, ℕ, zero, suc, ◌+◌, ◌-◌, ◌*◌, ◌≤◌, Bool, true, false, cond, ltb, List, [], ◌∷◌, length, drop, Result, Ok}
+use Rattle.std.proofs.Common.{Err, ◌⊎◌, inl, inr, refl, sym, ap, arith}
 use Rattle.std.proofs.lemmas.Bool.{ltb-false, ltb-true}
 use Rattle.std.specs.Prelude.{IfOk, IfErr}
 use Rattle.llb_wire.specs.declared.fault.WireFault.{WireFault}
@@ -9,11 +10,13 @@ use Rattle.llb_wire.specs.Reading.{varint_from, varint_at}
 use Rattle.llb_wire.specs.Spelling.{IsOpen, IsLong, VarintAt, VarintCause, CutVarint, AreBytes}
 use Rattle.llb_wire.specs.Laws.Varints.{varint_found}
 
-pub at_varint : (bytes : List ℕ) (at : ℕ) (r : Result (ℕ × ℕ) WireFault) → AreBytes bytes → at ≤ length bytes → r ≡ varint_at bytes at → IfOk r (λ x. VarintAt bytes at x.0 x.1)
+pub at_varint : (bytes : List ℕ) (at : ℕ) (r : Result (ℕ × ℕ) WireFault) → AreBytes bytes → at ≤ length bytes → r ≡ varint_at bytes at
+    → IfOk r (λ x. VarintAt bytes at x.0 x.1)
 at_varint bytes at (Err d) are le e = tt
 at_varint bytes at (Ok x) are le e = varint_found bytes at x are le (sym e)
 
-err_step : (b : ℕ) (test : Bool) (more : Result (ℕ × ℕ) WireFault) (d : WireFault) → cond {A = Result (ℕ × ℕ) WireFault} test (Ok (b, 1)) (more >>= λ m. Ok (b - 128 + 128 * m.0, suc m.1)) ≡ Err d → (test ≡ false) × (more ≡ Err d)
+err_step : (b : ℕ) (test : Bool) (more : Result (ℕ × ℕ) WireFault) (d : WireFault)
+    → cond {A = Result (ℕ × ℕ) WireFault} test (Ok (b, 1)) (more >>= λ m. Ok (b - 128 + 128 * m.0, suc m.1)) ≡ Err d → (test ≡ false) × (more ≡ Err d)
 err_step b true more d e = absurd cc
 err_step b false (Ok m) d e = absurd cc
 err_step b false (Err c) d e = (refl, let h : c ≡ d = cc in ap (λ x. Err x) h)

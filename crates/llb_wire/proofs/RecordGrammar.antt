@@ -23,7 +23,8 @@ fixed_is w bytes at n last h =
     rw (enough, value, sym h.size) refl
 
 -- a record is its five parts
-five_parts : (f : Field) (n : ℕ) (w : Wire) (start last : ℕ) → f.number ≡ n → f.wire ≡ w → f.start ≡ start → f.«end» ≡ last → ok_of (as_field n w start (f.value, last)) ≡ ok_of f
+five_parts : (f : Field) (n : ℕ) (w : Wire) (start last : ℕ) → f.number ≡ n → f.wire ≡ w → f.start ≡ start → f.«end» ≡ last
+    → ok_of (as_field n w start (f.value, last)) ≡ ok_of f
 five_parts f n w start last num is begin stop = rw (sym num, sym is, sym begin, sym stop) refl
 
 payload_is : (n : ℕ) (w : Wire) (bytes : List ℕ) (at : ℕ) (f : Field) → f.number ≡ n → f.wire ≡ w → PayloadAt w bytes at f → payload_at n w bytes at ≡ Ok f

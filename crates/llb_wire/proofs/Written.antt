@@ -9,7 +9,8 @@ use Rattle.llb_wire.specs.Records.{own_text, written_record}
 use Rattle.llb_wire.specs.Laws.Records.{record_read, written_is_record}
 
 -- where the payload's own bytes begin
-begins : (number : ℕ) (w : Wire) (value : ℕ) (payload : List ℕ) → 0 + (length (record_text number w value payload) - length (own_text w value payload)) ≡ length (tag_text number w) + payload_start w payload
+begins : (number : ℕ) (w : Wire) (value : ℕ) (payload : List ℕ)
+    → 0 + (length (record_text number w value payload) - length (own_text w value payload)) ≡ length (tag_text number w) + payload_start w payload
 begins number w value payload = omega (arith, length-append (tag_text number w) (payload_text w value payload), behind w value payload) where
   behind : (w : Wire) (value : ℕ) (payload : List ℕ) → length (payload_text w value payload) ≡ payload_start w payload + length (own_text w value payload)
   behind wire.Varint value payload = omega arith
@@ -17,7 +18,8 @@ begins number w value payload = omega (arith, length-append (tag_text number w) 
   behind wire.Len value payload = length-append (varint_text (length payload)) payload
   behind wire.I32 value payload = omega arith
 
-pub record_again : (number : ℕ) (w : Wire) (value : ℕ) (payload rest : List ℕ) → IsFieldNumber number → value < 2 ^ 64 → length payload < 2 ^ 64 → (w ≡ wire.I32 → value < 2 ^ 32)
+pub record_again : (number : ℕ) (w : Wire) (value : ℕ) (payload rest : List ℕ) → IsFieldNumber number → value < 2 ^ 64
+    → length payload < 2 ^ 64 → (w ≡ wire.I32 → value < 2 ^ 32)
     → field_at (record_text number w value payload ++ rest) 0 ≡ Ok (written_field number w value payload)
 record_again number w value payload rest named small len narrow =
     let size = length (record_text number w value payload) in

@@ -1,9 +1,9 @@
--- How an answer is stated, in every crate. A rule is a function into values or faults, and it never gives want of
+-- How an answer is stated, in every crate. A rule is a function into values or faults, and it never gives out of
 -- memory; a call gives what its rule gives, or it lacked memory.
 use Rattle.std.specs.Prelude.{◌≡◌, Bool, true, false, cond, Result, Ok, Err, is_ok}
 use Rattle.std.proofs.Common.{refl}
 
--- a refusal that is not want of memory is the one that the rule gives
+-- a refusal that is not *out of memory* is the one that the rule gives
 abbrev pub Fails : {Y F : Type 0} → (F → Bool) → F → Result Y F → Type 0
 Fails is_memory e rule = is_memory e ≡ false → rule ≡ Err e
 
@@ -12,7 +12,7 @@ abbrev pub Gives : {X Y F : Type 0} → (F → Bool) → (X → Y) → Result X 
 Gives is_memory view (Ok x) rule = rule ≡ Ok (view x)
 Gives is_memory view (Err e) rule = Fails is_memory e rule
 
--- want of memory comes last: it is answered only where the rule has no refusal
+-- out of memory comes last: it is answered only where the rule has no refusal
 abbrev pub MemoryLast : {X Y F : Type 0} → (F → Bool) → Result X F → Result Y F → Type 0
 MemoryLast is_memory (Ok x) rule = Unit {0}
 MemoryLast is_memory (Err e) rule = is_memory e ≡ true → is_ok rule ≡ true

@@ -1,3 +1,5 @@
+-- Read first Answer (how an answer is stated, in every crate), Spelling (the grammar of the wire), Reading (a record from left to right, with its first
+-- fault) and Records, then Sink (what takes bytes), Hexadecimal, Digest and Hashing. Laws are for those who rest on the grammar.
 pub mod Answer
 pub mod Spelling
 pub mod Reading

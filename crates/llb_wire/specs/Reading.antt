@@ -1,6 +1,7 @@
 -- Reading a record from left to right, with the first fault that is met: the tag's varint, the field's number, the wire
 -- type, the payload.
-use Rattle.std.specs.Prelude.{ℕ, zero, suc, ◌+◌, ◌-◌, ◌*◌, ◌<◌, ◌≤◌, ◌/◌, ◌%◌, List, [], ◌∷◌, length, take, drop, Option, Some, None, Result, Ok, Err, nat_lt, ◌==◌, if◌then◌else◌}
+use Rattle.std.specs.Prelude.{ℕ, zero, suc, ◌+◌, ◌-◌, ◌*◌, ◌<◌, ◌≤◌, ◌/◌, ◌%◌, List, [], ◌∷◌, length, take, drop, Option, Some, None}
+use Rattle.std.specs.Prelude.{Result, Ok, Err, nat_lt, ◌==◌, if◌then◌else◌}
 use Rattle.std.specs.Int.{Width, w32, w64, byte_len, from_le_bytes}
 use Rattle.llb_wire.specs.Answer.{◌>>=◌}
 use Rattle.llb_wire.specs.declared.field.Wire.{Wire}
@@ -9,7 +10,7 @@ use Rattle.llb_wire.specs.declared.field.Field.{Field}
 use Rattle.llb_wire.specs.declared.fault.WireFault.{WireFault}
 use Rattle.llb_wire.specs.declared.fault.WireFault.TheVariants.{Truncated, LongVarint, BadField, BadWireType}
 
--- The number at the front, and of how many bytes it is: at most one more than the count.
+-- The number at the start, and of how many bytes it is: at most one more than the count.
 -- The tenth byte, behind which nothing more may come, is 0 or 1.
 unfoldable pub varint_from : ℕ → List ℕ → Result (ℕ × ℕ) WireFault
 varint_from more [] = Err Truncated
@@ -33,9 +34,10 @@ number_of n = if n == 0 then Err BadField else if nat_lt 536_870_911 n then Err 
 abbrev pub wire_of : ℕ → Result Wire WireFault
 wire_of code = if code == 0 then Ok Varint else if code == 1 then Ok I64 else if code == 2 then Ok Len else if code == 5 then Ok I32 else Err BadWireType
 
--- so many bytes from a place on, as a number
+-- that many bytes from a place on, as a number
 abbrev pub fixed_at : Width → List ℕ → ℕ → Result (ℕ × ℕ) WireFault
-fixed_at w bytes at = if nat_lt (length (drop at bytes)) (byte_len w) then Err Truncated else Ok (from_le_bytes w (take (byte_len w) (drop at bytes)), at + byte_len w)
+fixed_at w bytes at = if nat_lt (length (drop at bytes)) (byte_len w) then
+    Err Truncated else Ok (from_le_bytes w (take (byte_len w) (drop at bytes)), at + byte_len w)
 
 -- a number and its end, as a payload that begins at a place
 abbrev pub as_field : ℕ → Wire → ℕ → ℕ × ℕ → Field
@@ -44,7 +46,8 @@ as_field number wire start v = record { number = number; wire = wire; value = v.
 unfoldable pub payload_at : ℕ → Wire → List ℕ → ℕ → Result Field WireFault
 payload_at number Varint bytes at = varint_at bytes at >>= λ v. Ok (as_field number Varint at v)
 payload_at number I64 bytes at = fixed_at w64 bytes at >>= λ v. Ok (as_field number I64 at v)
-payload_at number Len bytes at = varint_at bytes at >>= λ len. if nat_lt (length bytes - len.1) len.0 then Err Truncated else Ok (as_field number Len len.1 (len.0, len.1 + len.0))
+payload_at number Len bytes at = varint_at bytes at >>= λ len. if nat_lt (length bytes - len.1) len.0 then
+    Err Truncated else Ok (as_field number Len len.1 (len.0, len.1 + len.0))
 payload_at number I32 bytes at = fixed_at w32 bytes at >>= λ v. Ok (as_field number I32 at v)
 
 unfoldable pub field_at : List ℕ → ℕ → Result Field WireFault

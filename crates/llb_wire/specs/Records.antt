@@ -16,13 +16,19 @@ pub record Record : Type 0 where
   pub payload : List ℕ
   pub text : List ℕ
 
--- the record that stands at the front of the bytes
+-- the record that stands at the start of the bytes
 abbrev pub record_of : List ℕ → Field → Record
 record_of bytes f = record { number = f.number; wire = f.wire; value = f.value; payload = drop f.start (take f.«end» bytes); text = take f.«end» bytes }
 
 -- the record that stands at a place of the bytes
 abbrev pub record_at : List ℕ → ℕ → Field → Record
-record_at bytes at f = record { number = f.number; wire = f.wire; value = f.value; payload = drop f.start (take f.«end» bytes); text = drop at (take f.«end» bytes) }
+record_at bytes at f = record {
+  number = f.number;
+  wire = f.wire;
+  value = f.value;
+  payload = drop f.start (take f.«end» bytes);
+  text = drop at (take f.«end» bytes);
+}
 
 -- where a record lies whose bytes begin at a place
 abbrev pub placed : ℕ → Record → Field
@@ -35,14 +41,14 @@ pub record IsFixed (w : Width) (bytes : List ℕ) (n : ℕ) : Type 0 where
   pub size : length bytes ≡ byte_len w
   pub value : n ≡ from_le_bytes w bytes
 
--- the bytes behind the tag: the number of a LEN is the count of the bytes that follow it, else all are the number's
+-- the bytes after the tag: the number of a LEN is the count of the bytes that follow it, else all are the number's
 abbrev pub IsPayload : Wire → List ℕ → ℕ → List ℕ → Type 0
 IsPayload Varint bytes value payload = (payload ≡ bytes) × IsVarint bytes value
 IsPayload I64 bytes value payload = (payload ≡ bytes) × IsFixed w64 bytes value
 IsPayload Len bytes value payload = (count : List ℕ) × (bytes ≡ count ++ payload) × IsVarint count value × (length payload ≡ value)
 IsPayload I32 bytes value payload = (payload ≡ bytes) × IsFixed w32 bytes value
 
--- a record's own bytes: its tag, which is eight times the field's number and the wire type, and behind it the payload
+-- a record's own bytes: its tag, which is eight times the field's number and the wire type, and after it the payload
 pub record IsRecord (r : Record) : Type 0 where
   pub tag : List ℕ
   pub behind : List ℕ
@@ -51,7 +57,7 @@ pub record IsRecord (r : Record) : Type 0 where
   pub tagged : IsVarint tag (8 * r.number + code_of r.wire)
   pub payload : IsPayload r.wire behind r.value r.payload
 
--- the records' own bytes, one behind the other, are the bytes, and each spells its record
+-- the records' own bytes, one after the other, are the bytes, and each spells its record
 pub record SpellRecords (bytes : List ℕ) (rs : List Record) : Type 0 where
   pub whole : bytes ≡ flat_map (λ r. r.text) rs
   pub each : AllByRecursion IsRecord rs
@@ -71,10 +77,17 @@ own_text Len value payload = payload
 own_text I32 value payload = to_le_bytes w32 value
 
 abbrev pub written_record : ℕ → Wire → ℕ → List ℕ → Record
-written_record number wire value payload = record { number = number; wire = wire; value = value_text wire value payload; payload = own_text wire value payload; text = record_text number wire value payload }
+written_record number wire value payload = record {
+  number = number;
+  wire = wire;
+  value = value_text wire value payload;
+  payload = own_text wire value payload;
+  text = record_text number wire value payload;
+}
 
 -- a record's bytes, than which no bytes that spell that number, wire type and value are fewer
 pub record IsShortestRecord (r : Record) : Type 0 where
   pub is_one : IsRecord r
   pub bytes : AreBytes r.text
-  pub least : (other : Record) → AreBytes other.text → IsRecord other → other.number ≡ r.number → other.wire ≡ r.wire → other.value ≡ r.value → length r.text ≤ length other.text
+  pub least : (other : Record) → AreBytes other.text → IsRecord other → other.number ≡ r.number → other.wire ≡ r.wire
+      → other.value ≡ r.value → length r.text ≤ length other.text

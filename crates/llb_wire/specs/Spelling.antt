@@ -1,6 +1,7 @@
 -- The grammar of the wire, apart from any reading: which bytes spell a number or a record, by the encoding guide of
 -- Protocol Buffers ("Base 128 Varints", "Message Structure"), and which spelling is the shortest.
-use Rattle.std.specs.Prelude.{◌≡◌, ◌≢◌, ℕ, zero, suc, ◌+◌, ◌-◌, ◌*◌, ◌/◌, ◌%◌, ◌<◌, ◌≤◌, ◌^◌, ◌⊎◌, List, [], ◌∷◌, ◌++◌, length, take, drop, nat_lt, if◌then◌else◌}
+use Rattle.std.specs.Prelude.{◌≡◌, ◌≢◌, ℕ, zero, suc, ◌+◌, ◌-◌, ◌*◌, ◌/◌, ◌%◌, ◌<◌, ◌≤◌, ◌^◌, ◌⊎◌, List, [], ◌∷◌, ◌++◌, length, take, drop}
+use Rattle.std.specs.Prelude.{nat_lt, if◌then◌else◌}
 use Rattle.std.specs.List.{AllByRecursion}
 use Rattle.std.specs.Int.{Width, w32, w64, byte_len, to_le_bytes, from_le_bytes}
 use Rattle.llb_wire.specs.declared.fault.WireFault.{WireFault}
@@ -43,7 +44,7 @@ pub record CutVarint (bytes : List ℕ) (at : ℕ) : Type 0 where
   pub more : IsOpen (drop at bytes)
   pub few : length (drop at bytes) ≤ 9
 
--- so many bytes say that more come, and the one after them is above 1
+-- that many bytes say that more come, and the one after them is above 1
 abbrev pub IsLong : ℕ → List ℕ → Type 0
 IsLong more [] = ⊥
 IsLong zero (b ∷ bs) = 1 < b
@@ -82,7 +83,7 @@ pub record FixedAt (w : Width) (bytes : List ℕ) (at n last : ℕ) : Type 0 whe
   pub inside : last ≤ length bytes
   pub value : n ≡ from_le_bytes w (between at last bytes)
 
--- the payload behind a tag that ends at a place
+-- the payload after a tag that ends at a place
 abbrev pub PayloadAt : Wire → List ℕ → ℕ → Field → Type 0
 PayloadAt Varint bytes at f = (f.start ≡ at) × VarintAt bytes at f.value f.«end»
 PayloadAt I64 bytes at f = (f.start ≡ at) × FixedAt w64 bytes at f.value f.«end»
@@ -116,7 +117,7 @@ PayloadCause wire bytes at LongVarint = LongPayload wire bytes at
 PayloadCause wire bytes at BadField = ⊥
 PayloadCause wire bytes at BadWireType = ⊥
 
--- something is wrong behind a good tag
+-- something is wrong after a good tag
 pub record BehindTag (wrong : Wire → List ℕ → ℕ → Type 0) (bytes : List ℕ) (at : ℕ) : Type 0 where
   pub number : ℕ
   pub wire : Wire
@@ -184,14 +185,14 @@ value_text I64 value payload = value
 value_text Len value payload = length payload
 value_text I32 value payload = value
 
--- where the payload of what was written begins behind the tag
+-- where the payload of what was written begins after the tag
 abbrev pub payload_start : Wire → List ℕ → ℕ
 payload_start Varint payload = 0
 payload_start I64 payload = 0
 payload_start Len payload = length (varint_text (length payload))
 payload_start I32 payload = 0
 
--- the old bytes, and what was written behind them
+-- the old bytes, and what was written after them
 pub record Extends (old new : List ℕ) : Type 0 where
   pub more : List ℕ
   pub bytes : new ≡ old ++ more

@@ -1,5 +1,5 @@
-//! What can be wrong with the bytes of a record, and the want of memory. A fault prints what stands
-//! behind the word `fault` in a refusal: its number.
+//! What can be wrong with the bytes of a record, and that memory is refused. A fault prints what stands
+//! after the word `fault` in a refusal: its number.
 
 use std::alloc::{AllocError, AllocFailed};
 use thiserror::Error;

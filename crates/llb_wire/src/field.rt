@@ -13,7 +13,7 @@ pub enum Wire {
     I32,
 }
 
-/// A record and where it lies: the payload is `start..end` (for `Len` the bytes behind the length),
+/// A record and where it lies: the payload is `start..end` (for `Len` the bytes after the length),
 /// and the next record begins at `end`. For `Len` the value is the length.
 #[derive(Clone, Copy, Debug, PartialEq, Eq)]
 pub struct Field {

@@ -15,7 +15,7 @@ use std::alloc::{AllocError, Global};
 // How many bytes the text of a digest has.
 const DIGEST_LENGTH: usize = 71;
 
-/// Puts the lower-case hexadecimal digits of bytes behind a text, `-` where there are none.
+/// Puts the lower-case hexadecimal digits of bytes after a text, `-` where there are none.
 pub fn push_hex(alloc: Global, text: &mut String, bytes: &[u8]) -> Result<(), AllocError>
     ensures { OnOk result (string_bytes text.new ≡ string_bytes text.old ++ hex_text bytes.now) }
 {

@@ -1,4 +1,4 @@
-//! Sinks: what takes bytes from the front, or has failed.
+//! Sinks: what takes bytes from the start, or has failed.
 
 ghost use Rattle.std.specs.Prelude.{◌≡◌, ℕ, Bool, List, Option, Some, None, false};
 ghost use Rattle.std.specs.Borrow.{GName};
@@ -20,7 +20,7 @@ pub trait Sink {
     // The reference behind which the bytes go, where there is one: it stays the same.
     ghost lender: { Self → Option GName } = { λ _. None };
 
-    /// Takes some bytes from the front, at least one where there are any, and tells how many; or has
+    /// Takes some bytes from the start, at least one where there are any, and tells how many; or has
     /// failed, and answers `Failed` from then on.
     fn write(&mut self, bytes: &[u8]) -> Result<usize, Failed>
         ensures takes { Takes (taken self.old) (failed self.old) (taken self.new) (failed self.new)
@@ -67,7 +67,7 @@ impl<'a, W: Write> Sink for Over<'a, W> {
     }
 }
 
-/// Writes all of the bytes, in as many turns as it takes. Where the sink fails, a front of them is out.
+/// Writes all of the bytes, in as many turns as it takes. Where the sink fails, a prefix of them is out.
 pub fn write_all<S: Sink>(sink: &mut S, bytes: &[u8]) -> Result<(), Failed>
     ensures takes { TakesAll (S.taken sink.old) (S.taken sink.new) (S.failed sink.new)
         bytes.now result }

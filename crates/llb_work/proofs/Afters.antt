@@ -1,5 +1,6 @@
 -- What goes on from a board goes on from the board that it began from.
-use Rattle.std.proofs.Common.{◌≡◌, ℕ, zero, suc, ◌≤◌, List, [], ◌∷◌, ◌++◌, length, take, drop, Option, Some, None, refl, sym, ap, ◌∙◌, subst, arith, append_assoc}
+use Rattle.std.proofs.Common.{◌≡◌, ℕ, zero, suc, ◌≤◌, List, [], ◌∷◌, ◌++◌, length, take, drop, Option, Some, None, refl, sym, ap, ◌∙◌}
+use Rattle.std.proofs.Common.{subst, arith, append_assoc}
 use Rattle.std.proofs.lemmas.List.{append-nil, length-append}
 use Rattle.std.specs.Prelude.{option_map}
 use Rattle.llb_model.specs.State.{State}
@@ -55,11 +56,11 @@ no_shorter b c goes = omega (arith, ap length goes.events, length-append b.event
 
 -- ---- by equations alone
 
--- what is behind a front of the record
+-- what is after a prefix of the record
 abbrev behind_front : Seen → Seen → List Event
 behind_front s b = drop (length s.events) b.events
 
--- a record is the older one, and what is behind it
+-- a record is the older one, and what is after it
 whole : (s b : Seen) → IsAfter s b → b.events ≡ s.events ++ behind_front s b
 whole s b is = sym (both (length s.events) b.events) ∙ ap (λ l. l ++ behind_front s b) is.front
 
@@ -87,7 +88,7 @@ is_after s c goes = record {
 pub after_itself : (s b : Seen) → s ≡ b → IsAfter s b
 after_itself s b same = is_after s b (stays s b (sym same))
 
--- one run behind another
+-- one run after another
 pub goes_further : (a b c : Seen) → GoesOn a b → GoesOn b c → GoesOn a c
 goes_further a b c one two = record {
   build = two.build ∙ one.build;

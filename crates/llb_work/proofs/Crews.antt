@@ -10,7 +10,7 @@ use Rattle.llb_work.specs.declared.end.RunFault.TheVariants.{Memory, Stopped, Th
 use Rattle.llb_work.proofs.Afters.{goes_from, goes_further, goes_nowhere}
 use Rattle.llb_work.proofs.Gathers.{sum_zeros}
 
--- a run in threads, and what was done behind it
+-- a run in threads, and what was done after it
 pub leads_from : (given start found end : Seen) (made more : List ℕ) → start ≡ given → IsAfter start found → Counts made start found → GoesOn found end
     → sum more + length found.events ≡ sum made + length end.events → Leads given more end
 leads_from given start found end made more same is counts goes adds =

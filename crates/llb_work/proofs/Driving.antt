@@ -1,5 +1,7 @@
 -- What a driver's events do to a board.
-use Rattle.std.proofs.Common.{◌≡◌, ◌≢◌, ℕ, zero, suc, ◌+◌, ◌<◌, ◌≤◌, ◌==◌, Bool, true, false, cond, List, [], ◌∷◌, ◌++◌, length, map, take, get_or, get_or-set_same, get_or-set_other, Some, None, is_some, Result, Ok, Err, inl, inr, refl, sym, ap, subst, ◌∙◌, append_assoc, arith}
+use Rattle.std.proofs.Common.{◌≡◌, ◌≢◌, ℕ, zero, suc, ◌+◌, ◌<◌, ◌≤◌, ◌==◌, Bool, true, false, cond, List, [], ◌∷◌, ◌++◌, length, map, take}
+use Rattle.std.proofs.Common.{get_or, get_or-set_same, get_or-set_other, Some, None, is_some, Result, Ok, Err, inl, inr, refl, sym, ap}
+use Rattle.std.proofs.Common.{subst, ◌∙◌, append_assoc, arith}
 use Rattle.std.proofs.Math.ListN.{set}
 use Rattle.std.proofs.lemmas.Bool.{cases_eq, eq-eqb, ne_eqb}
 use Rattle.std.proofs.lemmas.List.{append-nil, length-append, length-set}
@@ -37,7 +39,8 @@ inside : {A F : Type 0} {x y : A} → ok_of {F = F} x ≡ ok_of y → x ≡ y
 inside e = cc
 
 -- a call that is granted takes its event
-pub takes_of : {C F : Type 0} (b : Seen) (e : Event) (fault : C → F) (o : Result (State × Reply) C) (n : Seen) (r : Reply) → table b.build b.state e ≡ result_ok o → recorded b e fault o ≡ Ok (n, r) → Takes b e n
+pub takes_of : {C F : Type 0} (b : Seen) (e : Event) (fault : C → F) (o : Result (State × Reply) C) (n : Seen) (r : Reply)
+    → table b.build b.state e ≡ result_ok o → recorded b e fault o ≡ Ok (n, r) → Takes b e n
 takes_of {C} {F} b e fault (Err cause) n r is given = absurd cc
 takes_of {C} {F} b e fault (Ok (s, q)) n r is given =
     let same : after_event b e s ≡ n = ap (λ (x : Seen × Reply). x.0) (inside {F = F} given) in
@@ -48,7 +51,8 @@ unfolding run
 goes_nil b = record { build = refl; opening = refl; first = refl; more = []; replies = []; leads = refl; chosen = tt; events = sym (append-nil b.events) }
 
 -- a chosen event more
-chosen_more : (b : Build) (s t : State) (es : List Event) (rs : List Reply) (e : Event) → run b s es ≡ Some (t, rs) → AreChosen b s es → chosen b t ≡ Some e → AreChosen b s (es ++ e ∷ [])
+chosen_more : (b : Build) (s t : State) (es : List Event) (rs : List Reply) (e : Event) → run b s es ≡ Some (t, rs) → AreChosen b s es
+    → chosen b t ≡ Some e → AreChosen b s (es ++ e ∷ [])
 chosen_more b s t [] rs e leads all next = (ap (chosen b) (run_none b s t rs leads).0 ∙ next, λ a given. tt)
 chosen_more b s t (x ∷ es) rs e leads all next =
     let first = run_first b s x es t rs leads in (
@@ -74,7 +78,8 @@ goes_on a b c e goes next takes = record {
     given = ap (λ x. table x b.state e) (sym goes.build) ∙ takes.given
 
 -- the claims so far ascend, and go on to
-pub ascends_on : (b c : Seen) (e : Event) → IsGraph b.build.graph → IsConsistent b.build b.state → chosen b.build b.state ≡ Some e → Takes b e c → Ascends b.build b.state b.events → Ascends c.build c.state c.events
+pub ascends_on : (b c : Seen) (e : Event) → IsGraph b.build.graph → IsConsistent b.build b.state → chosen b.build b.state ≡ Some e
+    → Takes b e c → Ascends b.build b.state b.events → Ascends c.build c.state c.events
 ascends_on b c e graph here is takes up =
     subst (λ x. Ascends x c.state c.events) (sym takes.build) (subst (Ascends b.build c.state) (sym takes.events)
     (alone_step b.build graph b.state c.state e takes.reply b.events here is takes.given up))
@@ -84,7 +89,8 @@ longer b c e takes = ap length takes.events ∙ length-append b.events (e ∷ []
 
 -- ---- the three calls
 
-pub claim_takes : {J : Type 0} (reply : J → Reply) (b n : Seen) (w v : ℕ) (r : Result J ClaimFault) → GivesClaim (λ job. (n, reply job)) r (claim_of b w v) → is_ok r ≡ true
+pub claim_takes : {J : Type 0} (reply : J → Reply) (b n : Seen) (w v : ℕ) (r : Result J ClaimFault)
+    → GivesClaim (λ job. (n, reply job)) r (claim_of b w v) → is_ok r ≡ true
     → Takes b (Claim w v) n
 unfolding table
 claim_takes reply b n w v (Ok job) gives ok = takes_of b (Claim w v) claim_fault (claim_grant b.build b.state w v) n (reply job) refl gives
@@ -95,13 +101,15 @@ unfolding table
 step_takes b n w (Ok s) gives ok = takes_of b (Step w) step_fault (step_grant b.build b.state w) n (step_reply s) refl gives
 step_takes b n w (Err e) gives ok = absurd cc
 
-pub settle_takes : (b n : Seen) (w : ℕ) (r : Result Settled SettleFault) → GivesSettle (λ s. (n, settle_reply s)) r (settle_of b w) → is_ok r ≡ true → Takes b (Settle w) n
+pub settle_takes : (b n : Seen) (w : ℕ) (r : Result Settled SettleFault) → GivesSettle (λ s. (n, settle_reply s)) r (settle_of b w)
+    → is_ok r ≡ true → Takes b (Settle w) n
 unfolding table
 settle_takes b n w (Ok s) gives ok = takes_of b (Settle w) settle_fault (settle_grant b.build b.state w) n (settle_reply s) refl gives
 settle_takes b n w (Err e) gives ok = absurd cc
 
 -- a settle that is refused is not granted
-pub settle_left : (b n : Seen) (w : ℕ) (r : Result Settled SettleFault) → GivesSettle (λ s. (n, settle_reply s)) r (settle_of b w) → is_ok r ≡ false → IsLeft b (Settle w)
+pub settle_left : (b n : Seen) (w : ℕ) (r : Result Settled SettleFault) → GivesSettle (λ s. (n, settle_reply s)) r (settle_of b w)
+    → is_ok r ≡ false → IsLeft b (Settle w)
 unfolding table
 settle_left b n w (Ok s) gives refused = absurd cc
 settle_left b n w (Err e) gives refused = by_grant (settle_grant b.build b.state w) (gives refl)
@@ -132,7 +140,7 @@ pub when_true : (b : Bool) (P : Type 0) → OnTrue b P → b ≡ true → P
 when_true true P h is = h
 when_true false P h is = absurd cc
 
--- a front of a longer record
+-- a prefix of a longer record
 pub goes_longer : (a b : Seen) → Goes a b → length a.events ≤ length b.events
 goes_longer a b goes = omega (arith, ap length goes.events, length-append a.events goes.more)
 
@@ -150,14 +158,16 @@ of_worker w e = worker_of (event_of e) == w
 pub count_seen : (w : ℕ) (es : List event.Event) → events_by w (map event_of es) ≡ count_by (of_worker w) es
 count_seen w [] = refl
 count_seen w (e ∷ es) =
-    sum_by-cons (λ x. cond (worker_of x == w) 1 0) (event_of e) (map event_of es) ∙ ap (λ n. cond (of_worker w e) 1 0 + n) (count_seen w es) ∙ sym (sum_by-cons (λ x. cond (of_worker w x) 1 0) e es)
+    sum_by-cons (λ x. cond (worker_of x == w) 1 0) (event_of e) (map event_of es)
+    ∙ ap (λ n. cond (of_worker w e) 1 0 + n) (count_seen w es) ∙ sym (sum_by-cons (λ x. cond (of_worker w x) 1 0) e es)
 
--- the counts of so many events
+-- the counts of that many events
 abbrev pub Counts : List ℕ → List event.Event → ℕ → Type 0
 Counts made es i = (length made ≡ 64) × ((w : ℕ) → w < 64 → slice_index made w ≡ count_by (of_worker w) (take i es))
 
 -- one more event is one more of its worker, and of no other
-module _ (made : List ℕ) (es : List event.Event) (i u : ℕ) (d : event.Event) (fits : i < length es) (is : u ≡ worker_of (event_of (get_or es i d))) (so_far : Counts made es i) where
+module _ (made : List ℕ) (es : List event.Event) (i u : ℕ) (d : event.Event) (fits : i < length es)
+    (is : u ≡ worker_of (event_of (get_or es i d))) (so_far : Counts made es i) where
   other : (w : ℕ) → w ≢ u → count_by (of_worker w) (take (i + 1) es) ≡ count_by (of_worker w) (take i es)
   other w apart = count_by_more_no (of_worker w) es i d fits (ne_eqb _ _ (λ e. apart (sym e ∙ sym is)))
 
@@ -170,7 +180,8 @@ module _ (made : List ℕ) (es : List event.Event) (i u : ℕ) (d : event.Event)
       each : (w : ℕ) → w < 64 → slice_index (set made u (slice_index made u + 1)) w ≡ count_by (of_worker w) (take (i + 1) es)
       each w lt = elim (cases_eq w u) [
         | inl same ↦
-            let here : slice_index (set made u (slice_index made u + 1)) u ≡ slice_index made u + 1 = get_or-set_same made u (slice_index made u + 1) 0 (omega (arith, so_far.0, low)) in
+            let here : slice_index (set made u (slice_index made u + 1)) u ≡ slice_index made u + 1 =
+            get_or-set_same made u (slice_index made u + 1) 0 (omega (arith, so_far.0, low)) in
             ap (slice_index (set made u (slice_index made u + 1))) same ∙ here ∙ ap (λ n. n + 1) (so_far.1 u low)
             ∙ sym (count_by_more_yes (of_worker u) es i d fits (eq-eqb _ _ (sym is)))
             ∙ ap (λ v. count_by (of_worker v) (take (i + 1) es)) (sym same)

@@ -8,7 +8,8 @@ use Rattle.llb_board.specs.Board.{Seen, Replays}
 use Rattle.llb_work.specs.Alone.{Goes, EndsInClaimOrder}
 
 -- a run from an opening board is one from the opening state
-pub ends_in_order : (old new : Seen) → Goes old new → Replays old → old.events ≡ [] → is_complete new.build new.state ≡ true → IsAtRest new.state → AloneInClaimOrder new.build
+pub ends_in_order : (old new : Seen) → Goes old new → Replays old → old.events ≡ [] → is_complete new.build new.state ≡ true
+    → IsAtRest new.state → AloneInClaimOrder new.build
     → EndsInClaimOrder new.build new.opening new.events new.state
 ends_in_order old new goes here none complete rest law =
     subst (λ b. EndsInClaimOrder b new.opening new.events new.state) (sym goes.build)
@@ -33,4 +34,12 @@ ends_in_order old new goes here none complete rest law =
     ends : EndsInClaimOrder old.build old.opening goes.more new.state
     ends =
         let o = subst AloneInClaimOrder goes.build law old.opening goes.more goes.replies new.state leads all rest in
-        record { replies = goes.replies; leads = leads; chosen = all; complete = subst (λ b. is_complete b new.state ≡ true) goes.build complete; statuses = o.0; store = o.1 }
+        record {
+          replies = goes.replies;
+          leads = leads;
+          chosen = all;
+          complete =
+              subst (λ b. is_complete b new.state ≡ true) goes.build complete;
+          statuses = o.0;
+          store = o.1;
+        }

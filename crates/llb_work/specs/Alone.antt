@@ -29,7 +29,7 @@ pub record Goes (old new : Seen) : Type 0 where
   pub events : new.events ≡ old.events ++ more
 
 -- The chosen events lead from an opening to a state in which all is done. Each vertex and each instance of a cache stands there as if each
--- claimed vertex had been run whole at its claim, one behind the other.
+-- claimed vertex had been run whole at its claim, one after the other.
 pub record EndsInClaimOrder (b : Build) (o : Opening) (es : List Event) (s : State) : Type 0 where
   pub replies : List Reply
   pub leads : run b (opening b o) es ≡ Some (s, replies)
@@ -42,7 +42,7 @@ pub record EndsInClaimOrder (b : Build) (o : Opening) (es : List Event) (s : Sta
 abbrev pub MadeBy : Seen → Seen → List ℕ → Type 0
 MadeBy old new made = (w : ℕ) → w < 64 → slice_index made w ≡ events_by w (drop (length old.events) new.events)
 
--- an event whose want of memory may end a run: a settle takes none
+-- an event that may end a run since it is out of memory: a settle takes none
 abbrev pub TakesMemory : Option Event → Type 0
 TakesMemory (Some (Claim w v)) = ⊤
 TakesMemory (Some (Step w)) = ⊤

@@ -18,7 +18,7 @@ pub record GoesOn (old new : Seen) : Type 0 where
 abbrev pub state_in : State × List Reply → State
 state_in a = a.0
 
--- the same by equations alone: the older record is a front of the record, and what is behind it leads to the state
+-- the same by equations alone: the older record is a prefix of the record, and what is after it leads to the state
 pub record IsAfter (start found : Seen) : Type 0 where
   pub build : found.build ≡ start.build
   pub opening : found.opening ≡ start.opening

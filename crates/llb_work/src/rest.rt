@@ -1,4 +1,4 @@
-//! What is left of a run behind the threads: the chosen events, on the caller's own thread.
+//! What is left of a run after the threads: the chosen events, on the caller's own thread.
 
 ghost use Rattle.std.specs.Prelude.{◌≡◌, ◌≤◌, ◌<◌, ◌+◌, ◌^◌, sum, length, true, Some};
 ghost use Rattle.std.specs.Bool.{OnTrue};

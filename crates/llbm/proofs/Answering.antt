@@ -1,5 +1,6 @@
 -- What a run tells of the bytes that it read.
-use Rattle.std.proofs.Common.{◌≡◌, ℕ, ◌<◌, Bool, true, false, cond, ltb, List, [], length, ◌⊎◌, Option, Some, None, Result, Ok, Err, inl, inr, refl, sym, ap, subst, ◌∙◌}
+use Rattle.std.proofs.Common.{◌≡◌, ℕ, ◌<◌, Bool, true, false, cond, ltb, List, [], length, ◌⊎◌, Option, Some, None, Result, Ok, Err, inl}
+use Rattle.std.proofs.Common.{inr, refl, sym, ap, subst, ◌∙◌}
 use Rattle.std.specs.Prelude.{IfSome}
 use Rattle.std.proofs.lemmas.Bool.{lt-ltb}
 use Rattle.std.specs.Io.KnownBytes.{Appends}
@@ -50,7 +51,8 @@ refuses_long : (bytes : List ℕ) → 67108864 < length bytes → IsRefused byte
 refuses_long bytes long = let unread = unread_long bytes long in (Definition unread.0, inl (unread.0, unread.1, refl))
 
 -- what the loader refuses is refused
-pub tells : (left : Option (List ℕ)) (e : LoadFault) (bytes : List ℕ) → IfSome left (λ xs. bytes ≡ xs) → (is_memory e ≡ false → IsRefusalIn bytes e) → IsRefusal (passed_on e) → IfSome left IsRefused
+pub tells : (left : Option (List ℕ)) (e : LoadFault) (bytes : List ℕ) → IfSome left (λ xs. bytes ≡ xs)
+    → (is_memory e ≡ false → IsRefusalIn bytes e) → IsRefusal (passed_on e) → IfSome left IsRefused
 tells left e bytes read refused h =
     some_map (λ xs. bytes ≡ xs) IsRefused left (λ xs same. (e, subst (λ ys. IsRefusalIn ys e) same (refused (by_test (is_memory e) refl h)))) read
   where
@@ -59,7 +61,8 @@ tells left e bytes read refused h =
     by_test false is h = is
 
 -- what was read is the definition of the graph that was loaded
-pub reads_graph : (left : Option (List ℕ)) (g : Numbered) (bytes : List ℕ) → IfSome left (λ xs. bytes ≡ xs) → IsGraphIn bytes g → IfSome left (λ xs. IsGraphIn xs g)
+pub reads_graph : (left : Option (List ℕ)) (g : Numbered) (bytes : List ℕ) → IfSome left (λ xs. bytes ≡ xs) → IsGraphIn bytes g
+    → IfSome left (λ xs. IsGraphIn xs g)
 reads_graph left g bytes read loaded = some_map (λ xs. bytes ≡ xs) (λ xs. IsGraphIn xs g) left (λ xs same. subst (λ ys. IsGraphIn ys g) same loaded) read
 
 module _ (workers : ℕ) (ls : List Local) (left : Option (List ℕ)) (g : Numbered) (graph : IsGraph g) (b : Seen) (fin : IsFinished workers ls g b)
@@ -105,7 +108,8 @@ module _ (workers : ℕ) (ls : List Local) (left : Option (List ℕ)) (g : Numbe
 abbrev read_err : ReadFault → Result (Vec ℕ Global) ReadFault
 read_err e = Err e
 
-too_long : (left left' : Option (List ℕ)) (r : Result (Vec ℕ Global) ReadFault) (e : ReadFault) → r ≡ Err e → e ≡ TooLong → ReadsAll 67108864 134217728 left left' r → IfSome left (λ xs. 67108864 < length xs)
+too_long : (left left' : Option (List ℕ)) (r : Result (Vec ℕ Global) ReadFault) (e : ReadFault) → r ≡ Err e → e ≡ TooLong
+    → ReadsAll 67108864 134217728 left left' r → IfSome left (λ xs. 67108864 < length xs)
 too_long left left' r e is same reads =
     let h : ReadsAll 67108864 134217728 left left' (Err TooLong) = subst (ReadsAll 67108864 134217728 left left') (is ∙ ap read_err same) reads in h
 
@@ -131,7 +135,8 @@ pub tells_no_definition : (left left' : Option (List ℕ)) (r : Result (Vec ℕ 
     → r ≡ Err e → p ≡ unread_as e → ReadsAll 67108864 134217728 left left' r → TellsRefusal IsUnread left p
 tells_no_definition = tells_so IsUnread unread_long
 
-pub all_read : (left left' : Option (List ℕ)) (r : Result (Vec ℕ Global) ReadFault) (bytes : Vec ℕ Global) → r ≡ Ok bytes → ReadsAll 67108864 134217728 left left' r → IfSome left (λ xs. bytes.items ≡ xs)
+pub all_read : (left left' : Option (List ℕ)) (r : Result (Vec ℕ Global) ReadFault) (bytes : Vec ℕ Global) → r ≡ Ok bytes
+    → ReadsAll 67108864 134217728 left left' r → IfSome left (λ xs. bytes.items ≡ xs)
 all_read left left' r bytes is reads =
     let h : ReadsAll 67108864 134217728 left left' (Ok bytes) = subst (ReadsAll 67108864 134217728 left left') is reads in h.1
 
@@ -178,8 +183,9 @@ module _ (workers : ℕ) (ls : List Local) (left out out' last : Option (List �
 
 -- ---- a show
 
--- a text that is out is a front of itself
-pub drawn_unflushed : (left out out' last : Option (List ℕ)) (g : Numbered) → IfSome left (λ bytes. IsGraphIn bytes g) → Appends out out' (graph_text g) → Keeps out' last → IfSome left (DrawsPart out last)
+-- a text that is out is a prefix of itself
+pub drawn_unflushed : (left out out' last : Option (List ℕ)) (g : Numbered) → IfSome left (λ bytes. IsGraphIn bytes g)
+    → Appends out out' (graph_text g) → Keeps out' last → IfSome left (DrawsPart out last)
 drawn_unflushed left out out' last g loads whole keeps =
     some_map (λ bytes. IsGraphIn bytes g) (DrawsPart out last) left
     (λ bytes loaded. (g, loaded, (graph_text g, [], sym (append-nil (graph_text g)), Appends-kept out out' last (graph_text g) whole keeps))) loads

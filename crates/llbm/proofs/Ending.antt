@@ -1,5 +1,6 @@
 -- How a driver's run ends: in one way only, and with a vertex that failed where the result is no tree.
-use Rattle.std.proofs.Common.{◌≡◌, ℕ, zero, suc, ◌<◌, true, false, List, [], ◌∷◌, length, Option, Some, None, is_some, inl, inr, refl, sym, ap, subst, ◌∙◌, arith}
+use Rattle.std.proofs.Common.{◌≡◌, ℕ, zero, suc, ◌<◌, true, false, List, [], ◌∷◌, length, Option, Some, None, is_some, inl, inr, refl, sym}
+use Rattle.std.proofs.Common.{ap, subst, ◌∙◌, arith}
 use Rattle.std.specs.Prelude.{slice_get}
 use Rattle.llb_loader.specs.declared.graph.Edge.{Edge}
 use Rattle.llb_loader.specs.Graph.{Numbered, LeadsBelow, IsGraph}
@@ -32,7 +33,8 @@ use Rattle.llbm.specs.Running.{IsFinished}
 -- ---- in one way only
 
 -- two runs by chosen events, each until none is left, end in one state
-one_way : (b : Build) (o s t : State) (es fs : List Event) (rs qs : List Reply) → run b o es ≡ Some (s, rs) → run b o fs ≡ Some (t, qs) → AreChosen b o es → AreChosen b o fs
+one_way : (b : Build) (o s t : State) (es fs : List Event) (rs qs : List Reply) → run b o es ≡ Some (s, rs) → run b o fs ≡ Some (t, qs)
+    → AreChosen b o es → AreChosen b o fs
     → chosen b s ≡ None → chosen b t ≡ None → s ≡ t
 one_way b o s t [] [] rs qs first second all every left over = sym (run_none b o s rs first).0 ∙ (run_none b o t qs second).0
 one_way b o s t [] (f ∷ fs) rs qs first second all every left over =
@@ -54,7 +56,8 @@ module _ (b : Build) (graph : IsGraph b.graph) where
 
   one_end : (o : Opening) (es fs : List Event) (s t : State) → EndsInClaimOrder b o es s → EndsInClaimOrder b o fs t → s ≡ t
   one_end o es fs s t x y =
-      one_way b (opening b o) s t es fs x.replies y.replies x.leads y.leads x.chosen y.chosen (complete_is_none b graph s (ended_consistent o es s x) x.complete)
+      one_way b (opening b o) s t es fs x.replies y.replies x.leads y.leads x.chosen y.chosen
+      (complete_is_none b graph s (ended_consistent o es s x) x.complete)
       (complete_is_none b graph t (ended_consistent o fs t y) y.complete)
 
 -- no lists of instances are no instances
@@ -138,7 +141,7 @@ stopped_fails b graph s (suc n) k lt stop =
     ]
 
 module _ (b : Build) (graph : IsGraph b.graph) (s : State) (here : IsConsistent b s) (complete : is_complete b s ≡ true) where
-  -- on a complete board what is not done has failed, or is behind a vertex that has
+  -- on a complete board what is not done has failed, or is after a vertex that has
   undone_fails : (k : ℕ) → k < length b.graph.vertices → is_done (ending_at s.statuses k) ≡ false → FailsBy s k
   undone_fails k lt undone = by_status (slice_get s.statuses k) refl
     where
@@ -150,13 +153,15 @@ module _ (b : Build) (graph : IsGraph b.graph) (s : State) (here : IsConsistent 
       by_status (Some Waiting) is = stopped_fails b graph s (suc k) k (omega arith) (sym (over_by b graph s here k (Some Waiting) is) ∙ over)
       by_status (Some (Running w)) is = absurd (cc (over_by b graph s here k (Some (Running w)) is, over))
       by_status (Some (Settled (Failed f))) is = record { vertex = k; before = omega arith; fault = f; failed = ap ending_of is }
-      by_status (Some (Settled (Done trees))) is = let done : is_done (ending_at s.statuses k) ≡ true = ap (λ o. is_done (ending_of o)) is in absurd (cc (done, undone))
+      by_status (Some (Settled (Done trees))) is = let done : is_done (ending_at s.statuses k) ≡ true =
+          ap (λ o. is_done (ending_of o)) is in absurd (cc (done, undone))
 
   -- so where the result is no tree
   no_result_fails : output_in (ending_at s.statuses b.graph.result.vertex) b.graph.result.index ≡ None → FailsBy s b.graph.result.vertex
   no_result_fails none =
       undone_fails b.graph.result.vertex graph.result.lower
-      (sym (edge_there b.graph (ending_at s.statuses) (done_count b graph s here) (length b.graph.vertices) (omega arith) b.graph.result graph.result) ∙ ap is_some none)
+      (sym (edge_there b.graph (ending_at s.statuses) (done_count b graph s here) (length b.graph.vertices)
+      (omega arith) b.graph.result graph.result) ∙ ap is_some none)
 
 pub result_fails : (b : Build) → IsGraph b.graph → (s : State) → IsConsistent b s → is_complete b s ≡ true
     → output_in (ending_at s.statuses b.graph.result.vertex) b.graph.result.index ≡ None → FailsBy s b.graph.result.vertex

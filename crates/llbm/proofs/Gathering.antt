@@ -12,17 +12,21 @@ use Rattle.llb_treetext.specs.Reading.{Answers, MemoryIsLast}
 use Rattle.llbm.specs.Sources.{limit, told, Reads, Gathers}
 
 -- what the reading of a text answers, told of the bytes where they are known
-pub reads_told : (known : Option (List ℕ)) (bytes : List ℕ) (r : Result TreeMap TextFault) → IfSome known (λ xs. bytes ≡ xs) → length bytes ≤ limit → Answers bytes r
+pub reads_told : (known : Option (List ℕ)) (bytes : List ℕ) (r : Result TreeMap TextFault) → IfSome known (λ xs. bytes ≡ xs)
+    → length bytes ≤ limit → Answers bytes r
     → MemoryIsLast bytes r → Reads known (told r)
 reads_told None bytes r same few answers last = tt
 reads_told (Some xs) bytes (Ok t) same few answers last = (subst (λ ys. length ys ≤ limit) same few, subst (λ ys. Answers ys (Ok t)) same answers)
 reads_told (Some xs) bytes (Err e) same few answers last =
     (subst (λ ys. length ys ≤ limit) same few, subst (λ ys. Answers ys (Err e)) same answers, subst (λ ys. MemoryIsLast ys (Err e)) same last)
 
-pub gathers_more : (files : List ℕ → Option (List ℕ)) (ls : List Local) (i : ℕ) (d : Local) (trees : List given.Local) (t : TreeMap) (r : Result (List given.Local) SourceFault)
-    → i < length ls → Reads (files (get_or ls i d).file.now) (Ok t) → Gathers files (drop (i + 1) ls) (with_local trees (get_or ls i d).name.now t) r → Gathers files (drop i ls) trees r
+pub gathers_more : (files : List ℕ → Option (List ℕ)) (ls : List Local) (i : ℕ) (d : Local) (trees : List given.Local) (t : TreeMap)
+    (r : Result (List given.Local) SourceFault)
+    → i < length ls → Reads (files (get_or ls i d).file.now) (Ok t)
+    → Gathers files (drop (i + 1) ls) (with_local trees (get_or ls i d).name.now t) r → Gathers files (drop i ls) trees r
 gathers_more files ls i d trees t r lt reads rest = subst (λ xs. Gathers files xs trees r) (sym (drop_more ls i d lt)) (inr (t, reads, rest))
 
-pub gathers_none : (files : List ℕ → Option (List ℕ)) (ls : List Local) (i : ℕ) (d : Local) (trees : List given.Local) (e : SourceFault) (r : Result (List given.Local) SourceFault)
+pub gathers_none : (files : List ℕ → Option (List ℕ)) (ls : List Local) (i : ℕ) (d : Local) (trees : List given.Local) (e : SourceFault)
+    (r : Result (List given.Local) SourceFault)
     → i < length ls → Reads (files (get_or ls i d).file.now) (Err e) → r ≡ Err e → Gathers files (drop i ls) trees r
 gathers_none files ls i d trees e r lt reads is = subst (λ xs. Gathers files xs trees r) (sym (drop_more ls i d lt)) (inl (e, reads, is))

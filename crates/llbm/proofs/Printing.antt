@@ -56,21 +56,25 @@ module _ {A : Type 0} where
   all_taken (x ∷ es) zero le = absurd (omega arith)
   all_taken (x ∷ es) (suc at) le = ap (λ ys. x ∷ ys) (all_taken es at (omega arith))
 
--- a front is out, and a part of what comes next
-pub stops_inside : {F : Type 0} (is_memory : F → Bool) (a b c : Option (List ℕ)) (failed : Bool) (front line rest : List ℕ) (e : F) → Appends a b front → Writes is_memory b c failed line (Err e) → Writes is_memory a c failed (front ++ (line ++ rest)) (Err e)
+-- a prefix is out, and a part of what comes next
+pub stops_inside : {F : Type 0} (is_memory : F → Bool) (a b c : Option (List ℕ)) (failed : Bool) (front line rest : List ℕ) (e : F)
+    → Appends a b front → Writes is_memory b c failed line (Err e) → Writes is_memory a c failed (front ++ (line ++ rest)) (Err e)
 stops_inside is_memory a b c failed front line rest e before part = (part.0, part_after a b c front (line ++ rest) before (part_then b c line rest part.1))
 
--- a text is out, and then the next, or a front of it
-pub writes_after : {F : Type 0} (is_memory : F → Bool) (a b c : Option (List ℕ)) (failed : Bool) (text more : List ℕ) (r : Result (Unit {0}) F) → Appends a b text → Writes is_memory b c failed more r → Writes is_memory a c failed (text ++ more) r
+-- a text is out, and then the next, or a prefix of it
+pub writes_after : {F : Type 0} (is_memory : F → Bool) (a b c : Option (List ℕ)) (failed : Bool) (text more : List ℕ)
+    (r : Result (Unit {0}) F) → Appends a b text → Writes is_memory b c failed more r → Writes is_memory a c failed (text ++ more) r
 writes_after is_memory a b c failed text more (Ok u) whole next = Appends-trans a b c text more whole next
 writes_after is_memory a b c failed text more (Err e) whole next = (next.0, part_after a b c text more whole next.1)
 
--- what is a front of a text is one of a longer text
-pub writes_part : {F : Type 0} (is_memory : F → Bool) (a b : Option (List ℕ)) (failed : Bool) (text more : List ℕ) (e : F) → Writes is_memory a b failed text (Err e) → Writes is_memory a b failed (text ++ more) (Err e)
+-- what is a prefix of a text is one of a longer text
+pub writes_part : {F : Type 0} (is_memory : F → Bool) (a b : Option (List ℕ)) (failed : Bool) (text more : List ℕ) (e : F)
+    → Writes is_memory a b failed text (Err e) → Writes is_memory a b failed (text ++ more) (Err e)
 writes_part is_memory a b failed text more e part = (part.0, part_then a b text more part.1)
 
 module _ {A : Type 0} (line : A → List ℕ) where
-  lines_split : (es : List A) (at : ℕ) (e : A) → slice_get es at ≡ Some e → flat_map line es ≡ flat_map line (take at es) ++ (line e ++ flat_map line (drop (suc at) es))
+  lines_split : (es : List A) (at : ℕ) (e : A) → slice_get es at ≡ Some e
+      → flat_map line es ≡ flat_map line (take at es) ++ (line e ++ flat_map line (drop (suc at) es))
   lines_split es at e there = ap (flat_map line) (split_here es at e there) ∙ flat_map-append line (take at es) (e ∷ drop (suc at) es)
 
   lines_more : (es : List A) (at : ℕ) (e : A) → slice_get es at ≡ Some e → flat_map line (take (at + 1) es) ≡ flat_map line (take at es) ++ line e
@@ -79,18 +83,21 @@ module _ {A : Type 0} (line : A → List ℕ) where
       ∙ ap (λ ys. flat_map line (take at es) ++ ys) (append-nil (line e))
 
   -- what is out where the line at a place is not
-  pub prints_err : {F : Type 0} (is_memory : F → Bool) (es : List A) (at : ℕ) (e : A) (a b c : Option (List ℕ)) (failed : Bool) (fault : F) → Some e ≡ slice_get es at → Appends a b (flat_map line (take at es))
+  pub prints_err : {F : Type 0} (is_memory : F → Bool) (es : List A) (at : ℕ) (e : A) (a b c : Option (List ℕ)) (failed : Bool) (fault : F)
+      → Some e ≡ slice_get es at → Appends a b (flat_map line (take at es))
       → Writes is_memory b c failed (line e) (Err fault) → Writes is_memory a c failed (flat_map line es) (Err fault)
   prints_err is_memory es at e a b c failed fault there before part =
       subst (λ xs. Writes is_memory a c failed xs (Err fault)) (sym (lines_split es at e (sym there)))
       (stops_inside is_memory a b c failed (flat_map line (take at es)) (line e) (flat_map line (drop (suc at) es)) fault before part)
 
   -- and where it is
-  pub prints_more : (es : List A) (at : ℕ) (e : A) (a b c : Option (List ℕ)) → Some e ≡ slice_get es at → Appends a b (flat_map line (take at es)) → Appends b c (line e) → Appends a c (flat_map line (take (at + 1) es))
+  pub prints_more : (es : List A) (at : ℕ) (e : A) (a b c : Option (List ℕ)) → Some e ≡ slice_get es at
+      → Appends a b (flat_map line (take at es)) → Appends b c (line e) → Appends a c (flat_map line (take (at + 1) es))
   prints_more es at e a b c there before more =
       subst (Appends a c) (sym (lines_more es at e (sym there))) (Appends-trans a b c (flat_map line (take at es)) (line e) before more)
 
-  pub prints_none : (es : List A) (at : ℕ) (a b : Option (List ℕ)) → None ≡ slice_get es at → Appends a b (flat_map line (take at es)) → Appends a b (flat_map line (take (at + 1) es))
+  pub prints_none : (es : List A) (at : ℕ) (a b : Option (List ℕ)) → None ≡ slice_get es at → Appends a b (flat_map line (take at es))
+      → Appends a b (flat_map line (take (at + 1) es))
   prints_none es at a b none before = subst (λ xs. Appends a b (flat_map line xs)) (sym (no_more es at (sym none))) before
 
   pub prints_all : (es : List A) (at : ℕ) (a b : Option (List ℕ)) → length es ≤ at → Appends a b (flat_map line (take at es)) → Appends a b (flat_map line es)

@@ -33,7 +33,8 @@ abbrev to : Edge → ℕ
 to e = e.vertex
 
 -- all inputs are there: each is done
-inputs_done : (f : ℕ → Option Ending) (edges : List Edge) (j k : ℕ) → is_some (inputs_from f edges) ≡ true → j < length (map to edges) → slice_index_or (map to edges) j k ≡ k
+inputs_done : (f : ℕ → Option Ending) (edges : List Edge) (j k : ℕ) → is_some (inputs_from f edges) ≡ true → j < length (map to edges)
+    → slice_index_or (map to edges) j k ≡ k
     → is_done (f k) ≡ true
 unfolding inputs_from
 inputs_done f [] j k there low at = absurd (omega (arith, low))

@@ -24,7 +24,7 @@ use Rattle.llbm.specs.GraphText.{graph_text}
 abbrev pub build_of : List Local → Numbered → Build
 build_of locals g = record { graph = g; locals = locals }
 
--- a run begins with so many workers, and with caches that are empty
+-- a run begins with that many workers, and with caches that are empty
 abbrev pub run_opening : ℕ → Opening
 run_opening workers = record { workers = workers; store = no_instances }
 
@@ -33,7 +33,7 @@ pub record IsAlone (b : Build) (s : State) (events : List Event) : Type 0 where
   pub ends : EndsInClaimOrder b (run_opening 1) events s
   pub only : (es : List Event) (t : State) → EndsInClaimOrder b (run_opening 1) es t → t ≡ s
 
--- A state in which a run of a build by so many workers ends: granted events lead to it, and nothing is left to do. Without caches each vertex stands
+-- A state in which a run of a build by that many workers ends: granted events lead to it, and nothing is left to do. Without caches each vertex stands
 -- there as its plain outcome, for any number of workers.
 pub record IsEnd (workers : ℕ) (b : Build) (s : State) : Type 0 where
   pub events : List Event
@@ -51,7 +51,7 @@ result_in s g = output_in (ending_at s.statuses g.result.vertex) g.result.index
 abbrev pub plain_result : Build → Option TreeMap
 plain_result b = output_in (ending_in (outcome b b.graph.result.vertex)) b.graph.result.index
 
--- bytes that are the definition of a graph whose result, where a run on these local trees by so many workers has ended, is a tree of that text; then no
+-- bytes that are the definition of a graph whose result, where a run on these local trees by that many workers has ended, is a tree of that text; then no
 -- vertex has failed, and without caches it is the tree that the plain outcomes give
 pub record Yields (workers : ℕ) (locals : List Local) (bytes text : List ℕ) : Type 0 where
   pub graph : Numbered
@@ -104,7 +104,7 @@ YieldsPart workers locals out out' bytes = (text : List ℕ) × Yields workers l
 abbrev pub YieldsAll : ℕ → List Local → Option (List ℕ) → Option (List ℕ) → List ℕ → Type 0
 YieldsAll workers locals out out' bytes = (text : List ℕ) × Yields workers locals bytes text × Appends out out' text
 
--- How a run by so many workers ends. 0: the text of the result is out, and nothing else. 1: a vertex failed, so that the result is no tree, and nothing is
+-- How a run by that many workers ends. 0: the text of the result is out, and nothing else. 1: a vertex failed, so that the result is no tree, and nothing is
 -- out. 2: the bytes are refused, a local tree is missing, or there are no workers or too many, and nothing is out. 3: a device, a thread or memory failed;
 -- nothing is out, or a prefix of the text.
 abbrev pub Runs : ℕ → List Local → Option (List ℕ) → Option (List ℕ) → Option (List ℕ) → ℕ → Type 0
@@ -118,12 +118,12 @@ Runs workers locals input out out' status =
 abbrev pub DrawsAll : Option (List ℕ) → Option (List ℕ) → List ℕ → Type 0
 DrawsAll out out' bytes = (g : Numbered) × IsGraphIn bytes g × Appends out out' (graph_text g)
 
--- a front of it is, and no more
+-- a prefix of it is, and no more
 abbrev pub DrawsPart : Option (List ℕ) → Option (List ℕ) → List ℕ → Type 0
 DrawsPart out out' bytes = (g : Numbered) × IsGraphIn bytes g × PartOut out out' (graph_text g)
 
 -- How a show ends. 0: the text of the graph is out, and nothing else. 2: the bytes are refused, and nothing is out. 3: a device or memory
--- failed; nothing is out, or a front of the text.
+-- failed; nothing is out, or a prefix of the text.
 abbrev pub Draws : Option (List ℕ) → Option (List ℕ) → Option (List ℕ) → ℕ → Type 0
 Draws input out out' status =
     ((status ≡ 0) × IfSome input (DrawsAll out out'))

@@ -51,12 +51,12 @@ IsUnread definition = (e : OpFault) × (definition_of definition ≡ Err e)
 abbrev pub IsOut : (List ℕ → List ℕ → Type 0) → Option (List ℕ) → Option (List ℕ) → List ℕ → Type 0
 IsOut Comes out out' input = (text : List ℕ) × Comes input text × Appends out out' text
 
--- a front of it is, and no more
+-- a prefix of it is, and no more
 abbrev pub IsPartOut : (List ℕ → List ℕ → Type 0) → Option (List ℕ) → Option (List ℕ) → List ℕ → Type 0
 IsPartOut Comes out out' input = (text : List ℕ) × Comes input text × PartOut out out' text
 
 -- How a command ends that writes what comes of its input. 0: all of it is out, and nothing else. 2: the input is refused, and nothing is
--- out. 3: a device or memory failed; nothing is out, or a front of it.
+-- out. 3: a device or memory failed; nothing is out, or a prefix of it.
 abbrev pub Ends : (List ℕ → List ℕ → Type 0) → (List ℕ → Type 0) → Option (List ℕ) → Option (List ℕ) → Option (List ℕ) → ℕ → Type 0
 Ends Comes IsRefused input out out' status =
     ((status ≡ 0) × IfSome input (IsOut Comes out out'))

@@ -31,7 +31,7 @@ text_unread_as (reading.Failed kind) = fault.Read
 text_unread_as (reading.Unending interrupted) = fault.Read
 text_unread_as reading.Memory = fault.Memory
 
--- what comes of the input is out; or a fault stands, and at most a front of it is out
+-- what comes of the input is out; or a fault stands, and at most a prefix of it is out
 abbrev pub EndsIn : (List ℕ → List ℕ → Type 0) → (List ℕ → Type 0) → Option (List ℕ) → Option (List ℕ) → Option (List ℕ) → Result (Unit {0}) ProgramFault
     → Type 0
 EndsIn Comes IsRefused input out out' (Ok u) = IfSome input (IsOut Comes out out')

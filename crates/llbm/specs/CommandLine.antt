@@ -33,7 +33,7 @@ local_rule = record (new_rule (codes "local")) { action = Some Append }
 abbrev pub file_rule : Rule
 file_rule = record (new_rule (codes "file")) { action = Some Set; required = true }
 
--- the number of workers, one of 32 bits, behind `--workers`
+-- the number of workers, one of 32 bits, after `--workers`
 abbrev pub workers_rule : Rule
 workers_rule = record (new_rule (codes "workers")) {
   long = Some (codes "workers");
@@ -75,7 +75,7 @@ IsName name = (name ≡ codes "run") ⊎ ((name ≡ codes "show") ⊎ ((name ≡
 abbrev pub is_equals : ℕ → Bool
 is_equals b = b == 61
 
--- the name before the first `=` of a word and the file behind it, and none where the word has no `=`
+-- the name before the first `=` of a word and the file after it, and none where the word has no `=`
 abbrev pub split_word : Text → Option (Text × Text)
 split_word word = if nat_lt (position_or_len is_equals word) (length word) then Some (before_first is_equals word, after_first is_equals word) else None
 
@@ -106,7 +106,7 @@ abbrev pub given : Option (Text × List Row) → List Text
 given None = []
 given (Some p) = local_words p.1
 
--- the number that a text is read as, where it is one of 32 bits: digits, behind a plus or none
+-- the number that a text is read as, where it is one of 32 bits: digits, after a plus or none
 abbrev pub number_of : Text → Option ℕ
 number_of text = if is_unsigned_in 0 4294967295 text then Some (digits_value 10 (without_leading_plus text)) else None
 
@@ -161,7 +161,7 @@ StandsFor kind (Words None) = kind ≢ OutOfMemory
 StandsFor kind (Words (Some w)) = ⊥
 StandsFor kind Memory = kind ≡ OutOfMemory
 
--- what stands behind the word `fault`
+-- what stands after the word `fault`
 abbrev pub words_text : WordsFault → List ℕ
 words_text (Words None) = codes "183"
 words_text (Words (Some word)) = codes "183 " ++ word.now

@@ -14,7 +14,8 @@ use Rattle.std.specs.Borrow.{Bor}
 abbrev pub StepsAt : {S : Type 0} → (S → List ℕ → Option (List ℕ)) → Option (Bor (List ℕ)) → S → ℕ → List Local → Option (List ℕ) → Option (List ℕ)
     → Option (List ℕ) → Option (List ℕ) → ℕ → Type 0
 StepsAt bytes None sources workers locals commands commands' out out' status = Keeps out out' × ((status ≡ 2) ⊎ (status ≡ 3))
-StepsAt bytes (Some file) sources workers locals commands commands' out out' status = Steps locals workers (bytes sources file.now) commands commands' out out' status
+StepsAt bytes (Some file) sources workers locals commands commands' out out' status =
+    Steps locals workers (bytes sources file.now) commands commands' out out' status
 
 abbrev pub PerformsAs : {S : Type 0} → (S → List ℕ → Option (List ℕ)) → S → Command → Line → List Local → Option (List ℕ) → Option (List ℕ) → Option (List ℕ)
     → Option (List ℕ) → ℕ → Type 0

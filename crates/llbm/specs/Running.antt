@@ -49,7 +49,7 @@ abbrev pub Loads : Option (List ℕ) → Result Numbered ProgramFault → Type 0
 Loads input (Ok g) = IfSome input (λ bytes. IsGraphIn bytes g)
 Loads input (Err e) = TellsRefusal IsRefused input e
 
--- a board on which a run of the graph by so many workers has ended
+-- a board on which a run of the graph by that many workers has ended
 pub record IsFinished (workers : ℕ) (locals : List Local) (g : Numbered) (b : Seen) : Type 0 where
   pub build : b.build ≡ build_of locals g
   pub ended : IsEnd workers (build_of locals g) b.state
@@ -68,7 +68,7 @@ Answers workers locals input out out' (Ok (Some b)) = Keeps out out' × IfSome i
 Answers workers locals input out out' (Err e) =
     (Keeps out out' × TellsRefusal (IsNotRun workers locals) input e) ⊎ ((¬ IsRefusal e) × IfSome input (YieldsPart workers locals out out'))
 
--- the exit status for an answer: 0 for a text that is out, 1 where there is none, 2 for a refusal, and 3 where a device fails behind any of them
+-- the exit status for an answer: 0 for a text that is out, 1 where there is none, 2 for a refusal, and 3 where a device fails after any of them
 abbrev pub Tells : {B : Type 0} → Option (List ℕ) → Option (List ℕ) → Result (Option B) ProgramFault → ℕ → Type 0
 Tells out out' (Ok None) status = Keeps out out' × ((status ≡ 0) ⊎ (status ≡ 3))
 Tells out out' (Ok (Some b)) status = Keeps out out' × ((status ≡ 1) ⊎ (status ≡ 3))

@@ -15,7 +15,7 @@ abbrev pub limit : ℕ
 limit = 67108864
 
 -- What is read of bytes: the tree whose text they are, or why they are none's. A device or memory may fail at any bytes, but the reading of the
--- text wants memory only where the bytes are a tree's.
+-- text needs memory only where the bytes are a tree's.
 abbrev pub ReadsTree : List ℕ → Result TreeMap SourceFault → Type 0
 ReadsTree bytes (Ok t) = (length bytes ≤ limit) × Answers bytes (Ok t)
 ReadsTree bytes (Err TooLong) = limit < length bytes

@@ -16,7 +16,7 @@ use Rattle.llbm.specs.declared.fault.OutputFault.TheVariants as output
 use Rattle.llbm.specs.declared.fault.ProgramFault.{ProgramFault}
 use Rattle.llbm.specs.declared.fault.ProgramFault.TheVariants as fault
 
--- a stepper over a graph, on a board with so many workers and caches that are empty at first
+-- a stepper over a graph, on a board with that many workers and caches that are empty at first
 abbrev pub begun : List Local → Numbered → ℕ → Stepping
 begun locals g workers = record { board = opened (build_of locals g) workers []; past = []; breaks = [] }
 

@@ -51,7 +51,7 @@ fn file_arg<'a>(alloc: Global) -> Arg<'a>
         .action(ArgAction::Set)
 }
 
-// The number of workers, behind `--workers`.
+// The number of workers, after `--workers`.
 fn workers_arg<'a>(alloc: Global) -> Arg<'a>
     ensures rule { rule_of result ≡ workers_rule }
     ensures plain { result.global ≡ false }
@@ -208,7 +208,7 @@ fn refused_by<'a>(error: Error) -> WordsFault<'a>
     }
 }
 
-/// What the words behind the program's name say: no words are `run`. 183 without a word where `clap` refuses them, a
+/// What the words after the program's name say: no words are `run`. 183 without a word where `clap` refuses them, a
 /// request for help among them; 183 with the first word for a local source that has no `=`; 184.
 pub fn command_of<'a, S: AsStr>(alloc: Global, words: &'a [S]) -> Result<Line<'a>, WordsFault<'a>>
     ensures says { IfOk result (Says (subcommand_of llbm_app (map S.text words.entry.now))) }

@@ -1,4 +1,4 @@
-//! Why the program ends without its answer, and the status that it then ends with. A fault prints what stands behind the
+//! Why the program ends without its answer, and the status that it then ends with. A fault prints what stands after the
 //! word `fault`, and takes no memory for it.
 
 ghost use Rattle.std.specs.Prelude.{◌≡◌, ◌⊎◌};

@@ -10,7 +10,7 @@ use llb_ops::OpFault;
 use std::alloc::Global;
 use std::io::Read;
 
-// A refusal by the loader is one of the program; want of memory is not.
+// A refusal by the loader is one of the program; out of memory is not.
 fn passed_on(fault: LoadFault) -> ProgramFault
     ensures { result ≡ passed_on fault }
 {

@@ -39,7 +39,7 @@ use std::sync::Wait;
 use std::thread::Threads;
 use std::{env, io};
 
-// The words behind the program's name, which have to be UTF-8.
+// The words after the program's name, which have to be UTF-8.
 fn words_given(rt: &HostRuntime) -> Result<Vec<String>, WordsFault<'static>> {
     let words = match env::args(rt) {
         Ok(words) => words,
@@ -72,7 +72,8 @@ fn step_in<S: Sources, R: Read, W: Write, E: Write>(
     out: &mut W,
     err: &mut E,
 ) -> u8
-    ensures { StepsAt S.bytes line.now.file sources.now line.now.workers locals (R.remaining input.old) (R.remaining input.new) (W.contents out.old) (W.contents out.new) result }
+    ensures { StepsAt S.bytes line.now.file sources.now line.now.workers locals (R.remaining input.old) (R.remaining input.new)
+        (W.contents out.old) (W.contents out.new) result }
 {
     let Some(file) = line.file else {
         return words_refusal(&WordsFault::Words(None), err);

@@ -119,7 +119,7 @@ fn answer<R: Read, W: Write>(
     print_result(alloc, board, edge, out)
 }
 
-// The same with so many.
+// The same with that many.
 fn answer_by<T: Threads + Wait + Sync, R: Read, W: Write>(
     rt: &T,
     alloc: Global,
@@ -190,7 +190,7 @@ pub fn run_over<R: Read, W: Write, E: Write>(
     told(answer, out, err)
 }
 
-/// The same with so many workers, where they are several each in a thread of its own, which it waits for. Where no cache is mounted, the text is
+/// The same with that many workers, where they are several each in a thread of its own, which it waits for. Where no cache is mounted, the text is
 /// that of the plain outcomes, for any number of workers. 2 also where the number is 0, or more than 64 (`fault 122`); 3 also where a thread
 /// could not be started (`fault 153`).
 pub fn run_many_over<T: Threads + Wait + Sync, R: Read, W: Write, E: Write>(

@@ -46,7 +46,7 @@ fn stepped<R: Read, C: Read, W: Write>(
     }
 }
 
-/// Reads a definition from `file`, and answers the lines of `commands` on a board with so many workers and caches that are empty at first:
+/// Reads a definition from `file`, and answers the lines of `commands` on a board with that many workers and caches that are empty at first:
 /// what they print goes to `out`, line by line, refusals of commands too. A refusal of the definition goes to `err`, as a line. Answers the
 /// exit status: 0 where the session ended, by a line `quit` or with the commands; 2 where the definition is refused (81 to 90), a local
 /// source has no tree (121), or the number of workers is 0 or more than 64 (122), and nothing is written to `out`, or where the commands

@@ -42,7 +42,7 @@ pub struct Line<'a> {
     pub locals: Many<Local<'a>>,
 }
 
-/// Why words say nothing. A fault prints what stands behind the word `fault`.
+/// Why words say nothing. A fault prints what stands after the word `fault`.
 #[derive(Clone, Copy, Debug)]
 pub enum WordsFault<'a> {
     /// 183: that word is refused, since it has no `=`, or none by itself.
@@ -85,7 +85,7 @@ impl<T: Drop> From<AllocFailed<T>> for WordsFault<'_> {
     }
 }
 
-/// The status for words that say nothing, once their line is out: 2 for the words, 3 for want of memory.
+/// The status for words that say nothing, once their line is out: 2 for the words, 3 where it is out of memory.
 pub fn words_refusal<E: Write>(fault: &WordsFault<'_>, err: &mut E) -> u8
     ensures { TellsWords (E.contents err.old) (E.contents err.new) fault.now result }
 {

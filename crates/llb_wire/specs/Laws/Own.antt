@@ -1,5 +1,6 @@
 -- A record is read from its own bytes alone, whatever follows them.
-use Rattle.std.proofs.Common.{◌≡◌, ℕ, zero, suc, ◌+◌, ◌-◌, ◌/◌, ◌%◌, ◌<◌, ◌≤◌, false, cond, ltb, List, [], ◌∷◌, ◌++◌, length, take, drop, Result, Ok, Err, inl, inr, refl, ap, subst, ◌∙◌, arith}
+use Rattle.std.proofs.Common.{◌≡◌, ℕ, zero, suc, ◌+◌, ◌-◌, ◌/◌, ◌%◌, ◌<◌, ◌≤◌, false, cond, ltb, List, [], ◌∷◌, ◌++◌, length, take, drop}
+use Rattle.std.proofs.Common.{Result, Ok, Err, inl, inr, refl, ap, subst, ◌∙◌, arith}
 use Rattle.std.specs.Int.{Width, w32, w64, byte_len, from_le_bytes}
 use Rattle.std.proofs.lemmas.Bool.{ltb-false, le-ltb}
 use Rattle.std.proofs.lemmas.List.{length-append, length-take, length-drop, drop-append-le, drop-take}
@@ -24,7 +25,8 @@ ok_is e = cc
 abbrev pair : ℕ → ℕ → ℕ × ℕ
 pair a b = (a, b)
 
-pub varint_prefix : (more : ℕ) (bytes : List ℕ) (v n k : ℕ) (rest : List ℕ) → varint_from more bytes ≡ Ok (v, n) → n ≤ k → varint_from more (take k bytes ++ rest) ≡ Ok (v, n)
+pub varint_prefix : (more : ℕ) (bytes : List ℕ) (v n k : ℕ) (rest : List ℕ) → varint_from more bytes ≡ Ok (v, n) → n ≤ k
+    → varint_from more (take k bytes ++ rest) ≡ Ok (v, n)
 unfolding varint_from
 varint_prefix more [] v n k rest e le = absurd cc
 varint_prefix zero (b ∷ bytes) v n zero rest e le = absurd (omega (arith, le, varint_len zero (b ∷ bytes) v n e))
@@ -41,7 +43,8 @@ varint_prefix (suc more) (b ∷ bytes) v n (suc k) rest e le =
 dropped : (bytes rest : List ℕ) (at k : ℕ) → at ≤ k → k ≤ length bytes → drop at (take k bytes ++ rest) ≡ take (k - at) (drop at bytes) ++ rest
 dropped bytes rest at k le inside =
     let sum : at + (k - at) ≡ k = omega (arith, le) in
-    drop-append-le at (take k bytes) rest (omega (arith, length-take k bytes, le, inside)) ∙ ap (λ xs. xs ++ rest) (subst (λ (j : ℕ). drop at (take j bytes) ≡ take (k - at) (drop at bytes)) sum (drop-take at (k - at) bytes))
+    drop-append-le at (take k bytes) rest (omega (arith, length-take k bytes, le, inside))
+    ∙ ap (λ xs. xs ++ rest) (subst (λ (j : ℕ). drop at (take j bytes) ≡ take (k - at) (drop at bytes)) sum (drop-take at (k - at) bytes))
 
 -- a number and its end, read at a place, with no need of the bytes from k on
 pub record Local (read : List ℕ → ℕ → Result (ℕ × ℕ) WireFault) (bytes : List ℕ) (at : ℕ) (x : ℕ × ℕ) : Type 0 where
@@ -59,7 +62,11 @@ varint_local bytes at x le e =
       begins = omega (arith, «end»);
       inside = omega (arith, «end», len, length-drop at bytes, le);
       again = λ k rest far inside.
-          rw (dropped bytes rest at k (omega (arith, far, «end»)) inside, varint_prefix 9 (drop at bytes) m.0.0 m.0.1 (k - at) rest m.1 (omega (arith, far, «end»))) m.2;
+          rw (
+            dropped bytes rest at k (omega (arith, far, «end»)) inside,
+            varint_prefix 9 (drop at bytes) m.0.0 m.0.1 (k - at) rest m.1
+                (omega (arith, far, «end»)),
+          ) m.2;
     }
 
 take_front : (n j : ℕ) (ys rest : List ℕ) → n ≤ j → j ≤ length ys → take n (take j ys ++ rest) ≡ take n ys
@@ -70,7 +77,8 @@ take_front (suc n) (suc j) (y ∷ ys) rest le inside = ap (λ xs. y ∷ xs) (tak
 
 pub fixed_local : (w : Width) (bytes : List ℕ) (at : ℕ) (x : ℕ × ℕ) → at ≤ length bytes → fixed_at w bytes at ≡ Ok x → Local (fixed_at w) bytes at x
 fixed_local w bytes at x le e =
-    let g = guard_ok {F = WireFault} (ltb (length (drop at bytes)) (byte_len w)) Truncated (from_le_bytes w (take (byte_len w) (drop at bytes)), at + byte_len w) x e in
+    let g = guard_ok {F = WireFault} (ltb (length (drop at bytes)) (byte_len w)) Truncated
+    (from_le_bytes w (take (byte_len w) (drop at bytes)), at + byte_len w) x e in
     let long : byte_len w ≤ length (drop at bytes) = ltb-false _ _ g.0 in
     let stop : at + byte_len w ≡ x.1 = ap (λ (y : ℕ × ℕ). y.1) g.1 in
     record {
@@ -78,8 +86,10 @@ fixed_local w bytes at x le e =
       inside = omega (arith, stop, long, length-drop at bytes, le);
       again = λ k rest far inside.
           let split = dropped bytes rest at k (omega (arith, far, stop)) inside in
-          let part : take (byte_len w) (take (k - at) (drop at bytes) ++ rest) ≡ take (byte_len w) (drop at bytes) = take_front (byte_len w) (k - at) (drop at bytes) rest (omega (arith, far, stop)) (omega (arith, inside, length-drop at bytes)) in
-          let enough : ltb (length (take (k - at) (drop at bytes) ++ rest)) (byte_len w) ≡ false = le-ltb _ _ (omega (arith, far, stop, long, length-append (take (k - at) (drop at bytes)) rest, length-take (k - at) (drop at bytes))) in
+          let part : take (byte_len w) (take (k - at) (drop at bytes) ++ rest) ≡ take (byte_len w) (drop at bytes) =
+          take_front (byte_len w) (k - at) (drop at bytes) rest (omega (arith, far, stop)) (omega (arith, inside, length-drop at bytes)) in
+          let enough : ltb (length (take (k - at) (drop at bytes) ++ rest)) (byte_len w) ≡ false =
+          le-ltb _ _ (omega (arith, far, stop, long, length-append (take (k - at) (drop at bytes)) rest, length-take (k - at) (drop at bytes))) in
           rw (split, enough, part) (ap (λ (y : ℕ × ℕ). is_ok_of y) g.1);
     }
 
@@ -91,13 +101,15 @@ pub record LocalField (read : List ℕ → Result Field WireFault) (bytes : List
   pub inside : f.«end» ≤ length bytes
   pub again : (rest : List ℕ) → read (take f.«end» bytes ++ rest) ≡ Ok f
 
-plain_local : (n : ℕ) (w : Wire) (read : List ℕ → ℕ → Result (ℕ × ℕ) WireFault) (bytes : List ℕ) (at : ℕ) (x : ℕ × ℕ) (f : Field) → read bytes at ≡ Ok x → as_field n w at x ≡ f → Local read bytes at x
+plain_local : (n : ℕ) (w : Wire) (read : List ℕ → ℕ → Result (ℕ × ℕ) WireFault) (bytes : List ℕ) (at : ℕ) (x : ℕ × ℕ) (f : Field)
+    → read bytes at ≡ Ok x → as_field n w at x ≡ f → Local read bytes at x
     → LocalField (λ xs. read xs at >>= λ v. Ok (as_field n w at v)) bytes at f
 plain_local n w read bytes at x f e is h =
     subst (λ (g : Field). LocalField (λ xs. read xs at >>= λ v. Ok (as_field n w at v)) bytes at g) is
     (record { begins = omega arith; ordered = h.begins; inside = h.inside; again = λ rest. rw (h.again x.1 rest (omega arith) h.inside) refl })
 
-pub payload_local : (n : ℕ) (w : Wire) (bytes : List ℕ) (at : ℕ) (f : Field) → at ≤ length bytes → payload_at n w bytes at ≡ Ok f → LocalField (λ xs. payload_at n w xs at) bytes at f
+pub payload_local : (n : ℕ) (w : Wire) (bytes : List ℕ) (at : ℕ) (f : Field) → at ≤ length bytes → payload_at n w bytes at ≡ Ok f
+    → LocalField (λ xs. payload_at n w xs at) bytes at f
 unfolding payload_at
 payload_local n wire.Varint bytes at f le e =
     let v = bind_ok (varint_at bytes at) (λ (v : ℕ × ℕ). Ok (as_field n wire.Varint at v)) f e in
@@ -109,7 +121,8 @@ payload_local n wire.I32 bytes at f le e =
     let v = bind_ok (fixed_at w32 bytes at) (λ (v : ℕ × ℕ). Ok (as_field n wire.I32 at v)) f e in
     plain_local n wire.I32 (fixed_at w32) bytes at v.0 f v.1 (ok_is v.2) (fixed_local w32 bytes at v.0 le v.1)
 payload_local n wire.Len bytes at f le e =
-    let v = bind_ok (varint_at bytes at) (λ (len : ℕ × ℕ). cond (ltb (length bytes - len.1) len.0) (Err Truncated) (Ok (as_field n wire.Len len.1 (len.0, len.1 + len.0)))) f e in
+    let v = bind_ok (varint_at bytes at) (λ (len : ℕ × ℕ). cond (ltb (length bytes - len.1) len.0) (Err Truncated)
+    (Ok (as_field n wire.Len len.1 (len.0, len.1 + len.0)))) f e in
     let g = guard_ok (ltb (length bytes - v.0.1) v.0.0) Truncated (as_field n wire.Len v.0.1 (v.0.0, v.0.1 + v.0.0)) f v.2 in
     let room : v.0.0 ≤ length bytes - v.0.1 = ltb-false _ _ g.0 in
     let h = varint_local bytes at v.0 le v.1 in
@@ -120,7 +133,8 @@ payload_local n wire.Len bytes at f le e =
       ordered = omega arith;
       inside = omega (arith, room, h.inside);
       again = λ rest.
-          let enough : ltb (length (take stop bytes ++ rest) - v.0.1) v.0.0 ≡ false = le-ltb _ _ (omega (arith, length-append (take stop bytes) rest, length-take stop bytes, room, h.inside)) in
+          let enough : ltb (length (take stop bytes ++ rest) - v.0.1) v.0.0 ≡ false =
+          le-ltb _ _ (omega (arith, length-append (take stop bytes) rest, length-take stop bytes, room, h.inside)) in
           rw (h.again stop rest (omega arith) (omega (arith, room, h.inside)), enough) refl;
     })
 
@@ -130,14 +144,16 @@ varint_begins bytes at x e =
     let pairs : pair m.0.0 (at + m.0.1) ≡ x = ok_is m.2 in
     omega (arith, ap (λ (y : ℕ × ℕ). y.1) pairs, varint_len 9 (drop at bytes) m.0.0 m.0.1 m.1)
 
-field_step : (xs : List ℕ) (t : ℕ × ℕ) (n : ℕ) (w : Wire) (f : Field) → varint_at xs 0 ≡ Ok t → number_of (t.0 / 8) ≡ Ok n → wire_of (t.0 % 8) ≡ Ok w → payload_at n w xs t.1 ≡ Ok f → field_at xs 0 ≡ Ok f
+field_step : (xs : List ℕ) (t : ℕ × ℕ) (n : ℕ) (w : Wire) (f : Field) → varint_at xs 0 ≡ Ok t → number_of (t.0 / 8) ≡ Ok n
+    → wire_of (t.0 % 8) ≡ Ok w → payload_at n w xs t.1 ≡ Ok f → field_at xs 0 ≡ Ok f
 unfolding field_at
 field_step xs t n w f a b c d = rw (a, b, c) d
 
 pub field_local : (bytes : List ℕ) (f : Field) → field_at bytes 0 ≡ Ok f → LocalField (λ xs. field_at xs 0) bytes 1 f
 unfolding field_at
 field_local bytes f e =
-    let t = bind_ok (varint_at bytes 0) (λ (tag : ℕ × ℕ). number_of (tag.0 / 8) >>= λ number. wire_of (tag.0 % 8) >>= λ wire. payload_at number wire bytes tag.1) f e in
+    let t = bind_ok (varint_at bytes 0) (λ (tag : ℕ × ℕ). number_of (tag.0 / 8) >>= λ number. wire_of (tag.0 % 8)
+    >>= λ wire. payload_at number wire bytes tag.1) f e in
     let n = bind_ok (number_of (t.0.0 / 8)) (λ number. wire_of (t.0.0 % 8) >>= λ wire. payload_at number wire bytes t.0.1) f t.2 in
     let w = bind_ok (wire_of (t.0.0 % 8)) (λ wire. payload_at n.0 wire bytes t.0.1) f n.2 in
     let h = varint_local bytes 0 t.0 (omega arith) t.1 in
@@ -146,5 +162,6 @@ field_local bytes f e =
       begins = omega (arith, p.begins, varint_begins bytes 0 t.0 t.1);
       ordered = p.ordered;
       inside = p.inside;
-      again = λ rest. field_step (take f.«end» bytes ++ rest) t.0 n.0 w.0 f (h.again f.«end» rest (omega (arith, p.begins, p.ordered)) p.inside) n.1 w.1 (p.again rest);
+      again = λ rest. field_step (take f.«end» bytes ++ rest) t.0 n.0 w.0 f
+          (h.again f.«end» rest (omega (arith, p.begins, p.ordered)) p.inside) n.1 w.1 (p.again rest);
     }

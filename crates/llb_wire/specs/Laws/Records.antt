@@ -1,9 +1,11 @@
 -- The grammar of records and their reading are one: a record is read exactly where one is spelled, from its own bytes; bytes
 -- spell one list of records at most, the one that a walk over them meets; and no record is written in fewer bytes.
-use Rattle.std.proofs.Common.{◌≡◌, ℕ, ◌+◌, ◌-◌, ◌*◌, ◌/◌, ◌%◌, ◌^◌, ◌<◌, ◌≤◌, Bool, true, false, cond, ltb, eqb, List, [], ◌∷◌, ◌++◌, length, take, drop, Option, Some, None, Result, Ok, Err, refl, sym, ap, subst, ◌∙◌, append_assoc, arith}
+use Rattle.std.proofs.Common.{◌≡◌, ℕ, ◌+◌, ◌-◌, ◌*◌, ◌/◌, ◌%◌, ◌^◌, ◌<◌, ◌≤◌, Bool, true, false, cond, ltb, eqb, List, [], ◌∷◌, ◌++◌}
+use Rattle.std.proofs.Common.{length, take, drop, Option, Some, None, Result, Ok, Err, refl, sym, ap, subst, ◌∙◌, append_assoc, arith}
 use Rattle.std.specs.List.{AllByRecursion, flat_map}
 use Rattle.std.proofs.lemmas.Bool.{ltb-false, le-ltb, eqb-true, eqb-false, ne_eqb, eq-eqb}
-use Rattle.std.proofs.lemmas.List.{length-append, length-take, length-drop, take-append-drop, take-take, take_at, drop_at, drop-take, drop-drop, append-nil, append_cancel_left}
+use Rattle.std.proofs.lemmas.List.{length-append, length-take, length-drop, take-append-drop, take-take, take_at, drop_at, drop-take}
+use Rattle.std.proofs.lemmas.List.{drop-drop, append-nil, append_cancel_left}
 use Rattle.std.specs.Int.{Width, w32, w64, byte_len, from_le_bytes}
 use Rattle.std.specs.Prelude.{◌↔◌}
 use Rattle.std.proofs.lemmas.Nat.{from_le_bytes-to_le_bytes_4, from_le_bytes-to_le_bytes_8}
@@ -15,7 +17,8 @@ use Rattle.llb_wire.specs.declared.field.Field.{Field}
 use Rattle.llb_wire.specs.Answer.{◌>>=◌, bind_ok, guard_ok}
 use Rattle.llb_wire.specs.Reading.{varint_at, number_of, wire_of, fixed_at, as_field, payload_at, field_at, next_field}
 use Rattle.llb_wire.specs.Spelling.{code_of, between, Spells, IsVarint, IsFieldNumber, AreBytes, varint_text, tag_text, payload_text, value_text}
-use Rattle.llb_wire.specs.Records.{Record, record_of, record_at, placed, IsFixed, IsPayload, IsRecord, SpellRecords, Walks, own_text, written_record, IsShortestRecord}
+use Rattle.llb_wire.specs.Records.{Record, record_of, record_at, placed, IsFixed, IsPayload, IsRecord, SpellRecords, Walks, own_text}
+use Rattle.llb_wire.specs.Records.{written_record, IsShortestRecord}
 use Rattle.llb_wire.specs.Laws.Varints.{varint_found, varint_read, is_shortest, least_spelling, are_bytes-append, are_bytes-front, are_bytes-back}
 
 -- ---- what is spelled is read, whatever follows
@@ -51,16 +54,23 @@ tail_of wire.I64 behind own value h = record { front = []; split = sym h.0 }
 tail_of wire.Len behind own value h = record { front = h.0; split = h.1 }
 tail_of wire.I32 behind own value h = record { front = []; split = sym h.0 }
 
-fixed_read : (w : Width) (before spelling rest : List ℕ) (n at : ℕ) → at ≡ length before → IsFixed w spelling n → fixed_at w (before ++ (spelling ++ rest)) at ≡ Ok (n, at + length spelling)
+fixed_read : (w : Width) (before spelling rest : List ℕ) (n at : ℕ) → at ≡ length before → IsFixed w spelling n
+    → fixed_at w (before ++ (spelling ++ rest)) at ≡ Ok (n, at + length spelling)
 fixed_read w before spelling rest n at e h =
     let there : drop at (before ++ (spelling ++ rest)) ≡ spelling ++ rest = drop_at before (spelling ++ rest) at (sym e) in
     let enough : ltb (length (spelling ++ rest)) (byte_len w) ≡ false = le-ltb _ _ (omega (arith, length-append spelling rest, h.size)) in
     let front : take (byte_len w) (spelling ++ rest) ≡ spelling = take_at spelling rest (byte_len w) h.size in
     rw (there, enough, front, sym h.value, sym h.size) refl
 
--- what is read behind the tag
+-- what is read after the tag
 abbrev payload_field : ℕ → Wire → ℕ → ℕ → List ℕ → List ℕ → Field
-payload_field number w value at behind own = record { number = number; wire = w; value = value; start = at + (length behind - length own); «end» = at + length behind }
+payload_field number w value at behind own = record {
+  number = number;
+  wire = w;
+  value = value;
+  start = at + (length behind - length own);
+  «end» = at + length behind;
+}
 
 payload_read : (number : ℕ) (w : Wire) (value : ℕ) (before behind own rest : List ℕ) (at : ℕ) → at ≡ length before → IsPayload w behind value own
     → payload_at number w (before ++ (behind ++ rest)) at ≡ Ok (payload_field number w value at behind own)
@@ -76,9 +86,11 @@ payload_read number wire.I32 value before behind own rest at e h =
     rw (fixed_read w32 before behind rest value at e h.1, none) refl
 payload_read number wire.Len value before behind own rest at e h =
     let count = h.0 in
-    let group : before ++ (behind ++ rest) ≡ before ++ (count ++ (own ++ rest)) = ap (λ xs. before ++ xs) (ap (λ xs. xs ++ rest) h.1 ∙ append_assoc count own rest) in
+    let group : before ++ (behind ++ rest) ≡ before ++ (count ++ (own ++ rest)) =
+    ap (λ xs. before ++ xs) (ap (λ xs. xs ++ rest) h.1 ∙ append_assoc count own rest) in
     let whole : length (before ++ (count ++ (own ++ rest))) ≡ length before + (length count + (length own + length rest)) =
-    length-append before (count ++ (own ++ rest)) ∙ ap (λ k. length before + k) (length-append count (own ++ rest) ∙ ap (λ k. length count + k) (length-append own rest)) in
+    length-append before (count ++ (own ++ rest)) ∙ ap (λ k. length before + k) (length-append count (own ++ rest)
+    ∙ ap (λ k. length count + k) (length-append own rest)) in
     let size : length behind ≡ length count + length own = ap length h.1 ∙ length-append count own in
     let enough : ltb (length (before ++ (count ++ (own ++ rest))) - (at + length count)) value ≡ false = le-ltb _ _ (omega (arith, whole, e, h.3)) in
     let begin : at + (length behind - length own) ≡ at + length count = omega (arith, size) in
@@ -86,38 +98,55 @@ payload_read number wire.Len value before behind own rest at e h =
     rw (group, varint_read before count (own ++ rest) value at e h.2, enough, begin, stop) refl
 
 -- a record is read of its own bytes, wherever they stand
-pub record_read_at : (before : List ℕ) (r : Record) (rest : List ℕ) (at : ℕ) → at ≡ length before → IsRecord r → field_at (before ++ (r.text ++ rest)) at ≡ Ok (placed at r)
+pub record_read_at : (before : List ℕ) (r : Record) (rest : List ℕ) (at : ℕ) → at ≡ length before → IsRecord r
+    → field_at (before ++ (r.text ++ rest)) at ≡ Ok (placed at r)
 unfolding field_at
 record_read_at before r rest at e h =
     let tail = tail_of r.wire h.behind r.payload r.value h.payload in
-    let group : before ++ (r.text ++ rest) ≡ before ++ (h.tag ++ (h.behind ++ rest)) = ap (λ xs. before ++ xs) (ap (λ xs. xs ++ rest) h.text ∙ append_assoc h.tag h.behind rest) in
+    let group : before ++ (r.text ++ rest) ≡ before ++ (h.tag ++ (h.behind ++ rest)) =
+    ap (λ xs. before ++ xs) (ap (λ xs. xs ++ rest) h.text ∙ append_assoc h.tag h.behind rest) in
     let later : before ++ (h.tag ++ (h.behind ++ rest)) ≡ (before ++ h.tag) ++ (h.behind ++ rest) = sym (append_assoc before h.tag (h.behind ++ rest)) in
     let place : at + length h.tag ≡ length (before ++ h.tag) = omega (arith, length-append before h.tag, e) in
     let size : length r.text ≡ length h.tag + length h.behind = ap length h.text ∙ length-append h.tag h.behind in
     let own : length h.behind ≡ length tail.front + length r.payload = ap length tail.split ∙ length-append tail.front r.payload in
     let begin : at + (length r.text - length r.payload) ≡ at + length h.tag + (length h.behind - length r.payload) = omega (arith, size, own) in
     let stop : at + length r.text ≡ at + length h.tag + length h.behind = omega (arith, size) in
-    let payload : payload_at r.number r.wire (before ++ (h.tag ++ (h.behind ++ rest))) (at + length h.tag) ≡ Ok (payload_field r.number r.wire r.value (at + length h.tag) h.behind r.payload) =
-    ap (λ xs. payload_at r.number r.wire xs (at + length h.tag)) later ∙ payload_read r.number r.wire r.value (before ++ h.tag) h.behind r.payload rest (at + length h.tag) place h.payload in
-    rw (group, begin, stop, varint_read before h.tag (h.behind ++ rest) (8 * r.number + code_of r.wire) at e h.tagged, number_is r.number r.wire h.named, wire_is r.number r.wire) payload
+    let payload : payload_at r.number r.wire (before ++ (h.tag ++ (h.behind ++ rest))) (at + length h.tag)
+    ≡ Ok (payload_field r.number r.wire r.value (at + length h.tag) h.behind r.payload) =
+    ap (λ xs. payload_at r.number r.wire xs (at + length h.tag)) later
+    ∙ payload_read r.number r.wire r.value (before ++ h.tag) h.behind r.payload rest (at + length h.tag) place h.payload in
+    rw (
+      group,
+      begin,
+      stop,
+      varint_read before h.tag (h.behind ++ rest) (8 * r.number + code_of r.wire) at e h.tagged,
+      number_is r.number r.wire h.named,
+      wire_is r.number r.wire,
+    ) payload
 
 -- a record is read of its own bytes, whatever follows them
 pub record_read : (r : Record) (rest : List ℕ) → IsRecord r → field_at (r.text ++ rest) 0 ≡ Ok (placed 0 r)
 record_read r rest h = record_read_at [] r rest 0 refl h
 
 -- and it is seen there as itself
-pub record_kept_at : (before : List ℕ) (r : Record) (rest : List ℕ) (at : ℕ) → at ≡ length before → IsRecord r → record_at (before ++ (r.text ++ rest)) at (placed at r) ≡ r
+pub record_kept_at : (before : List ℕ) (r : Record) (rest : List ℕ) (at : ℕ) → at ≡ length before → IsRecord r
+    → record_at (before ++ (r.text ++ rest)) at (placed at r) ≡ r
 record_kept_at before r rest at e h =
     let tail = tail_of r.wire h.behind r.payload r.value h.payload in
     let size : length r.text ≡ length h.tag + length h.behind = ap length h.text ∙ length-append h.tag h.behind in
     let own : length h.behind ≡ length tail.front + length r.payload = ap length tail.split ∙ length-append tail.front r.payload in
     let group : before ++ (r.text ++ rest) ≡ (before ++ r.text) ++ rest = sym (append_assoc before r.text rest) in
-    let front : take (at + length r.text) (before ++ (r.text ++ rest)) ≡ before ++ r.text = ap (λ xs. take (at + length r.text) xs) group ∙ take_at (before ++ r.text) rest (at + length r.text) (omega (arith, length-append before r.text, e)) in
+    let front : take (at + length r.text) (before ++ (r.text ++ rest)) ≡ before ++ r.text = ap (λ xs. take (at + length r.text) xs) group
+    ∙ take_at (before ++ r.text) rest (at + length r.text) (omega (arith, length-append before r.text, e)) in
     let text : drop at (before ++ r.text) ≡ r.text = drop_at before r.text at (sym e) in
     let parts : before ++ r.text ≡ (before ++ (h.tag ++ tail.front)) ++ r.payload =
-    ap (λ xs. before ++ xs) (h.text ∙ ap (λ xs. h.tag ++ xs) tail.split ∙ sym (append_assoc h.tag tail.front r.payload)) ∙ sym (append_assoc before (h.tag ++ tail.front) r.payload) in
-    let place : length (before ++ (h.tag ++ tail.front)) ≡ at + (length r.text - length r.payload) = omega (arith, size, own, e, length-append before (h.tag ++ tail.front), length-append h.tag tail.front) in
-    let payload : drop (at + (length r.text - length r.payload)) (before ++ r.text) ≡ r.payload = ap (λ xs. drop (at + (length r.text - length r.payload)) xs) parts ∙ drop_at (before ++ (h.tag ++ tail.front)) r.payload (at + (length r.text - length r.payload)) place in
+    ap (λ xs. before ++ xs) (h.text ∙ ap (λ xs. h.tag ++ xs) tail.split ∙ sym (append_assoc h.tag tail.front r.payload))
+    ∙ sym (append_assoc before (h.tag ++ tail.front) r.payload) in
+    let place : length (before ++ (h.tag ++ tail.front)) ≡ at + (length r.text - length r.payload) =
+    omega (arith, size, own, e, length-append before (h.tag ++ tail.front), length-append h.tag tail.front) in
+    let payload : drop (at + (length r.text - length r.payload)) (before ++ r.text) ≡ r.payload =
+    ap (λ xs. drop (at + (length r.text - length r.payload)) xs) parts
+    ∙ drop_at (before ++ (h.tag ++ tail.front)) r.payload (at + (length r.text - length r.payload)) place in
     rw (front, text, payload) refl
 
 pub record_kept : (r : Record) (rest : List ℕ) → IsRecord r → record_of (r.text ++ rest) (placed 0 r) ≡ r
@@ -127,7 +156,8 @@ record_kept r rest h = record_kept_at [] r rest 0 refl h
 
 number_ok : (tag n : ℕ) → number_of (tag / 8) ≡ Ok n → (n ≡ tag / 8) × IsFieldNumber n
 number_ok tag n e = go (tag / 8) n (eqb (tag / 8) 0) (ltb 536_870_911 (tag / 8)) refl refl e where
-  go : (k n : ℕ) (none many : Bool) → eqb k 0 ≡ none → ltb 536_870_911 k ≡ many → cond {A = Result ℕ WireFault} none (Err BadField) (cond many (Err BadField) (Ok k)) ≡ Ok n → (n ≡ k) × IsFieldNumber n
+  go : (k n : ℕ) (none many : Bool) → eqb k 0 ≡ none → ltb 536_870_911 k ≡ many
+      → cond {A = Result ℕ WireFault} none (Err BadField) (cond many (Err BadField) (Ok k)) ≡ Ok n → (n ≡ k) × IsFieldNumber n
   go k n true many a b e = absurd cc
   go k n false true a b e = absurd cc
   go k n false false a b e =
@@ -145,7 +175,8 @@ wire_ok code w e = go code w (eqb code 0) (eqb code 1) (eqb code 2) (eqb code 5)
   ok_wire v w e = cc
 
   go : (code : ℕ) (w : Wire) (a b c d : Bool) → eqb code 0 ≡ a → eqb code 1 ≡ b → eqb code 2 ≡ c → eqb code 5 ≡ d
-      → cond {A = Result Wire WireFault} a (Ok wire.Varint) (cond b (Ok wire.I64) (cond c (Ok wire.Len) (cond d (Ok wire.I32) (Err BadWireType)))) ≡ Ok w → code ≡ code_of w
+      → cond {A = Result Wire WireFault} a (Ok wire.Varint)
+      (cond b (Ok wire.I64) (cond c (Ok wire.Len) (cond d (Ok wire.I32) (Err BadWireType)))) ≡ Ok w → code ≡ code_of w
   go code w true b c d p q r s e = eqb-true code 0 p ∙ ap code_of (ok_wire wire.Varint w e)
   go code w false true c d p q r s e = eqb-true code 1 q ∙ ap code_of (ok_wire wire.I64 w e)
   go code w false false true d p q r s e = eqb-true code 2 r ∙ ap code_of (ok_wire wire.Len w e)
@@ -163,9 +194,12 @@ between_split : (bytes : List ℕ) (at mid last : ℕ) → at ≤ mid → mid �
 between_split bytes at mid last low high =
     let width : at + (mid - at) ≡ mid = omega (arith, low) in
     let front : take (mid - at) (drop at (take last bytes)) ≡ drop at (take mid bytes) =
-    sym (drop-take at (mid - at) (take last bytes)) ∙ ap (λ (k : ℕ). drop at (take k (take last bytes))) width ∙ ap (λ xs. drop at xs) (take-take mid last bytes high) in
-    let back : drop (mid - at) (drop at (take last bytes)) ≡ drop mid (take last bytes) = drop-drop (mid - at) at (take last bytes) ∙ ap (λ (k : ℕ). drop k (take last bytes)) width in
-    sym (take-append-drop (mid - at) (drop at (take last bytes))) ∙ ap (λ xs. xs ++ drop (mid - at) (drop at (take last bytes))) front ∙ ap (λ xs. drop at (take mid bytes) ++ xs) back
+    sym (drop-take at (mid - at) (take last bytes)) ∙ ap (λ (k : ℕ). drop at (take k (take last bytes))) width
+    ∙ ap (λ xs. drop at xs) (take-take mid last bytes high) in
+    let back : drop (mid - at) (drop at (take last bytes)) ≡ drop mid (take last bytes) = drop-drop (mid - at) at (take last bytes)
+    ∙ ap (λ (k : ℕ). drop k (take last bytes)) width in
+    sym (take-append-drop (mid - at) (drop at (take last bytes))) ∙ ap (λ xs. xs ++ drop (mid - at) (drop at (take last bytes))) front
+    ∙ ap (λ xs. drop at (take mid bytes) ++ xs) back
 
 abbrev ok_field : Field → Result Field WireFault
 ok_field f = Ok f
@@ -182,24 +216,33 @@ pub record FoundPayload (n : ℕ) (w : Wire) (bytes : List ℕ) (at : ℕ) (f : 
   pub inside : f.«end» ≤ length bytes
   pub payload : IsPayload w (drop at (take f.«end» bytes)) f.value (drop f.start (take f.«end» bytes))
 
-fixed_found : (w : Width) (bytes : List ℕ) (at : ℕ) (x : ℕ × ℕ) → at ≤ length bytes → fixed_at w bytes at ≡ Ok x → (at ≤ x.1) × (x.1 ≤ length bytes) × IsFixed w (drop at (take x.1 bytes)) x.0
+fixed_found : (w : Width) (bytes : List ℕ) (at : ℕ) (x : ℕ × ℕ) → at ≤ length bytes → fixed_at w bytes at ≡ Ok x
+    → (at ≤ x.1) × (x.1 ≤ length bytes) × IsFixed w (drop at (take x.1 bytes)) x.0
 fixed_found w bytes at x le e =
-    let g = guard_ok {F = WireFault} (ltb (length (drop at bytes)) (byte_len w)) Truncated (from_le_bytes w (take (byte_len w) (drop at bytes)), at + byte_len w) x e in
+    let g = guard_ok {F = WireFault} (ltb (length (drop at bytes)) (byte_len w)) Truncated
+    (from_le_bytes w (take (byte_len w) (drop at bytes)), at + byte_len w) x e in
     let long : byte_len w ≤ length (drop at bytes) = ltb-false _ _ g.0 in
     let value : from_le_bytes w (take (byte_len w) (drop at bytes)) ≡ x.0 = ap (λ (y : ℕ × ℕ). y.0) g.1 in
     let stop : at + byte_len w ≡ x.1 = ap (λ (y : ℕ × ℕ). y.1) g.1 in
-    let own : drop at (take x.1 bytes) ≡ take (byte_len w) (drop at bytes) = ap (λ (k : ℕ). drop at (take k bytes)) (sym stop) ∙ drop-take at (byte_len w) bytes in (
+    let own : drop at (take x.1 bytes) ≡ take (byte_len w) (drop at bytes) = ap (λ (k : ℕ). drop at (take k bytes)) (sym stop)
+    ∙ drop-take at (byte_len w) bytes in (
       omega (arith, stop),
       omega (arith, stop, long, length-drop at bytes, le),
-      record { size = ap length own ∙ omega (arith, length-take (byte_len w) (drop at bytes), long); value = sym value ∙ ap (λ xs. from_le_bytes w xs) (sym own) },
+      record {
+        size = ap length own ∙ omega (arith, length-take (byte_len w) (drop at bytes), long);
+        value = sym value
+            ∙ ap (λ xs. from_le_bytes w xs) (sym own);
+      },
     )
 
-spelled_there : (bytes : List ℕ) (at : ℕ) (x : ℕ × ℕ) → AreBytes bytes → at ≤ length bytes → varint_at bytes at ≡ Ok x → (at < x.1) × (x.1 ≤ length bytes) × IsVarint (drop at (take x.1 bytes)) x.0
+spelled_there : (bytes : List ℕ) (at : ℕ) (x : ℕ × ℕ) → AreBytes bytes → at ≤ length bytes → varint_at bytes at ≡ Ok x
+    → (at < x.1) × (x.1 ≤ length bytes) × IsVarint (drop at (take x.1 bytes)) x.0
 spelled_there bytes at x are le e =
     let h = varint_found bytes at x are le e in
     (h.begins, h.inside, subst (λ (xs : List ℕ). IsVarint xs x.0) (sym (between_is bytes at x.1 (omega (arith, h.begins)))) h.spelled)
 
-payload_found : (n : ℕ) (w : Wire) (bytes : List ℕ) (at : ℕ) (f : Field) → AreBytes bytes → at ≤ length bytes → payload_at n w bytes at ≡ Ok f → FoundPayload n w bytes at f
+payload_found : (n : ℕ) (w : Wire) (bytes : List ℕ) (at : ℕ) (f : Field) → AreBytes bytes → at ≤ length bytes
+    → payload_at n w bytes at ≡ Ok f → FoundPayload n w bytes at f
 unfolding payload_at
 payload_found n wire.Varint bytes at f are le e =
     let v = bind_ok (varint_at bytes at) (λ (v : ℕ × ℕ). Ok (as_field n wire.Varint at v)) f e in
@@ -217,11 +260,13 @@ payload_found n wire.I32 bytes at f are le e =
     subst (FoundPayload n wire.I32 bytes at) (field_is _ f v.2)
     (record { number = refl; wire = refl; begins = omega arith; ordered = h.0; inside = h.1; payload = (refl, h.2) })
 payload_found n wire.Len bytes at f are le e =
-    let v = bind_ok (varint_at bytes at) (λ (len : ℕ × ℕ). cond (ltb (length bytes - len.1) len.0) (Err Truncated) (Ok (as_field n wire.Len len.1 (len.0, len.1 + len.0)))) f e in
+    let v = bind_ok (varint_at bytes at) (λ (len : ℕ × ℕ). cond (ltb (length bytes - len.1) len.0) (Err Truncated)
+    (Ok (as_field n wire.Len len.1 (len.0, len.1 + len.0)))) f e in
     let g = guard_ok {F = WireFault} (ltb (length bytes - v.0.1) v.0.0) Truncated (as_field n wire.Len v.0.1 (v.0.0, v.0.1 + v.0.0)) f v.2 in
     let room : v.0.0 ≤ length bytes - v.0.1 = ltb-false _ _ g.0 in
     let h = spelled_there bytes at v.0 are le v.1 in
-    let size : length (drop v.0.1 (take (v.0.1 + v.0.0) bytes)) ≡ v.0.0 = omega (arith, length-drop v.0.1 (take (v.0.1 + v.0.0) bytes), length-take (v.0.1 + v.0.0) bytes, room, h.1) in
+    let size : length (drop v.0.1 (take (v.0.1 + v.0.0) bytes)) ≡ v.0.0 =
+    omega (arith, length-drop v.0.1 (take (v.0.1 + v.0.0) bytes), length-take (v.0.1 + v.0.0) bytes, room, h.1) in
     subst (FoundPayload n wire.Len bytes at) g.1
     (record {
       number = refl;
@@ -239,7 +284,8 @@ pub record FoundRecord (bytes : List ℕ) (at : ℕ) (f : Field) : Type 0 where
   pub inside : f.«end» ≤ length bytes
   pub spelled : IsRecord (record_at bytes at f)
 
-found_by_parts : (bytes : List ℕ) (at : ℕ) (f : Field) (tag : ℕ × ℕ) (n : ℕ) (w : Wire) → AreBytes bytes → at ≤ length bytes → varint_at bytes at ≡ Ok tag → number_of (tag.0 / 8) ≡ Ok n → wire_of (tag.0 % 8) ≡ Ok w
+found_by_parts : (bytes : List ℕ) (at : ℕ) (f : Field) (tag : ℕ × ℕ) (n : ℕ) (w : Wire) → AreBytes bytes → at ≤ length bytes
+    → varint_at bytes at ≡ Ok tag → number_of (tag.0 / 8) ≡ Ok n → wire_of (tag.0 % 8) ≡ Ok w
     → payload_at n w bytes tag.1 ≡ Ok f → FoundRecord bytes at f
 found_by_parts bytes at f tag n w are le tag_read number_read wire_read payload_read =
     let there = spelled_there bytes at tag are le tag_read in
@@ -266,12 +312,13 @@ found_by_parts bytes at f tag n w are le tag_read number_read wire_read payload_
 pub record_found_at : (bytes : List ℕ) (at : ℕ) (f : Field) → AreBytes bytes → at ≤ length bytes → field_at bytes at ≡ Ok f → FoundRecord bytes at f
 unfolding field_at
 record_found_at bytes at f are le e =
-    let t = bind_ok (varint_at bytes at) (λ (tag : ℕ × ℕ). number_of (tag.0 / 8) >>= λ number. wire_of (tag.0 % 8) >>= λ wire. payload_at number wire bytes tag.1) f e in
+    let t = bind_ok (varint_at bytes at) (λ (tag : ℕ × ℕ). number_of (tag.0 / 8) >>= λ number. wire_of (tag.0 % 8)
+    >>= λ wire. payload_at number wire bytes tag.1) f e in
     let n = bind_ok (number_of (t.0.0 / 8)) (λ number. wire_of (t.0.0 % 8) >>= λ wire. payload_at number wire bytes t.0.1) f t.2 in
     let w = bind_ok (wire_of (t.0.0 % 8)) (λ wire. payload_at n.0 wire bytes t.0.1) f n.2 in
     found_by_parts bytes at f t.0 n.0 w.0 are le t.1 n.1 w.1 w.2
 
--- what is read at the front is a record by the grammar
+-- what is read at the start is a record by the grammar
 pub record_found : (bytes : List ℕ) (f : Field) → AreBytes bytes → field_at bytes 0 ≡ Ok f → FoundRecord bytes 0 f
 record_found bytes f are e = record_found_at bytes 0 f are (omega arith) e
 
@@ -307,8 +354,9 @@ one_list bytes rs others a b = same_lists rs others (sym a.whole ∙ b.whole) a.
 pub spelled_none : SpellRecords [] []
 spelled_none = record { whole = refl; each = tt }
 
--- the record at the front, and then those of the bytes behind it
-pub spelled_next : (bytes : List ℕ) (f : Field) (rs : List Record) → AreBytes bytes → field_at bytes 0 ≡ Ok f → SpellRecords (drop f.«end» bytes) rs → SpellRecords bytes (record_of bytes f ∷ rs)
+-- the record at the start, and then those of the bytes after it
+pub spelled_next : (bytes : List ℕ) (f : Field) (rs : List Record) → AreBytes bytes → field_at bytes 0 ≡ Ok f
+    → SpellRecords (drop f.«end» bytes) rs → SpellRecords bytes (record_of bytes f ∷ rs)
 spelled_next bytes f rs are e h =
     record {
       whole = sym (take-append-drop f.«end» bytes) ∙ ap (λ xs. take f.«end» bytes ++ xs) h.whole;
@@ -320,7 +368,8 @@ spelled_next bytes f rs are e h =
 ended : (bytes : List ℕ) (at : ℕ) → next_field bytes at ≡ Ok None → at ≡ length bytes
 unfolding next_field
 ended bytes at e = go at (length bytes) (field_at bytes at) (eqb at (length bytes)) refl e where
-  go : (at size : ℕ) (r : Result Field WireFault) (b : Bool) → eqb at size ≡ b → cond {A = Result (Option Field) WireFault} b (Ok None) (r >>= λ f. Ok (Some f)) ≡ Ok None → at ≡ size
+  go : (at size : ℕ) (r : Result Field WireFault) (b : Bool) → eqb at size ≡ b
+      → cond {A = Result (Option Field) WireFault} b (Ok None) (r >>= λ f. Ok (Some f)) ≡ Ok None → at ≡ size
   go at size r true t e = eqb-true at size t
   go at size (Ok f) false t e = absurd cc
   go at size (Err d) false t e = absurd cc
@@ -331,7 +380,8 @@ went bytes at f e = go (field_at bytes at) f (eqb at (length bytes)) e where
   some_is : (f g : Field) → ◌≡◌ {A = Result (Option Field) WireFault} (Ok (Some f)) (Ok (Some g)) → f ≡ g
   some_is f g e = cc
 
-  go : (r : Result Field WireFault) (f : Field) (b : Bool) → cond {A = Result (Option Field) WireFault} b (Ok None) (r >>= λ f. Ok (Some f)) ≡ Ok (Some f) → r ≡ Ok f
+  go : (r : Result Field WireFault) (f : Field) (b : Bool)
+      → cond {A = Result (Option Field) WireFault} b (Ok None) (r >>= λ f. Ok (Some f)) ≡ Ok (Some f) → r ≡ Ok f
   go r f true e = absurd cc
   go (Ok g) f false e = ap (λ x. Ok x) (some_is g f e)
   go (Err d) f false e = absurd cc
@@ -353,7 +403,8 @@ walk_spelled bytes (r ∷ rs) at are le w =
     let front : take (f.«end» - at) (drop at bytes) ≡ drop at (take f.«end» bytes) = sym (between_is bytes at f.«end» (omega (arith, width))) in
     let back : drop (f.«end» - at) (drop at bytes) ≡ texts rs = drop-drop (f.«end» - at) at bytes ∙ ap (λ (k : ℕ). drop k bytes) width ∙ rest.whole in
     let whole : drop at bytes ≡ drop at (take f.«end» bytes) ++ texts rs =
-    sym (take-append-drop (f.«end» - at) (drop at bytes)) ∙ ap (λ xs. xs ++ drop (f.«end» - at) (drop at bytes)) front ∙ ap (λ xs. drop at (take f.«end» bytes) ++ xs) back in
+    sym (take-append-drop (f.«end» - at) (drop at bytes)) ∙ ap (λ xs. xs ++ drop (f.«end» - at) (drop at bytes)) front
+    ∙ ap (λ xs. drop at (take f.«end» bytes) ++ xs) back in
     subst (λ (x : Record). SpellRecords (drop at bytes) (x ∷ rs)) (sym w.2) (record { whole = whole; each = (found.spelled, rest.each) })
 
 -- a walk meets what is spelled
@@ -364,11 +415,13 @@ spelled_walk before [] each =
     rw here refl
 spelled_walk before (r ∷ rs) each =
     let bytes = before ++ (r.text ++ texts rs) in
-    let longer : eqb (length before) (length bytes) ≡ false = ne_eqb _ _ (omega (arith, length-append before (r.text ++ texts rs), length-append r.text (texts rs), some_text r each.0)) in
+    let longer : eqb (length before) (length bytes) ≡ false =
+    ne_eqb _ _ (omega (arith, length-append before (r.text ++ texts rs), length-append r.text (texts rs), some_text r each.0)) in
     let read : field_at bytes (length before) ≡ Ok (placed (length before) r) = record_read_at before r (texts rs) (length before) refl each.0 in
     let kept : record_at bytes (length before) (placed (length before) r) ≡ r = record_kept_at before r (texts rs) (length before) refl each.0 in
     let deep = spelled_walk (before ++ r.text) rs each.1 in
-    let there : Walks bytes (length (before ++ r.text)) rs = subst (λ (xs : List ℕ). Walks xs (length (before ++ r.text)) rs) (append_assoc before r.text (texts rs)) deep in (
+    let there : Walks bytes (length (before ++ r.text)) rs = subst (λ (xs : List ℕ). Walks xs (length (before ++ r.text)) rs)
+    (append_assoc before r.text (texts rs)) deep in (
       placed (length before) r,
       rw (longer, read) refl,
       sym kept,
@@ -398,7 +451,8 @@ tag_small number wire.Len high = omega arith
 tag_small number wire.I32 high = omega arith
 
 -- what is written is a record by the grammar
-pub written_is_record : (number : ℕ) (w : Wire) (value : ℕ) (payload : List ℕ) → IsFieldNumber number → value < 2 ^ 64 → length payload < 2 ^ 64 → (w ≡ wire.I32 → value < 2 ^ 32)
+pub written_is_record : (number : ℕ) (w : Wire) (value : ℕ) (payload : List ℕ) → IsFieldNumber number → value < 2 ^ 64
+    → length payload < 2 ^ 64 → (w ≡ wire.I32 → value < 2 ^ 32)
     → IsRecord (written_record number w value payload)
 written_is_record number w value payload named small len narrow =
     record {
@@ -410,13 +464,16 @@ written_is_record number w value payload named small len narrow =
       payload = written_payload w value payload small len narrow;
     }
 
-written_bytes : (w : Wire) (value : ℕ) (payload : List ℕ) → value < 2 ^ 64 → length payload < 2 ^ 64 → AreBytes payload → AreBytes (payload_text w value payload)
+written_bytes : (w : Wire) (value : ℕ) (payload : List ℕ) → value < 2 ^ 64 → length payload < 2 ^ 64 → AreBytes payload
+    → AreBytes (payload_text w value payload)
 written_bytes wire.Varint value payload small len are = (is_shortest value small).bytes
-written_bytes wire.I64 value payload small len are = (omega arith, (omega arith, (omega arith, (omega arith, (omega arith, (omega arith, (omega arith, (omega arith, tt))))))))
+written_bytes wire.I64 value payload small len are =
+    (omega arith, (omega arith, (omega arith, (omega arith, (omega arith, (omega arith, (omega arith, (omega arith, tt))))))))
 written_bytes wire.Len value payload small len are = are_bytes-append (varint_text (length payload)) payload (is_shortest (length payload) len).bytes are
 written_bytes wire.I32 value payload small len are = (omega arith, (omega arith, (omega arith, (omega arith, tt))))
 
-least_payload : (w : Wire) (value : ℕ) (payload behind own : List ℕ) → AreBytes behind → IsPayload w behind (value_text w value payload) own → length (payload_text w value payload) ≤ length behind
+least_payload : (w : Wire) (value : ℕ) (payload behind own : List ℕ) → AreBytes behind
+    → IsPayload w behind (value_text w value payload) own → length (payload_text w value payload) ≤ length behind
 least_payload wire.Varint value payload behind own are h = least_spelling 9 value behind are h.1.spells
 least_payload wire.I64 value payload behind own are h = omega (arith, h.1.size)
 least_payload wire.Len value payload behind own are h =
@@ -427,20 +484,24 @@ least_payload wire.Len value payload behind own are h =
 least_payload wire.I32 value payload behind own are h = omega (arith, h.1.size)
 
 -- and no bytes that spell it are fewer
-pub written_is_shortest : (number : ℕ) (w : Wire) (value : ℕ) (payload : List ℕ) → IsFieldNumber number → value < 2 ^ 64 → length payload < 2 ^ 64 → (w ≡ wire.I32 → value < 2 ^ 32) → AreBytes payload
+pub written_is_shortest : (number : ℕ) (w : Wire) (value : ℕ) (payload : List ℕ) → IsFieldNumber number → value < 2 ^ 64
+    → length payload < 2 ^ 64 → (w ≡ wire.I32 → value < 2 ^ 32) → AreBytes payload
     → IsShortestRecord (written_record number w value payload)
 written_is_shortest number w value payload named small len narrow are =
     let tag = 8 * number + code_of w in
     record {
       is_one = written_is_record number w value payload named small len narrow;
-      bytes = are_bytes-append (tag_text number w) (payload_text w value payload) (is_shortest tag (tag_small number w named.1)).bytes (written_bytes w value payload small len are);
+      bytes = are_bytes-append (tag_text number w) (payload_text w value payload) (is_shortest tag (tag_small number w named.1)).bytes
+          (written_bytes w value payload small len are);
       least = λ other other_are h same_number same_wire same_value.
           let both : AreBytes (h.tag ++ h.behind) = subst AreBytes h.text other_are in
           let size : length other.text ≡ length h.tag + length h.behind = ap length h.text ∙ length-append h.tag h.behind in
-          let tagged : 8 * other.number + code_of other.wire ≡ tag = ap (λ (k : ℕ). 8 * k + code_of other.wire) same_number ∙ ap (λ (x : Wire). 8 * number + code_of x) same_wire in
+          let tagged : 8 * other.number + code_of other.wire ≡ tag = ap (λ (k : ℕ). 8 * k + code_of other.wire) same_number
+          ∙ ap (λ (x : Wire). 8 * number + code_of x) same_wire in
           let tags = least_spelling 9 tag h.tag (are_bytes-front h.tag h.behind both) (subst (Spells h.tag) tagged h.tagged.spells) in
           let behind : IsPayload w h.behind (value_text w value payload) other.payload =
-          subst (λ (x : Wire). IsPayload x h.behind (value_text w value payload) other.payload) same_wire (subst (λ (k : ℕ). IsPayload other.wire h.behind k other.payload) same_value h.payload) in
+          subst (λ (x : Wire). IsPayload x h.behind (value_text w value payload) other.payload) same_wire
+          (subst (λ (k : ℕ). IsPayload other.wire h.behind k other.payload) same_value h.payload) in
           let payloads = least_payload w value payload h.behind other.payload (are_bytes-back h.tag h.behind both) behind in
           omega (arith, size, tags, payloads, length-append (tag_text number w) (payload_text w value payload));
     }

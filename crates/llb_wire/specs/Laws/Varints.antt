@@ -1,6 +1,7 @@
 -- A number is read exactly where one is spelled; its shortest spelling is read again, whatever follows it, and no spelling
 -- is shorter.
-use Rattle.std.proofs.Common.{zero-add, ◌≡◌, ℕ, zero, suc, ◌+◌, ◌-◌, ◌*◌, ◌/◌, ◌%◌, ◌^◌, ◌<◌, ◌≤◌, Bool, true, false, cond, ltb, List, [], ◌∷◌, ◌++◌, length, get_or, take, drop, Result, Ok, Err, ◌⊎◌, inl, inr, refl, sym, ap, subst, ◌∙◌, arith}
+use Rattle.std.proofs.Common.{zero-add, ◌≡◌, ℕ, zero, suc, ◌+◌, ◌-◌, ◌*◌, ◌/◌, ◌%◌, ◌^◌, ◌<◌, ◌≤◌, Bool, true, false, cond, ltb, List, []}
+use Rattle.std.proofs.Common.{◌∷◌, ◌++◌, length, get_or, take, drop, Result, Ok, Err, ◌⊎◌, inl, inr, refl, sym, ap, subst, ◌∙◌, arith}
 use Rattle.std.proofs.lemmas.Bool.{ltb-false, le-ltb, ltb-true, lt-ltb, cases_lt}
 use Rattle.std.proofs.lemmas.List.{length-take, length-drop, take-append-drop, drop_at, take_at}
 use Rattle.llb_wire.specs.declared.fault.WireFault.{WireFault}
@@ -22,10 +23,12 @@ ok_pair e = cc
 -- ---- what is read is spelled there
 
 -- a byte is the last one, or it stands before a number that is read
-pub short_or : (b v n : ℕ) (more : Result (ℕ × ℕ) WireFault) (test : Bool) → cond {A = Result (ℕ × ℕ) WireFault} test (Ok (b, 1)) (more >>= λ m. Ok (b - 128 + 128 * m.0, suc m.1)) ≡ Ok (v, n)
+pub short_or : (b v n : ℕ) (more : Result (ℕ × ℕ) WireFault) (test : Bool)
+    → cond {A = Result (ℕ × ℕ) WireFault} test (Ok (b, 1)) (more >>= λ m. Ok (b - 128 + 128 * m.0, suc m.1)) ≡ Ok (v, n)
     → ((test ≡ true) × (n ≡ 1)) ⊎ ((test ≡ false) × ((m : ℕ × ℕ) × (more ≡ Ok m) × (b - 128 + 128 * m.0 ≡ v) × (suc m.1 ≡ n)))
 short_or b v n more true e = let h : pair b 1 ≡ pair v n = cc in inl (refl, sym (ap (λ (x : ℕ × ℕ). x.1) h))
-short_or b v n (Ok m) false e = let h : pair (b - 128 + 128 * m.0) (suc m.1) ≡ pair v n = cc in inr (refl, (m, refl, ap (λ (x : ℕ × ℕ). x.0) h, ap (λ (x : ℕ × ℕ). x.1) h))
+short_or b v n (Ok m) false e = let h : pair (b - 128 + 128 * m.0) (suc m.1) ≡ pair v n =
+    cc in inr (refl, (m, refl, ap (λ (x : ℕ × ℕ). x.0) h, ap (λ (x : ℕ × ℕ). x.1) h))
 short_or b v n (Err d) false e = absurd cc
 
 long_is : (b v n : ℕ) (test : Bool) → cond {A = Result (ℕ × ℕ) WireFault} test (Err LongVarint) (Ok (b, 1)) ≡ Ok (v, n) → n ≡ 1
@@ -47,7 +50,8 @@ spells_more : (b v m : ℕ) (xs : List ℕ) → 128 ≤ b → v + 128 ≡ b + 12
 spells_more b v m [] high sum h = absurd h
 spells_more b v m (c ∷ xs) high sum h = (high, m, sum, h)
 
-last_is : (b v n : ℕ) (bytes : List ℕ) (test : Bool) → ltb 1 b ≡ test → cond {A = Result (ℕ × ℕ) WireFault} test (Err LongVarint) (Ok (b, 1)) ≡ Ok (v, n) → Spells (take n (b ∷ bytes)) v × (n ≤ 1)
+last_is : (b v n : ℕ) (bytes : List ℕ) (test : Bool) → ltb 1 b ≡ test
+    → cond {A = Result (ℕ × ℕ) WireFault} test (Err LongVarint) (Ok (b, 1)) ≡ Ok (v, n) → Spells (take n (b ∷ bytes)) v × (n ≤ 1)
 last_is b v n bytes true t e = absurd cc
 last_is b v n bytes false t e =
     let h : pair b 1 ≡ pair v n = cc in
@@ -67,7 +71,8 @@ spells_found (suc more) (b ∷ bytes) v n e =
       | inr l ↦
           let deep = spells_found more bytes l.1.0.0 l.1.0.1 l.1.1 in
           let high = ltb-false b 128 l.0 in
-          subst (λ (k : ℕ). Spells (take k (b ∷ bytes)) v × (k ≤ suc (suc more))) l.1.3 (spells_more b v l.1.0.0 (take l.1.0.1 bytes) high (omega (arith, l.1.2, high)) deep.0, omega (arith, deep.1))
+          subst (λ (k : ℕ). Spells (take k (b ∷ bytes)) v × (k ≤ suc (suc more))) l.1.3
+          (spells_more b v l.1.0.0 (take l.1.0.1 bytes) high (omega (arith, l.1.2, high)) deep.0, omega (arith, deep.1))
     ]
 
 -- a number of one bit fits under each limit
@@ -97,7 +102,8 @@ small_found (suc more) (b ∷ bytes) v n are e =
 
 -- ---- what is spelled is read, whatever follows
 
-pub spells_read : (more : ℕ) (xs rest : List ℕ) (v : ℕ) → Spells xs v → length xs ≤ suc more → v < varint_limit more → varint_from more (xs ++ rest) ≡ Ok (v, length xs)
+pub spells_read : (more : ℕ) (xs rest : List ℕ) (v : ℕ) → Spells xs v → length xs ≤ suc more → v < varint_limit more
+    → varint_from more (xs ++ rest) ≡ Ok (v, length xs)
 unfolding varint_from
 spells_read more [] rest v h short small = absurd h
 spells_read zero (b ∷ []) rest v h short small =
@@ -111,8 +117,9 @@ spells_read (suc more) (b ∷ c ∷ xs) rest v h short small =
     let value : b - 128 + 128 * h.1 ≡ v = omega (arith, h.2, h.0) in
     rw (no, deep, value) refl
 
--- a spelling that stands behind other bytes
-pub varint_read : (before spelling rest : List ℕ) (n at : ℕ) → at ≡ length before → IsVarint spelling n → varint_at (before ++ (spelling ++ rest)) at ≡ Ok (n, at + length spelling)
+-- a spelling that stands after other bytes
+pub varint_read : (before spelling rest : List ℕ) (n at : ℕ) → at ≡ length before → IsVarint spelling n
+    → varint_at (before ++ (spelling ++ rest)) at ≡ Ok (n, at + length spelling)
 varint_read before spelling rest n at e h =
     rw (drop_at before (spelling ++ rest) at (sym e), spells_read 9 spelling rest n h.spells (omega (arith, h.short)) h.small) refl
 
@@ -152,7 +159,8 @@ varint_found bytes at x are le e =
     let len : m.0.1 ≡ x.1 - at = omega (arith, stop) in
     let f = spells_found 9 (drop at bytes) m.0.0 m.0.1 m.1 in
     let size = varint_len 9 (drop at bytes) m.0.0 m.0.1 m.1 in
-    let spelled : Spells (take (x.1 - at) (drop at bytes)) x.0 = subst (λ (k : ℕ). Spells (take k (drop at bytes)) x.0) len (subst (λ (v : ℕ). Spells (take m.0.1 (drop at bytes)) v) value f.0) in
+    let spelled : Spells (take (x.1 - at) (drop at bytes)) x.0 = subst (λ (k : ℕ). Spells (take k (drop at bytes)) x.0) len
+    (subst (λ (v : ℕ). Spells (take m.0.1 (drop at bytes)) v) value f.0) in
     let small = small_found 9 (drop at bytes) m.0.0 m.0.1 (are_bytes-drop at bytes are) m.1 in
     record {
       begins = omega (arith, stop, size);
@@ -163,9 +171,11 @@ varint_found bytes at x are le e =
 -- the number that is spelled at a place is read there
 pub varint_only : (bytes : List ℕ) (at n last : ℕ) → VarintAt bytes at n last → varint_at bytes at ≡ Ok (n, last)
 varint_only bytes at n last h =
-    let len : length (take (last - at) (drop at bytes)) ≡ last - at = omega (arith, length-take (last - at) (drop at bytes), length-drop at bytes, h.inside, h.begins) in
+    let len : length (take (last - at) (drop at bytes)) ≡ last - at =
+    omega (arith, length-take (last - at) (drop at bytes), length-drop at bytes, h.inside, h.begins) in
     let whole : take (last - at) (drop at bytes) ++ drop (last - at) (drop at bytes) ≡ drop at bytes = take-append-drop (last - at) (drop at bytes) in
-    let read = spells_read 9 (take (last - at) (drop at bytes)) (drop (last - at) (drop at bytes)) n h.spelled.spells (omega (arith, h.spelled.short)) h.spelled.small in
+    let read = spells_read 9 (take (last - at) (drop at bytes)) (drop (last - at) (drop at bytes)) n h.spelled.spells
+    (omega (arith, h.spelled.short)) h.spelled.small in
     let there : varint_from 9 (drop at bytes) ≡ Ok (n, last - at) = ap (varint_from 9) (sym whole) ∙ read ∙ ap (λ (k : ℕ). Ok (n, k)) len in
     let stop : at + (last - at) ≡ last = omega (arith, h.begins) in
     rw (there, stop) refl
@@ -247,4 +257,5 @@ is_shortest n small =
     }
 
 pub reads_back : (n : ℕ) (rest : List ℕ) → n < 2 ^ 64 → varint_at (varint_text n ++ rest) 0 ≡ Ok (n, length (varint_text n))
-reads_back n rest small = varint_read [] (varint_text n) rest n 0 refl (is_shortest n small).is_one ∙ ap (λ (k : ℕ). Ok (n, k)) (zero-add (length (varint_text n)))
+reads_back n rest small = varint_read [] (varint_text n) rest n 0 refl (is_shortest n small).is_one
+    ∙ ap (λ (k : ℕ). Ok (n, k)) (zero-add (length (varint_text n)))

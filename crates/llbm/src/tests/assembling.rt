@@ -123,7 +123,7 @@ fn a_reader_that_fails_gives_nothing(rt: HostRuntime) {
     }
 }
 
-// What comes of an input over a writer that takes so many bytes.
+// What comes of an input over a writer that takes that many bytes.
 fn narrowly(alloc: Global, way: Way, input: &[u8], room: usize, flushes: bool) -> Ran {
     let mut bytes = input;
     let mut out = Narrow::new(alloc, room);

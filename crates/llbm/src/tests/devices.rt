@@ -20,7 +20,7 @@ impl Ran {
     }
 }
 
-/// A reader that gives one byte a read, and fails after so many.
+/// A reader that gives one byte a read, and fails after that many.
 #[derive(Drop)]
 pub struct Slow<'a> {
     pub bytes: &'a [u8],
@@ -44,7 +44,7 @@ impl<'a> Read for Slow<'a> {
     }
 }
 
-/// A writer that takes one byte a write, and fails after so many. It may fail at its end, too.
+/// A writer that takes one byte a write, and fails after that many. It may fail at its end, too.
 #[derive(Drop)]
 pub struct Narrow {
     pub room: usize,

@@ -48,7 +48,7 @@ fn an_input_past_a_bound_is_not_read(rt: HostRuntime) {
     }
 }
 
-// A reader that is interrupted so many times first.
+// A reader that is interrupted that many times first.
 #[derive(Drop)]
 struct Startled<'a> {
     bytes: &'a [u8],

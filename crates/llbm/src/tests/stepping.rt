@@ -13,7 +13,7 @@ const ANSWERS: &str =
     "1 claim 0 0 -> file 1\n2 step 0 -> acted 0\n3 settle 0 -> 0 done\nstop\nback 2\n0 running 0\n3 settle 0 -> 0 done\n\
     d 0755 0 0 /\nf 0644 0 0 6869 /a\n";
 
-// A session with so many workers and no local trees over a definition in hexadecimal digits.
+// A session with that many workers and no local trees over a definition in hexadecimal digits.
 fn session(alloc: Global, definition: &str, workers: u32, commands: &[u8]) -> Result<Ran, Fail> {
     let bytes = hex::decode(alloc, definition)?;
     let mut file = bytes.as_slice();
@@ -62,7 +62,7 @@ fn a_refused_command_ends_nothing(rt: HostRuntime) -> Result<(), Fail> {
     Ok(())
 }
 
-// A session whose commands come a byte a read and fail after so many, and whose answers go out a byte a write and fail after so many.
+// A session whose commands come a byte a read and fail after that many, and whose answers go out a byte a write and fail after that many.
 fn slowly(alloc: Global, reads: usize, writes: usize) -> Result<Ran, Fail> {
     let bytes = hex::decode(alloc, FIRST_RUN)?;
     let mut lines = Slow {

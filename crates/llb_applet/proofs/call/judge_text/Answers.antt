@@ -16,11 +16,13 @@ use Rattle.llb_applet.proofs.call.judge_text.Goals as goal
 use Rattle.llb_applet.proofs.call.judge_text.Goals.{After-into_iter-part-iterator}
 
 -- the loop goes over the parts of the text
-goes_over : (c : After-into_iter-part-iterator) → YieldsList (split_steps FindsChar (λ a b. b ≡ a)) (λ x. x.now) c.into_iter-part-iterator.result (parts_of c.args.text.now)
+goes_over : (c : After-into_iter-part-iterator) → YieldsList (split_steps FindsChar (λ a b. b ≡ a))
+    (λ x. x.now) c.into_iter-part-iterator.result (parts_of c.args.text.now)
 goes_over c =
     let e = c.split-part-items.ensures in
     let same = c.into_iter-part-iterator.ensures.into_iter_gives in
-    YieldsList-from_str_split 32 c.args.text.now (lit< tt) (ap split_text same ∙ e.text) (ap split_has_more same ∙ e.has_more) (ap split_pattern same ∙ e.pattern)
+    YieldsList-from_str_split 32 c.args.text.now (lit< tt) (ap split_text same ∙ e.text) (ap split_has_more same ∙ e.has_more)
+    (ap split_pattern same ∙ e.pattern)
 
 pub loop-part-init : goal.loop-part-init
 loop-part-init c = record {
@@ -33,7 +35,8 @@ loop-part-preserved c =
     let parts = parts_of c.args.text.now in
     let n = length c.loop-part.yielded in
     let part = c.in-Some.part.now in
-    let t = YieldsList-turn (goes_over (goal.at.loop-part-preserved c).After-into_iter-part-iterator) c.loop-part.yielded _ c.loop-part.yielded_by _ _ c.in-Some.part c.in-Some.is c.next.ensures.steps in
+    let t = YieldsList-turn (goes_over (goal.at.loop-part-preserved c).After-into_iter-part-iterator) c.loop-part.yielded _
+    c.loop-part.yielded_by _ _ c.in-Some.part c.in-Some.is c.next.ensures.steps in
     let here = ap (flat_map some_word) (at_drop parts n part t.0 t.1) in
     let (call, begun, so_far) = c.loop-part.invariant.judges in
     let (next, next_begun, step) = c.in_ok-take.ensures.judges call begun in
@@ -54,10 +57,12 @@ pub returns-in_err-take-clause-gives : goal.returns-in_err-take-clause-gives
 returns-in_err-take-clause-gives c =
     let parts = parts_of c.args.text.now in
     let n = length c.loop-part.yielded in
-    let t = YieldsList-turn (goes_over (goal.at.returns-in_err-take-clause-gives c).After-into_iter-part-iterator) c.loop-part.yielded _ c.loop-part.yielded_by _ _ c.in-Some.part c.in-Some.is c.next.ensures.steps in
+    let t = YieldsList-turn (goes_over (goal.at.returns-in_err-take-clause-gives c).After-into_iter-part-iterator) c.loop-part.yielded _
+    c.loop-part.yielded_by _ _ c.in-Some.part c.in-Some.is c.next.ensures.steps in
     let here = ap (flat_map some_word) (at_drop parts n c.in-Some.part.now t.0 t.1) in
     let (call, begun, so_far) = c.loop-part.invariant.judges in
-    let refuses = subst (Refuses c.in_err-take.field-0.0) (ap (judged c.loop-part.begun.number call) (sym here) ∙ so_far) (c.in_err-take.ensures.judges call begun (flat_map some_word (drop (n + 1) parts))) in
+    let refuses = subst (Refuses c.in_err-take.field-0.0) (ap (judged c.loop-part.begun.number call) (sym here) ∙ so_far)
+    (c.in_err-take.ensures.judges call begun (flat_map some_word (drop (n + 1) parts))) in
     let p = err_from_is_err_and c.from_residual.result c.from_residual.ensures.1 in
     rw (p.1, p.2) (refuses.known)
 
@@ -65,25 +70,31 @@ pub returns-in_err-take-clause-last : goal.returns-in_err-take-clause-last
 returns-in_err-take-clause-last c =
     let parts = parts_of c.args.text.now in
     let n = length c.loop-part.yielded in
-    let t = YieldsList-turn (goes_over (goal.at.returns-in_err-take-clause-last c).After-into_iter-part-iterator) c.loop-part.yielded _ c.loop-part.yielded_by _ _ c.in-Some.part c.in-Some.is c.next.ensures.steps in
+    let t = YieldsList-turn (goes_over (goal.at.returns-in_err-take-clause-last c).After-into_iter-part-iterator) c.loop-part.yielded _
+    c.loop-part.yielded_by _ _ c.in-Some.part c.in-Some.is c.next.ensures.steps in
     let here = ap (flat_map some_word) (at_drop parts n c.in-Some.part.now t.0 t.1) in
     let (call, begun, so_far) = c.loop-part.invariant.judges in
-    let refuses = subst (Refuses c.in_err-take.field-0.0) (ap (judged c.loop-part.begun.number call) (sym here) ∙ so_far) (c.in_err-take.ensures.judges call begun (flat_map some_word (drop (n + 1) parts))) in
+    let refuses = subst (Refuses c.in_err-take.field-0.0) (ap (judged c.loop-part.begun.number call) (sym here) ∙ so_far)
+    (c.in_err-take.ensures.judges call begun (flat_map some_word (drop (n + 1) parts))) in
     let p = err_from_is_err_and c.from_residual.result c.from_residual.ensures.1 in
     rw (p.1, p.2) (refuses_last _ _ refuses)
 
 pub returns-clause-gives : goal.returns-clause-gives
 returns-clause-gives c =
     let parts = parts_of c.args.text.now in
-    let t = YieldsList-end (goes_over (goal.at.returns-clause-gives c).After-into_iter-part-iterator) c.loop-part.yielded _ c.loop-part.yielded_by _ _ c.in-None.is c.next.ensures.steps in
+    let t = YieldsList-end (goes_over (goal.at.returns-clause-gives c).After-into_iter-part-iterator) c.loop-part.yielded _
+    c.loop-part.yielded_by _ _ c.in-None.is c.next.ensures.steps in
     let (call, begun, so_far) = c.loop-part.invariant.judges in
-    let ends = ap (λ ps. judged c.loop-part.begun.number call (flat_map some_word ps)) (sym (drop_all (length c.loop-part.yielded) parts (omega (arith, t.1)))) in
+    let ends = ap (λ ps. judged c.loop-part.begun.number call (flat_map some_word ps))
+    (sym (drop_all (length c.loop-part.yielded) parts (omega (arith, t.1)))) in
     gives_last c.loop-part.begun.number call _ (ends ∙ so_far) c.judge.result (c.judge.ensures call begun)
 
 pub returns-clause-last : goal.returns-clause-last
 returns-clause-last c =
     let parts = parts_of c.args.text.now in
-    let t = YieldsList-end (goes_over (goal.at.returns-clause-last c).After-into_iter-part-iterator) c.loop-part.yielded _ c.loop-part.yielded_by _ _ c.in-None.is c.next.ensures.steps in
+    let t = YieldsList-end (goes_over (goal.at.returns-clause-last c).After-into_iter-part-iterator) c.loop-part.yielded _
+    c.loop-part.yielded_by _ _ c.in-None.is c.next.ensures.steps in
     let (call, begun, so_far) = c.loop-part.invariant.judges in
-    let ends = ap (λ ps. judged c.loop-part.begun.number call (flat_map some_word ps)) (sym (drop_all (length c.loop-part.yielded) parts (omega (arith, t.1)))) in
+    let ends = ap (λ ps. judged c.loop-part.begun.number call (flat_map some_word ps))
+    (sym (drop_all (length c.loop-part.yielded) parts (omega (arith, t.1)))) in
     memory_last c.loop-part.begun.number call _ (ends ∙ so_far) c.judge.result (c.judge.ensures call begun)

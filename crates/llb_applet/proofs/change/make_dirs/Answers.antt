@@ -23,5 +23,7 @@ returns c =
     (subst (λ t. OnErr c.dirs_below-change.result (new ≡ t)) was c.dirs_below-change.ensures.err)
     c.put_aside.new.view c.swap_tree-aside.new.self between c.swap_tree-aside.ensures.new
     c.settled.result c.settled.ensures in
-    subst (λ b. Does c.settled.result (cond b (Some view) (cond (is_dest spot) None (with_change view spot.mount rule))) view c.swap_tree-aside.new.self) (sym c.if-is_dir.false ∙ c.is_dir.ensures)
-    (subst (λ b. Does c.settled.result (cond b None (with_change view spot.mount rule)) view c.swap_tree-aside.new.self) (sym c.if-is_dest.false ∙ c.is_dest.ensures) done)
+    subst (λ b. Does c.settled.result (cond b (Some view) (cond (is_dest spot) None (with_change view spot.mount rule))) view
+    c.swap_tree-aside.new.self) (sym c.if-is_dir.false ∙ c.is_dir.ensures)
+    (subst (λ b. Does c.settled.result (cond b None (with_change view spot.mount rule)) view c.swap_tree-aside.new.self)
+    (sym c.if-is_dest.false ∙ c.is_dest.ensures) done)

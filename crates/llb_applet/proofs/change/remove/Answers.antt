@@ -12,7 +12,8 @@ returns-in-Some c =
     let spot = c.args.spot.now in
     let new = c.remove-change.new.self in
     let (writable, was, between) = subst (λ o. PutsAside (Ok o) view spot.mount c.put_aside.new.view) c.in-Some.is c.in_ok-put_aside.ensures in
-    subst (λ b. Does c.settled.result (cond b None (with_change view spot.mount (tree.remove (tree_at view spot) spot.place))) view c.swap_tree-aside.new.self) (sym c.if-is_dest.false ∙ c.is_dest.ensures)
+    subst (λ b. Does c.settled.result (cond b None (with_change view spot.mount (tree.remove (tree_at view spot) spot.place))) view
+    c.swap_tree-aside.new.self) (sym c.if-is_dest.false ∙ c.is_dest.ensures)
     (does_change view spot.mount c.requires writable empty_tree new (tree.remove (tree_at view spot) spot.place)
     c.remove-change.result
     (subst (λ t. Gives (λ _. new) c.remove-change.result (tree.remove t spot.place)) was c.remove-change.ensures.gives)

@@ -11,7 +11,8 @@ one_more :
     → option_map (λ more. content ++ more) (file >>= λ f. rest >>= λ more. Some (f.1 ++ more)) ≡ option_map (λ more. (content ++ part) ++ more) rest
 one_more content part None is rest = absurd cc
 one_more content part (Some f) is None = refl
-one_more content part (Some f) is (Some more) = let same : f.1 ≡ part = cc in ap (λ p. Some (content ++ (p ++ more))) same ∙ ap Some (sym (append_assoc content part more))
+one_more content part (Some f) is (Some more) = let same : f.1 ≡ part = cc in ap (λ p. Some (content ++ (p ++ more))) same
+    ∙ ap Some (sym (append_assoc content part more))
 
 pub loop-word-preserved : goal.loop-word-preserved
 loop-word-preserved c =
@@ -21,8 +22,10 @@ loop-word-preserved c =
     let i = c.loop-word.word-index in
     let here = at_drop words i c.word-item.result c.loop-word-test.true c.word-item.is in
     let rest = joined setting view (drop (i + 1) words) in
-    let given : option_map (λ f. f.1) (file_by setting view c.word-item.result) ≡ Some c.in-Some.part.now = sym c.in_ok-content_by.ensures ∙ ap (option_map (λ b. b.now)) c.in-Some.is in
-    let longer : c.extend_from_slice.new.self.items ≡ c.loop-word.content.items ++ c.in-Some.part.now = c.in_ok-extend_from_slice-in-Some.ensures.items ∙ ap (λ p. c.loop-word.content.items ++ p) c.as_slice.ensures in
+    let given : option_map (λ f. f.1) (file_by setting view c.word-item.result) ≡ Some c.in-Some.part.now = sym c.in_ok-content_by.ensures
+    ∙ ap (option_map (λ b. b.now)) c.in-Some.is in
+    let longer : c.extend_from_slice.new.self.items ≡ c.loop-word.content.items ++ c.in-Some.part.now =
+    c.in_ok-extend_from_slice-in-Some.ensures.items ∙ ap (λ p. c.loop-word.content.items ++ p) c.as_slice.ensures in
     ap (λ front. option_map (λ more. front ++ more) rest) longer
     ∙ sym (one_more c.loop-word.content.items c.in-Some.part.now (file_by setting view c.word-item.result) given rest)
     ∙ ap (λ ws. option_map (λ more. c.loop-word.content.items ++ more) (joined setting view ws)) (sym here)

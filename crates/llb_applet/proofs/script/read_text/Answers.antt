@@ -16,11 +16,13 @@ use Rattle.llb_applet.proofs.script.read_text.Goals as goal
 use Rattle.llb_applet.proofs.script.read_text.Goals.{After-into_iter-part-iterator, In-None}
 
 -- the loop goes over the parts of the text
-goes_over : (c : After-into_iter-part-iterator) → YieldsList (split_steps FindsChar (λ a b. b ≡ a)) (λ x. x.now) c.into_iter-part-iterator.result (parts_of c.args.text.now)
+goes_over : (c : After-into_iter-part-iterator) → YieldsList (split_steps FindsChar (λ a b. b ≡ a))
+    (λ x. x.now) c.into_iter-part-iterator.result (parts_of c.args.text.now)
 goes_over c =
     let e = c.split-part-items.ensures in
     let same = c.into_iter-part-iterator.ensures.into_iter_gives in
-    YieldsList-from_str_split 32 c.args.text.now (lit< tt) (ap split_text same ∙ e.text) (ap split_has_more same ∙ e.has_more) (ap split_pattern same ∙ e.pattern)
+    YieldsList-from_str_split 32 c.args.text.now (lit< tt) (ap split_text same ∙ e.text) (ap split_has_more same ∙ e.has_more)
+    (ap split_pattern same ∙ e.pattern)
 
 pub loop-part-init : goal.loop-part-init
 loop-part-init c =
@@ -34,7 +36,8 @@ loop-part-preserved c =
     let parts = parts_of c.args.text.now in
     let n = length c.loop-part.yielded in
     let part = c.in-Some.part.now in
-    let t = YieldsList-turn (goes_over (goal.at.loop-part-preserved c).After-into_iter-part-iterator) c.loop-part.yielded _ c.loop-part.yielded_by _ _ c.in-Some.part c.in-Some.is c.next.ensures.steps in
+    let t = YieldsList-turn (goes_over (goal.at.loop-part-preserved c).After-into_iter-part-iterator) c.loop-part.yielded _
+    c.loop-part.yielded_by _ _ c.in-Some.part c.in-Some.is c.next.ensures.steps in
     let here = ap (flat_map some_word) (at_drop parts n part t.0 t.1) in
     let more = length_push c.loop-part.yielded c.in-Some.part in
     ap (λ m. ahead c.take.new.self (flat_map some_word (drop m parts))) more
@@ -47,7 +50,8 @@ returns-in_err-take c =
     let parts = parts_of c.args.text.now in
     let n = length c.loop-part.yielded in
     let part = c.in-Some.part.now in
-    let t = YieldsList-turn (goes_over (goal.at.returns-in_err-take c).After-into_iter-part-iterator) c.loop-part.yielded _ c.loop-part.yielded_by _ _ c.in-Some.part c.in-Some.is c.next.ensures.steps in
+    let t = YieldsList-turn (goes_over (goal.at.returns-in_err-take c).After-into_iter-part-iterator) c.loop-part.yielded _
+    c.loop-part.yielded_by _ _ c.in-Some.part c.in-Some.is c.next.ensures.steps in
     let here = ap (flat_map some_word) (at_drop parts n part t.0 t.1) in
     let p = err_from_is_err_and c.from_residual.result c.from_residual.ensures.1 in
     rw (p.1, p.2) (λ known.
@@ -56,7 +60,8 @@ returns-in_err-take c =
     ∙ c.in_err-take.ensures (flat_map some_word (drop (n + 1) parts)) known)
 
 -- what the call at hand makes is the script of the text
-ends : (c : In-None) → YieldsList (split_steps FindsChar (λ a b. b ≡ a)) (λ x. x.now) c.into_iter-part-iterator.result (parts_of c.args.text.now) → commands_of 0 (calls_of c.args.text.now) ≡ with_call c.loop-part.reading
+ends : (c : In-None) → YieldsList (split_steps FindsChar (λ a b. b ≡ a)) (λ x. x.now) c.into_iter-part-iterator.result
+    (parts_of c.args.text.now) → commands_of 0 (calls_of c.args.text.now) ≡ with_call c.loop-part.reading
 ends c over =
     let parts = parts_of c.args.text.now in
     let t = YieldsList-end over c.loop-part.yielded _ c.loop-part.yielded_by _ _ c.in-None.is c.next.ensures.steps in
@@ -67,7 +72,8 @@ ends c over =
 pub returns-in_err-end_call : goal.returns-in_err-end_call
 returns-in_err-end_call c =
     let p = err_from_is_err_and c.from_residual-in_err-end_call.result c.from_residual-in_err-end_call.ensures.1 in
-    rw (p.1, p.2) (λ known. ends (goal.at.returns-in_err-end_call c).In-None (goes_over (goal.at.returns-in_err-end_call c).After-into_iter-part-iterator) ∙ c.in_err-end_call.ensures.gives known)
+    rw (p.1, p.2) (λ known. ends (goal.at.returns-in_err-end_call c).In-None
+    (goes_over (goal.at.returns-in_err-end_call c).After-into_iter-part-iterator) ∙ c.in_err-end_call.ensures.gives known)
 
 pub returns : goal.returns
 returns c = ends (goal.at.returns c).In-None (goes_over (goal.at.returns c).After-into_iter-part-iterator) ∙ c.in_ok-end_call.ensures.gives

@@ -9,5 +9,6 @@ use Rattle.llb_applet.proofs.words.bad_in.Goals as goal
 pub returns-clause-value : goal.returns-clause-value
 returns-clause-value c =
     let found : c.position.result ≡ position (λ b. not (is_word_byte b)) c.args.word.now =
-    position_from_yields_List (λ b. not (is_word_byte b)) _ _ c.position.result c.position.ensures.ran (YieldsList-from_slice c.args.word.now cc) (λ x b q k. search (rules, tests)) in
+    position_from_yields_List (λ b. not (is_word_byte b)) _ _ c.position.result c.position.ensures.ran
+    (YieldsList-from_slice c.args.word.now cc) (λ x b q k. search (rules, tests)) in
     found ∙ sym (bad_in-word c.args.called c.args.word.now (sym c.is_and.ensures ∙ c.if-is_and.false))

@@ -19,7 +19,8 @@ push_reserved-requires c =
       len,
       c.loop-place-test.true,
       c.loop-place.invariant.reserved,
-      copied_length (tree_of (store_of c.args.caches.now.rows)) c.args.places.now c.loop-place.place-index c.loop-place.trees.items c.loop-place.invariant.front c.loop-place-test.true,
+      copied_length (tree_of (store_of c.args.caches.now.rows)) c.args.places.now c.loop-place.place-index c.loop-place.trees.items
+          c.loop-place.invariant.front c.loop-place-test.true,
     )
 
 pub loop-place-preserved : goal.loop-place-preserved
@@ -28,10 +29,12 @@ loop-place-preserved c =
     = slice_get_read c.args.places.now (length c.args.places.now) c.loop-place.place-index c.place-item.result refl c.loop-place-test.true c.place-item.is in
     record {
       front = c.push_reserved.ensures.items ∙ ap (λ (t : TreeMap). c.loop-place.trees.items ++ t ∷ []) c.in_ok-content.ensures.tree
-          ∙ copied_more (tree_of (store_of c.args.caches.now.rows)) c.args.places.now c.loop-place.place-index c.loop-place.trees.items c.place-item.result c.loop-place.invariant.front at;
+          ∙ copied_more (tree_of (store_of c.args.caches.now.rows)) c.args.places.now c.loop-place.place-index c.loop-place.trees.items
+          c.place-item.result c.loop-place.invariant.front at;
       reserved = search rules;
     }
 
 pub returns-clause-trees : goal.returns-clause-trees
 returns-clause-trees c =
-    c.loop-place.invariant.front ∙ ap (map (tree_of (store_of c.args.caches.now.rows))) (take_all c.loop-place.place-index c.args.places.now c.loop-place-test.false)
+    c.loop-place.invariant.front ∙ ap (map (tree_of (store_of c.args.caches.now.rows)))
+    (take_all c.loop-place.place-index c.args.places.now c.loop-place-test.false)

@@ -10,7 +10,8 @@ use Rattle.llb_board.proofs.instances.give_all_back.Goals.{in-Runs, in_default}
 pub give_back-requires : goal.give_back-requires
 give_back-requires c =
     let at : slice_get c.args.desks.now c.loop-desk.desk-index ≡ Some (desk.Runs c.in-Runs.lease c.in-Runs.field-1)
-    = slice_get_read c.args.desks.now (length c.args.desks.now) c.loop-desk.desk-index c.desk-item.result refl c.loop-desk-test.true c.desk-item.is ∙ ap Some c.in-Runs.is in
+    = slice_get_read c.args.desks.now (length c.args.desks.now) c.loop-desk.desk-index c.desk-item.result refl c.loop-desk-test.true
+    c.desk-item.is ∙ ap Some c.in-Runs.is in
     out_next c.loop-desk.caches.out c.loop-desk.desk-index c.in-Runs.lease c.in-Runs.field-1 c.args.desks.now c.loop-desk.invariant.leased at
 
 pub loop-desk-preserved : goal.loop-desk-preserved
@@ -23,7 +24,8 @@ loop-desk-preserved c =
           record {
             rows = ap (λ (v : CachesValue). v.rows) new ∙ c.loop-desk.invariant.rows;
             leased = subst (λ (o : Leases). LeasedFrom o (c.loop-desk.desk-index + 1) c.args.desks.now) (sym (ap (λ (v : CachesValue). v.out) new))
-                (leased_next c.loop-desk.caches c.loop-desk.desk-index w.in-Runs.lease w.in-Runs.field-1 c.args.desks.now c.loop-desk.invariant.leased (at ∙ ap Some w.in-Runs.is));
+                (leased_next c.loop-desk.caches c.loop-desk.desk-index w.in-Runs.lease w.in-Runs.field-1 c.args.desks.now
+                c.loop-desk.invariant.leased (at ∙ ap Some w.in-Runs.is));
           }
       | in_default w ↦
           record {

@@ -45,7 +45,8 @@ loop-tree-preserved c =
     let count = c.loop-tree.invariant.count in
     let within : need < length (places_of out lease) = omega (arith, left, count) in
     let new : c.set_content.new.self.rows ≡ cache.put rows (place_at out lease need) c.in-Some.tree
-    = ap (λ (v : CachesValue). v.rows) c.set_content.ensures ∙ ap (λ (o : Leases). cache.put rows (place_at o lease need) c.in-Some.tree) c.loop-tree.invariant.out in
+    = ap (λ (v : CachesValue). v.rows) c.set_content.ensures
+    ∙ ap (λ (o : Leases). cache.put rows (place_at o lease need) c.in-Some.tree) c.loop-tree.invariant.out in
     record {
       out = ap (λ (v : CachesValue). v.out) c.set_content.ensures ∙ c.loop-tree.invariant.out;
       count = omega (arith, left, count);

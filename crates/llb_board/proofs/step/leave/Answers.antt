@@ -29,7 +29,8 @@ returns-in-Runs-replace-clause-gives c =
     = slice_get-get_or ds c.args.w c.index-desks-w-2.result c.if-w-desks.false ∙ ap (λ d. Some d) (sym c.replace.ensures.value ∙ c.in-Runs-replace.is) in
     let finished : is_finished (program_in b (execution_of x)).steps (execution_of x) ≡ true
     = ap (λ n. is_some x.fault || nat_le n x.done) (sym c.steps.ensures.all) ∙ sym c.is_finished.ensures ∙ c.if-not-is_finished.false in
-    leaves b ds c.args.w c.in-Runs.field-0 c.in-Runs-replace.lease x c.in-Runs-replace.execution (option_map (λ v. v.now) c.vertex.result) (status_of c.end.result) looked
+    leaves b ds c.args.w c.in-Runs.field-0 c.in-Runs-replace.lease x c.in-Runs-replace.execution (option_map (λ v. v.now) c.vertex.result)
+    (status_of c.end.result) looked
     taken finished c.vertex.ensures.there c.end.ensures
 
 pub returns-in-Runs-replace-clause-leased : goal.returns-in-Runs-replace-clause-leased

@@ -27,13 +27,15 @@ step_of-requires-clause-leased c =
     let ds = c.args.desks.now in
     let at : slice_get ds c.args.w ≡ Some (desk.Runs c.in-Runs.lease c.in-Runs.execution)
     = slice_get-get_or ds c.args.w c.index-desks-w.result c.if-w-desks.false ∙ ap (λ d. Some d) c.in-Runs.is in
-    (holding c.args.caches.now.rows c.args.caches.now.out ds c.args.w c.in-Runs.lease c.in-Runs.execution c.is_exclusive.ensures.apart c.is_exclusive.ensures.there c.requires.leased at).has
+    (holding c.args.caches.now.rows c.args.caches.now.out ds c.args.w c.in-Runs.lease c.in-Runs.execution c.is_exclusive.ensures.apart
+    c.is_exclusive.ensures.there c.requires.leased at).has
 
 pub returns-in-Idle-clause-gives : goal.returns-in-Idle-clause-gives
 returns-in-Idle-clause-gives c =
     let ds = c.args.desks.now in
     let at : slice_get ds c.args.w ≡ Some desk.Idle = slice_get-get_or ds c.args.w c.index-desks-w.result c.if-w-desks.false ∙ ap (λ d. Some d) c.in-Idle.is in
-    λ memory. ap (λ o. faulted step_fault (stepped c.args.build.now (state_of [] ds c.args.caches.now.rows) c.args.w o)) (get_map at_of ds c.args.w desk.Idle at)
+    λ memory. ap (λ o. faulted step_fault (stepped c.args.build.now (state_of [] ds c.args.caches.now.rows) c.args.w o))
+    (get_map at_of ds c.args.w desk.Idle at)
 
 pub returns-in-Runs-clause-gives : goal.returns-in-Runs-clause-gives
 returns-in-Runs-clause-gives c =
@@ -42,7 +44,8 @@ returns-in-Runs-clause-gives c =
     let ds = c.args.desks.now in
     let w = c.args.w in
     let x = c.in-Runs.execution in
-    let at : slice_get ds w ≡ Some (desk.Runs c.in-Runs.lease x) = slice_get-get_or ds w c.index-desks-w.result c.if-w-desks.false ∙ ap (λ d. Some d) c.in-Runs.is in
+    let at : slice_get ds w ≡ Some (desk.Runs c.in-Runs.lease x) = slice_get-get_or ds w c.index-desks-w.result c.if-w-desks.false
+    ∙ ap (λ d. Some d) c.in-Runs.is in
     let h = holding rows c.args.caches.now.out ds w c.in-Runs.lease x c.is_exclusive.ensures.apart c.is_exclusive.ensures.there c.requires.leased at in
     let after = c.step_of.new.caches.rows in
     let whole = faulted step_fault (step_grant b (state_of [] ds rows) w) in
@@ -58,7 +61,8 @@ returns-in-Runs-clause-last c =
     let ds = c.args.desks.now in
     let w = c.args.w in
     let x = c.in-Runs.execution in
-    let at : slice_get ds w ≡ Some (desk.Runs c.in-Runs.lease x) = slice_get-get_or ds w c.index-desks-w.result c.if-w-desks.false ∙ ap (λ d. Some d) c.in-Runs.is in
+    let at : slice_get ds w ≡ Some (desk.Runs c.in-Runs.lease x) = slice_get-get_or ds w c.index-desks-w.result c.if-w-desks.false
+    ∙ ap (λ d. Some d) c.in-Runs.is in
     let h = holding rows c.args.caches.now.out ds w c.in-Runs.lease x c.is_exclusive.ensures.apart c.is_exclusive.ensures.there c.requires.leased at in
     last_through ds w c.step_of.result (worked_in b rows (execution_of x)) (faulted step_fault (step_grant b (state_of [] ds rows) w))
     (stepped_as b ds rows w (execution_of x) (get_map at_of ds w (desk.Runs c.in-Runs.lease x) at) h.within) c.step_of.ensures.last
@@ -70,12 +74,14 @@ returns-in-Runs-clause-rows c =
     let ds = c.args.desks.now in
     let w = c.args.w in
     let x = c.in-Runs.execution in
-    let at : slice_get ds w ≡ Some (desk.Runs c.in-Runs.lease x) = slice_get-get_or ds w c.index-desks-w.result c.if-w-desks.false ∙ ap (λ d. Some d) c.in-Runs.is in
+    let at : slice_get ds w ≡ Some (desk.Runs c.in-Runs.lease x) = slice_get-get_or ds w c.index-desks-w.result c.if-w-desks.false
+    ∙ ap (λ d. Some d) c.in-Runs.is in
     let h = holding rows c.args.caches.now.out ds w c.in-Runs.lease x c.is_exclusive.ensures.apart c.is_exclusive.ensures.there c.requires.leased at in
     let after = c.step_of.new.caches.rows in
     let y = c.step_of.new.execution in
     ok_through _ _ c.step_of.result
-    (λ (is : after ≡ written (store_of after) rows y.places.items). is ∙ ap (written (store_of after) rows) (sym (places_set ds w (desk.Runs c.in-Runs.lease x) c.in-Runs.lease y at)))
+    (λ (is : after ≡ written (store_of after) rows y.places.items). is
+    ∙ ap (written (store_of after) rows) (sym (places_set ds w (desk.Runs c.in-Runs.lease x) c.in-Runs.lease y at)))
     (rows_through b rows after (execution_of x) (execution_of y) c.step_of.result step_reply h.distinct h.within c.step_of.ensures.gives)
 
 pub returns-in-Runs-clause-leased : goal.returns-in-Runs-clause-leased
@@ -83,7 +89,8 @@ returns-in-Runs-clause-leased c =
     let ds = c.args.desks.now in
     let at : slice_get ds c.args.w ≡ Some (desk.Runs c.in-Runs.lease c.in-Runs.execution)
     = slice_get-get_or ds c.args.w c.index-desks-w.result c.if-w-desks.false ∙ ap (λ d. Some d) c.in-Runs.is in
-    leased_stepped c.args.caches.now.out c.step_of.new.caches.out ds c.args.w c.in-Runs.lease c.in-Runs.execution c.step_of.new.execution c.requires.leased at c.step_of.ensures.out c.step_of.ensures.places
+    leased_stepped c.args.caches.now.out c.step_of.new.caches.out ds c.args.w c.in-Runs.lease c.in-Runs.execution c.step_of.new.execution
+    c.requires.leased at c.step_of.ensures.out c.step_of.ensures.places
 
 pub returns-in-Runs-clause-supplies : goal.returns-in-Runs-clause-supplies
 returns-in-Runs-clause-supplies c =

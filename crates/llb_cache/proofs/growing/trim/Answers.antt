@@ -13,7 +13,8 @@ loop-i-preserved c =
     elim c.if-is_some.branch [
       | then-is_some w ↦ record {
         within = omega arith;
-        behind = trimmed_at_some out c.loop-i.i c.lease-item.result c.loop-i-test.true c.lease-item.is (sym c.is_some.ensures ∙ w.if-is_some.true) ∙ ap (λ k. take k out) (sym w.kept-is);
+        behind = trimmed_at_some out c.loop-i.i c.lease-item.result c.loop-i-test.true c.lease-item.is
+            (sym c.is_some.ensures ∙ w.if-is_some.true) ∙ ap (λ k. take k out) (sym w.kept-is);
       }
       | else-is_some w ↦ record {
         within = omega arith;

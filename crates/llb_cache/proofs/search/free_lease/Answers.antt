@@ -9,10 +9,12 @@ returns-then-is_none c =
     let out = c.args.out.now in
     let i = c.loop-i.i in
     let here : c.index-out-i.result ≡ get_or out i None = c.index-out-i.is ∙ get_or_default out i c.index-out-i.result None c.loop-i-test.true in
-    sym (position_or_len_is (λ (o : Option (List Place)). not (is_some o)) out i None (omega (arith, c.loop-i-test.true)) (λ k below. ap not (c.loop-i.invariant k below))
+    sym (position_or_len_is (λ (o : Option (List Place)). not (is_some o)) out i None (omega (arith, c.loop-i-test.true))
+    (λ k below. ap not (c.loop-i.invariant k below))
     (λ _. ap (λ (o : Option (List Place)). not (is_some o)) (sym here) ∙ ap not (c.is_none.ensures ∙ ap not c.if-is_none.true)))
 
 pub returns : goal.returns
 returns c =
     let out = c.args.out.now in
-    sym (position_or_len_is (λ (o : Option (List Place)). not (is_some o)) out _ None (omega arith) (λ k below. ap not (c.loop-i.invariant k (omega (arith, below, c.loop-i-test.false)))) (λ h. absurd (omega (arith, h))))
+    sym (position_or_len_is (λ (o : Option (List Place)). not (is_some o)) out _ None (omega arith)
+    (λ k below. ap not (c.loop-i.invariant k (omega (arith, below, c.loop-i-test.false)))) (λ h. absurd (omega (arith, h))))

@@ -14,12 +14,14 @@ among c = sym (c.has_key_of.ensures ∙ ap (λ (ns : List Need). list_any (λ (n
 pub returns-then-has_key_of : goal.returns-then-has_key_of
 returns-then-has_key_of c = (
   λ no. absurd (true≢false (sym no)),
-  λ differ. absurd (twice c.args.needs.now c.loop-i.i c.index-needs-i.result c.loop-i-test.true c.index-needs-i.is (among (goal.at.returns-then-has_key_of c).After-has_key_of ∙ c.if-has_key_of.true) differ),
+  λ differ. absurd (twice c.args.needs.now c.loop-i.i c.index-needs-i.result c.loop-i-test.true c.index-needs-i.is
+      (among (goal.at.returns-then-has_key_of c).After-has_key_of ∙ c.if-has_key_of.true) differ),
 )
 
 pub loop-i-preserved : goal.loop-i-preserved
 loop-i-preserved c =
-    one_more c.args.needs.now c.loop-i.i c.index-needs-i.result c.loop-i-test.true c.index-needs-i.is (among (goal.at.loop-i-preserved c).After-has_key_of ∙ c.if-has_key_of.false) c.loop-i.invariant
+    one_more c.args.needs.now c.loop-i.i c.index-needs-i.result c.loop-i-test.true c.index-needs-i.is
+    (among (goal.at.loop-i-preserved c).After-has_key_of ∙ c.if-has_key_of.false) c.loop-i.invariant
 
 pub returns : goal.returns
 returns c = (λ _. subst Differ (take_all c.loop-i.i c.args.needs.now c.loop-i-test.false) c.loop-i.invariant, λ _. refl)

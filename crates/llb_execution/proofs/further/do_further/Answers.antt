@@ -22,6 +22,8 @@ pub loop-k-preserved : goal.loop-k-preserved
 loop-k-preserved c =
     let steps = c.args.program.now.steps in
     let at : slice_get steps c.loop-k.k ≡ Some (step_in c.in-Some.step) = search rules in
-    goes_on steps c.args.done c.args.view.now c.args.trees.now.items c.loop-k.k c.loop-k.view c.loop-k.trees.items c.loop-k.invariant (step_in c.in-Some.step) at
-    c.step-in-loop-k.new.self c.step-in-loop-k.new.trees.items c.in_ok-fault.fault c.in_ok-fault.ensures.left (none_of c.in_ok-fault.fault (sym c.is_some.ensures ∙ c.if-is_some.false))
+    goes_on steps c.args.done c.args.view.now c.args.trees.now.items c.loop-k.k c.loop-k.view c.loop-k.trees.items c.loop-k.invariant
+    (step_in c.in-Some.step) at
+    c.step-in-loop-k.new.self c.step-in-loop-k.new.trees.items c.in_ok-fault.fault c.in_ok-fault.ensures.left
+    (none_of c.in_ok-fault.fault (sym c.is_some.ensures ∙ c.if-is_some.false))
     c.in_ok-fault.ensures.mounts c.in_ok-fault.ensures.shown c.in_ok-fault.ensures.count

@@ -30,5 +30,7 @@ returns-in-Commands c =
 pub returns-in-Actions : goal.returns-in-Actions
 returns-in-Actions c =
     let is : c.args.steps.now ≡ steps.Actions c.in-Actions.own = search rules in
-    subst (λ (s : Steps). IsTrue c.all_same.result ↔ (steps_in s ≡ map Act c.args.actions.now)) (sym is)
-    (λ t. ap (map Act) (sym c.as_slice.ensures ∙ c.all_same.ensures.0 t), λ e. c.all_same.ensures.1 (c.as_slice.ensures ∙ acts_same c.in-Actions.own c.args.actions.now e))
+    subst (λ (s : Steps). IsTrue c.all_same.result ↔ (steps_in s ≡ map Act c.args.actions.now)) (sym is) (
+      λ t. ap (map Act) (sym c.as_slice.ensures ∙ c.all_same.ensures.0 t),
+      λ e. c.all_same.ensures.1 (c.as_slice.ensures ∙ acts_same c.in-Actions.own c.args.actions.now e),
+    )

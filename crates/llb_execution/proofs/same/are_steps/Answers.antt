@@ -11,7 +11,8 @@ pub returns-in-Some-Merge : goal.returns-in-Some-Merge
 returns-in-Some-Merge c =
     let is : c.args.kind.now ≡ Some (kind.Merge c.in-Some-Merge.merge) = search rules in
     subst (λ (k : Option Kind). IsTrue c.are_layings.result ↔ (steps_in c.args.steps.now ≡ steps_of k c.args.script.now)) (sym is)
-    (subst (λ (l : List MergeInput). IsTrue c.are_layings.result ↔ (steps_in c.args.steps.now ≡ map (λ (i : MergeInput). LayInput i.input) l)) c.as_slice-in-Some-Merge.ensures c.are_layings.ensures)
+    (subst (λ (l : List MergeInput). IsTrue c.are_layings.result ↔
+    (steps_in c.args.steps.now ≡ map (λ (i : MergeInput). LayInput i.input) l)) c.as_slice-in-Some-Merge.ensures c.are_layings.ensures)
 
 pub returns-in-Some-Exec : goal.returns-in-Some-Exec
 returns-in-Some-Exec c =
@@ -19,4 +20,5 @@ returns-in-Some-Exec c =
     let meta = c.in-Some-Exec.exec.meta in
     subst (λ (k : Option Kind). IsTrue c.are_runs.result ↔ (steps_in c.args.steps.now ≡ steps_of k c.args.script.now)) (sym is)
     (subst (λ (q : List Command). IsTrue c.are_runs.result ↔ (steps_in c.args.steps.now ≡ map (Run (setting_of meta)) q)) c.commands_of.ensures
-    (subst (λ x. IsTrue c.are_runs.result ↔ (steps_in c.args.steps.now ≡ map (Run (setting_of x.meta)) c.commands_of.result.now)) c.get.ensures c.are_runs.ensures))
+    (subst (λ x. IsTrue c.are_runs.result ↔ (steps_in c.args.steps.now ≡ map (Run (setting_of x.meta)) c.commands_of.result.now))
+    c.get.ensures c.are_runs.ensures))

@@ -9,7 +9,9 @@ use Rattle.llb_fileop.proofs.Passing.{Stand, hits, hits_next, hits_end, stand_al
 use Rattle.llb_fileop.proofs.Below.{no_match, some_match-Ok}
 use Rattle.llb_fileop.proofs.Answering.{same_Ok}
 use Rattle.llb_fileop.proofs.copying.copy_matches.Goals as goal
-use Rattle.llb_fileop.proofs.copying.copy_matches.Goals.{After-walk-walk, else-not-action-via-then-not-action+in_ok-any_matches+else-not-branch, else-not-action-via-else-not-action}
+use Rattle.llb_fileop.proofs.copying.copy_matches.Goals.{After-walk-walk}
+use Rattle.llb_fileop.proofs.copying.copy_matches.Goals.{else-not-action-via-then-not-action+in_ok-any_matches+else-not-branch}
+use Rattle.llb_fileop.proofs.copying.copy_matches.Goals.{else-not-action-via-else-not-action}
 
 pub returns-then-not-branch : goal.returns-then-not-branch
 returns-then-not-branch c = λ _.

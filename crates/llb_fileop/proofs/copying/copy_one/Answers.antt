@@ -13,7 +13,8 @@ returns c =
     let given = copied c.args.action.now.mode c.args.action.now.owner in
     let es = at_target c.args.second.now c.args.source.now c.in_ok-goal.goal in
     let place = target c.args.action.now (c.args.dest.now, c.args.inside) c.args.second.now c.args.source.now c.args.tree.now in
-    let rule : land_at given es c.in_ok-goal.goal c.if-action.tree ≡ copy_to c.args.action.now c.args.second.now c.args.source.now place c.args.tree.now = elim c.if-action.branch [
+    let rule : land_at given es c.in_ok-goal.goal c.if-action.tree ≡ copy_to c.args.action.now c.args.second.now c.args.source.now place
+    c.args.tree.now = elim c.if-action.branch [
       | then-action+in_ok-make_parents w ↦
           let made : make_all new_dir_meta (parents c.in_ok-goal.goal) c.args.tree.now ≡ Ok w.make_parents.new.tree
           = ap (λ m. make_all m (parents c.in_ok-goal.goal) c.args.tree.now) (sym w.new_dir.ensures) ∙ w.in_ok-make_parents.ensures in

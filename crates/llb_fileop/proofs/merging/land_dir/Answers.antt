@@ -17,8 +17,10 @@ returns-then-not-is_dir c = λ _.
       | then-not-is_there+in_ok-copy_from w ↦
           let none = none_there (finite.get c.args.tree.now c.args.goal.now) (sym c.is_there.ensures.there ∙ w.if-not-is_there.true) in
           let there : put_some (laid given None (finite.get c.args.source.now [])) c.args.tree.now c.args.goal.now ≡ Ok w.copy_from-then-not-is_there.new.tree
-          = ap (λ p. put_some (laid given None (finite.get c.args.source.now p)) c.args.tree.now c.args.goal.now) (sym w.root.ensures) ∙ w.in_ok-copy_from.ensures in
-          let made = dir_is_made given c.args.source.now c.args.tree.now c.args.goal.now c.requires.short c.requires.dir w.copy_from-then-not-is_there.new.tree none there in
+          = ap (λ p. put_some (laid given None (finite.get c.args.source.now p)) c.args.tree.now c.args.goal.now) (sym w.root.ensures)
+          ∙ w.in_ok-copy_from.ensures in
+          let made = dir_is_made given c.args.source.now c.args.tree.now c.args.goal.now c.requires.short c.requires.dir
+          w.copy_from-then-not-is_there.new.tree none there in
           absurd (true≢false (sym made ∙ ap (λ t. is_dir (finite.get t c.args.goal.now)) (sym w.tree-is) ∙ not_dir))
       | else-not-is_there w ↦
           let there : is_some (finite.get c.args.tree.now c.args.goal.now) ≡ true = sym c.is_there.ensures.there ∙ w.if-not-is_there.false in
@@ -34,7 +36,8 @@ returns c =
       | then-not-is_there+in_ok-copy_from w ↦
           let none = none_there (finite.get c.args.tree.now c.args.goal.now) (sym c.is_there.ensures.there ∙ w.if-not-is_there.true) in
           let there : put_some (laid given None (finite.get c.args.source.now [])) c.args.tree.now c.args.goal.now ≡ Ok w.copy_from-then-not-is_there.new.tree
-          = ap (λ p. put_some (laid given None (finite.get c.args.source.now p)) c.args.tree.now c.args.goal.now) (sym w.root.ensures) ∙ w.in_ok-copy_from.ensures in
+          = ap (λ p. put_some (laid given None (finite.get c.args.source.now p)) c.args.tree.now c.args.goal.now) (sym w.root.ensures)
+          ∙ w.in_ok-copy_from.ensures in
           ap (land given es) w.tree-is
           ∙ dir_made given c.args.source.now c.args.tree.now c.args.goal.now c.requires.short c.requires.dir w.copy_from-then-not-is_there.new.tree none there
       | else-not-is_there w ↦

@@ -58,7 +58,8 @@ returns-then-not-matches c =
     let not : MatchesName part (chars c.in-Some.name.now) → ⊥ =
     λ m. false≢true (sym c.if-not-matches.true ∙ c.matches.ensures.1 (subst (λ name. MatchesName part (chars name)) (sym c.as_str.ensures.value) m)) in
     let none =
-    matches_not c.args.parts.now c.args.names.now (length c.loop-part.yielded) part c.in-Some.name.now t.in_parts t.in_path t.part t.name c.loop-part.invariant not in
+    matches_not c.args.parts.now c.args.names.now (length c.loop-part.yielded) part c.in-Some.name.now t.in_parts t.in_path t.part t.name
+    c.loop-part.invariant not in
     (λ no. absurd (false≢true no), λ m. absurd (none m))
 
 pub loop-part-preserved : goal.loop-part-preserved
@@ -68,7 +69,8 @@ loop-part-preserved c =
     let part = c.in-Some.part.now in
     let matched = subst (λ name. MatchesName part (chars name)) c.as_str.ensures.value (c.matches.ensures.0 c.if-not-matches.false) in
     let more =
-    matches_more c.args.parts.now c.args.names.now (length c.loop-part.yielded) part c.in-Some.name.now t.in_parts t.in_path t.part t.name c.loop-part.invariant matched in
+    matches_more c.args.parts.now c.args.names.now (length c.loop-part.yielded) part c.in-Some.name.now t.in_parts t.in_path t.part t.name
+    c.loop-part.invariant matched in
     let So_far : ℕ → Type 0 = λ k. Matches (drop k c.args.parts.now) (drop k c.args.names.now) ↔ Matches c.args.parts.now c.args.names.now in
     subst So_far (sym (length_push c.loop-part.yielded (c.in-Some.part, c.in-Some.name))) more
 

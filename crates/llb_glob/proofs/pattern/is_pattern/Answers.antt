@@ -15,11 +15,13 @@ pub loop-part-init : goal.loop-part-init
 loop-part-init c = record { path = []; stands = record { depth = refl; sound = refl }; follows = refl }
 
 -- the loop goes over the parts of the text
-goes_over : (c : After-into_iter-part-iterator) → YieldsList (split_steps FindsChar (λ a b. b ≡ a)) (λ x. x.now) c.into_iter-part-iterator.result (parts_of c.args.text.now)
+goes_over : (c : After-into_iter-part-iterator) → YieldsList (split_steps FindsChar (λ a b. b ≡ a))
+    (λ x. x.now) c.into_iter-part-iterator.result (parts_of c.args.text.now)
 goes_over c =
     let e = c.split-part-items.ensures in
     let same = c.into_iter-part-iterator.ensures.into_iter_gives in
-    YieldsList-from_str_split 47 c.args.text.now (lit< tt) (ap split_text same ∙ e.text) (ap split_has_more same ∙ e.has_more) (ap split_pattern same ∙ e.pattern)
+    YieldsList-from_str_split 47 c.args.text.now (lit< tt) (ap split_text same ∙ e.text) (ap split_has_more same ∙ e.has_more)
+    (ap split_pattern same ∙ e.pattern)
 
 pub loop-part-preserved : goal.loop-part-preserved
 loop-part-preserved c =

@@ -17,25 +17,35 @@ pub loop-row-preserved : goal.loop-row-preserved
 loop-row-preserved c =
     let r = get_or c.args.order.now c.loop-row.row-index 0 in
     let low : get_or c.args.order.now c.loop-row.row-index 0 < length c.args.rows.now = c.requires.below c.loop-row.row-index 0 c.loop-row-test.true in
-    let digest = ap (λ (x : Row). x.digest) (row_read c.args.rows.now (get_or c.args.order.now c.loop-row.row-index 0) c.index-rows-row.result low c.index-rows-row.is) in
-    let in_ops : get_or c.args.order.now c.loop-row.row-index 0 < length c.loop-row.ops.items = (let e = c.loop-row.invariant.ops_len in omega (arith, low, e)) in
+    let digest = ap (λ (x : Row). x.digest)
+    (row_read c.args.rows.now (get_or c.args.order.now c.loop-row.row-index 0) c.index-rows-row.result low c.index-rows-row.is) in
+    let in_ops : get_or c.args.order.now c.loop-row.row-index 0 < length c.loop-row.ops.items =
+    (let e = c.loop-row.invariant.ops_len in omega (arith, low, e)) in
     let op : op_at c.args.ops.items (get_or c.args.order.now c.loop-row.row-index 0) ≡ c.replace-op.result =
     sym (c.loop-row.invariant.kept c.loop-row.row-index (omega arith) c.loop-row-test.true)
     ∙ op_read c.loop-row.ops.items (get_or c.args.order.now c.loop-row.row-index 0) c.index_mut.result.now in_ops c.index_mut.ensures.value
     ∙ sym c.replace-op.ensures.value in
     let in_links : get_or c.args.order.now c.loop-row.row-index 0 < length c.args.links.now = (let e = c.requires.links in omega (arith, low, e)) in
     let named = list_at c.args.links.now (get_or c.args.order.now c.loop-row.row-index 0) c.index-links-row.result in_links c.index-links-row.is in
-    let v : IsBuilt (row_at c.args.rows.now (get_or c.args.order.now c.loop-row.row-index 0)).digest (op_at c.args.ops.items (get_or c.args.order.now c.loop-row.row-index 0))
+    let v : IsBuilt (row_at c.args.rows.now (get_or c.args.order.now c.loop-row.row-index 0)).digest
+    (op_at c.args.ops.items (get_or c.args.order.now c.loop-row.row-index 0))
     (inputs (lists c.args.links.now) (get_or c.args.order.now c.loop-row.row-index 0)) c.args.ranks.now c.in_ok-vertex.vertex =
-    subst (λ (t : List ℕ). IsBuilt t (op_at c.args.ops.items (get_or c.args.order.now c.loop-row.row-index 0)) (inputs (lists c.args.links.now) (get_or c.args.order.now c.loop-row.row-index 0)) c.args.ranks.now c.in_ok-vertex.vertex)
+    subst (λ (t : List ℕ). IsBuilt t (op_at c.args.ops.items (get_or c.args.order.now c.loop-row.row-index 0))
+    (inputs (lists c.args.links.now) (get_or c.args.order.now c.loop-row.row-index 0)) c.args.ranks.now c.in_ok-vertex.vertex)
     (sym (digest ∙ ap (λ (x : Row). x.digest) c.index-rows-row.is))
-    (subst (λ (o : Op). IsBuilt (get_or c.args.rows.now (get_or c.args.order.now c.loop-row.row-index 0) c.index-rows-row.result).digest o (inputs (lists c.args.links.now) (get_or c.args.order.now c.loop-row.row-index 0)) c.args.ranks.now c.in_ok-vertex.vertex) (sym op)
-    (subst (λ (ns : List ℕ). IsBuilt (get_or c.args.rows.now (get_or c.args.order.now c.loop-row.row-index 0) c.index-rows-row.result).digest c.replace-op.result ns c.args.ranks.now c.in_ok-vertex.vertex)
+    (subst (λ (o : Op). IsBuilt (get_or c.args.rows.now (get_or c.args.order.now c.loop-row.row-index 0) c.index-rows-row.result).digest o
+    (inputs (lists c.args.links.now) (get_or c.args.order.now c.loop-row.row-index 0)) c.args.ranks.now c.in_ok-vertex.vertex) (sym op)
+    (subst (λ (ns : List ℕ). IsBuilt (get_or c.args.rows.now (get_or c.args.order.now c.loop-row.row-index 0)
+    c.index-rows-row.result).digest c.replace-op.result ns c.args.ranks.now c.in_ok-vertex.vertex)
     (c.as_slice.ensures.value ∙ sym named) c.in_ok-vertex.ensures)) in
     record {
-      len = ap (λ (xs : List Vertex). length xs) c.in_ok-push.ensures.items ∙ (let p = length_push c.loop-row.vertices.items c.in_ok-vertex.vertex in let l = c.loop-row.invariant.len in omega (arith, p, l));
-      built = subst (λ (xs : List Vertex). AreBuilt c.args.rows.now c.args.ops.items (lists c.args.links.now) c.args.ranks.now c.args.order.now xs (c.loop-row.row-index + 1)) (sym c.in_ok-push.ensures.items)
-          (built_push c.args.rows.now c.args.ops.items (lists c.args.links.now) c.args.ranks.now c.args.order.now c.loop-row.vertices.items c.in_ok-vertex.vertex c.loop-row.row-index c.loop-row.invariant.len c.loop-row.invariant.built v);
+      len = ap (λ (xs : List Vertex). length xs) c.in_ok-push.ensures.items
+          ∙ (let p = length_push c.loop-row.vertices.items c.in_ok-vertex.vertex in let l = c.loop-row.invariant.len in omega (arith, p, l));
+      built = subst (λ (xs : List Vertex). AreBuilt c.args.rows.now c.args.ops.items
+          (lists c.args.links.now) c.args.ranks.now c.args.order.now xs (c.loop-row.row-index + 1)) (sym c.in_ok-push.ensures.items)
+          (built_push c.args.rows.now c.args.ops.items (lists c.args.links.now) c.args.ranks.now c.args.order.now c.loop-row.vertices.items
+          c.in_ok-vertex.vertex c.loop-row.row-index c.loop-row.invariant.len c.loop-row.invariant.built v);
       ops_len = length-set c.loop-row.ops.items (get_or c.args.order.now c.loop-row.row-index 0) c.replace-op.new.dest ∙ c.loop-row.invariant.ops_len;
-      kept = kept_step c.args.ops.items c.loop-row.ops.items c.args.order.now c.loop-row.row-index c.replace-op.new.dest c.requires.once c.loop-row.invariant.kept;
+      kept = kept_step c.args.ops.items c.loop-row.ops.items c.args.order.now c.loop-row.row-index c.replace-op.new.dest c.requires.once
+          c.loop-row.invariant.kept;
     }

@@ -32,9 +32,11 @@ loop-mount-preserved c =
     let here : value_at keys c.loop-mount.mount-index ≡ Some c.in-Some.key = read ∙ sym c.key_of.ensures ∙ c.in-Some.is in
     let fresh = when_not_true (contains key_cmp c.loop-mount.seen c.in-Some.key) (sym c.in_ok-insert.ensures.added ∙ c.if-not-branch.false) in
     record {
-      seen = seen_more key_cmp key_cmp-IsTotalOrder key_cmp-IsAntisymmetric keys c.loop-mount.mount-index c.in-Some.key (contains key_cmp c.loop-mount.seen) (contains key_cmp c.insert.new.self)
+      seen = seen_more key_cmp key_cmp-IsTotalOrder key_cmp-IsAntisymmetric keys c.loop-mount.mount-index c.in-Some.key
+          (contains key_cmp c.loop-mount.seen) (contains key_cmp c.insert.new.self)
           here c.in_ok-insert.ensures.updates.0 c.loop-mount.invariant.seen;
-      apart = apart_more keys c.loop-mount.mount-index (not_seen keys c.loop-mount.mount-index c.in-Some.key (contains key_cmp c.loop-mount.seen) here fresh c.loop-mount.invariant.seen)
+      apart = apart_more keys c.loop-mount.mount-index
+          (not_seen keys c.loop-mount.mount-index c.in-Some.key (contains key_cmp c.loop-mount.seen) here fresh c.loop-mount.invariant.seen)
           c.loop-mount.invariant.apart;
     }
 

@@ -16,8 +16,10 @@ loop-k-preserved c =
     let h : c.loop-k.k < length c.args.links.now = (let l = c.requires.links in let t = c.loop-k-test.true in omega (arith, l, t)) in
     let names = inputs_at c.args.links.now c.loop-k.k c.index-links-k.result h c.index-links-k.is ∙ sym c.as_slice.ensures.value in
     let asked : asked_of c.args.ops.now c.args.seen.now c.args.terminal c.loop-k.k ≡ c.asked_inputs-asked.result =
-    ap (λ (o : Op). cond (get_or c.args.seen.now c.loop-k.k false) (length o.inputs) (cond (eqb c.loop-k.k c.args.terminal) 1 0)) op ∙ sym c.asked_inputs-asked.ensures in
-    below_step (λ j. FitsAll c.args.counts.now (inputs (lists c.args.links.now) j) (op_at c.args.ops.now j) (asked_of c.args.ops.now c.args.seen.now c.args.terminal j)) c.loop-k.k c.loop-k.invariant
+    ap (λ (o : Op). cond (get_or c.args.seen.now c.loop-k.k false) (length o.inputs) (cond (eqb c.loop-k.k c.args.terminal) 1 0)) op
+    ∙ sym c.asked_inputs-asked.ensures in
+    below_step (λ j. FitsAll c.args.counts.now (inputs (lists c.args.links.now) j) (op_at c.args.ops.now j)
+    (asked_of c.args.ops.now c.args.seen.now c.args.terminal j)) c.loop-k.k c.loop-k.invariant
     (subst (λ (n : ℕ). FitsAll c.args.counts.now (inputs (lists c.args.links.now) c.loop-k.k) (op_at c.args.ops.now c.loop-k.k) n) (sym asked)
     (subst (λ (o : Op). FitsAll c.args.counts.now (inputs (lists c.args.links.now) c.loop-k.k) o c.asked_inputs-asked.result) (sym again)
     (subst (λ (xs : List ℕ). FitsAll c.args.counts.now xs c.index-ops-k-in-loop-k.result c.asked_inputs-asked.result) (sym names) c.in_default.ensures)))

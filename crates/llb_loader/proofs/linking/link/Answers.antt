@@ -14,7 +14,9 @@ returns-in_err-index-clause-refused c =
     inr (c.in_ok-ops.ops.items, c.in_ok-ops.ensures.read, subst (λ (e : LoadFault). Refused c.args.rows.now c.in_ok-ops.ops.items e) (sym r.1) (several, r.2)))
 
 pub returns-clause-graph : goal.returns-clause-graph
-returns-clause-graph c = MatchResult-weaker c.link_read.result c.link_read.ensures.graph (λ g x. (c.in_ok-ops.ops.items, c.in_ok-ops.ensures.read, x)) (λ e t. t)
+returns-clause-graph c = MatchResult-weaker c.link_read.result c.link_read.ensures.graph
+    (λ g x. (c.in_ok-ops.ops.items, c.in_ok-ops.ensures.read, x)) (λ e t. t)
 
 pub returns-clause-refused : goal.returns-clause-refused
-returns-clause-refused c = MatchResult-weaker c.link_read.result c.link_read.ensures.refused (λ g t. t) (λ e f m. inr (c.in_ok-ops.ops.items, c.in_ok-ops.ensures.read, f m))
+returns-clause-refused c = MatchResult-weaker c.link_read.result c.link_read.ensures.refused (λ g t. t)
+    (λ e f m. inr (c.in_ok-ops.ops.items, c.in_ok-ops.ensures.read, f m))

@@ -20,11 +20,13 @@ returns-in_default-clause-refused c = λ _.
     let h : c.args.terminal < length c.args.ops.items = (let t = c.requires.terminal.holds.0 in let l = c.requires.ops in omega (arith, t, l)) in
     let last = op_read c.args.ops.items c.args.terminal c.index-last.result.now h c.index-last.ensures in
     let some : 0 < length c.index-last.result.now.inputs = not_empty _ c.if-is_empty.ensures in
-    let first = input_read (op_at c.args.ops.items c.args.terminal) c.as_slice.result.now 0 c.index-as_slice-0.result (c.as_slice.ensures ∙ sym (ap (λ (o : Op). o.inputs) last))
+    let first = input_read (op_at c.args.ops.items c.args.terminal) c.as_slice.result.now 0 c.index-as_slice-0.result
+    (c.as_slice.ensures ∙ sym (ap (λ (o : Op). o.inputs) last))
     (let e = ap (λ (xs : List Input). length xs) c.as_slice.ensures in omega (arith, some, e)) c.index-as_slice-0.is in
     let p = plan c.args.rows.now c.args.ops.items c.args.terminal 0 in
     let none = ap (λ (i : Input). row_named c.args.rows.now c.args.terminal i.digest) first ∙ sym c.in_default.ensures in
-    refused_by c.args.rows.now c.args.ops.items p (UnknownDigest c.args.terminal 0) (unplanned c.args.rows.now c.args.ops.items c.args.terminal c.requires.found none) (inl (record {
+    refused_by c.args.rows.now c.args.ops.items p (UnknownDigest c.args.terminal 0)
+    (unplanned c.args.rows.now c.args.ops.items c.args.terminal c.requires.found none) (inl (record {
       result = record {
         apart = c.requires.apart;
         terminal = c.requires.terminal;
@@ -38,17 +40,25 @@ returns-in_default-clause-refused c = λ _.
 pub reached-requires-clause-rows : goal.reached-requires-clause-rows
 reached-requires-clause-rows c =
     let links : lists c.deref-2.result.now ≡ graph_of c.args.rows.now c.args.terminal c.args.ops.items =
-    ap (λ (xs : List (Vec ℕ)). lists xs) c.deref-2.ensures.value ∙ c.in_ok-links.ensures ∙ ap (graph_of c.args.rows.now c.args.terminal) c.deref.ensures.value in
+    ap (λ (xs : List (Vec ℕ)). lists xs) c.deref-2.ensures.value ∙ c.in_ok-links.ensures
+    ∙ ap (graph_of c.args.rows.now c.args.terminal) c.deref.ensures.value in
     let len : length c.args.rows.now ≡ length c.deref-2.result.now =
-    (let a = length-map c.deref-2.result.now (λ (r : Vec ℕ). r.items) in let b = length-map c.args.ops.items (rows_named c.args.rows.now c.args.terminal) in let e = ap (λ (xs : List (List ℕ)). length xs) links in let l = c.requires.ops in omega (arith, a, b, e, l)) in
-    subst (λ (g : List (List ℕ)). InRange g (length c.deref-2.result.now)) (sym links) (subst (λ (n : ℕ). InRange (graph_of c.args.rows.now c.args.terminal c.args.ops.items) n) len (in_range c.args.rows.now c.args.terminal c.args.ops.items))
+    (let a = length-map c.deref-2.result.now (λ (r : Vec ℕ). r.items) in let b =
+    length-map c.args.ops.items (rows_named c.args.rows.now c.args.terminal) in let e =
+    ap (λ (xs : List (List ℕ)). length xs) links in let l = c.requires.ops in omega (arith, a, b, e, l)) in
+    subst (λ (g : List (List ℕ)). InRange g (length c.deref-2.result.now)) (sym links)
+    (subst (λ (n : ℕ). InRange (graph_of c.args.rows.now c.args.terminal c.args.ops.items) n) len
+    (in_range c.args.rows.now c.args.terminal c.args.ops.items))
 
 pub reached-requires-clause-start : goal.reached-requires-clause-start
 reached-requires-clause-start c =
     let links : lists c.deref-2.result.now ≡ graph_of c.args.rows.now c.args.terminal c.args.ops.items =
-    ap (λ (xs : List (Vec ℕ)). lists xs) c.deref-2.ensures.value ∙ c.in_ok-links.ensures ∙ ap (graph_of c.args.rows.now c.args.terminal) c.deref.ensures.value in
+    ap (λ (xs : List (Vec ℕ)). lists xs) c.deref-2.ensures.value ∙ c.in_ok-links.ensures
+    ∙ ap (graph_of c.args.rows.now c.args.terminal) c.deref.ensures.value in
     let len : length c.args.rows.now ≡ length c.deref-2.result.now =
-    (let a = length-map c.deref-2.result.now (λ (r : Vec ℕ). r.items) in let b = length-map c.args.ops.items (rows_named c.args.rows.now c.args.terminal) in let e = ap (λ (xs : List (List ℕ)). length xs) links in let l = c.requires.ops in omega (arith, a, b, e, l)) in
+    (let a = length-map c.deref-2.result.now (λ (r : Vec ℕ). r.items) in let b =
+    length-map c.args.ops.items (rows_named c.args.rows.now c.args.terminal) in let e =
+    ap (λ (xs : List (List ℕ)). length xs) links in let l = c.requires.ops in omega (arith, a, b, e, l)) in
     let h = named_below c.args.rows.now c.args.terminal c.index-as_slice-0.result.digest c.in-Some.start (sym c.in-Some.ensures) in
     omega (arith, h, len)
 
@@ -68,23 +78,34 @@ pub returns-in_err-check_names-clause-refused : goal.returns-in_err-check_names-
 returns-in_err-check_names-clause-refused c =
     let p = err_from_is_err_and c.from_residual-in_err-check_names.result c.from_residual-in_err-check_names.ensures.1 in
     let links : lists c.deref-2.result.now ≡ graph_of c.args.rows.now c.args.terminal c.args.ops.items =
-    ap (λ (xs : List (Vec ℕ)). lists xs) c.deref-2.ensures.value ∙ c.in_ok-links.ensures ∙ ap (graph_of c.args.rows.now c.args.terminal) c.deref.ensures.value in
+    ap (λ (xs : List (Vec ℕ)). lists xs) c.deref-2.ensures.value ∙ c.in_ok-links.ensures
+    ∙ ap (graph_of c.args.rows.now c.args.terminal) c.deref.ensures.value in
     let exact : (k : ℕ) → IsMarked c.in_ok-seen.seen.items k ↔ ReachedRow (plan c.args.rows.now c.args.ops.items c.args.terminal c.in-Some.start) k =
     subst (λ (g : List (List ℕ)). (k : ℕ) → IsMarked c.in_ok-seen.seen.items k ↔ Reached g c.in-Some.start k) links c.in_ok-seen.ensures.exact in
     let h : c.args.terminal < length c.args.ops.items = (let t = c.requires.terminal.holds.0 in let l = c.requires.ops in omega (arith, t, l)) in
     let last = op_read c.args.ops.items c.args.terminal c.index-last.result.now h c.index-last.ensures in
     let some : 0 < length c.index-last.result.now.inputs = not_empty _ c.if-is_empty.ensures in
-    let first = input_read (op_at c.args.ops.items c.args.terminal) c.as_slice.result.now 0 c.index-as_slice-0.result (c.as_slice.ensures ∙ sym (ap (λ (o : Op). o.inputs) last))
+    let first = input_read (op_at c.args.ops.items c.args.terminal) c.as_slice.result.now 0 c.index-as_slice-0.result
+    (c.as_slice.ensures ∙ sym (ap (λ (o : Op). o.inputs) last))
     (let e = ap (λ (xs : List Input). length xs) c.as_slice.ensures in omega (arith, some, e)) c.index-as_slice-0.is in
     let started : IsStarted (plan c.args.rows.now c.args.ops.items c.args.terminal c.in-Some.start) = record {
-      result = record { apart = c.requires.apart; terminal = c.requires.terminal; input = (let e = ap (λ (o : Op). length o.inputs) last in omega (arith, some, e)) };
+      result = record {
+        apart = c.requires.apart;
+        terminal = c.requires.terminal;
+        input = (let e = ap (λ (o : Op). length o.inputs) last in omega (arith, some, e));
+      };
       start = ap (λ (i : Input). row_named c.args.rows.now c.args.terminal i.digest) first ∙ sym c.in-Some.ensures;
     } in
     let found : RefusesUnknown c.args.rows.now c.args.terminal c.args.ops.items (IsMarked c.in_ok-seen.seen.items) c.in_err-check_names.field-0.0 =
-    subst (λ (ops : List Op). RefusesUnknown c.args.rows.now c.args.terminal ops (IsMarked c.in_ok-seen.seen.items) c.in_err-check_names.field-0.0) c.deref-3.ensures.value
-    (subst (λ (seen : List Bool). RefusesUnknown c.args.rows.now c.args.terminal c.deref-3.result.now (IsMarked seen) c.in_err-check_names.field-0.0) c.deref-4.ensures.value c.in_err-check_names.ensures.refused) in
-    rw (p.1, p.2) (λ _. refused_by c.args.rows.now c.args.ops.items (plan c.args.rows.now c.args.ops.items c.args.terminal c.in-Some.start) c.in_err-check_names.field-0.0
-    (planned c.args.rows.now c.args.ops.items c.args.terminal c.in-Some.start c.requires.found started.start) (refuses_unknown c.args.rows.now c.args.ops.items c.args.terminal c.in-Some.start (IsMarked c.in_ok-seen.seen.items) started exact c.in_err-check_names.field-0.0 found))
+    subst (λ (ops : List Op). RefusesUnknown c.args.rows.now c.args.terminal ops
+    (IsMarked c.in_ok-seen.seen.items) c.in_err-check_names.field-0.0) c.deref-3.ensures.value
+    (subst (λ (seen : List Bool). RefusesUnknown c.args.rows.now c.args.terminal c.deref-3.result.now
+    (IsMarked seen) c.in_err-check_names.field-0.0) c.deref-4.ensures.value c.in_err-check_names.ensures.refused) in
+    rw (p.1, p.2) (λ _. refused_by c.args.rows.now c.args.ops.items (plan c.args.rows.now c.args.ops.items c.args.terminal c.in-Some.start)
+    c.in_err-check_names.field-0.0
+    (planned c.args.rows.now c.args.ops.items c.args.terminal c.in-Some.start c.requires.found started.start)
+    (refuses_unknown c.args.rows.now c.args.ops.items c.args.terminal c.in-Some.start
+    (IsMarked c.in_ok-seen.seen.items) started exact c.in_err-check_names.field-0.0 found))
 
 pub link_named-requires-clause-named : goal.link_named-requires-clause-named
 link_named-requires-clause-named c =
@@ -119,9 +140,11 @@ link_named-requires-clause-planned c =
     let h : c.args.terminal < length c.args.ops.items = (let t = c.requires.terminal.holds.0 in let l = c.requires.ops in omega (arith, t, l)) in
     let last = op_read c.args.ops.items c.args.terminal c.index-last.result.now h c.index-last.ensures in
     let some : 0 < length c.index-last.result.now.inputs = not_empty _ c.if-is_empty.ensures in
-    let first = input_read (op_at c.args.ops.items c.args.terminal) c.as_slice.result.now 0 c.index-as_slice-0.result (c.as_slice.ensures ∙ sym (ap (λ (o : Op). o.inputs) last))
+    let first = input_read (op_at c.args.ops.items c.args.terminal) c.as_slice.result.now 0 c.index-as_slice-0.result
+    (c.as_slice.ensures ∙ sym (ap (λ (o : Op). o.inputs) last))
     (let e = ap (λ (xs : List Input). length xs) c.as_slice.ensures in omega (arith, some, e)) c.index-as_slice-0.is in
-    planned c.args.rows.now c.args.ops.items c.args.terminal c.in-Some.start c.requires.found (ap (λ (i : Input). row_named c.args.rows.now c.args.terminal i.digest) first ∙ sym c.in-Some.ensures)
+    planned c.args.rows.now c.args.ops.items c.args.terminal c.in-Some.start c.requires.found
+    (ap (λ (i : Input). row_named c.args.rows.now c.args.terminal i.digest) first ∙ sym c.in-Some.ensures)
 
 pub link_named-requires-clause-seen : goal.link_named-requires-clause-seen
 link_named-requires-clause-seen c =

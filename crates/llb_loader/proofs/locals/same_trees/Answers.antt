@@ -16,7 +16,14 @@ pub returns : goal.returns
 returns c =
     let trees : List Local = locals_of c.args.trees.now.entries in
     let others : List Local = locals_of c.args.others.now.entries in
-    let count : length trees ≡ length others = omega (arith, all_named c.args.trees.now.entries, all_named c.args.others.now.entries, c.len.ensures.len, c.len-2.ensures.len, c.if-len.false) in (
+    let count : length trees ≡ length others = omega (
+      arith,
+      all_named c.args.trees.now.entries,
+      all_named c.args.others.now.entries,
+      c.len.ensures.len,
+      c.len-2.ensures.len,
+      c.if-len.false,
+    ) in (
       λ _. all_same trees others count
           (λ k below. c.loop-i.invariant k (omega (arith, below, all_named c.args.trees.now.entries, c.loop-i-test.false, c.len-i-end.ensures.len))),
       λ _. refl,

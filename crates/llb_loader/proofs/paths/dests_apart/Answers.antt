@@ -10,13 +10,15 @@ use Rattle.llb_loader.proofs.Apart.{when_not_false, when_not_true, seen_skip, se
 use Rattle.llb_loader.proofs.paths.dests_apart.Goals as goal
 
 -- a path that is copied is at its place
-copied_at : (values : List (Option (List (List ℕ)))) (i : ℕ) (item : Option (List (List ℕ))) (path copy : List (List ℕ)) → item ≡ value_at values i → item ≡ Some path
+copied_at : (values : List (Option (List (List ℕ)))) (i : ℕ) (item : Option (List (List ℕ))) (path copy : List (List ℕ))
+    → item ≡ value_at values i → item ≡ Some path
     → ◌≡◌ {A = Result (List (List ℕ)) TreeFault} (Ok path) (Ok copy) → value_at values i ≡ Some copy
 copied_at values i item path copy read some same = let e : path ≡ copy = cc in sym read ∙ some ∙ ap (λ (p : List (List ℕ)). Some p) e
 
 pub loop-dest-preserved-in_default : goal.loop-dest-preserved-in_default
 loop-dest-preserved-in_default c =
-    let none : value_at c.args.dests.now c.loop-dest.dest-index ≡ None = sym (get_or_read c.args.dests.now c.loop-dest.dest-index c.dest-item.result c.loop-dest-test.true c.dest-item.is None) ∙ c.in_default.is in
+    let none : value_at c.args.dests.now c.loop-dest.dest-index ≡ None =
+    sym (get_or_read c.args.dests.now c.loop-dest.dest-index c.dest-item.result c.loop-dest-test.true c.dest-item.is None) ∙ c.in_default.is in
     record {
       seen = seen_skip c.args.dests.now c.loop-dest.dest-index (contains path_cmp c.loop-dest.seen) none c.loop-dest.invariant.seen;
       apart = apart_skip c.args.dests.now c.loop-dest.dest-index none c.loop-dest.invariant.apart;
@@ -35,9 +37,11 @@ loop-dest-preserved c =
     let here = copied_at c.args.dests.now c.loop-dest.dest-index c.dest-item.result c.in-Some.path c.in-Ok.copy read c.in-Some.is c.in-Ok.ensures in
     let fresh = when_not_true (contains path_cmp c.loop-dest.seen c.in-Ok.copy) (sym c.in_ok-insert.ensures.added ∙ c.if-not-branch.false) in
     record {
-      seen = seen_more path_cmp path_cmp-IsTotalOrder path_cmp-IsAntisymmetric c.args.dests.now c.loop-dest.dest-index c.in-Ok.copy (contains path_cmp c.loop-dest.seen) (contains path_cmp c.insert.new.self) here c.in_ok-insert.ensures.updates.0 c.loop-dest.invariant.seen;
+      seen = seen_more path_cmp path_cmp-IsTotalOrder path_cmp-IsAntisymmetric c.args.dests.now c.loop-dest.dest-index c.in-Ok.copy
+          (contains path_cmp c.loop-dest.seen) (contains path_cmp c.insert.new.self) here c.in_ok-insert.ensures.updates.0 c.loop-dest.invariant.seen;
       apart = apart_more c.args.dests.now c.loop-dest.dest-index
-          (not_seen c.args.dests.now c.loop-dest.dest-index c.in-Ok.copy (contains path_cmp c.loop-dest.seen) here fresh c.loop-dest.invariant.seen) c.loop-dest.invariant.apart;
+          (not_seen c.args.dests.now c.loop-dest.dest-index c.in-Ok.copy (contains path_cmp c.loop-dest.seen) here fresh
+          c.loop-dest.invariant.seen) c.loop-dest.invariant.apart;
     }
 
 pub returns : goal.returns

@@ -15,5 +15,6 @@ loop-i-preserved c =
           (numbered_once _ _ _ c.loop-i.i j c.requires.numbering c.loop-i-test.true l)
           ∙ c.loop-i.invariant.inverse j l)
           (get_or-set_same c.loop-i.numbers.items (get_or c.args.order.now c.loop-i.i 0) c.loop-i.i 0 h);
-      small = λ n p l. All-set (λ r. r < n) c.loop-i.numbers.items (get_or c.args.order.now c.loop-i.i 0) c.loop-i.i (let t = c.loop-i-test.true in omega (arith, l, t)) (c.loop-i.invariant.small n p l);
+      small = λ n p l. All-set (λ r. r < n) c.loop-i.numbers.items (get_or c.args.order.now c.loop-i.i 0) c.loop-i.i
+          (let t = c.loop-i-test.true in omega (arith, l, t)) (c.loop-i.invariant.small n p l);
     }

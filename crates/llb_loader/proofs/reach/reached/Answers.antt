@@ -5,7 +5,8 @@ use Rattle.std.specs.Global.{Vec}
 use Rattle.llb_loader.specs.Placing.{IsMarked}
 use Rattle.llb_loader.specs.Rows.{lists}
 use Rattle.llb_loader.proofs.Rows.{inputs_at}
-use Rattle.llb_loader.proofs.Searching.{IsSearching, NoRow, searching_start, at_row_mark, at_row_skip, at_row_below, searching_pop, searching_leave, searching_whole, popped_marked, popped_below}
+use Rattle.llb_loader.proofs.Searching.{IsSearching, NoRow, searching_start, at_row_mark, at_row_skip, at_row_below, searching_pop}
+use Rattle.llb_loader.proofs.Searching.{searching_leave, searching_whole, popped_marked, popped_below}
 use Rattle.llb_loader.proofs.reach.reached.Goals as goal
 use Rattle.llb_loader.proofs.reach.reached.Goals.{then-not-index+in_ok-push-2, else-not-index}
 
@@ -42,10 +43,13 @@ pub loop-input-preserved : goal.loop-input-preserved
 loop-input-preserved c = elim c.if-not-index.branch [
   | then-not-index+in_ok-push-2 w ↦ (
       let pushed = ap (λ (v : Vec ℕ). v.items) w.open-is ∙ w.in_ok-push-2.ensures.items in
-      let fresh = sym (get_or_read c.loop-input.seen.items (get_or c.as_slice-named.result.now c.loop-input.input-index 0) c.index.result.now (at_row_below _ _ _ _ _ _ _ _ _ c.requires.rows c.loop-input-test.true c.loop-input.invariant) c.index.ensures false) ∙ w.if-not-index.true in
+      let fresh = sym (get_or_read c.loop-input.seen.items (get_or c.as_slice-named.result.now c.loop-input.input-index 0)
+      c.index.result.now (at_row_below _ _ _ _ _ _ _ _ _ c.requires.rows c.loop-input-test.true c.loop-input.invariant) c.index.ensures
+      false) ∙ w.if-not-index.true in
       rw (w.seen-is, pushed) (at_row_mark _ _ _ _ _ _ _ _ _ c.requires.rows c.loop-input-test.true fresh c.loop-input.invariant))
   | else-not-index w ↦ (
-      let m = sym (get_or_read c.loop-input.seen.items (get_or c.as_slice-named.result.now c.loop-input.input-index 0) c.index.result.now (at_row_below _ _ _ _ _ _ _ _ _ c.requires.rows c.loop-input-test.true c.loop-input.invariant) c.index.ensures false) ∙ w.if-not-index.false in
+      let m = sym (get_or_read c.loop-input.seen.items (get_or c.as_slice-named.result.now c.loop-input.input-index 0) c.index.result.now
+      (at_row_below _ _ _ _ _ _ _ _ _ c.requires.rows c.loop-input-test.true c.loop-input.invariant) c.index.ensures false) ∙ w.if-not-index.false in
       rw (w.seen-is, w.open-is) (at_row_skip _ _ _ _ _ _ _ _ _ m c.loop-input.invariant))
 ]
 
@@ -58,7 +62,8 @@ returns-clause-exact c k =
 pub loop-row-init : goal.loop-row-init
 loop-row-init c =
     let all = c.in_ok-seen.ensures.items_if_clones_equal (λ y e. e) in
-    let pushed : c.push.new.self.items ≡ c.args.start ∷ [] = c.in_ok-push.ensures.items ∙ ap (λ (xs : List ℕ). xs ++ c.args.start ∷ []) c.new-open.ensures.items in
+    let pushed : c.push.new.self.items ≡ c.args.start ∷ [] = c.in_ok-push.ensures.items
+    ∙ ap (λ (xs : List ℕ). xs ++ c.args.start ∷ []) c.new-open.ensures.items in
     let marked = length-set c.in_ok-seen.seen.items c.args.start true in
     record {
       len = omega (arith, marked, c.in_ok-seen.ensures.len);

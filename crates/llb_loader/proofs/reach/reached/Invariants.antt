@@ -6,7 +6,8 @@ use Rattle.llb_loader.proofs.reach.reached.Given as goal
 
 abbrev pub invariant-loop-input : goal.invariant-loop-input
 invariant-loop-input l =
-    IsAtRow (lists l.rows) l.start (length l.rows) l.row l.named l.seen.items l.open.items l.input-index (unmarked l.initial.seen.items + length l.initial.open.items)
+    IsAtRow (lists l.rows) l.start (length l.rows) l.row l.named l.seen.items l.open.items l.input-index
+    (unmarked l.initial.seen.items + length l.initial.open.items)
 
 abbrev pub invariant-loop-row : goal.invariant-loop-row
 invariant-loop-row l = record {

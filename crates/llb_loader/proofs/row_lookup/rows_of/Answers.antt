@@ -12,13 +12,16 @@ loop-input-preserved c =
     let h = λ (i : Input). row_named c.args.rows.now c.args.terminal i.digest in
     elim c.match-row_of.branch [
       | in-Some+in_ok-push w ↦ rw w.named-is (w.in_ok-push.ensures.items ∙ ap (λ (xs : List ℕ). xs ++ w.in-Some.row ∷ []) c.loop-input.invariant
-          ∙ sym (filter_map_some h c.as_slice-input-items.result.now c.loop-input.input-index c.input-item.result w.in-Some.row c.loop-input-test.true c.input-item.is (sym c.row_of.ensures ∙ w.in-Some.is)))
+          ∙ sym (filter_map_some h c.as_slice-input-items.result.now c.loop-input.input-index c.input-item.result w.in-Some.row
+          c.loop-input-test.true c.input-item.is (sym c.row_of.ensures ∙ w.in-Some.is)))
       | in_default w ↦ rw w.named-is (c.loop-input.invariant
-          ∙ sym (filter_map_none h c.as_slice-input-items.result.now c.loop-input.input-index c.input-item.result c.loop-input-test.true c.input-item.is (sym c.row_of.ensures ∙ w.in_default.is)))
+          ∙ sym (filter_map_none h c.as_slice-input-items.result.now c.loop-input.input-index c.input-item.result c.loop-input-test.true
+          c.input-item.is (sym c.row_of.ensures ∙ w.in_default.is)))
     ]
 
 pub returns : goal.returns
 returns c =
     let h = λ (i : Input). row_named c.args.rows.now c.args.terminal i.digest in
-    c.loop-input.invariant ∙ ap (λ (xs : List Input). filter_map h xs) (take_all c.loop-input.input-index c.as_slice-input-items.result.now c.loop-input-test.false)
+    c.loop-input.invariant ∙ ap (λ (xs : List Input). filter_map h xs)
+    (take_all c.loop-input.input-index c.as_slice-input-items.result.now c.loop-input-test.false)
     ∙ ap (λ (xs : List Input). filter_map h xs) c.as_slice-input-items.ensures

@@ -15,9 +15,11 @@ pub loop-shown-preserved : goal.loop-shown-preserved
 loop-shown-preserved c =
     let mounts = c.args.mounts.now in
     let at_hand : (mount_at mounts c.loop-shown.shown-index).dest ≡ c.names.result.now =
-    ap (λ (m : Shown). m.dest) (get_or_default mounts c.loop-shown.shown-index no_mount c.shown-item.result c.loop-shown-test.true ∙ sym c.shown-item.is) ∙ sym c.names.ensures.all in
+    ap (λ (m : Shown). m.dest) (get_or_default mounts c.loop-shown.shown-index no_mount c.shown-item.result c.loop-shown-test.true
+    ∙ sym c.shown-item.is) ∙ sym c.names.ensures.all in
     let differ : (mount_at mounts c.loop-shown.shown-index).dest ≡ c.args.names.now → ⊥ =
-    λ same. true≢false (sym ((pointwise_decides bytes_decides c.names.result.now c.args.names.now).1 (sym at_hand ∙ same)) ∙ sym c.eq.ensures ∙ c.if-eq.false) in
+    λ same. true≢false (sym ((pointwise_decides bytes_decides c.names.result.now c.args.names.now).1 (sym at_hand ∙ same))
+    ∙ sym c.eq.ensures ∙ c.if-eq.false) in
     below_more (λ k. (mount_at mounts k).dest ≡ c.args.names.now → ⊥) c.loop-shown.shown-index c.loop-shown.invariant differ
 
 pub returns : goal.returns

@@ -18,12 +18,15 @@ returns-in_err-count c =
 
 pub returns-then-count-gt-ENTRIES_LIMIT : goal.returns-then-count-gt-ENTRIES_LIMIT
 returns-then-count-gt-ENTRIES_LIMIT c =
-    ap admission (sym (too_many c.args.bytes.now c.in_ok-count.count c.in_ok-count.short c.if-bytes-gt-DEFINITION_LIMIT.false (sym c.in_ok-count.ensures) c.if-count-gt-ENTRIES_LIMIT.true))
+    ap admission (sym (too_many c.args.bytes.now c.in_ok-count.count c.in_ok-count.short c.if-bytes-gt-DEFINITION_LIMIT.false
+    (sym c.in_ok-count.ensures) c.if-count-gt-ENTRIES_LIMIT.true))
 
 pub returns-then-not-short : goal.returns-then-not-short
 returns-then-not-short c =
-    ap admission (sym (too_big c.args.bytes.now c.in_ok-count.count c.if-bytes-gt-DEFINITION_LIMIT.false (sym c.in_ok-count.ensures ∙ ap (pair c.in_ok-count.count) c.if-not-short.true)))
+    ap admission (sym (too_big c.args.bytes.now c.in_ok-count.count c.if-bytes-gt-DEFINITION_LIMIT.false
+    (sym c.in_ok-count.ensures ∙ ap (pair c.in_ok-count.count) c.if-not-short.true)))
 
 pub returns : goal.returns
 returns c =
-    sym (fits c.args.bytes.now c.in_ok-count.count c.if-bytes-gt-DEFINITION_LIMIT.false (sym c.in_ok-count.ensures ∙ ap (pair c.in_ok-count.count) c.if-not-short.false) c.if-count-gt-ENTRIES_LIMIT.false)
+    sym (fits c.args.bytes.now c.in_ok-count.count c.if-bytes-gt-DEFINITION_LIMIT.false
+    (sym c.in_ok-count.ensures ∙ ap (pair c.in_ok-count.count) c.if-not-short.false) c.if-count-gt-ENTRIES_LIMIT.false)

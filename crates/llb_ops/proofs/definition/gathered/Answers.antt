@@ -8,12 +8,14 @@ use Rattle.llb_ops.proofs.definition.gathered.Goals as goal
 pub returns-in_err-front : goal.returns-in_err-front
 returns-in_err-front c =
     let p = err_from_is_err_and c.from_residual.result c.from_residual.ensures.1 in
-    rw (p.1, p.2) (λ _. sym c.loop-entries.invariant ∙ ap (behind c.loop-entries.entries.items) (in_err c.loop-entries.rest.now c.in_err-front.field-0.0 c.in_err-front.ensures))
+    rw (p.1, p.2) (λ _. sym c.loop-entries.invariant ∙ ap (behind c.loop-entries.entries.items)
+    (in_err c.loop-entries.rest.now c.in_err-front.field-0.0 c.in_err-front.ensures))
 
 pub loop-entries-preserved : goal.loop-entries-preserved
 loop-entries-preserved c =
     let front : IsFront definition_shape c.loop-entries.rest.now c.in-Some.front = rw c.in-Some.is at c.in_ok-front.ensures in
-    gather_goes_on c.loop-entries.entries.items c.put_entry.new.entries.items (view c.in-Some.front.record) c.loop-entries.rest.now c.in-Some.front.after.now _ front.reads c.in_ok-put_entry.ensures c.loop-entries.invariant
+    gather_goes_on c.loop-entries.entries.items c.put_entry.new.entries.items
+    (view c.in-Some.front.record) c.loop-entries.rest.now c.in-Some.front.after.now _ front.reads c.in_ok-put_entry.ensures c.loop-entries.invariant
 
 pub returns : goal.returns
 returns c =

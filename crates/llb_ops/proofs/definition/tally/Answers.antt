@@ -11,7 +11,8 @@ loop-front-init c = record { so_far = tally_begins (entries_in c.args.bytes.now)
 pub returns-in_err-front : goal.returns-in_err-front
 returns-in_err-front c =
     let p = err_from_is_err_and c.from_residual.result c.from_residual.ensures.1 in
-    rw (p.1, p.2) (sym (ap (tallied (c.loop-front.count, c.loop-front.short)) (in_err c.loop-front.rest.now c.in_err-front.field-0.0 c.in_err-front.ensures)) ∙ c.loop-front.invariant.so_far)
+    rw (p.1, p.2) (sym (ap (tallied (c.loop-front.count, c.loop-front.short))
+    (in_err c.loop-front.rest.now c.in_err-front.field-0.0 c.in_err-front.ensures)) ∙ c.loop-front.invariant.so_far)
 
 pub loop-front-preserved : goal.loop-front-preserved
 loop-front-preserved c =

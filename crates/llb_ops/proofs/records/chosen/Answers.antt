@@ -10,6 +10,10 @@ loop-part-preserved c =
     let i = c.loop-part.part-index in
     let ms = c.args.members.now in
     elim c.if-contains.branch [
-      | then-contains w ↦ w.last-is ∙ sym (chosen_push ms (views (take i rs)) (view (get_or rs i _)) true (sym c.contains.ensures.value ∙ w.if-contains.true)) ∙ ap (chosen ms) (sym (views_more rs i _ c.loop-part-test.true))
-      | else-contains w ↦ w.last-is ∙ c.loop-part.invariant ∙ sym (chosen_push ms (views (take i rs)) (view (get_or rs i _)) false (sym c.contains.ensures.value ∙ w.if-contains.false)) ∙ ap (chosen ms) (sym (views_more rs i _ c.loop-part-test.true))
+      | then-contains w ↦ w.last-is
+          ∙ sym (chosen_push ms (views (take i rs)) (view (get_or rs i _)) true (sym c.contains.ensures.value ∙ w.if-contains.true))
+          ∙ ap (chosen ms) (sym (views_more rs i _ c.loop-part-test.true))
+      | else-contains w ↦ w.last-is ∙ c.loop-part.invariant
+          ∙ sym (chosen_push ms (views (take i rs)) (view (get_or rs i _)) false (sym c.contains.ensures.value ∙ w.if-contains.false))
+          ∙ ap (chosen ms) (sym (views_more rs i _ c.loop-part-test.true))
     ]

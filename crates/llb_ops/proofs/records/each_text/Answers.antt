@@ -9,7 +9,8 @@ use Rattle.llb_ops.proofs.records.each_text.Goals.{then-record-number+in_ok-text
 
 pub from_utf8_unchecked-requires : goal.from_utf8_unchecked-requires
 from_utf8_unchecked-requires c =
-    IsUtf8-from_is_utf8 _ (text_at (shape_of c.args.message) c.args.number c.args.records.now c.loop-record.record-index _ c.loop-record-test.true c.if-record-number.true c.requires.named c.requires.texts)
+    IsUtf8-from_is_utf8 _ (text_at (shape_of c.args.message) c.args.number c.args.records.now c.loop-record.record-index _
+    c.loop-record-test.true c.if-record-number.true c.requires.named c.requires.texts)
 
 pub loop-record-preserved : goal.loop-record-preserved
 loop-record-preserved c =
@@ -17,6 +18,9 @@ loop-record-preserved c =
     let n = c.args.number in
     let i = c.loop-record.record-index in
     elim c.if-record-number.branch [
-      | then-record-number+in_ok-text+in_ok-push w ↦ payloads_more n rs i _ true c.loop-record.items.items _ c.loop-record-test.true (eq-eqb _ _ w.if-record-number.true) c.loop-record.invariant (ap (λ v. v.items) w.items-is ∙ w.in_ok-push.ensures.items ∙ ap (λ x. c.loop-record.items.items ++ x ∷ []) (w.in_ok-text.ensures ∙ w.from_utf8_unchecked.ensures))
-      | else-record-number w ↦ payloads_more n rs i _ false c.loop-record.items.items _ c.loop-record-test.true (ne_eqb _ _ w.if-record-number.false) c.loop-record.invariant (ap (λ v. v.items) w.items-is)
+      | then-record-number+in_ok-text+in_ok-push w ↦ payloads_more n rs i _ true c.loop-record.items.items _ c.loop-record-test.true
+          (eq-eqb _ _ w.if-record-number.true) c.loop-record.invariant (ap (λ v. v.items) w.items-is ∙ w.in_ok-push.ensures.items
+          ∙ ap (λ x. c.loop-record.items.items ++ x ∷ []) (w.in_ok-text.ensures ∙ w.from_utf8_unchecked.ensures))
+      | else-record-number w ↦ payloads_more n rs i _ false c.loop-record.items.items _ c.loop-record-test.true
+          (ne_eqb _ _ w.if-record-number.false) c.loop-record.invariant (ap (λ v. v.items) w.items-is)
     ]

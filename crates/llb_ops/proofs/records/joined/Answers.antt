@@ -10,6 +10,8 @@ loop-record-preserved c =
     let n = c.args.number in
     let i = c.loop-record.record-index in
     elim c.if-record-number.branch [
-      | then-record-number+in_ok-extend_from_slice w ↦ joined_more n rs i _ true c.loop-record.out.items _ c.loop-record-test.true (eq-eqb _ _ w.if-record-number.true) c.loop-record.invariant (ap (λ v. v.items) w.out-is ∙ w.in_ok-extend_from_slice.ensures.items)
-      | else-record-number w ↦ joined_more n rs i _ false c.loop-record.out.items _ c.loop-record-test.true (ne_eqb _ _ w.if-record-number.false) c.loop-record.invariant (ap (λ v. v.items) w.out-is)
+      | then-record-number+in_ok-extend_from_slice w ↦ joined_more n rs i _ true c.loop-record.out.items _ c.loop-record-test.true
+          (eq-eqb _ _ w.if-record-number.true) c.loop-record.invariant (ap (λ v. v.items) w.out-is ∙ w.in_ok-extend_from_slice.ensures.items)
+      | else-record-number w ↦ joined_more n rs i _ false c.loop-record.out.items _ c.loop-record-test.true
+          (ne_eqb _ _ w.if-record-number.false) c.loop-record.invariant (ap (λ v. v.items) w.out-is)
     ]

@@ -12,6 +12,10 @@ loop-record-preserved c =
     let n = c.args.number in
     let i = c.loop-record.record-index in
     elim c.if-record-number.branch [
-      | then-record-number w ↦ ap (option_map view) w.last-is ∙ sym (last_all_push n (views (take i rs)) (view (get_or rs i _)) true (eq-eqb _ _ w.if-record-number.true)) ∙ ap (λ xs. last_of (all n xs)) (sym (views_more rs i _ c.loop-record-test.true))
-      | else-record-number w ↦ ap (option_map view) w.last-is ∙ c.loop-record.invariant ∙ sym (last_all_push n (views (take i rs)) (view (get_or rs i _)) false (ne_eqb _ _ w.if-record-number.false)) ∙ ap (λ xs. last_of (all n xs)) (sym (views_more rs i _ c.loop-record-test.true))
+      | then-record-number w ↦ ap (option_map view) w.last-is
+          ∙ sym (last_all_push n (views (take i rs)) (view (get_or rs i _)) true (eq-eqb _ _ w.if-record-number.true))
+          ∙ ap (λ xs. last_of (all n xs)) (sym (views_more rs i _ c.loop-record-test.true))
+      | else-record-number w ↦ ap (option_map view) w.last-is ∙ c.loop-record.invariant
+          ∙ sym (last_all_push n (views (take i rs)) (view (get_or rs i _)) false (ne_eqb _ _ w.if-record-number.false))
+          ∙ ap (λ xs. last_of (all n xs)) (sym (views_more rs i _ c.loop-record-test.true))
     ]

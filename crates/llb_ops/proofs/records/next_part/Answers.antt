@@ -16,9 +16,12 @@ returns-in_default c =
 
 pub returns-then-not-fits : goal.returns-then-not-fits
 returns-then-not-fits c =
-    parts_wrong (shape_of c.args.message) c.args.bytes.now c.in-Some.field (ap (λ o. Ok o) (sym c.in-Some.is) ∙ c.in_ok-field.ensures.exact) (sym c.fits.ensures ∙ c.if-not-fits.true)
+    parts_wrong (shape_of c.args.message) c.args.bytes.now c.in-Some.field (ap (λ o. Ok o) (sym c.in-Some.is)
+    ∙ c.in_ok-field.ensures.exact) (sym c.fits.ensures ∙ c.if-not-fits.true)
 
 pub returns : goal.returns
 returns c =
     let within : IsWithin c.args.bytes.now 0 c.in-Some.field = rw c.in-Some.is at c.in_ok-field.ensures.within in
-    is_front (shape_of c.args.message) c.args.bytes.now c.in-Some.field c.front_of.result (ap (λ o. Ok o) (sym c.in-Some.is) ∙ c.in_ok-field.ensures.exact) (sym c.fits.ensures ∙ c.if-not-fits.false) within c.front_of.ensures.record c.front_of.ensures.after
+    is_front (shape_of c.args.message) c.args.bytes.now c.in-Some.field c.front_of.result
+    (ap (λ o. Ok o) (sym c.in-Some.is) ∙ c.in_ok-field.ensures.exact) (sym c.fits.ensures
+    ∙ c.if-not-fits.false) within c.front_of.ensures.record c.front_of.ensures.after

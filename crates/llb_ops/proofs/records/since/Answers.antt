@@ -12,10 +12,12 @@ loop-i-preserved c =
     elim c.if-is_other.branch [
       | then-is_other w ↦ record {
         place = omega (arith, w.start-is);
-        rest = since_clears p rs i _ c.loop-i-test.true (sym c.is_other.ensures ∙ w.if-is_other.true) ∙ ap (λ s. drop s (views (take (i + 1) rs))) (sym w.start-is);
+        rest = since_clears p rs i _ c.loop-i-test.true (sym c.is_other.ensures ∙ w.if-is_other.true)
+            ∙ ap (λ s. drop s (views (take (i + 1) rs))) (sym w.start-is);
       }
       | else-is_other w ↦ record {
         place = omega (arith, w.start-is);
-        rest = since_keeps p rs c.loop-i.start i _ c.loop-i-test.true c.loop-i.invariant.place (sym c.is_other.ensures ∙ w.if-is_other.false) c.loop-i.invariant.rest ∙ ap (λ s. drop s (views (take (i + 1) rs))) (sym w.start-is);
+        rest = since_keeps p rs c.loop-i.start i _ c.loop-i-test.true c.loop-i.invariant.place
+            (sym c.is_other.ensures ∙ w.if-is_other.false) c.loop-i.invariant.rest ∙ ap (λ s. drop s (views (take (i + 1) rs))) (sym w.start-is);
       }
     ]

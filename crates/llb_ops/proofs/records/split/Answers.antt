@@ -14,8 +14,10 @@ returns-in_err-front c =
 pub loop-records-preserved : goal.loop-records-preserved
 loop-records-preserved c =
     let front : IsFront (shape_of c.args.message) c.loop-records.rest.now c.in-Some.front = rw c.in-Some.is at c.in_ok-front.ensures in
-    let items : views c.push.new.self.items ≡ views c.loop-records.records.items ++ view c.in-Some.front.record ∷ [] = rw c.in_ok-push.ensures.items (map_push _ c.loop-records.records.items c.in-Some.front.record) in
-    rw items (goes_on (shape_of c.args.message) (views c.loop-records.records.items) (view c.in-Some.front.record) c.loop-records.rest.now c.in-Some.front.after.now _ front.reads c.loop-records.invariant)
+    let items : views c.push.new.self.items ≡ views c.loop-records.records.items ++ view c.in-Some.front.record ∷ [] =
+    rw c.in_ok-push.ensures.items (map_push _ c.loop-records.records.items c.in-Some.front.record) in
+    rw items (goes_on (shape_of c.args.message) (views c.loop-records.records.items)
+    (view c.in-Some.front.record) c.loop-records.rest.now c.in-Some.front.after.now _ front.reads c.loop-records.invariant)
 
 pub returns : goal.returns
 returns c =

@@ -10,6 +10,8 @@ loop-record-preserved c =
     let shape = shape_of c.args.message in
     let i = c.loop-record.record-index in
     elim c.if-is_unnamed.branch [
-      | then-is_unnamed+in_ok-extend_from_slice w ↦ unnamed_more shape rs i _ true c.loop-record.out.items _ c.loop-record-test.true (sym c.is_unnamed.ensures ∙ w.if-is_unnamed.true) c.loop-record.invariant (ap (λ v. v.items) w.out-is ∙ w.in_ok-extend_from_slice.ensures.items)
-      | else-is_unnamed w ↦ unnamed_more shape rs i _ false c.loop-record.out.items _ c.loop-record-test.true (sym c.is_unnamed.ensures ∙ w.if-is_unnamed.false) c.loop-record.invariant (ap (λ v. v.items) w.out-is)
+      | then-is_unnamed+in_ok-extend_from_slice w ↦ unnamed_more shape rs i _ true c.loop-record.out.items _ c.loop-record-test.true
+          (sym c.is_unnamed.ensures ∙ w.if-is_unnamed.true) c.loop-record.invariant (ap (λ v. v.items) w.out-is ∙ w.in_ok-extend_from_slice.ensures.items)
+      | else-is_unnamed w ↦ unnamed_more shape rs i _ false c.loop-record.out.items _ c.loop-record-test.true
+          (sym c.is_unnamed.ensures ∙ w.if-is_unnamed.false) c.loop-record.invariant (ap (λ v. v.items) w.out-is)
     ]

@@ -12,5 +12,6 @@ pub loop-bytes-preserved : goal.loop-bytes-preserved
 loop-bytes-preserved c =
     let items = c.args.items.now in
     let i = c.loop-bytes.bytes-index in
-    put_each_more c.args.number items i c.bytes-item.result c.args.out.now.items c.loop-bytes.out.items c.put_set_bytes.new.out.items c.as_slice.result.now c.loop-bytes-test.true c.loop-bytes.invariant
+    put_each_more c.args.number items i c.bytes-item.result c.args.out.now.items c.loop-bytes.out.items c.put_set_bytes.new.out.items
+    c.as_slice.result.now c.loop-bytes-test.true c.loop-bytes.invariant
     (c.as_slice.ensures ∙ c.bytes-item.is) c.in_ok-put_set_bytes.ensures

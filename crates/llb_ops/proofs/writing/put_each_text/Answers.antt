@@ -12,5 +12,6 @@ pub loop-text-preserved : goal.loop-text-preserved
 loop-text-preserved c =
     let items = c.args.items.now in
     let i = c.loop-text.text-index in
-    put_each_more c.args.number items i c.text-item.result c.args.out.now.items c.loop-text.out.items c.put_set_bytes.new.out.items c.as_bytes.result.now c.loop-text-test.true c.loop-text.invariant
+    put_each_more c.args.number items i c.text-item.result c.args.out.now.items c.loop-text.out.items c.put_set_bytes.new.out.items
+    c.as_bytes.result.now c.loop-text-test.true c.loop-text.invariant
     (c.as_bytes.ensures.value ∙ c.as_str.ensures.value ∙ c.text-item.is) c.in_ok-put_set_bytes.ensures

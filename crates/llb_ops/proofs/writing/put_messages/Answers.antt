@@ -12,5 +12,6 @@ pub loop-message-preserved : goal.loop-message-preserved
 loop-message-preserved g c =
     let ms = c.args.messages.now in
     let i = c.loop-message.message-index in
-    put_more g.M.Message.writing c.args.number ms i c.message-item.result c.args.out.now.items c.loop-message.out.items c.put_set_bytes.new.out.items c.deref.result.now c.loop-message-test.true c.loop-message.invariant
+    put_more g.M.Message.writing c.args.number ms i c.message-item.result c.args.out.now.items c.loop-message.out.items
+    c.put_set_bytes.new.out.items c.deref.result.now c.loop-message-test.true c.loop-message.invariant
     (c.deref.ensures.value ∙ c.in_ok-bytes.ensures ∙ ap g.M.Message.writing c.message-item.is) c.in_ok-put_set_bytes.ensures

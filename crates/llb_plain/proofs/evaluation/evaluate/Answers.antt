@@ -28,7 +28,8 @@ returns-clause-gives c =
     let b : Build = record { graph = c.args.graph.now; locals = c.args.locals.now } in
     let given : missing_local b.locals b.graph.vertices ≡ None = search rules in
     let none : cache_from 0 b.graph.vertices ≡ None = search rules in
-    subst (λ (rule : Result (List Outcome) PlainFault). Gives (λ (o : List Outcome). o) c.evaluate_all.result rule) (sym (not_refused b given none)) c.evaluate_all.ensures
+    subst (λ (rule : Result (List Outcome) PlainFault). Gives (λ (o : List Outcome). o) c.evaluate_all.result rule)
+    (sym (not_refused b given none)) c.evaluate_all.ensures
 
 pub returns-clause-last : goal.returns-clause-last
 returns-clause-last c =

@@ -19,13 +19,15 @@ returns-in-Some-2 c =
     let steps = (program_of c.args.vertex.now).steps in
     let at : slice_get steps c.loop-k.k ≡ Some (step_in c.in-Some.step) = search rules in
     ap Ok
-    (faults steps c.args.view.now c.loop-k.k c.loop-k.view c.loop-k.trees.items c.loop-k.invariant (step_in c.in-Some.step) c.step.new.self c.step.new.trees.items
+    (faults steps c.args.view.now c.loop-k.k c.loop-k.view c.loop-k.trees.items c.loop-k.invariant
+    (step_in c.in-Some.step) c.step.new.self c.step.new.trees.items
     c.in-Some-2.fault at c.in_ok-fault.ensures.count (ap (left_with c.step.new.self c.step.new.trees.items) (sym c.in-Some-2.is) ∙ c.in_ok-fault.ensures.left))
 
 pub loop-k-preserved : goal.loop-k-preserved
 loop-k-preserved c =
     let steps = (program_of c.args.vertex.now).steps in
     let at : slice_get steps c.loop-k.k ≡ Some (step_in c.in-Some.step) = search rules in
-    goes_on steps c.args.view.now c.loop-k.k c.loop-k.view c.loop-k.trees.items c.loop-k.invariant (step_in c.in-Some.step) c.step.new.self c.step.new.trees.items
+    goes_on steps c.args.view.now c.loop-k.k c.loop-k.view c.loop-k.trees.items c.loop-k.invariant
+    (step_in c.in-Some.step) c.step.new.self c.step.new.trees.items
     at c.in_ok-fault.ensures.count c.in_ok-fault.ensures.shown
     (ap (left_with c.step.new.self c.step.new.trees.items) (sym c.in_default-2.is) ∙ c.in_ok-fault.ensures.left)

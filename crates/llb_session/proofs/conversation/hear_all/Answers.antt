@@ -1,4 +1,4 @@
--- The bytes so far, one more, and those behind it.
+-- The bytes so far, one more, and those after it.
 use Rattle.std.proofs.Common.{arith, length-take-le}
 use Rattle.std.proofs.lemmas.Result.{err_from_is_err_and}
 use Rattle.llb_session.specs.Hearing.{standing}

@@ -7,7 +7,8 @@ use Rattle.llb_tree.proofs.edit.insert_child.Goals as goal
 pub returns-in-None-clause-ok : goal.returns-in-None-clause-ok
 returns-in-None-clause-ok c =
     let items = c.args.list.now.items in
-    subst (λ t. Sets c.args.name.now [] t (map pair_of items) (map pair_of items)) (sym c.in-None.is) (sets_nothing c.args.name.now items c.args.i c.requires.sorted c.requires.gap)
+    subst (λ t. Sets c.args.name.now [] t (map pair_of items) (map pair_of items)) (sym c.in-None.is)
+    (sets_nothing c.args.name.now items c.args.i c.requires.sorted c.requires.gap)
 
 pub returns-in_ok-insert-in-Some-clause-ok : goal.returns-in_ok-insert-in-Some-clause-ok
 returns-in_ok-insert-in-Some-clause-ok c =

@@ -4,4 +4,5 @@ use Rattle.llb_tree.specs.Path.{follow, parts_of}
 use Rattle.llb_tree.proofs.path.depth_of.Given as goal
 
 abbrev pub invariant-loop-part : goal.invariant-loop-part
-invariant-loop-part l = (from : List (List ℕ)) → length from ≡ l.start → (path : List (List ℕ)) × (length path ≡ l.names) × (follow path (drop (length l.yielded) (parts_of l.text)) ≡ follow from (parts_of l.text))
+invariant-loop-part l = (from : List (List ℕ)) → length from ≡ l.start → (path : List (List ℕ)) × (length path ≡ l.names)
+    × (follow path (drop (length l.yielded) (parts_of l.text)) ≡ follow from (parts_of l.text))

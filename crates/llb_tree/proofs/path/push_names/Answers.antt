@@ -11,7 +11,11 @@ loop-name-preserved c =
     let same : c.name-item.result ≡ c.in_ok-copied.copied = cc (c.in_ok-copied.ensures) in
     let at = sym (get_or_read c.args.more.now c.loop-name.name-index c.name-item.result c.loop-name-test.true c.name-item.is c.name-item.result) ∙ same in
     record {
-      so_far = pushed ∙ ap (λ x. x ++ c.in_ok-copied.copied ∷ []) c.loop-name.invariant.so_far ∙ append_assoc c.args.names.now.items (take c.loop-name.name-index c.args.more.now) (c.in_ok-copied.copied ∷ [])
-          ∙ ap (λ x. c.args.names.now.items ++ x) (sym (take_more c.args.more.now c.loop-name.name-index c.name-item.result c.loop-name-test.true ∙ ap (λ n. take c.loop-name.name-index c.args.more.now ++ n ∷ []) at));
-      named = λ all. subst (All (λ n. is_name n ≡ true)) (sym pushed) (All-push (λ n. is_name n ≡ true) _ _ (c.loop-name.invariant.named all) c.as_str-is_name.ensures.name);
+      so_far = pushed ∙ ap (λ x. x ++ c.in_ok-copied.copied ∷ []) c.loop-name.invariant.so_far
+          ∙ append_assoc c.args.names.now.items (take c.loop-name.name-index c.args.more.now) (c.in_ok-copied.copied ∷ [])
+          ∙ ap (λ x. c.args.names.now.items ++ x)
+          (sym (take_more c.args.more.now c.loop-name.name-index c.name-item.result c.loop-name-test.true
+          ∙ ap (λ n. take c.loop-name.name-index c.args.more.now ++ n ∷ []) at));
+      named = λ all. subst (All (λ n. is_name n ≡ true)) (sym pushed)
+          (All-push (λ n. is_name n ≡ true) _ _ (c.loop-name.invariant.named all) c.as_str-is_name.ensures.name);
     }

@@ -16,7 +16,8 @@ module _ (c : In_ok-enter) where
 
   down : CameTo c.pop-in-Some.new.self (levels_of c.pop.new.self.items) c.in-Some-split_first.kid.now c.in-Some-split_first.rest.now c.enter.new.path
       (levels_of c.enter.new.levels.items) c.in_ok-enter.field-0.now
-  down = came_to _ _ _ _ _ _ _ up.on (subst AreSorted c.in-Some-split_first.ensures.cases.0 up.sorted) c.in_ok-enter.ensures.path c.in_ok-enter.ensures.levels c.in_ok-enter.ensures.node
+  down = came_to _ _ _ _ _ _ _ up.on (subst AreSorted c.in-Some-split_first.ensures.cases.0 up.sorted) c.in_ok-enter.ensures.path
+      c.in_ok-enter.ensures.levels c.in_ok-enter.ensures.node
 
   same : map (moved 0 c.enter.new.path) (finite.entries c.in_ok-enter.field-0.now) ++ behind c.enter.new.path (levels_of c.enter.new.levels.items)
       ≡ behind c.args.path.now (levels_of c.args.levels.now.items)

@@ -21,7 +21,8 @@ climb-requires-clause-short c = short_behind c.args.path.now (levels_of c.args.l
 module _ (c : In_ok-enter-in-Some) where
   down : CameTo c.args.path.now (levels_of c.args.levels.now.items) c.in-Some.kid.now c.in-Some.rest.now c.enter.new.path
       (levels_of c.enter.new.levels.items) c.in_ok-enter-in-Some.field-0.now
-  down = came_to _ _ _ _ _ _ _ c.requires.0 (subst AreSorted c.in-Some.ensures.cases.0 c.children.ensures.order) c.in_ok-enter-in-Some.ensures.path c.in_ok-enter-in-Some.ensures.levels c.in_ok-enter-in-Some.ensures.node
+  down = came_to _ _ _ _ _ _ _ c.requires.0 (subst AreSorted c.in-Some.ensures.cases.0 c.children.ensures.order)
+      c.in_ok-enter-in-Some.ensures.path c.in_ok-enter-in-Some.ensures.levels c.in_ok-enter-in-Some.ensures.node
 
   next : map (moved 0 c.enter.new.path) (finite.entries c.in_ok-enter-in-Some.field-0.now) ++ behind c.enter.new.path (levels_of c.enter.new.levels.items)
       ≡ drop 1 (map (moved 0 c.args.path.now) (finite.entries c.args.node.now) ++ behind c.args.path.now (levels_of c.args.levels.now.items))

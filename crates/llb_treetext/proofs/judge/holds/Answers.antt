@@ -1,4 +1,4 @@
--- What is behind the names of the directory decides.
+-- What is after the names of the directory decides.
 use Rattle.llb_treetext.proofs.Trails.{stripped, not_stripped, opens_nothing, opens_byte}
 use Rattle.llb_treetext.proofs.judge.holds.Goals as goal
 

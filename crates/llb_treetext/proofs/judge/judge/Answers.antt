@@ -1,4 +1,4 @@
--- Each line is a tree's, so there are fewer lines than bytes; and a faulty line stands behind a tree's.
+-- Each line is a tree's, so there are fewer lines than bytes; and a faulty line stands after a tree's.
 use Rattle.std.proofs.Common.{sym, ap, ◌∙◌, ◌+◌, arith}
 use Rattle.llb_treetext.proofs.Placing.{few_lines, some_left, stops, front_more, whole_text}
 use Rattle.llb_treetext.proofs.judge.judge.Goals as goal

@@ -12,7 +12,8 @@ returns-then-not-is_before c = λ t tree last number.
     let (row, stands, text, parts) = c.in-Some.ensures in
     let names = c.place_of-place.result.names.now in (
       refl,
-      out_of_order t tree c.args.last.now last row stands names (place_names row stands c.in-Some.parts parts names c.place_of-place.ensures.names) c.is_before.result c.is_before.ensures
+      out_of_order t tree c.args.last.now last row stands names
+          (place_names row stands c.in-Some.parts parts names c.place_of-place.ensures.names) c.is_before.result c.is_before.ensures
           c.args.rest.now c.in-Some.later.now c.args.number number text c.if-not-is_before.true,
     )
 
@@ -21,7 +22,8 @@ returns-then-not-holds c = λ t tree last number.
     let (row, stands, text, parts) = c.in-Some.ensures in
     let names = c.place_of-place.result.names.now in (
       refl,
-      no_directory t tree c.args.last.now last row stands names (place_names row stands c.in-Some.parts parts names c.place_of-place.ensures.names) c.is_before.result c.is_before.ensures
+      no_directory t tree c.args.last.now last row stands names
+          (place_names row stands c.in-Some.parts parts names c.place_of-place.ensures.names) c.is_before.result c.is_before.ensures
           c.if-not-is_before.false c.holds.result c.parent.result.now c.parent.ensures c.holds.ensures.found c.holds.ensures.each
           c.args.rest.now c.in-Some.later.now c.args.number number text c.if-not-holds.true,
     )
@@ -30,7 +32,8 @@ pub returns : goal.returns
 returns c = λ t tree last number.
     let (row, stands, text, parts) = c.in-Some.ensures in
     let place = c.place_of-place.result in
-    goes_to t tree c.args.last.now last row stands place.names.now (place_names row stands c.in-Some.parts parts place.names.now c.place_of-place.ensures.names) c.is_before.result c.is_before.ensures
+    goes_to t tree c.args.last.now last row stands place.names.now
+    (place_names row stands c.in-Some.parts parts place.names.now c.place_of-place.ensures.names) c.is_before.result c.is_before.ensures
     c.if-not-is_before.false c.holds.result c.parent.result.now c.parent.ensures c.holds.ensures.found c.holds.ensures.each
     c.args.rest.now c.in-Some.later.now place text (place_names row stands c.in-Some.parts parts place.names.now c.place_of-place.ensures.names)
     (place_kind row stands c.in-Some.parts parts place.is_dir c.place_of-place.ensures.kind) c.if-not-holds.false

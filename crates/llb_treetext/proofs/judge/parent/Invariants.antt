@@ -1,4 +1,4 @@
--- No slash is behind what is left.
+-- No slash is after what is left.
 use Rattle.std.proofs.Common.{◌≡◌, ◌++◌, ℕ, List, length}
 use Rattle.llb_treetext.proofs.Trails.{NoSlash}
 use Rattle.llb_treetext.proofs.judge.parent.Given as goal

@@ -9,13 +9,15 @@ returns-in_default c = begins_none c.args.bytes.now (no_line_end c.args.bytes.no
 
 pub returns-in-None : goal.returns-in-None
 returns-in-None c =
-    begins_none c.args.bytes.now (no_first_line c.args.bytes.now c.in-Some.end (sym c.in-Some.ensures) (λ row is same. c.in-None.ensures row is (c.split_at.ensures.front ∙ same)))
+    begins_none c.args.bytes.now (no_first_line c.args.bytes.now c.in-Some.end (sym c.in-Some.ensures)
+    (λ row is same. c.in-None.ensures row is (c.split_at.ensures.front ∙ same)))
 
 pub returns-in-Some-parts_of : goal.returns-in-Some-parts_of
 returns-in-Some-parts_of c =
     let (row, stands, same, parts) = c.in-Some-parts_of.ensures in (
       row,
       stands,
-      has_first_line c.args.bytes.now c.in-Some.end (sym c.in-Some.ensures) row c.split_at.result.1.now c.split_at-2.result.1.now c.split_at.ensures.back c.split_at-2.ensures.back (sym c.split_at.ensures.front ∙ same),
+      has_first_line c.args.bytes.now c.in-Some.end (sym c.in-Some.ensures) row c.split_at.result.1.now c.split_at-2.result.1.now
+          c.split_at.ensures.back c.split_at-2.ensures.back (sym c.split_at.ensures.front ∙ same),
       parts,
     )

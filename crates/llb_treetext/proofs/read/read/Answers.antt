@@ -1,4 +1,4 @@
--- A line behind those of a tree is not faulty, since the text is a tree's.
+-- A line after those of a tree is not faulty, since the text is a tree's.
 use Rattle.llb_treetext.proofs.Placing.{no_fault_first, no_fault_left, some_left}
 use Rattle.llb_treetext.proofs.read.read.Goals as goal
 

@@ -1,4 +1,4 @@
--- The line is an entry's, whose path is behind the others, and is put at the end.
+-- The line is an entry's, whose path is after the others, and is put at the end.
 use Rattle.llb_treetext.specs.Fields.{pair_of}
 use Rattle.std.specs.FinMap as finite
 use Rattle.llb_treetext.proofs.Placing.{is_line, is_next, put_there, goes_on}

@@ -13,4 +13,5 @@ returns-in-None c =
 pub returns-in-Some-2 : goal.returns-in-Some-2
 returns-in-Some-2 c =
     let (row, stands, text, parts) = c.in-Some.ensures in
-    row_made row (parts_seen c.in-Some.parts) _ stands parts c.in_ok-row_from.ensures (pair_of c.in-Some-2.row) c.args.bytes.now c.in-Some.later.now text (ap (option_map pair_of) c.in-Some-2.is)
+    row_made row (parts_seen c.in-Some.parts) _ stands parts c.in_ok-row_from.ensures
+    (pair_of c.in-Some-2.row) c.args.bytes.now c.in-Some.later.now text (ap (option_map pair_of) c.in-Some-2.is)

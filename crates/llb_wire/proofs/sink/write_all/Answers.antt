@@ -8,7 +8,8 @@ loop-rest-preserved g c =
     let rest = c.loop-rest.rest.now in
     let n = c.in-Ok.n in (
       done ++ take n rest,
-      split ∙ ap (λ l. done ++ l) (sym (take-append-drop n rest) ∙ ap (λ l. take n rest ++ l) (sym c.split_at.ensures.back)) ∙ sym (append_assoc done (take n rest) c.split_at.result.1.now),
+      split ∙ ap (λ l. done ++ l) (sym (take-append-drop n rest) ∙ ap (λ l. take n rest ++ l) (sym c.split_at.ensures.back))
+          ∙ sym (append_assoc done (take n rest) c.split_at.result.1.now),
       Appends-trans _ _ _ _ _ out c.in-Ok.ensures.takes.4,
       c.in-Ok.ensures.same ∙ same,
     )

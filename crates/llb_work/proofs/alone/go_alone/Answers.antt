@@ -24,4 +24,5 @@ loop-event-preserved c =
 pub returns-then-not-do_event-clause-stops : goal.returns-then-not-do_event-clause-stops
 returns-then-not-do_event-clause-stops c =
     let b = c.loop-event.board in
-    subst (λ (x : Seen). TakesMemory (chosen x.build x.state)) (sym c.if-not-do_event.ensures.kept) (left_over b (event_of c.in-Some.event) c.chosen_is_granted.ensures (sym c.in-Some.ensures) c.if-not-do_event.ensures.left)
+    subst (λ (x : Seen). TakesMemory (chosen x.build x.state)) (sym c.if-not-do_event.ensures.kept)
+    (left_over b (event_of c.in-Some.event) c.chosen_is_granted.ensures (sym c.in-Some.ensures) c.if-not-do_event.ensures.left)

@@ -1,4 +1,4 @@
--- The words so far are split, and the first that is not split is behind them.
+-- The words so far are split, and the first that is not split is after them.
 use Rattle.std.proofs.Common.{◌≡◌, map, take, drop}
 use Rattle.std.specs.Prelude.{find}
 use Rattle.llbm.specs.CommandLine.{AreSplit, is_unsplit}

@@ -12,7 +12,8 @@ returns-in-Err-clause-writes g c =
     let at = c.loop-number.number in
     let vertex = c.index-vertices-number.result in
     let here = numbered_at vertices at vertex (slice_get_read vertices (length vertices) at vertex refl c.loop-number-test.true c.index-vertices-number.is) in
-    prints_err numbered_line is_memory (enumerate_from 0 vertices) at (at, vertex) (g.W.Sink.taken c.args.out.now) (g.W.Sink.taken c.loop-number.out) (g.W.Sink.taken c.print_vertex.new.out) (g.W.Sink.failed c.print_vertex.new.out) c.in-Err.fault here
+    prints_err numbered_line is_memory (enumerate_from 0 vertices) at (at, vertex) (g.W.Sink.taken c.args.out.now)
+    (g.W.Sink.taken c.loop-number.out) (g.W.Sink.taken c.print_vertex.new.out) (g.W.Sink.failed c.print_vertex.new.out) c.in-Err.fault here
     c.loop-number.invariant.0 c.in-Err.ensures.writes
 
 pub loop-number-preserved : goal.loop-number-preserved
@@ -21,7 +22,8 @@ loop-number-preserved g c =
     let at = c.loop-number.number in
     let vertex = c.index-vertices-number.result in
     let here = numbered_at vertices at vertex (slice_get_read vertices (length vertices) at vertex refl c.loop-number-test.true c.index-vertices-number.is) in (
-      prints_more numbered_line (enumerate_from 0 vertices) at (at, vertex) (g.W.Sink.taken c.args.out.now) (g.W.Sink.taken c.loop-number.out) (g.W.Sink.taken c.print_vertex.new.out) here c.loop-number.invariant.0
+      prints_more numbered_line (enumerate_from 0 vertices) at (at, vertex) (g.W.Sink.taken c.args.out.now)
+          (g.W.Sink.taken c.loop-number.out) (g.W.Sink.taken c.print_vertex.new.out) here c.loop-number.invariant.0
           c.in-Ok.ensures.writes,
       c.print_vertex.ensures.same ∙ c.loop-number.invariant.1,
     )

@@ -8,7 +8,8 @@ pub returns : goal.returns
 returns g c =
     inr (
       λ h. h,
-      drawn_unflushed (g.R.Read.remaining c.args.input.now) (g.W.Write.contents c.args.out.now) (g.W.Write.contents c.graph_over.new.out) (g.W.Write.contents c.flush.new.self) c.in_ok-graph.graph c.in_ok-graph.ensures
+      drawn_unflushed (g.R.Read.remaining c.args.input.now) (g.W.Write.contents c.args.out.now) (g.W.Write.contents c.graph_over.new.out)
+          (g.W.Write.contents c.flush.new.self) c.in_ok-graph.graph c.in_ok-graph.ensures
           c.in-Ok.ensures c.flush.ensures.bytes,
     )
 

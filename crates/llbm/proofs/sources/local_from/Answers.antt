@@ -14,5 +14,6 @@ returns-in-Ok g c =
     let same = all_read left after c.read_bounded.result bytes c.in-Ok.is c.read_bounded.ensures.reads in
     let few = subst (ReadsAll 67108864 134217728 left after) c.in-Ok.is c.read_bounded.ensures.reads in
     let answers : Answers bytes.items c.read_tree.result = subst (λ xs. Answers xs c.read_tree.result) c.as_slice.ensures.value c.read_tree.ensures.answers in
-    let last : MemoryIsLast bytes.items c.read_tree.result = subst (λ xs. MemoryIsLast xs c.read_tree.result) c.as_slice.ensures.value c.read_tree.ensures.last in
+    let last : MemoryIsLast bytes.items c.read_tree.result =
+    subst (λ xs. MemoryIsLast xs c.read_tree.result) c.as_slice.ensures.value c.read_tree.ensures.last in
     subst (Reads left) (sym c.told.ensures) (reads_told left bytes.items c.read_tree.result same few.0 answers last)

@@ -8,4 +8,5 @@ use Rattle.llbm.proofs.sources.locals_of.Given as goal
 
 abbrev pub invariant-loop-local : goal.invariant-loop-local
 invariant-loop-local g l =
-    (r : Result (List Local) SourceFault) → Gathers (g.F.Sources.bytes l.files) (drop l.local-index l.locals) l.trees r → Gathers (g.F.Sources.bytes l.files) l.locals [] r
+    (r : Result (List Local) SourceFault) → Gathers (g.F.Sources.bytes l.files) (drop l.local-index l.locals) l.trees r
+    → Gathers (g.F.Sources.bytes l.files) l.locals [] r

@@ -10,11 +10,16 @@ use Rattle.llb_applet.proofs.call.Begun.take.Goals as goal
 pub returns-in_err-judge-clause-judges : goal.returns-in_err-judge-clause-judges
 returns-in_err-judge-clause-judges c call begun =
     let p = err_from_is_err_and c.from_residual.result c.from_residual.ensures.1 in
-    rw (p.1, p.2) (λ rest. judged_stops c.args.self.now.number call c.args.part.now rest (sym c.is_and.ensures ∙ c.if-is_and.true) _ (c.in_err-judge.ensures call begun))
+    rw (p.1, p.2) (λ rest. judged_stops c.args.self.now.number call c.args.part.now rest (sym c.is_and.ensures ∙ c.if-is_and.true) _
+    (c.in_err-judge.ensures call begun))
 
 pub returns-then-is_and-clause-judges : goal.returns-then-is_and-clause-judges
-returns-then-is_and-clause-judges c call begun =
-    ([], record { counted = refl; named = refl; option = refl }, λ rest. judged_on c.args.self.now.number call c.args.part.now rest (sym c.is_and.ensures ∙ c.if-is_and.true) (c.in_ok-judge.ensures call begun))
+returns-then-is_and-clause-judges c call begun = (
+  [],
+  record { counted = refl; named = refl; option = refl },
+  λ rest. judged_on c.args.self.now.number call c.args.part.now rest
+      (sym c.is_and.ensures ∙ c.if-is_and.true) (c.in_ok-judge.ensures call begun),
+)
 
 pub returns-clause-judges : goal.returns-clause-judges
 returns-clause-judges c call begun =
@@ -22,6 +27,7 @@ returns-clause-judges c call begun =
       call ++ part ∷ [],
       c.push.ensures.begun call begun,
       λ rest.
-          ap (λ calls. verdict (commands_of c.args.self.now.number calls)) (at_word call part rest (sym c.is_and.ensures ∙ c.if-is_and.false) (sym c.is_empty.ensures ∙ c.if-is_empty.false))
+          ap (λ calls. verdict (commands_of c.args.self.now.number calls))
+          (at_word call part rest (sym c.is_and.ensures ∙ c.if-is_and.false) (sym c.is_empty.ensures ∙ c.if-is_empty.false))
           ∙ ap (λ n. verdict (commands_of n (front (call ++ part ∷ []) (slice_split is_and rest)))) (sym c.push.ensures.number),
     )

@@ -139,7 +139,7 @@ did_so c g =
     c.in_ok-lease.lease c.in_ok-begun.begun.execution c.lease_for.new.caches _ c.in_ok-wanted.ensures.gives refl c.in_ok-lease.ensures.gives
     c.in_ok-begun.ensures.supplies
 
--- the data behind it
+-- the data after it
 abbrev after : In_ok-lease → Data
 after c = let b = c.self.inside in
     claimed (data_of b.stands.items b.desks.items b.caches b.stop_marks.items) c.args.w c.args.v c.in_ok-lease.lease c.in_ok-begun.begun.execution

@@ -58,7 +58,7 @@ can c = let b = c.self.inside in
     c.in_ok-v.stand
     c.self.invariant.kept (is_left c) (is_leased c)
 
--- the data behind it, with these marks
+-- the data after it, with these marks
 abbrev data_with : In_ok-v → List Bool → Data
 data_with c marks = let b = c.self.inside in
     after b.build b.start.rows b.stands.items b.desks.items b.caches b.stop_marks.items b.events.list b.events.room c.args.w c.in_ok-v.v c.in_ok-v.lease

@@ -1,7 +1,8 @@
 use Rattle.std.proofs.Common.{List, None, Ok, ap, find, map, subst, sym, ℕ, ◌<◌, ◌∙◌, ◌≡◌}
 use Rattle.llb_cache.specs.declared.need.Need.{Need}
 use Rattle.llb_cache.specs.declared.growing.Ready.{Ready}
-use Rattle.llb_cache.specs.Caches.{CachesValue, Row, Leases, IsCaches, is_shut, leases, free_lease, with_lease, made_all, granted, lease_of, places_of, place_for}
+use Rattle.llb_cache.specs.Caches.{CachesValue, Row, Leases, IsCaches, is_shut, leases, free_lease, with_lease, made_all, granted, lease_of}
+use Rattle.llb_cache.specs.Caches.{places_of, place_for}
 use Rattle.llb_cache.specs.Growing.{shown}
 use Rattle.llb_cache.proofs.Kept.{lease_keeps}
 use Rattle.llb_cache.proofs.Granting.{is_granted, not_refused, granted_has}
@@ -12,18 +13,21 @@ use Rattle.llb_cache.proofs.caches.Caches.lease.Goals.{After-take_lease-number}
 abbrev before : After-take_lease-number → CachesValue
 before c = record { rows = c.self.inside.rows.entries; out = c.self.inside.out.items }
 
--- and behind it
+-- and after it
 abbrev behind : After-take_lease-number → CachesValue
 behind c = record { rows = c.make_all.new.rows.entries; out = c.take_lease-number.new.out.items }
 
 none_refused : (c : After-take_lease-number) → find (is_shut (before c).out) c.args.needs ≡ None
 none_refused c =
-    ap (λ (o : Leases). find (is_shut o) c.args.needs) (sym c.deref.ensures.value) ∙ ap (λ (ns : List Need). find (is_shut c.deref.result.now) ns) (sym c.into_vec.ensures) ∙ c.in_ok-needs.ensures.0
+    ap (λ (o : Leases). find (is_shut o) c.args.needs) (sym c.deref.ensures.value)
+    ∙ ap (λ (ns : List Need). find (is_shut c.deref.result.now) ns) (sym c.into_vec.ensures) ∙ c.in_ok-needs.ensures.0
 
 all_granted : (c : After-take_lease-number) → granted (before c) c.args.needs ≡ (c.take_lease-number.result, behind c)
 all_granted c =
-    is_granted (before c) c.args.needs c.in_ok-needs.needs.items c.in_ok-readies.readies.items c.in_ok-places.places (behind c).rows (behind c).out c.take_lease-number.result
-    (c.in_ok-needs.ensures.1 ∙ c.into_vec.ensures) c.in_ok-readies.ensures.takes (c.in_ok-places.ensures ∙ ap (λ (rs : List Ready). map (λ (r : Ready). r.place) rs) c.deref-2.ensures.value)
+    is_granted (before c) c.args.needs c.in_ok-needs.needs.items c.in_ok-readies.readies.items c.in_ok-places.places (behind c).rows
+    (behind c).out c.take_lease-number.result
+    (c.in_ok-needs.ensures.1 ∙ c.into_vec.ensures) c.in_ok-readies.ensures.takes (c.in_ok-places.ensures
+    ∙ ap (λ (rs : List Ready). map (λ (r : Ready). r.place) rs) c.deref-2.ensures.value)
     (c.make_all.ensures ∙ ap (λ (rows : List Row). made_all rows (map shown c.in_ok-readies.readies.items)) c.reserve.ensures.entries)
     (c.take_lease-number.ensures.out ∙ ap (λ (o : Leases). with_lease o (free_lease o) c.in_ok-places.places) c.reserve-2.ensures.items)
     (c.take_lease-number.ensures.number ∙ ap (λ (o : Leases). free_lease o) c.reserve-2.ensures.items)
@@ -33,7 +37,8 @@ few c = subst (λ (v : CachesValue). leases v.out < 65536) (sym c.self.view_is) 
 
 pub invariant_of-self-2 : goal.invariant_of-self-2
 invariant_of-self-2 c =
-    subst (λ (g : ℕ × CachesValue). IsCaches g.1) (all_granted c) (lease_keeps (before c) c.args.needs c.self.invariant (few c) c.requires.differ (none_refused c))
+    subst (λ (g : ℕ × CachesValue). IsCaches g.1) (all_granted c)
+    (lease_keeps (before c) c.args.needs c.self.invariant (few c) c.requires.differ (none_refused c))
 
 pub returns-clause-gives : goal.returns-clause-gives
 returns-clause-gives c =

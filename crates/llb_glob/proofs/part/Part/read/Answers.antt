@@ -38,8 +38,9 @@ returns-in_err-said c =
     ∙ cut_stops c.loop-letter.quoted letters c.loop-letter.letter-index c.letter-item.result c.loop-letter-test.true c.letter-item.is
     c.in_err-said.field-0.0 says c.loop-letter.items.items (items_of letters) c.loop-letter.invariant)
 
--- what there is at the end, behind a `\` or not
-ended : (c : After-loop-letter) (quoted : Bool) → c.loop-letter.quoted ≡ quoted → items_of (chars c.args.text.now) ≡ behind c.loop-letter.items.items (cond quoted (Err BadPattern) (Ok []))
+-- what there is at the end, after a `\` or not
+ended : (c : After-loop-letter) (quoted : Bool) → c.loop-letter.quoted ≡ quoted
+    → items_of (chars c.args.text.now) ≡ behind c.loop-letter.items.items (cond quoted (Err BadPattern) (Ok []))
 ended c quoted is =
     let letters = c.as_slice-letter-items.result.now in
     let ends = cut_ends c.loop-letter.quoted letters c.loop-letter.letter-index c.loop-letter-test.false in

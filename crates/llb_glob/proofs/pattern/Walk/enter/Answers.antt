@@ -9,7 +9,8 @@ use Rattle.llb_glob.specs.Walk.{Stands, Enters, is_part}
 use Rattle.llb_glob.proofs.Names.{short_name}
 use Rattle.llb_glob.proofs.Following.{goes_down, goes_up, prefix_len-take, sound_more, sound_stays}
 use Rattle.llb_glob.proofs.pattern.Walk.enter.Goals as goal
-use Rattle.llb_glob.proofs.pattern.Walk.enter.Goals.{After-eq-2, then-self+then-is_part, else-self, else-self-via-then-self+else-is_part, else-self-via-else-self}
+use Rattle.llb_glob.proofs.pattern.Walk.enter.Goals.{After-eq-2, then-self+then-is_part, else-self, else-self-via-then-self+else-is_part}
+use Rattle.llb_glob.proofs.pattern.Walk.enter.Goals.{else-self-via-else-self}
 
 pub is_part-requires : goal.is_part-requires
 is_part-requires c = short_name c.args.part.now (sym c.is_name.ensures ∙ c.if-not-is_name.false)
@@ -40,7 +41,8 @@ returns-then-eq-2 c = λ path stands.
     let above : List (List ℕ) = take (length path - 1) path in
     let depth : c.saturating_sub-self.result ≡ length path - 1 = c.saturating_sub-self.ensures ∙ ap (λ n. n - 1) stands.depth in
     let long : length above ≡ length path - 1 = omega (arith, length-take (length path - 1) path) in
-    let sound : c.min-self.result ≡ prefix_len is_part above = omega (arith, prefix_len-take is_part (length path - 1) path, c.min-self.ensures, stands.sound, depth) in
+    let sound : c.min-self.result ≡ prefix_len is_part above =
+    omega (arith, prefix_len-take is_part (length path - 1) path, c.min-self.ensures, stands.sound, depth) in
     let walk : Walk = record { depth = c.saturating_sub-self.result; sound = c.min-self.result } in
     subst (λ entered. Enters entered true walk) (sym up) (record { depth = depth ∙ sym long; sound = sound })
 

@@ -5,4 +5,5 @@ use Rattle.llb_tree.proofs.Setting.{if_ok}
 use Rattle.llb_tree.proofs.node.Node.dir_at.Goals as goal
 
 pub returns-in-None : goal.returns-in-None
-returns-in-None c = if_ok c.empty_dir.result (λ made is q. ap (λ t. finite.get t q) is ∙ dir_alone c.args.meta (λ r. finite.get c.args.self.now (c.args.names.now ++ r)) (λ n r. c.in-None.ensures (n ∷ r)) q) c.empty_dir.ensures
+returns-in-None c = if_ok c.empty_dir.result (λ made is q. ap (λ t. finite.get t q) is
+    ∙ dir_alone c.args.meta (λ r. finite.get c.args.self.now (c.args.names.now ++ r)) (λ n r. c.in-None.ensures (n ∷ r)) q) c.empty_dir.ensures

@@ -6,4 +6,5 @@ use Rattle.llb_tree.proofs.Walks.{walk_from}
 use Rattle.llb_tree.proofs.node.Node.walked.Given as goal
 
 abbrev pub invariant-loop-name : goal.invariant-loop-name
-invariant-loop-name l = (walk_from (finite.get l.self) l.names l.name-index ≡ walk (finite.get l.self) l.names) × ((q : List (List ℕ)) → look_in (option_map (λ n. n.now) l.node) q ≡ finite.get l.self (take l.name-index l.names ++ q))
+invariant-loop-name l = (walk_from (finite.get l.self) l.names l.name-index ≡ walk (finite.get l.self) l.names)
+    × ((q : List (List ℕ)) → look_in (option_map (λ n. n.now) l.node) q ≡ finite.get l.self (take l.name-index l.names ++ q))

@@ -14,7 +14,8 @@ pub returns-in_err-next-clause-err : goal.returns-in_err-next-clause-err
 returns-in_err-next-clause-err c =
     let e = c.split-part-items.ensures in
     let same = c.into_iter-part-iterator.ensures.into_iter_gives in
-    let all = YieldsList-from_str_split 47 c.args.text.now (lit< tt) (ap split_text same ∙ e.text) (ap split_has_more same ∙ e.has_more) (ap split_pattern same ∙ e.pattern) in
+    let all = YieldsList-from_str_split 47 c.args.text.now (lit< tt) (ap split_text same ∙ e.text) (ap split_has_more same ∙ e.has_more)
+    (ap split_pattern same ∙ e.pattern) in
     let t = YieldsList-turn all c.loop-part.yielded _ c.loop-part.yielded_by _ _ c.in-Some.part c.in-Some.is c.next.ensures.steps in
     let p = err_from_is_err_and c.from_residual.result c.from_residual.ensures.1 in
     let (path, len, shares, so_far) = c.loop-part.invariant in
@@ -26,7 +27,8 @@ pub loop-part-preserved : goal.loop-part-preserved
 loop-part-preserved c =
     let e = c.split-part-items.ensures in
     let same = c.into_iter-part-iterator.ensures.into_iter_gives in
-    let all = YieldsList-from_str_split 47 c.args.text.now (lit< tt) (ap split_text same ∙ e.text) (ap split_has_more same ∙ e.has_more) (ap split_pattern same ∙ e.pattern) in
+    let all = YieldsList-from_str_split 47 c.args.text.now (lit< tt) (ap split_text same ∙ e.text) (ap split_has_more same ∙ e.has_more)
+    (ap split_pattern same ∙ e.pattern) in
     let t = YieldsList-turn all c.loop-part.yielded _ c.loop-part.yielded_by _ _ c.in-Some.part c.in-Some.is c.next.ensures.steps in
     let (path, len, shares, so_far) = c.loop-part.invariant in
     let next = depth_ok _ _ (sym (c.in_ok-next.ensures.depth path len)) in
@@ -43,7 +45,8 @@ pub returns-then-same-depth-clause-ok : goal.returns-then-same-depth-clause-ok
 returns-then-same-depth-clause-ok c =
     let e = c.split-part-items.ensures in
     let same = c.into_iter-part-iterator.ensures.into_iter_gives in
-    let all = YieldsList-from_str_split 47 c.args.text.now (lit< tt) (ap split_text same ∙ e.text) (ap split_has_more same ∙ e.has_more) (ap split_pattern same ∙ e.pattern) in
+    let all = YieldsList-from_str_split 47 c.args.text.now (lit< tt) (ap split_text same ∙ e.text) (ap split_has_more same ∙ e.has_more)
+    (ap split_pattern same ∙ e.pattern) in
     let t = YieldsList-end all c.loop-part.yielded _ c.loop-part.yielded_by _ _ c.in-None.is c.next.ensures.steps in
     let (path, len, shares, so_far) = c.loop-part.invariant in
     let ends = follow_ends path (parts_of c.args.text.now) (length c.loop-part.yielded) _ t.1 so_far in
@@ -61,7 +64,8 @@ pub returns-else-same-depth-clause-ok : goal.returns-else-same-depth-clause-ok
 returns-else-same-depth-clause-ok c =
     let e = c.split-part-items.ensures in
     let same = c.into_iter-part-iterator.ensures.into_iter_gives in
-    let all = YieldsList-from_str_split 47 c.args.text.now (lit< tt) (ap split_text same ∙ e.text) (ap split_has_more same ∙ e.has_more) (ap split_pattern same ∙ e.pattern) in
+    let all = YieldsList-from_str_split 47 c.args.text.now (lit< tt) (ap split_text same ∙ e.text) (ap split_has_more same ∙ e.has_more)
+    (ap split_pattern same ∙ e.pattern) in
     let t = YieldsList-end all c.loop-part.yielded _ c.loop-part.yielded_by _ _ c.in-None.is c.next.ensures.steps in
     let (path, len, shares, so_far) = c.loop-part.invariant in
     let ends = follow_ends path (parts_of c.args.text.now) (length c.loop-part.yielded) _ t.1 so_far in (

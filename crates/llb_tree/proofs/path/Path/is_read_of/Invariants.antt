@@ -5,4 +5,5 @@ use Rattle.llb_tree.specs.Shared.{shared}
 use Rattle.llb_tree.proofs.path.Path.is_read_of.Given as goal
 
 abbrev pub invariant-loop-part : goal.invariant-loop-part
-invariant-loop-part l = (path : List (List ℕ)) × (length path ≡ l.depth) × (shared l.self path ≡ l.same) × (follow path (drop (length l.yielded) (parts_of l.text)) ≡ path_of l.text)
+invariant-loop-part l = (path : List (List ℕ)) × (length path ≡ l.depth) × (shared l.self path ≡ l.same)
+    × (follow path (drop (length l.yielded) (parts_of l.text)) ≡ path_of l.text)
