@@ -92,7 +92,7 @@ fn long(
     answer(alloc, &pattern, &path)
 }
 
-// A text so many times over and then a rest, another one so many times over, and whether they match.
+// A text that many times over and then a rest, another one that many times over, and whether they match.
 type Long = (
     &'static str,
     usize,

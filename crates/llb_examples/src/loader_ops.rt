@@ -10,7 +10,7 @@ const OPS: &[(&str, &str)] = &[
     ("exec {\n}\n", "89 0 NoMeta"),
     ("source {\n}\n", "88 0 Source"),
     ("file {\nactions {\ncopy {\n}\n}\n}\n", "89 0 ActionInput"),
-    // A removal behind an action without a member.
+    // A removal after an action without a member.
     (
         "file {\nactions {\n}\nactions {\nrm {\n}\n}\n}\n",
         "88 0 Action",

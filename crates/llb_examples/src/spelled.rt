@@ -7,7 +7,7 @@ use super::told::is_told;
 use llb_loader::LoadFault;
 use std::alloc::{AllocError, Global};
 
-// A record, or the front of one that holds the next ones, in hexadecimal; and what it is.
+// A record, or the prefix of one that holds the next ones, in hexadecimal; and what it is.
 type Piece = (&'static str, &'static str);
 
 // `true` at the root, with an empty cwd that is written, which the assembler leaves out.
@@ -46,8 +46,8 @@ const SHARED_WRITTEN: &[Piece] = &[
     ("1000", "sharing 0"),
 ];
 
-// Copies from the empty tree to the empty tree whose fields stand in another order than that of their numbers: a pattern behind a field
-// that has no name, and an unpacking behind a pattern.
+// Copies from the empty tree to the empty tree whose fields stand in another order than that of their numbers: a pattern after a field
+// that has no name, and an unpacking after a pattern.
 const PATTERN_LAST: &[Piece] = &[
     ("221f", "file, of 31 bytes"),
     ("121d", "actions, of 29"),

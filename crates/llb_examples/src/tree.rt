@@ -75,7 +75,7 @@ fn names_of(alloc: Global, part: &str, count: usize, rest: &str) -> Result<usize
     Ok(path.names().len())
 }
 
-// A part so many times over, a rest, and the number of the names.
+// A part that many times over, a rest, and the number of the names.
 type Counted = (&'static str, usize, &'static str, Result<usize, TreeFault>);
 
 const COUNTS: &[Counted] = &[

@@ -163,7 +163,7 @@ fn second_line(alloc: Global, line: &str) -> Result<String, AllocError> {
     answer(alloc, text.as_str())
 }
 
-// Lines that are none of a tree, each behind the root.
+// Lines that are none of a tree, each after the root.
 const MISSPELLED: &[&str] = &[
     "f 0644 0 0 6A /f",
     "f 0644 0 0 6a6 /f",

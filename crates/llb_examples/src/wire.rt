@@ -69,7 +69,7 @@ fn record(bytes: &[u8], at: usize) -> Option<Result<Option<Field>, WireFault>> {
     Some(next_record(bytes, at))
 }
 
-// Bytes, and the record at their front.
+// Bytes, and the record at their prefix.
 const RECORDS: &[(&[u8], Field)] = &[
     (
         &[0x08, 0x96, 0x01],
@@ -130,7 +130,7 @@ fn a_record_is_its_number_its_wire_type_and_its_payload(rt: HostRuntime) {
     assert!(rt; ended);
 }
 
-// Bytes, and the first fault of the record at their front.
+// Bytes, and the first fault of the record at their prefix.
 const FAULTY: &[(&[u8], WireFault)] = &[
     (&[0x00], WireFault::BadField),
     (&[0x0B], WireFault::BadWireType),

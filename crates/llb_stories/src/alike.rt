@@ -8,7 +8,7 @@ use super::written::{Definition, board_of};
 use llb_board::{Board, Event};
 use std::alloc::Global;
 
-// A board: what it was opened on, for so many workers, and the events that were done on it.
+// A board: what it was opened on, for that many workers, and the events that were done on it.
 type Side = (Definition, u32, &'static [Event]);
 
 const OPENED: Side = (TWO_FILES, 2, &[]);

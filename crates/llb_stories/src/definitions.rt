@@ -257,7 +257,7 @@ pub const OUTPUTS_TURNED: &str = r#"op {
     }
 }"#;
 
-// A command on the first entry that is done, one that ends with status 1, and one behind it; the second entry is not looked at.
+// A command on the first entry that is done, one that ends with status 1, and one after it; the second entry is not looked at.
 pub const FAILS_AT_1: &str = r#"op {
     inputs {
         digest %0
@@ -278,7 +278,7 @@ pub const FAILS_AT_1: &str = r#"op {
     }
 }"#;
 
-// ---- the graph of `examples/execution.text`, behind the source
+// ---- the graph of `examples/execution.text`, after the source
 
 pub const MAKES_OUT: &str = r#"op {
     file {

@@ -27,7 +27,7 @@ impl Gate for Open {
     }
 }
 
-// Holds each of the first vertices until so many have arrived, at most 1,000,000 turns.
+// Holds each of the first vertices until that many have arrived, at most 1,000,000 turns.
 #[derive(Drop)]
 struct Gather {
     count: u64,
@@ -80,7 +80,7 @@ fn push_layers(text: &mut String, count: u32) -> Result<(), AllocError> {
     text.push_str("}\n")
 }
 
-// The merge of so many entries, which is the result.
+// The merge of that many entries, which is the result.
 fn push_merge(text: &mut String, count: u32) -> Result<(), AllocError> {
     text.push_str("op {\n")?;
     push_digests(text, count)?;
@@ -144,7 +144,7 @@ fn users_are_those_that_have_an_edge_to_a_vertex(rt: HostRuntime) {
     }
 }
 
-// How many events a run has with so many workers, where it is complete and its result is that of the board given.
+// How many events a run has with that many workers, where it is complete and its result is that of the board given.
 fn made_by<R: Threads + Wait + Sync>(
     rt: &R,
     alloc: Global,

@@ -1,4 +1,4 @@
-//! What faults of calls on a board print: what stands behind the word `fault` in a refusal, and those of an opening.
+//! What faults of calls on a board print: what stands after the word `fault` in a refusal, and those of an opening.
 
 use super::runs::IN_A_ROW;
 use super::written::{graph_from, key_of};

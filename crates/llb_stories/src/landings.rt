@@ -151,7 +151,7 @@ fn brought_to(alloc: Global, row: &Landing, board: &mut Board) -> Option<u32> {
     }
 }
 
-// The same behind the row's events.
+// The same after the row's events.
 fn brought_behind(alloc: Global, row: &Landing, board: &mut Board) -> Option<u32> {
     if are_done(board, row.2) {
         brought_to(alloc, row, board)

@@ -127,7 +127,7 @@ fn a_board_gives_back_what_it_was_opened_with_and_its_record_is_copied(rt: HostR
     assert!(rt; recorded(rt.alloc()) == Some(1));
 }
 
-// The caches of a board that is left behind some events.
+// The caches of a board that is left after some events.
 fn left(alloc: Global, definition: Definition, events: &[Event]) -> Option<Caches> {
     match board_of(alloc, definition, &[], 2) {
         Some(mut board) => {
@@ -206,7 +206,7 @@ fn opened_with(
     }
 }
 
-// How many of the calls are answered so on another board with the caches of one that is left behind some events.
+// How many of the calls are answered so on another board with the caches of one that is left after some events.
 fn answered_behind(alloc: Global, definition: Definition, events: &[Event]) -> Option<usize> {
     match left(alloc, definition, events) {
         Some(caches) => match opened_with(alloc, definition, caches, 2) {

@@ -1,5 +1,5 @@
 //! A story on a board is a session: a definition, local trees, and a transcript of what was said and printed. Each line of a transcript is
-//! read without what stands before and behind it; one with `> ` in front is a command, and the lines behind it are what it prints.
+//! read without what stands before and after it; one with `> ` first is a command, and the lines after it are what it prints.
 
 use super::written::{Definition, Local, board_of};
 use llb_session::converse;
@@ -27,7 +27,7 @@ fn push_line(text: &mut String, line: &str) -> Result<(), AllocError> {
     text.push_str("\n")
 }
 
-// The lines of a transcript, without what stands before and behind each.
+// The lines of a transcript, without what stands before and after each.
 fn wanted(alloc: Global, told: &str) -> Result<String, AllocError> {
     let mut text = String::new(alloc);
     for line in told.lines() {

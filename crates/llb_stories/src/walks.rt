@@ -11,7 +11,7 @@ use llb_board::{At, Board, Event, Status};
 use llb_stepper::{Break, Stepper, Stop};
 use std::alloc::Global;
 
-// Walks the chosen events, at most so many, and takes them back: whether the board was complete in between.
+// Walks the chosen events, at most that many, and takes them back: whether the board was complete in between.
 fn there_and_back(board: &mut Board, most: u32) -> bool
     ensures { board.new ≡ board.old }
 {

@@ -37,7 +37,7 @@ const END: &str = "
     f 0644 0 0 686f /b
     ";
 
-// How many runs lead on from here to an end, and how many of the ends tell what they should. No run is longer than so many events.
+// How many runs lead on from here to an end, and how many of the ends tell what they should. No run is longer than that many events.
 fn ends(alloc: Global, stepper: &mut Stepper, most: u32) -> [u32; 2] {
     let mut all = 0u32;
     let mut right = 0u32;

@@ -23,7 +23,7 @@ pub const NAMES_D: &str = definitions::RESULT_2;
 // A local tree: its name, and its text.
 pub type Local = (&'static str, &'static str);
 
-// A definition by its entries, one behind the other.
+// A definition by its entries, one after the other.
 pub type Definition = &'static [&'static str];
 
 // A key: its ID, its mode, and the output of the first entry that is its seed, or none.
