@@ -3,10 +3,10 @@
 use super::cached::{LOCKED_A, LOCKED_B, PRIVATE_A, PRIVATE_B, SHARED_A_B, SHARED_C_D};
 use super::definitions::{MAKES_A, MAKES_B, MERGES_0_1, RESULT_2};
 use super::written::{board_from, board_of};
-use llb_board::{Board, Gate, Stopped};
+use llb_board::{Board, Event, Gate, Stopped};
 use llb_stepper::{Break, Stepper, Stop};
 use llb_wire::Same;
-use llb_work::run_workers;
+use llb_work::{RunEnd, run_alone, run_workers};
 use std::alloc::{AllocError, Global};
 use std::fmt::Write;
 use std::sync::Wait;
@@ -104,14 +104,19 @@ fn merged(alloc: Global, count: u32, workers: u32) -> Option<Board> {
     }
 }
 
-// How many events were made in all, and by the worker that made the fewest of the first ones.
-fn counts(made: &[u64; 64], workers: usize) -> (u64, u64) {
-    let all = made.iter().fold(0u64, |sum, some| sum.wrapping_add(*some));
-    let least = made
-        .iter()
-        .take(workers)
-        .fold(u64::MAX, |least, some| least.min(*some));
-    (all, least)
+// How many events were made in all, and by the worker that made the fewest of the first ones; none where there is a fault, or something is
+// left to do.
+fn counts(end: &RunEnd, workers: usize) -> Option<(u64, u64)> {
+    if end.fault.is_some() || !end.board.is_complete() {
+        return None;
+    }
+    let mut all = 0u64;
+    let mut least = u64::MAX;
+    for made in end.made.iter().take(workers) {
+        all = all.wrapping_add(*made);
+        least = least.min(*made);
+    }
+    Some((all, least))
 }
 
 #[test]
@@ -120,31 +125,41 @@ fn sixty_four_workers_are_at_work_together(rt: HostRuntime) {
         count: 64,
         arrived: AtomicU64::new(0),
     };
-    match merged(rt.alloc(), 64, 64) {
-        None => panic!(rt; "no board"),
-        Some(board) => {
-            let end = run_workers(&rt, rt.alloc(), board, &gate);
-            let (all, least) = counts(&end.made, 64);
-            assert!(rt; end.fault.is_none() && end.board.is_complete());
-            assert!(rt; all == 258 && least >= 3);
-        }
-    }
+    let made = match merged(rt.alloc(), 64, 64) {
+        Some(board) => counts(&run_workers(&rt, rt.alloc(), board, &gate), 64),
+        None => None,
+    };
+    assert!(rt; matches!(made, Some((258, 3..))));
 }
 
 const TWO_AND_THEIR_MERGE: [&str; 4] = [MAKES_A, MAKES_B, MERGES_0_1, RESULT_2];
 
+// Whether the merge alone is a user of either file, and nothing of the merge.
+fn have_users(board: &Board) -> bool {
+    board.users(0) == [2].as_slice()
+        && board.users(1) == [2].as_slice()
+        && board.users(2).is_empty()
+        && board.users(9).is_empty()
+}
+
 #[test]
 fn users_are_those_that_have_an_edge_to_a_vertex(rt: HostRuntime) {
-    match board_of(rt.alloc(), &TWO_AND_THEIR_MERGE, &[], 2) {
-        None => panic!(rt; "no board"),
-        Some(board) => {
-            assert!(rt; board.users(0) == [2].as_slice() && board.users(1) == [2].as_slice());
-            assert!(rt; board.users(2).is_empty() && board.users(9).is_empty());
-        }
+    let users = match board_of(rt.alloc(), &TWO_AND_THEIR_MERGE, &[], 2) {
+        Some(board) => have_users(&board),
+        None => false,
+    };
+    assert!(rt; users);
+}
+
+// Whether two boards have one tree as the result.
+fn have_one_tree(one: &Board, other: &Board) -> bool {
+    match (one.output(2, 0), other.output(2, 0)) {
+        (Some(tree), Some(wanted)) => tree.same(wanted),
+        _ => false,
     }
 }
 
-// How many events a run has with that many workers, where it is complete and its result is that of the board given.
+// How many events a run of that many workers has, where its result is that of the board given.
 fn made_by<R: Threads + Wait + Sync>(
     rt: &R,
     alloc: Global,
@@ -153,63 +168,61 @@ fn made_by<R: Threads + Wait + Sync>(
 ) -> Option<u64> {
     let board = board_of(alloc, &TWO_AND_THEIR_MERGE, &[], workers)?;
     let end = run_workers(rt, alloc, board, &Open);
-    let tree = end.board.output(2, 0)?;
-    if end.fault.is_some() || !tree.same(wanted.output(2, 0)?) {
-        return None;
+    match counts(&end, 64) {
+        Some((all, _)) if have_one_tree(&end.board, wanted) => Some(all),
+        _ => None,
     }
-    Some(counts(&end.made, 64).0)
+}
+
+// The first of these numbers of workers that leaves another tree, or has another number of events than ten.
+fn first_apart<R: Threads + Wait + Sync>(rt: &R, alloc: Global, wanted: &Board) -> Option<u32> {
+    for workers in [1, 2, 3, 64] {
+        if made_by(rt, alloc, wanted, workers) != Some(10) {
+            return Some(workers);
+        }
+    }
+    None
 }
 
 #[test]
 fn any_number_of_workers_leaves_one_tree(rt: HostRuntime) {
-    match board_of(rt.alloc(), &TWO_AND_THEIR_MERGE, &[], 1) {
-        None => panic!(rt; "no board"),
-        Some(board) => {
-            let end = run_workers(&rt, rt.alloc(), board, &Open);
-            for workers in [1, 2, 3, 64] {
-                assert!(rt;
-                    made_by(&rt, rt.alloc(), &end.board, workers) == Some(10),
-                    "{workers}"
-                );
-            }
-        }
-    }
+    let apart = match board_of(rt.alloc(), &TWO_AND_THEIR_MERGE, &[], 1) {
+        Some(board) => first_apart(&rt, rt.alloc(), &run_alone(board).board),
+        None => Some(0),
+    };
+    assert_eq!(rt; apart, None);
 }
 
-// A record that threads have made: whether it is replayed on a new board to what they left.
-fn is_replayed(alloc: Global, left: &Board, opened: Board) -> bool {
-    let mut stepper = Stepper::new(alloc, opened);
-    stepper.replay(left.events().as_slice()).is_ok() && stepper.board().same(left)
-}
-
-// How many events are done where the record stops at the claim of the merge, and after two steps back; and that one of the files is made
+// Where the record of threads stops at the claim of the merge, and how many events are left after two steps back: one of the files is made
 // then, and the other's worker has not settled.
-fn walked(alloc: Global, left: &Board, opened: Board) -> Option<(Stop, usize)> {
-    let mut stepper = Stepper::new(alloc, opened);
+fn walked(stepper: &mut Stepper, events: &[Event]) -> Option<(Stop, usize)> {
     stepper.break_at(Break::Claims(2)).ok()?;
-    let stop = stepper.replay(left.events().as_slice()).ok()?;
+    let stop = stepper.replay(events).ok()?;
     stepper.back().ok()?;
     stepper.back().ok()?;
     Some((stop, stepper.board().events().len()))
 }
 
+// The same of what threads have left, in a new stepper.
+fn walked_again(alloc: Global, left: &Board) -> Option<(Stop, usize)> {
+    match board_of(alloc, &TWO_AND_THEIR_MERGE, &[], 2) {
+        Some(board) => walked(&mut Stepper::new(alloc, board), left.events().as_slice()),
+        None => None,
+    }
+}
+
 #[test]
 fn a_record_of_threads_is_walked(rt: HostRuntime) {
     let alloc = rt.alloc();
-    match board_of(alloc, &TWO_AND_THEIR_MERGE, &[], 2) {
-        None => panic!(rt; "no board"),
-        Some(board) => {
-            let end = run_workers(&rt, alloc, board, &Open);
-            let stop = Stop {
-                events: 7,
-                at_break: true,
-            };
-            let opened = board_of(alloc, &TWO_AND_THEIR_MERGE, &[], 2);
-            assert!(rt;
-                opened.and_then(|opened| walked(alloc, &end.board, opened)) == Some((stop, 5))
-            );
-        }
-    }
+    let walk = match board_of(alloc, &TWO_AND_THEIR_MERGE, &[], 2) {
+        Some(board) => walked_again(alloc, &run_workers(&rt, alloc, board, &Open).board),
+        None => None,
+    };
+    let stop = Stop {
+        events: 7,
+        at_break: true,
+    };
+    assert!(rt; walk == Some((stop, 5)));
 }
 
 const ON_CACHES: [&str; 6] = [
@@ -234,16 +247,26 @@ fn on_caches_by(alloc: Global, workers: u32) -> Option<Board> {
     }
 }
 
+fn is_replayed(stepper: &mut Stepper, left: &Board) -> bool {
+    stepper.replay(left.events().as_slice()).is_ok() && stepper.board().same(left)
+}
+
+// Whether the record that threads have left is replayed on a new board to what they left.
+fn is_left(alloc: Global, end: &RunEnd) -> bool {
+    match on_caches_by(alloc, 64) {
+        Some(board) => {
+            end.fault.is_none() && is_replayed(&mut Stepper::new(alloc, board), &end.board)
+        }
+        None => false,
+    }
+}
+
 #[test]
 fn a_record_of_threads_on_caches_is_replayed(rt: HostRuntime) {
     let alloc = rt.alloc();
-    match on_caches_by(alloc, 64) {
-        None => panic!(rt; "no board"),
-        Some(board) => {
-            let end = run_workers(&rt, alloc, board, &Open);
-            let opened = on_caches_by(alloc, 64);
-            assert!(rt; end.fault.is_none());
-            assert!(rt; opened.is_some_and(|opened| is_replayed(alloc, &end.board, opened)));
-        }
-    }
+    let left = match on_caches_by(alloc, 64) {
+        Some(board) => is_left(alloc, &run_workers(&rt, alloc, board, &Open)),
+        None => false,
+    };
+    assert!(rt; left);
 }

@@ -9,6 +9,8 @@ mod cached;
 #[cfg(test)]
 mod caches;
 #[cfg(test)]
+mod calling;
+#[cfg(test)]
 mod conversations;
 #[cfg(test)]
 mod crew;
