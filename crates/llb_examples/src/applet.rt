@@ -8,7 +8,7 @@ use llb_mount::Shown;
 use std::alloc::Global;
 
 // A mount: its dest, its selector, whether it is read-only, and the entries of its tree but the root.
-type Mount<'a> = (&'a str, &'a str, bool, &'a [Row<'a>]);
+pub(crate) type Mount<'a> = (&'a str, &'a str, bool, &'a [Row<'a>]);
 
 fn shown(alloc: Global, mount: &Mount<'_>) -> Result<Shown, Memory> {
     let (dest, selector, readonly, rows) = *mount;
@@ -202,167 +202,139 @@ const A_DIGEST_IS_THAT_OF_THE_CONTENT: &[(&str, &str)] = &[
     ("sha256 /g /h", "1| d f/f=abc"),
 ];
 
-// What the table shows, the entries of the one tree at the root, and the scripts.
-type AtRoot = (
+// What the table shows, the mounts, the working directory, and the scripts with how they are told.
+pub(crate) type Table = (
     &'static str,
-    &'static [Row<'static>],
+    &'static [Mount<'static>],
+    &'static str,
     &'static [(&'static str, &'static str)],
 );
 
-const AT_ROOT: &[AtRoot] = &[
+const ON_ONE_TREE: &[Table] = &[
     (
         "directories are made",
-        &[("/d", 0o755, 0, 0, None), ("/f", 0o644, 0, 0, Some("x"))],
+        &[(
+            "/",
+            "/",
+            false,
+            &[("/d", 0o755, 0, 0, None), ("/f", 0o644, 0, 0, Some("x"))],
+        )],
+        "/",
         DIRECTORIES_ARE_MADE,
     ),
     (
         "what is there goes",
-        &[("/d", 0o755, 0, 0, None), ("/d/f", 0o644, 0, 0, Some("x"))],
+        &[(
+            "/",
+            "/",
+            false,
+            &[("/d", 0o755, 0, 0, None), ("/d/f", 0o644, 0, 0, Some("x"))],
+        )],
+        "/",
         WHAT_IS_THERE_GOES,
     ),
     (
         "contents are written",
-        &[("/d", 0o755, 0, 0, None), ("/f", 0o644, 0, 0, Some("x"))],
+        &[(
+            "/",
+            "/",
+            false,
+            &[("/d", 0o755, 0, 0, None), ("/f", 0o644, 0, 0, Some("x"))],
+        )],
+        "/",
         CONTENTS_ARE_WRITTEN,
     ),
     (
         "files are copied",
-        &[
-            ("/d", 0o755, 0, 0, None),
-            ("/d/e", 0o755, 0, 0, None),
-            ("/f", 0o644, 0, 0, Some("x")),
-        ],
+        &[(
+            "/",
+            "/",
+            false,
+            &[
+                ("/d", 0o755, 0, 0, None),
+                ("/d/e", 0o755, 0, 0, None),
+                ("/f", 0o644, 0, 0, Some("x")),
+            ],
+        )],
+        "/",
         FILES_ARE_COPIED,
     ),
     (
         "modes are set",
-        &[("/d", 0o755, 0, 0, None), ("/f", 0o644, 0, 0, Some("x"))],
+        &[(
+            "/",
+            "/",
+            false,
+            &[("/d", 0o755, 0, 0, None), ("/f", 0o644, 0, 0, Some("x"))],
+        )],
+        "/",
         MODES_ARE_SET,
     ),
     (
         "what is there is asked",
-        &[("/d", 0o755, 0, 0, None), ("/f", 0o644, 0, 0, Some("x"))],
+        &[(
+            "/",
+            "/",
+            false,
+            &[("/d", 0o755, 0, 0, None), ("/f", 0o644, 0, 0, Some("x"))],
+        )],
+        "/",
         WHAT_IS_THERE_IS_ASKED,
     ),
     (
         "a listing has a line for each name",
-        &[
-            ("/b", 0o755, 0, 0, None),
-            ("/b/c", 0o644, 0, 0, Some("")),
-            ("/a", 0o644, 0, 0, Some("")),
-            ("/b-", 0o755, 0, 0, None),
-        ],
+        &[(
+            "/",
+            "/",
+            false,
+            &[
+                ("/b", 0o755, 0, 0, None),
+                ("/b/c", 0o644, 0, 0, Some("")),
+                ("/a", 0o644, 0, 0, Some("")),
+                ("/b-", 0o755, 0, 0, None),
+            ],
+        )],
+        "/",
         A_LISTING_HAS_A_LINE_FOR_EACH_NAME,
     ),
     (
         "a digest is that of the content",
-        &[("/f", 0o644, 0, 0, Some("abc"))],
+        &[("/", "/", false, &[("/f", 0o644, 0, 0, Some("abc"))])],
+        "/",
         A_DIGEST_IS_THAT_OF_THE_CONTENT,
     ),
 ];
 
-#[test]
-fn applets_do_what_they_say_on_one_tree(rt: HostRuntime) {
-    let alloc = rt.alloc();
-    for (name, rows, scripts) in AT_ROOT {
-        for (script, wanted) in *scripts {
-            let told = told(alloc, &[("/", "/", false, *rows)], "/", script);
-            assert!(rt; is_told(alloc, told, wanted), "{name}: {script}");
+// The number of the first script that is told otherwise; past the end where there is none.
+fn first_other_script(
+    alloc: Global,
+    mounts: &[Mount<'_>],
+    cwd: &str,
+    scripts: &[(&str, &str)],
+) -> usize {
+    for (at, (script, wanted)) in scripts.iter().enumerate() {
+        if !is_told(alloc, told(alloc, mounts, cwd, script), wanted) {
+            return at;
         }
     }
+    scripts.len()
 }
 
-const ROOT: Mount<'static> = ("/", "/", false, &[]);
-
-const THREE: &[Mount<'static>] = &[
-    ROOT,
-    ("/t", "/", false, &[]),
-    (
-        "/t/in",
-        "/sub",
-        false,
-        &[
-            ("/sub", 0o755, 0, 0, None),
-            ("/sub/f", 0o644, 0, 0, Some("hi")),
-        ],
-    ),
-];
-
-const READ_ONLY: &[Mount<'static>] = &[
-    ROOT,
-    (
-        "/r",
-        "/",
-        true,
-        &[("/d", 0o755, 0, 0, None), ("/f", 0o644, 0, 0, Some("x\n"))],
-    ),
-];
-
-const SELECTED: &[Mount<'static>] = &[
-    ROOT,
-    ("/a", "/none", false, &[]),
-    ("/f", "/f", false, &[("/f", 0o644, 0, 0, Some("x"))]),
-];
-
-const FROM_MOUNT_TO_MOUNT: &[(&str, &str)] = &[
-    (
-        "cp /t/in/f /t/x && cp /t/x /y && write /t/in/g k",
-        "000| d f/y=hi| d f/x=hi| d d/sub f/sub/f=hi f/sub/g=k\n",
-    ),
-    // A failed command leaves the view.
-    (
-        "write /a x && false && write /b y",
-        "01| d f/a=x\n| d| d d/sub f/sub/f=hi",
-    ),
-    (
-        "write a x && write /a/b y",
-        "01| d f/a=x\n| d| d d/sub f/sub/f=hi",
-    ),
-];
-
-// From `/r`: nothing changes below a read-only mount.
-const NOTHING_CHANGES: &[(&str, &str)] = &[
-    ("write f x", "1| d| d d/d f/f=x\n"),
-    ("mkdir g", "1| d| d d/d f/f=x\n"),
-    ("mkdir -p d/g", "1| d| d d/d f/f=x\n"),
-    ("mkdir -p d", "0| d| d d/d f/f=x\n"),
-    ("mkdir -p .", "0| d| d d/d f/f=x\n"),
-    ("rm f", "1| d| d d/d f/f=x\n"),
-    ("chmod 644 f", "1| d| d d/d f/f=x\n"),
-    ("cp f f", "1| d| d d/d f/f=x\n"),
-    ("cp f /f", "0| d f/f=x\n| d d/d f/f=x\n"),
-    ("listing . /l", "0| d f/l=d/\nf\n| d d/d f/f=x\n"),
-    ("listing / /l", "0| d f/l=| d d/d f/f=x\n"),
-    ("rm /r", "1| d| d d/d f/f=x\n"),
-];
-
-// A selector need not be there, and may be a file.
-const SELECTORS: &[(&str, &str)] = &[
-    ("test -e /a", "1| d| d| d f/f=x"),
-    ("mkdir /a", "1| d| d| d f/f=x"),
-    ("mkdir -p /a", "1| d| d| d f/f=x"),
-    ("mkdir -p /a/b", "1| d| d| d f/f=x"),
-    ("write /a x", "1| d| d| d f/f=x"),
-    ("write /a/b x", "1| d| d| d f/f=x"),
-    ("write /f y", "0| d| d| d f/f=y\n"),
-    ("cp /f /g && cp /g /f", "00| d f/g=x| d| d f/f=x"),
-    ("rm /f", "1| d| d| d f/f=x"),
-    ("mkdir /f", "1| d| d| d f/f=x"),
-    ("chmod 600 /f", "0| d| d| d f/f(600 0:0)=x"),
-];
-
-#[test]
-fn scripts_run_on_views_of_more_than_one_mount(rt: HostRuntime) {
-    let alloc = rt.alloc();
-    let tables = [
-        (THREE, "/", FROM_MOUNT_TO_MOUNT),
-        (READ_ONLY, "/r", NOTHING_CHANGES),
-        (SELECTED, "/", SELECTORS),
-    ];
-    for (mounts, cwd, scripts) in tables {
-        for (script, wanted) in scripts {
-            let told = told(alloc, mounts, cwd, script);
-            assert!(rt; is_told(alloc, told, wanted), "{script}");
+// The number of the first table with such a script, and that of the script; past the end where there is none.
+pub(crate) fn first_wrong(alloc: Global, tables: &[Table]) -> (usize, usize) {
+    for (at, (_, mounts, cwd, scripts)) in tables.iter().enumerate() {
+        let script = first_other_script(alloc, mounts, cwd, scripts);
+        if script < scripts.len() {
+            return (at, script);
         }
     }
+    (tables.len(), 0)
+}
+
+#[test]
+fn applets_do_what_they_say_on_one_tree(rt: HostRuntime) {
+    assert_eq!(rt;
+        first_wrong(rt.alloc(), ON_ONE_TREE),
+        (ON_ONE_TREE.len(), 0)
+    );
 }

@@ -122,27 +122,19 @@ const MOUNTS: &[(&[Shown<'static>], &str)] = &[
     ),
 ];
 
-#[test]
-fn caches_are_taken_one_key_once_and_judged_in_order(rt: HostRuntime) {
-    let alloc = rt.alloc();
-    for (mounts, wanted) in MOUNTS {
-        let told = said_of_words(alloc, TRUE, mounts);
-        assert!(rt; is_told(alloc, told, wanted), "{wanted}: {mounts:?}");
+// The number of the first row that is answered otherwise; past the end where there is none.
+fn first_wrong(alloc: Global, rows: &[(&[Shown<'static>], &str)]) -> usize {
+    for (at, (mounts, wanted)) in rows.iter().enumerate() {
+        if !is_told(alloc, said_of_words(alloc, TRUE, mounts), wanted) {
+            return at;
+        }
     }
+    rows.len()
 }
 
-// The shared cache `a` at `/c`, and at `/d` with its number written, which the assembler leaves out.
-const SHARED_WRITTEN: &str = "raw 1262\
-    0a060a0474727565\
-    120e08ffffffffffffffffff011a012f\
-    122208ffffffffffffffffff011a022f6320ffffffffffffffffff013003a201030a0161\
-    122408ffffffffffffffffff011a022f6420ffffffffffffffffff013003a201050a01611000";
-
 #[test]
-fn a_number_that_is_written_makes_no_other_key(rt: HostRuntime) {
-    let alloc = rt.alloc();
-    let told = linked(alloc, &[("A", SHARED_WRITTEN), ("T", NAMES_A)]);
-    assert!(rt; is_told(alloc, told, "89 0 CacheTwice"));
+fn caches_are_taken_one_key_once_and_judged_in_order(rt: HostRuntime) {
+    assert_eq!(rt; first_wrong(rt.alloc(), MOUNTS), MOUNTS.len());
 }
 
 #[test]
@@ -202,13 +194,19 @@ const SEEDS: &[(&[Shown<'static>], &str)] = &[
     (&[ROOT, (4, "", "/c", LOCKED)], "89 2 MountInput"),
 ];
 
+// The number of the first row that is answered otherwise; past the end where there is none.
+fn first_other_seed(alloc: Global, rows: &[(&[Shown<'static>], &str)]) -> usize {
+    for (at, (mounts, wanted)) in rows.iter().enumerate() {
+        if !is_told(alloc, said_of_seeds(alloc, mounts), wanted) {
+            return at;
+        }
+    }
+    rows.len()
+}
+
 #[test]
 fn caches_that_begin_with_different_outputs_are_different(rt: HostRuntime) {
-    let alloc = rt.alloc();
-    for (mounts, wanted) in SEEDS {
-        let told = said_of_seeds(alloc, mounts);
-        assert!(rt; is_told(alloc, told, wanted), "{wanted}: {mounts:?}");
-    }
+    assert_eq!(rt; first_other_seed(rt.alloc(), SEEDS), SEEDS.len());
 }
 
 // What is said of `true` in two rows, of which the first stands on the second.
@@ -240,11 +238,17 @@ const TWO_ROWS: &[(&[Shown<'static>], &[Shown<'static>], &str)] = &[
     ),
 ];
 
+// The number of the first row that is answered otherwise; past the end where there is none.
+fn first_other_pair(alloc: Global, rows: &[(&[Shown<'static>], &[Shown<'static>], &str)]) -> usize {
+    for (at, (first, second, wanted)) in rows.iter().enumerate() {
+        if !is_told(alloc, said_of_two(alloc, first, second), wanted) {
+            return at;
+        }
+    }
+    rows.len()
+}
+
 #[test]
 fn of_two_rows_the_least_that_breaks_a_rule_is_named(rt: HostRuntime) {
-    let alloc = rt.alloc();
-    for (first, second, wanted) in TWO_ROWS {
-        let told = said_of_two(alloc, first, second);
-        assert!(rt; is_told(alloc, told, wanted), "{wanted}");
-    }
+    assert_eq!(rt; first_other_pair(rt.alloc(), TWO_ROWS), TWO_ROWS.len());
 }

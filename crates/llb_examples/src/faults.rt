@@ -7,135 +7,215 @@ use llb_model::VertexFault;
 use llb_ops::OpFault;
 use llb_tree::TreeFault;
 use llb_wire::{Memory, WireFault};
-use std::alloc::{AllocError, Global};
+use std::alloc::Global;
 use std::fmt::Display;
 
-// What faults print, each in a line.
-fn printed<T: Display>(alloc: Global, faults: &[T]) -> Result<String, AllocError> {
-    let mut text = String::new(alloc);
-    for fault in faults {
-        let line = fault.to_string(alloc)?;
-        text.push_str(line.as_str())?;
-        text.push_str("\n")?;
-    }
-    Ok(text)
-}
-
-fn print<T: Display>(alloc: Global, faults: &[T], wanted: &str) -> bool {
-    match printed(alloc, faults) {
+fn prints<T: Display>(alloc: Global, fault: &T, wanted: &str) -> bool {
+    match fault.to_string(alloc) {
         Ok(text) => text.as_str() == wanted,
         Err(_) => false,
     }
 }
 
+// The number of the first fault that prints something else; past the end where there is none.
+fn first_wrong<T: Display>(alloc: Global, rows: &[(T, &str)]) -> usize {
+    for (at, (fault, wanted)) in rows.iter().enumerate() {
+        if !prints(alloc, fault, wanted) {
+            return at;
+        }
+    }
+    rows.len()
+}
+
+const WIRE: &[(WireFault, &str)] = &[
+    (WireFault::Truncated, "1"),
+    (WireFault::LongVarint, "2"),
+    (WireFault::BadField, "3"),
+    (WireFault::BadWireType, "4"),
+];
+
+const MESSAGES: &[(OpFault, &str)] = &[
+    (OpFault::Wire(WireFault::BadField), "3"),
+    (OpFault::WrongWireType, "11"),
+    (OpFault::NotUtf8, "12"),
+    (OpFault::OverLimit, "13"),
+    (OpFault::Memory, "14"),
+];
+
 #[test]
 fn faults_of_records_and_messages(rt: HostRuntime) {
     let alloc = rt.alloc();
-    let wire = [
-        WireFault::Truncated,
-        WireFault::LongVarint,
-        WireFault::BadField,
-        WireFault::BadWireType,
-    ];
-    assert!(rt; print(alloc, &wire, "1\n2\n3\n4\n") && print(alloc, &[Memory], "5\n"));
-    let ops = [
-        OpFault::Wire(WireFault::BadField),
-        OpFault::WrongWireType,
-        OpFault::NotUtf8,
-        OpFault::OverLimit,
-        OpFault::Memory,
-    ];
-    assert!(rt; print(alloc, &ops, "3\n11\n12\n13\n14\n"));
+    assert_eq!(rt; first_wrong(alloc, WIRE), WIRE.len());
+    assert_eq!(rt; first_wrong(alloc, MESSAGES), MESSAGES.len());
+    assert!(rt; prints(alloc, &Memory, "5"));
 }
+
+const TREES: &[(TreeFault, &str)] = &[
+    (TreeFault::NotFound, "21"),
+    (TreeFault::NotDir, "22"),
+    (TreeFault::IsDir, "23"),
+    (TreeFault::Conflict, "24"),
+    (TreeFault::Root, "25"),
+    (TreeFault::BadName, "26"),
+    (TreeFault::Memory, "27"),
+];
+
+const PATTERNS: &[(PatternFault, &str)] = &[
+    (PatternFault::BadPattern, "41"),
+    (PatternFault::Memory, "42"),
+];
+
+const VERTICES: &[(VertexFault, &str)] = &[
+    (VertexFault::Action(3, 21), "action 3 fault 21"),
+    (VertexFault::Exit(0, 1), "command 0 status 1"),
+];
 
 #[test]
 fn faults_of_trees_patterns_and_vertices(rt: HostRuntime) {
     let alloc = rt.alloc();
-    let tree = [
-        TreeFault::NotFound,
-        TreeFault::NotDir,
-        TreeFault::IsDir,
-        TreeFault::Conflict,
-        TreeFault::Root,
-        TreeFault::BadName,
-        TreeFault::Memory,
-    ];
-    assert!(rt; print(alloc, &tree, "21\n22\n23\n24\n25\n26\n27\n"));
-    let patterns = [PatternFault::BadPattern, PatternFault::Memory];
-    assert!(rt; print(alloc, &patterns, "41\n42\n"));
-    let vertices = [VertexFault::Action(3, 21), VertexFault::Exit(0, 1)];
-    assert!(rt; print(alloc, &vertices, "action 3 fault 21\ncommand 0 status 1\n"));
+    assert_eq!(rt; first_wrong(alloc, TREES), TREES.len());
+    assert_eq!(rt; first_wrong(alloc, PATTERNS), PATTERNS.len());
+    assert_eq!(rt; first_wrong(alloc, VERTICES), VERTICES.len());
+}
+
+// The refusal of that number.
+fn refusal(at: usize) -> LoadFault {
+    match at {
+        0 => LoadFault::Definition(OpFault::OverLimit),
+        1 => LoadFault::Entry(4, OpFault::NotUtf8),
+        2 => LoadFault::TooFew,
+        3 => LoadFault::Collision(1),
+        4 => LoadFault::NoResult,
+        5 => LoadFault::UnknownDigest(1, 0),
+        6 => LoadFault::Cycle,
+        7 => LoadFault::Unsupported(0, Feature::SshMount),
+        8 => LoadFault::Invalid(0, Rule::NoActions),
+        9 => LoadFault::BadIndex(1, 0),
+        _ => LoadFault::Memory,
+    }
+}
+
+const REFUSALS: &[&str] = &[
+    "81 13",
+    "82 4 12",
+    "83",
+    "84 1",
+    "85",
+    "86 1 0",
+    "87",
+    "88 0 SshMount",
+    "89 0 NoActions",
+    "90 1 0",
+    "91",
+];
+
+// The number of the first refusal that prints something else; past the end where there is none.
+fn first_other_refusal(alloc: Global, texts: &[&str]) -> usize {
+    for (at, wanted) in texts.iter().enumerate() {
+        if !prints(alloc, &refusal(at), wanted) {
+            return at;
+        }
+    }
+    texts.len()
 }
 
 #[test]
 fn refusals_of_a_definition(rt: HostRuntime) {
-    let faults = [
-        LoadFault::Definition(OpFault::OverLimit),
-        LoadFault::Entry(4, OpFault::NotUtf8),
-        LoadFault::TooFew,
-        LoadFault::Collision(1),
-        LoadFault::NoResult,
-        LoadFault::UnknownDigest(1, 0),
-        LoadFault::Cycle,
-        LoadFault::Unsupported(0, Feature::SshMount),
-        LoadFault::Invalid(0, Rule::NoActions),
-        LoadFault::BadIndex(1, 0),
-        LoadFault::Memory,
-    ];
-    let wanted =
-        "81 13\n82 4 12\n83\n84 1\n85\n86 1 0\n87\n88 0 SshMount\n89 0 NoActions\n90 1 0\n91\n";
-    assert!(rt; print(rt.alloc(), &faults, wanted));
+    let alloc = rt.alloc();
+    assert_eq!(rt; first_other_refusal(alloc, REFUSALS), REFUSALS.len());
+}
+
+const FEATURES: &[(Feature, &str)] = &[
+    (Feature::DiffOp, "88 0 DiffOp"),
+    (Feature::BuildOp, "88 1 BuildOp"),
+    (Feature::Source, "88 2 Source"),
+    (Feature::SecretMount, "88 3 SecretMount"),
+    (Feature::SshMount, "88 4 SshMount"),
+    (Feature::SecretEnv, "88 5 SecretEnv"),
+    (Feature::Action, "88 6 Action"),
+    (Feature::Unpack, "88 7 Unpack"),
+    (Feature::Patterns, "88 8 Patterns"),
+    (Feature::OwnerByName, "88 9 OwnerByName"),
+    (Feature::CopyField, "88 10 CopyField"),
+];
+
+// The number of the first feature that prints something else, as that of the row of its own number; past the end where there is none.
+fn first_other_feature(alloc: Global, rows: &[(Feature, &str)]) -> usize {
+    for (at, (feature, wanted)) in rows.iter().enumerate() {
+        if !prints(alloc, &LoadFault::Unsupported(at as u32, *feature), wanted) {
+            return at;
+        }
+    }
+    rows.len()
 }
 
 #[test]
 fn features_by_their_names(rt: HostRuntime) {
-    let features = [
-        LoadFault::Unsupported(0, Feature::DiffOp),
-        LoadFault::Unsupported(1, Feature::BuildOp),
-        LoadFault::Unsupported(2, Feature::Source),
-        LoadFault::Unsupported(3, Feature::SecretMount),
-        LoadFault::Unsupported(4, Feature::SshMount),
-        LoadFault::Unsupported(5, Feature::SecretEnv),
-        LoadFault::Unsupported(6, Feature::Action),
-        LoadFault::Unsupported(7, Feature::Unpack),
-        LoadFault::Unsupported(8, Feature::Patterns),
-        LoadFault::Unsupported(9, Feature::OwnerByName),
-        LoadFault::Unsupported(10, Feature::CopyField),
-    ];
-    let wanted = "88 0 DiffOp\n88 1 BuildOp\n88 2 Source\n88 3 SecretMount\n\
-        88 4 SshMount\n88 5 SecretEnv\n88 6 Action\n88 7 Unpack\n\
-        88 8 Patterns\n88 9 OwnerByName\n88 10 CopyField\n";
-    assert!(rt; print(rt.alloc(), &features, wanted));
+    let alloc = rt.alloc();
+    assert_eq!(rt; first_other_feature(alloc, FEATURES), FEATURES.len());
+}
+
+// The rule of that number.
+fn rule(at: usize) -> Rule {
+    match at {
+        0 => Rule::NoKind,
+        1 => Rule::LocalName,
+        2 => Rule::NoActions,
+        3 => Rule::ActionInput,
+        4 => Rule::ActionOutput,
+        5 => Rule::NoMeta,
+        6 => Rule::NoArgs,
+        7 => Rule::NoMounts,
+        8 => Rule::NoRoot,
+        9 => Rule::BadPath,
+        10 => Rule::SameDest,
+        11 => Rule::MountKind,
+        12 => Rule::MountInput,
+        13 => Rule::MountOutput,
+        14 => Rule::NoCacheOpt,
+        15 => Rule::Sharing,
+        16 => Rule::CacheTwice,
+        17 => Rule::Script(ScriptFault::Usage(2)),
+        18 => Rule::Script(ScriptFault::ShellSyntax(5)),
+        _ => Rule::MergeInput,
+    }
+}
+
+const RULES: &[&str] = &[
+    "89 0 NoKind",
+    "89 1 LocalName",
+    "89 2 NoActions",
+    "89 3 ActionInput",
+    "89 4 ActionOutput",
+    "89 5 NoMeta",
+    "89 6 NoArgs",
+    "89 7 NoMounts",
+    "89 8 NoRoot",
+    "89 9 BadPath",
+    "89 10 SameDest",
+    "89 11 MountKind",
+    "89 12 MountInput",
+    "89 13 MountOutput",
+    "89 14 NoCacheOpt",
+    "89 15 Sharing",
+    "89 16 CacheTwice",
+    "89 17 Script 72 2",
+    "89 18 Script 73 5",
+    "89 19 MergeInput",
+];
+
+// The number of the first rule that prints something else, as that of the row of its own number; past the end where there is none.
+fn first_other_rule(alloc: Global, texts: &[&str]) -> usize {
+    for (at, wanted) in texts.iter().enumerate() {
+        if !prints(alloc, &LoadFault::Invalid(at as u32, rule(at)), wanted) {
+            return at;
+        }
+    }
+    texts.len()
 }
 
 #[test]
 fn rules_by_their_names(rt: HostRuntime) {
-    let rules = [
-        LoadFault::Invalid(0, Rule::NoKind),
-        LoadFault::Invalid(1, Rule::LocalName),
-        LoadFault::Invalid(2, Rule::NoActions),
-        LoadFault::Invalid(3, Rule::ActionInput),
-        LoadFault::Invalid(4, Rule::ActionOutput),
-        LoadFault::Invalid(5, Rule::NoMeta),
-        LoadFault::Invalid(6, Rule::NoArgs),
-        LoadFault::Invalid(7, Rule::NoMounts),
-        LoadFault::Invalid(8, Rule::NoRoot),
-        LoadFault::Invalid(9, Rule::BadPath),
-        LoadFault::Invalid(10, Rule::SameDest),
-        LoadFault::Invalid(11, Rule::MountKind),
-        LoadFault::Invalid(12, Rule::MountInput),
-        LoadFault::Invalid(13, Rule::MountOutput),
-        LoadFault::Invalid(14, Rule::NoCacheOpt),
-        LoadFault::Invalid(15, Rule::Sharing),
-        LoadFault::Invalid(16, Rule::CacheTwice),
-        LoadFault::Invalid(17, Rule::Script(ScriptFault::Usage(2))),
-        LoadFault::Invalid(18, Rule::Script(ScriptFault::ShellSyntax(5))),
-        LoadFault::Invalid(19, Rule::MergeInput),
-    ];
-    let wanted = "89 0 NoKind\n89 1 LocalName\n89 2 NoActions\n89 3 ActionInput\n\
-        89 4 ActionOutput\n89 5 NoMeta\n89 6 NoArgs\n89 7 NoMounts\n89 8 NoRoot\n89 9 BadPath\n\
-        89 10 SameDest\n89 11 MountKind\n89 12 MountInput\n89 13 MountOutput\n89 14 NoCacheOpt\n\
-        89 15 Sharing\n89 16 CacheTwice\n89 17 Script 72 2\n\
-        89 18 Script 73 5\n89 19 MergeInput\n";
-    assert!(rt; print(rt.alloc(), &rules, wanted));
+    let alloc = rt.alloc();
+    assert_eq!(rt; first_other_rule(alloc, RULES), RULES.len());
 }

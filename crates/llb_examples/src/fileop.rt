@@ -1,96 +1,15 @@
 //! File actions. A story is a base, a second tree and actions on the base, one after another, of which a refused one leaves what was
 //! there; it is told by the answer to each action and then the entries that are left. The actions are those of an op that is assembled.
 
+use super::deeds::{
+    CONTENTS, Deed, EMPTY_WILDCARD, NOTHING, PARENTS, PARENTS_WILDCARD, WILDCARD, deeds_text,
+};
 use super::told::{Row, is_told, push_path, push_tree, tree_of};
 use llb_asm::assemble;
 use llb_fileop::{ActFault, act, resolve};
 use llb_ops::{Action, Kind, Op, read_op};
 use llb_tree::Tree;
-use llb_wire::push_hex;
 use std::alloc::Global;
-
-// What a copy allows, as the assembler takes it.
-const NOTHING: &str = "";
-
-const CONTENTS: &str = "dirCopyContents true\n";
-
-const PARENTS: &str = "createDestPath true\n";
-
-const WILDCARD: &str = "allowWildcard true\n";
-
-const EMPTY_WILDCARD: &str = "allowWildcard true\nallowEmptyWildcard true\n";
-
-const PARENTS_WILDCARD: &str = "createDestPath true\nallowWildcard true\n";
-
-// Texts are as the assembler takes them.
-#[derive(Clone, Copy)]
-enum Deed<'a> {
-    // A file of a mode and a body.
-    File(&'a str, i32, &'a str),
-    // A directory of a mode, with its parents or without.
-    Dir(&'a str, i32, bool),
-    // A path, or all that match; whether none is allowed.
-    Gone(&'a str, bool, bool),
-    // A source, a destination, a mode and an owner by number, and what is allowed.
-    Copied(&'a str, &'a str, i32, Option<u32>, &'a str),
-}
-
-fn push_copy(
-    text: &mut String,
-    paths: (&str, &str),
-    mode: i32,
-    owner: Option<u32>,
-    allowed: &str,
-) -> Result<(), ActFault> {
-    let (src, dest) = paths;
-    write!(text, "copy {{\nsrc \"{src}\"\ndest \"{dest}\"\n")?;
-    if let Some(id) = owner {
-        write!(text, "owner {{\nuser {{\nbyID {id}\n}}\n}}\n")?;
-    }
-    write!(text, "mode {mode}\n{allowed}timestamp -1\n}}\n")?;
-    Ok(())
-}
-
-fn push_file(
-    alloc: Global,
-    text: &mut String,
-    path: &str,
-    mode: i32,
-    body: &str,
-) -> Result<(), ActFault> {
-    write!(text, "mkfile {{\npath \"{path}\"\nmode {mode}\ndata ")?;
-    push_hex(alloc, text, body.as_bytes())?;
-    text.push_str("\ntimestamp -1\n}\n")?;
-    Ok(())
-}
-
-fn push_deed(alloc: Global, text: &mut String, deed: &Deed<'_>) -> Result<(), ActFault> {
-    match deed {
-        Deed::File(path, mode, body) => push_file(alloc, text, path, *mode, body),
-        Deed::Dir(path, mode, parents) => Ok(write!(
-            text,
-            "mkdir {{\npath \"{path}\"\nmode {mode}\nmakeParents {parents}\ntimestamp -1\n}}\n"
-        )?),
-        Deed::Gone(path, wildcard, not_found) => Ok(write!(
-            text,
-            "rm {{\npath \"{path}\"\nallowNotFound {not_found}\nallowWildcard {wildcard}\n}}\n"
-        )?),
-        Deed::Copied(src, dest, mode, owner, allowed) => {
-            push_copy(text, (src, dest), *mode, *owner, allowed)
-        }
-    }
-}
-
-fn deeds_text(alloc: Global, deeds: &[Deed<'_>]) -> Result<String, ActFault> {
-    let mut text = String::from_str(alloc, "op {\nfile {\n")?;
-    for deed in deeds {
-        text.push_str("actions {\nsecondaryInput 1\n")?;
-        push_deed(alloc, &mut text, deed)?;
-        text.push_str("}\n")?;
-    }
-    text.push_str("}\n}\n")?;
-    Ok(text)
-}
 
 fn op_of(alloc: Global, text: &str) -> Option<Op> {
     let entries = assemble(alloc, text.as_bytes()).ok()?;
@@ -170,19 +89,28 @@ fn resolved(alloc: Global, text: &str) -> Result<String, ActFault> {
     Ok(told)
 }
 
+// Texts, their paths, and whether they end in a slash.
+const TEXTS: &[(&str, &str)] = &[
+    ("a//b/../", "/a true"),
+    ("/a/b", "/a/b false"),
+    ("/", " true"),
+    ("", " false"),
+    ("a/.", "/a false"),
+];
+
+// The number of the first row that is answered otherwise; past the end where there is none.
+fn first_other_path(alloc: Global, rows: &[(&str, &str)]) -> usize {
+    for (at, (text, wanted)) in rows.iter().enumerate() {
+        if !is_told(alloc, resolved(alloc, text), wanted) {
+            return at;
+        }
+    }
+    rows.len()
+}
+
 #[test]
 fn a_text_leads_to_a_path_and_may_end_in_a_slash(rt: HostRuntime) {
-    let rows = [
-        ("a//b/../", "/a true"),
-        ("/a/b", "/a/b false"),
-        ("/", " true"),
-        ("", " false"),
-        ("a/.", "/a false"),
-    ];
-    let alloc = rt.alloc();
-    for (text, wanted) in rows {
-        assert!(rt; is_told(alloc, resolved(alloc, text), wanted), "{text}");
-    }
+    assert_eq!(rt; first_other_path(rt.alloc(), TEXTS), TEXTS.len());
 }
 
 // What a story shows, the two trees, the deeds, and how it is told.
@@ -365,13 +293,19 @@ const STORIES: &[Story] = &[
     ),
 ];
 
+// The number of the first row that is answered otherwise; past the end where there is none.
+fn first_wrong(alloc: Global, rows: &[Story]) -> usize {
+    for (at, (_, base, second, deeds, wanted)) in rows.iter().enumerate() {
+        if !is_told(alloc, told(alloc, base, Some(second), deeds), wanted) {
+            return at;
+        }
+    }
+    rows.len()
+}
+
 #[test]
 fn files_and_directories_are_made_copied_and_removed(rt: HostRuntime) {
-    let alloc = rt.alloc();
-    for (name, base, second, deeds, wanted) in STORIES {
-        let told = told(alloc, base, Some(second), deeds);
-        assert!(rt; is_told(alloc, told, wanted), "{name}");
-    }
+    assert_eq!(rt; first_wrong(rt.alloc(), STORIES), STORIES.len());
 }
 
 // What is told of a directory of that many names that is made with its parents: how long it is, or its prefix.

@@ -10,67 +10,66 @@ fn answer(alloc: Global, pattern: &str, path: &str) -> Result<bool, PatternFault
     Ok(pattern.matches(&path))
 }
 
-// Patterns, each with a path that it matches: a name a part, and a path part by part.
-const MATCHING: &[(&str, &str)] = &[
-    ("a*", "/ab"),
-    ("a*", "/a"),
-    ("*", "/a"),
-    ("**", "/a"),
-    ("*ab", "/aab"),
-    ("a*b*c", "/abbcbc"),
-    ("?", "/é"),
-    ("?*", "/漢字"),
-    ("\\*", "/*"),
-    ("\\a\\é", "/aé"),
-    ("\\\\", "/\\"),
-    ("\\[a]", "/[a]"),
-    ("", "/"),
-    ("a/*", "/a/b"),
-    ("/a//./x/../?", "a/b"),
-    ("a\\/../b", "/b"),
-    ("[/../b", "/b"),
+const REFUSED: Result<bool, PatternFault> = Err(PatternFault::BadPattern);
+
+type Case = (&'static str, &'static str, Result<bool, PatternFault>);
+
+// Patterns, paths, and whether they match.
+const CASES: &[Case] = &[
+    // A name matches a part, and a path part by part.
+    ("a*", "/ab", Ok(true)),
+    ("a*", "/a", Ok(true)),
+    ("*", "/a", Ok(true)),
+    ("**", "/a", Ok(true)),
+    ("*ab", "/aab", Ok(true)),
+    ("a*b*c", "/abbcbc", Ok(true)),
+    ("?", "/é", Ok(true)),
+    ("?*", "/漢字", Ok(true)),
+    ("\\*", "/*", Ok(true)),
+    ("\\a\\é", "/aé", Ok(true)),
+    ("\\\\", "/\\", Ok(true)),
+    ("\\[a]", "/[a]", Ok(true)),
+    ("", "/", Ok(true)),
+    ("a/*", "/a/b", Ok(true)),
+    ("/a//./x/../?", "a/b", Ok(true)),
+    ("a\\/../b", "/b", Ok(true)),
+    ("[/../b", "/b", Ok(true)),
+    // These do not match.
+    ("a*", "/ba", Ok(false)),
+    ("*ab", "/aba", Ok(false)),
+    ("a*b*c", "/acb", Ok(false)),
+    ("??", "/é", Ok(false)),
+    ("*??", "/漢", Ok(false)),
+    ("?", "/ab", Ok(false)),
+    ("\\*", "/a", Ok(false)),
+    ("\\?", "/a", Ok(false)),
+    ("a*c", "/a/c", Ok(false)),
+    ("/..", "/a", Ok(false)),
+    ("*", "/", Ok(false)),
+    ("a/*", "/a", Ok(false)),
+    ("a/*", "/a/b/c", Ok(false)),
+    // No pattern.
+    ("[a]", "/a", REFUSED),
+    ("a\\", "/a", REFUSED),
+    ("*a\\\\\\", "/a", REFUSED),
+    ("a\\/b", "/a/b", REFUSED),
+    ("a/\u{1}/..", "/a", REFUSED),
+    ("*\u{7f}", "/a", REFUSED),
 ];
 
-const NOT_MATCHING: &[(&str, &str)] = &[
-    ("a*", "/ba"),
-    ("*ab", "/aba"),
-    ("a*b*c", "/acb"),
-    ("??", "/é"),
-    ("*??", "/漢"),
-    ("?", "/ab"),
-    ("\\*", "/a"),
-    ("\\?", "/a"),
-    ("a*c", "/a/c"),
-    ("/..", "/a"),
-    ("*", "/"),
-    ("a/*", "/a"),
-    ("a/*", "/a/b/c"),
-];
-
-const BAD: &[(&str, &str)] = &[
-    ("[a]", "/a"),
-    ("a\\", "/a"),
-    ("*a\\\\\\", "/a"),
-    ("a\\/b", "/a/b"),
-    ("a/\u{1}/..", "/a"),
-    ("*\u{7f}", "/a"),
-];
+// The number of the first row that is answered otherwise; past the end where there is none.
+fn first_wrong(alloc: Global, rows: &[Case]) -> usize {
+    for (at, (pattern, path, wanted)) in rows.iter().enumerate() {
+        if answer(alloc, pattern, path) != *wanted {
+            return at;
+        }
+    }
+    rows.len()
+}
 
 #[test]
 fn a_path_matches_part_by_part_and_a_bad_pattern_is_refused(rt: HostRuntime) {
-    let tables = [
-        (MATCHING, Ok(true)),
-        (NOT_MATCHING, Ok(false)),
-        (BAD, Err(PatternFault::BadPattern)),
-    ];
-    for (rows, wanted) in tables {
-        for (pattern, path) in rows {
-            assert!(rt;
-                answer(rt.alloc(), pattern, path) == wanted,
-                "{pattern:?} {path:?}"
-            );
-        }
-    }
+    assert_eq!(rt; first_wrong(rt.alloc(), CASES), CASES.len());
 }
 
 fn repeated(alloc: Global, text: &str, count: usize, rest: &str) -> Result<String, AllocError> {
@@ -93,23 +92,38 @@ fn long(
     answer(alloc, &pattern, &path)
 }
 
+// A text that many times over and then a rest, another one that many times over, and whether they match.
+type Long = (
+    &'static str,
+    usize,
+    &'static str,
+    &'static str,
+    usize,
+    Result<bool, PatternFault>,
+);
+
+const LONG: &[Long] = &[
+    ("*a", 127, "b", "a", 255, Ok(false)),
+    ("*a", 127, "*", "a", 255, Ok(true)),
+    ("?", 255, "", "a", 255, Ok(true)),
+    ("?", 256, "", "a", 255, REFUSED),
+    ("*/", 128, "..", "a/", 127, Ok(true)),
+    ("*/", 129, "..", "a/", 128, REFUSED),
+];
+
+// The number of the first row that is answered otherwise; past the end where there is none.
+fn first_other_long(alloc: Global, rows: &[Long]) -> usize {
+    for (at, (part, count, rest, name, times, wanted)) in rows.iter().enumerate() {
+        if long(alloc, (part, *count, rest), (name, *times)) != *wanted {
+            return at;
+        }
+    }
+    rows.len()
+}
+
 #[test]
 fn long_patterns_end(rt: HostRuntime) {
-    let bad = Err(PatternFault::BadPattern);
-    let rows = [
-        ("*a", 127, "b", "a", 255, Ok(false)),
-        ("*a", 127, "*", "a", 255, Ok(true)),
-        ("?", 255, "", "a", 255, Ok(true)),
-        ("?", 256, "", "a", 255, bad),
-        ("*/", 128, "..", "a/", 127, Ok(true)),
-        ("*/", 129, "..", "a/", 128, bad),
-    ];
-    for (part, count, rest, name, times, wanted) in rows {
-        assert!(rt;
-            long(rt.alloc(), (part, count, rest), (name, times)) == wanted,
-            "{part} {count} {rest}"
-        );
-    }
+    assert_eq!(rt; first_other_long(rt.alloc(), LONG), LONG.len());
 }
 
 fn has_no_parts(alloc: Global, text: &str) -> Result<bool, PatternFault> {

@@ -5,11 +5,15 @@
 #[cfg(test)]
 mod applet;
 #[cfg(test)]
+mod applet_views;
+#[cfg(test)]
 mod asm;
 #[cfg(test)]
 mod cache;
 #[cfg(test)]
 mod cache_mounts;
+#[cfg(test)]
+mod deeds;
 #[cfg(test)]
 mod execs;
 #[cfg(test)]
@@ -21,7 +25,11 @@ mod glob;
 #[cfg(test)]
 mod graphs;
 #[cfg(test)]
+mod keys;
+#[cfg(test)]
 mod loader;
+#[cfg(test)]
+mod loader_ops;
 #[cfg(test)]
 mod locals;
 #[cfg(test)]
@@ -46,6 +54,8 @@ mod plain_ops;
 mod scripts;
 #[cfg(test)]
 mod sharing;
+#[cfg(test)]
+mod spelled;
 #[cfg(test)]
 mod told;
 #[cfg(test)]

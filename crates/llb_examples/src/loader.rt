@@ -1,6 +1,6 @@
 //! Definitions, and rows under digest texts of any kind: the graph that they are, or what is refused of them.
 
-use super::graphs::{Given, MAKES_A, NAMES_A, graph_of, linked, push_row, said_of, told};
+use super::graphs::{Given, MAKES_A, NAMES_A, linked, push_row, told};
 use super::told::is_told;
 use llb_asm::assemble;
 use llb_loader::{Graph, LoadFault, Row, link, load, load_owned};
@@ -105,13 +105,23 @@ fn loaded(alloc: Global, entries: &[&str]) -> Result<Graph, LoadFault> {
     }
 }
 
+// The number of the first row that is answered otherwise; past the end where there is none.
+fn first_other_definition(alloc: Global, rows: &[(&[&str], &str)]) -> usize {
+    for (at, (entries, wanted)) in rows.iter().enumerate() {
+        if !is_told(alloc, told(alloc, loaded(alloc, entries)), wanted) {
+            return at;
+        }
+    }
+    rows.len()
+}
+
 #[test]
 fn definitions_are_graphs_or_are_refused(rt: HostRuntime) {
+    assert_eq!(rt;
+        first_other_definition(rt.alloc(), DEFINITIONS),
+        DEFINITIONS.len()
+    );
     let alloc = rt.alloc();
-    for (entries, wanted) in DEFINITIONS {
-        let told = told(alloc, loaded(alloc, entries));
-        assert!(rt; is_told(alloc, told, wanted), "{wanted} {entries:?}");
-    }
     assert!(rt; is_told(alloc, told(alloc, load(alloc, &[0x08])), "81 1"));
 }
 
@@ -295,136 +305,19 @@ const ROWS: &[(&[Given<'static>], &str)] = &[
     ),
 ];
 
+// The number of the first row that is answered otherwise; past the end where there is none.
+fn first_other_rows(alloc: Global, rows: &[(&[Given<'static>], &str)]) -> usize {
+    for (at, (given, wanted)) in rows.iter().enumerate() {
+        if !is_told(alloc, linked(alloc, given), wanted) {
+            return at;
+        }
+    }
+    rows.len()
+}
+
 #[test]
 fn rows_are_graphs_or_are_refused(rt: HostRuntime) {
-    let alloc = rt.alloc();
-    for (given, wanted) in ROWS {
-        assert!(rt; is_told(alloc, linked(alloc, given), wanted), "{wanted}");
-    }
-}
-
-// What stands in an op, and what is said of it.
-const OPS: &[(&str, &str)] = &[
-    ("exec {\n}\n", "89 0 NoMeta"),
-    ("source {\n}\n", "88 0 Source"),
-    ("file {\nactions {\ncopy {\n}\n}\n}\n", "89 0 ActionInput"),
-    // A removal after an action without a member.
-    (
-        "file {\nactions {\n}\nactions {\nrm {\n}\n}\n}\n",
-        "88 0 Action",
-    ),
-    ("diff -\n", "88 0 DiffOp"),
-    ("build -\n", "88 0 BuildOp"),
-    ("file {\nactions {\n}\n}\n", "88 0 Action"),
-    (
-        "file {\nactions {\ninput -1\nmkfile {\nowner {\nuser {\nbyName 61\n}\n}\n}\n}\n}\n",
-        "88 0 OwnerByName",
-    ),
-    ("extra 5200\n", "89 0 NoKind"),
-    ("file {\n}\n", "89 0 NoActions"),
-    ("file {\nactions {\nmkfile {\n}\n}\n}\n", "89 0 ActionInput"),
-    (
-        "file {\nactions {\ninput -1\noutput 1\nmkfile {\n}\n}\n}\n",
-        "89 0 ActionOutput",
-    ),
-    ("merge {\ninputs {\n}\n}\n", "89 0 MergeInput"),
-    // A source is local and has a name.
-    (
-        "source {\nidentifier \"docker-image://a\"\n}\n",
-        "88 0 Source",
-    ),
-    ("source {\nidentifier \"local:/a\"\n}\n", "88 0 Source"),
-    ("source {\nidentifier \"local://\"\n}\n", "89 0 LocalName"),
-    (
-        "source {\nidentifier \"local://a\"\n}\n",
-        "A local a 1 1, 0.0",
-    ),
-    (
-        "source {\nidentifier \"local://a/../b\"\n}\n",
-        "A local a/../b 1 1, 0.0",
-    ),
-    (
-        "source {\nidentifier \"local://local://\"\n}\n",
-        "A local local:// 1 1, 0.0",
-    ),
-    // The second input of a copy alone is looked at.
-    (
-        "file {\nactions {\ninput -1\ncopy {\n}\n}\n}\n",
-        "89 0 ActionInput",
-    ),
-    ("file {\nactions {\ninput -1\nrm {\n}\n}\n}\n", "A 1 1, 0.0"),
-    (
-        "file {\nactions {\ninput -1\nmkdir {\n}\n}\n}\n",
-        "A 1 1, 0.0",
-    ),
-    // A directory that is no output, and a copy from it.
-    (
-        "file {\nactions {\ninput -1\noutput -1\nmkdir {\n}\n}\nactions {\ncopy {\n}\n}\n}\n",
-        "A 2 1, 0.0",
-    ),
-];
-
-#[test]
-fn an_op_is_taken_or_refused_by_its_feature_or_its_rule(rt: HostRuntime) {
-    let alloc = rt.alloc();
-    for (inside, wanted) in OPS {
-        assert!(rt;
-            is_told(alloc, said_of(alloc, inside), wanted),
-            "{wanted}: {inside:?}"
-        );
-    }
-}
-
-// The fields of a copy from the empty tree to the empty tree, and what is said of it.
-const COPIES: &[(&str, &str)] = &[
-    ("", "A 1 1, 0.0"),
-    ("attemptUnpackDockerCompatibility true\n", "88 0 Unpack"),
-    ("include_patterns \"a\"\n", "88 0 Patterns"),
-    ("exclude_patterns \"\"\n", "88 0 Patterns"),
-    ("owner {\nuser {\nbyName -\n}\n}\n", "88 0 OwnerByName"),
-    ("owner {\ngroup {\nbyName -\n}\n}\n", "88 0 OwnerByName"),
-    ("extra 7001\n", "88 0 CopyField"),
-    ("include_patterns \"a\"\nextra 7001\n", "88 0 Patterns"),
-    (
-        "attemptUnpackDockerCompatibility true\ninclude_patterns \"a\"\n",
-        "88 0 Unpack",
-    ),
-];
-
-// What is said of a copy with those fields.
-fn said_of_copy(alloc: Global, fields: &str) -> Result<String, LoadFault> {
-    let op = format!(in alloc;
-        "file {{\nactions {{\ninput -1\nsecondaryInput -1\ncopy {{\n{fields}}}\n}}\n}}\n"
-    )?;
-    said_of(alloc, op.as_str())
-}
-
-// Copies whose fields stand in another order than that of their numbers: a pattern after a field that has no name, and an unpacking
-// after a pattern.
-const OTHER_ORDERS: &[(&str, &str)] = &[
-    (
-        "raw 221f121d08ffffffffffffffffff0110ffffffffffffffffff0122057001620161",
-        "88 0 Patterns",
-    ),
-    (
-        "raw 221f121d08ffffffffffffffffff0110ffffffffffffffffff0122056201613801",
-        "88 0 Unpack",
-    ),
-];
-
-#[test]
-fn a_copy_is_taken_without_what_is_refused_of_it(rt: HostRuntime) {
-    let alloc = rt.alloc();
-    for (fields, wanted) in COPIES {
-        assert!(rt;
-            is_told(alloc, said_of_copy(alloc, fields), wanted),
-            "{wanted}: {fields:?}"
-        );
-    }
-    for (entry, wanted) in OTHER_ORDERS {
-        let told = linked(alloc, &[("A", *entry), ("T", NAMES_A)]);
-        assert!(rt; is_told(alloc, told, wanted), "{entry}");
-    }
+    assert_eq!(rt; first_other_rows(rt.alloc(), ROWS), ROWS.len());
 }
 
 // The op of a chain that stands on the op of that number, or makes `/a` where there is none.

@@ -7,7 +7,7 @@ use std::alloc::Global;
 
 type Row = (&'static str, &'static str, bool, &'static str);
 
-const THREE: [Row; 3] = [
+const THREE: &[Row] = &[
     ("/", "/", false, "a"),
     ("/t", "/", false, "b"),
     ("/t/in", "/sub", true, "c"),
@@ -42,23 +42,35 @@ fn makes_a_view(alloc: Global, rows: &[Row]) -> Result<bool, Memory> {
     Ok(view_of(alloc, rows)?.is_some())
 }
 
+// Mounts, and whether they make a view.
+const VIEWS: &[(&[Row], bool)] = &[
+    (THREE, true),
+    (&[("//.", "/", true, "a")], true),
+    (&[], false),
+    (&[("/t", "/", false, "a")], false),
+    (
+        &[
+            ("/t", "/", false, "a"),
+            ("/", "/", false, "b"),
+            ("t/.", "/sub", true, "c"),
+        ],
+        false,
+    ),
+];
+
+// The number of the first row that is answered otherwise; past the end where there is none.
+fn first_other_view(alloc: Global, rows: &[(&[Row], bool)]) -> usize {
+    for (at, (mounts, wanted)) in rows.iter().enumerate() {
+        if makes_a_view(alloc, mounts) != Ok(*wanted) {
+            return at;
+        }
+    }
+    rows.len()
+}
+
 #[test]
 fn one_mount_is_at_the_root_and_no_two_at_one_dest(rt: HostRuntime) {
-    let twice = [
-        ("/t", "/", false, "a"),
-        ("/", "/", false, "b"),
-        ("t/.", "/sub", true, "c"),
-    ];
-    let views: [(&[Row], bool); 5] = [
-        (&THREE, true),
-        (&[("//.", "/", true, "a")], true),
-        (&[], false),
-        (&[("/t", "/", false, "a")], false),
-        (&twice, false),
-    ];
-    for (rows, wanted) in views {
-        assert!(rt; makes_a_view(rt.alloc(), rows) == Ok(wanted), "{rows:?}");
-    }
+    assert_eq!(rt; first_other_view(rt.alloc(), VIEWS), VIEWS.len());
 }
 
 // Where the view of the mounts routes the path of a text.
@@ -70,32 +82,40 @@ fn route(alloc: Global, rows: &[Row], text: &str) -> Result<Option<(u32, u32)>, 
     }
 }
 
+// The root may be the last mount.
+const TURNED: &[Row] = &[
+    ("/t/in", "/", false, "a"),
+    ("/t", "/", false, "b"),
+    ("/", "/", false, "c"),
+];
+
+// Mounts, a path, and where it is routed: the mount, and how many names are dropped.
+const ROUTES: &[(&[Row], &str, u32, u32)] = &[
+    (THREE, "/t/in/f", 2, 2),
+    (THREE, "/t", 1, 1),
+    (THREE, "/tx", 0, 0),
+    (THREE, "/", 0, 0),
+    (THREE, "/t/in", 2, 2),
+    (THREE, "/t/inx/f", 1, 1),
+    (THREE, "/a/t/in", 0, 0),
+    (TURNED, "/t/in/f", 0, 2),
+    (TURNED, "/t/f", 1, 1),
+    (TURNED, "/f", 2, 0),
+];
+
+// The number of the first row that is answered otherwise; past the end where there is none.
+fn first_other_route(alloc: Global, rows: &[(&[Row], &str, u32, u32)]) -> usize {
+    for (at, (mounts, text, number, dropped)) in rows.iter().enumerate() {
+        if route(alloc, mounts, text) != Ok(Some((*number, *dropped))) {
+            return at;
+        }
+    }
+    rows.len()
+}
+
 #[test]
 fn a_path_is_routed_to_the_longest_dest(rt: HostRuntime) {
-    // The root may be the last mount.
-    let turned = [
-        ("/t/in", "/", false, "a"),
-        ("/t", "/", false, "b"),
-        ("/", "/", false, "c"),
-    ];
-    let rows = [
-        (THREE, "/t/in/f", 2, 2),
-        (THREE, "/t", 1, 1),
-        (THREE, "/tx", 0, 0),
-        (THREE, "/", 0, 0),
-        (THREE, "/t/in", 2, 2),
-        (THREE, "/t/inx/f", 1, 1),
-        (THREE, "/a/t/in", 0, 0),
-        (turned, "/t/in/f", 0, 2),
-        (turned, "/t/f", 1, 1),
-        (turned, "/f", 2, 0),
-    ];
-    for (mounts, text, number, dropped) in rows {
-        assert!(rt;
-            route(rt.alloc(), mounts.as_slice(), text) == Ok(Some((number, dropped))),
-            "{text}"
-        );
-    }
+    assert_eq!(rt; first_other_route(rt.alloc(), ROUTES), ROUTES.len());
 }
 
 // A step of a story: a tree is put into a mount by its number.
@@ -155,7 +175,7 @@ fn take_step(alloc: Global, text: &mut String, view: &mut View, step: Step) -> R
 // The story of the steps, and then a view of the mounts that a copy gives back, which was made before them.
 fn story(alloc: Global, steps: &[Step]) -> Result<String, Memory> {
     let mut text = String::new(alloc);
-    if let Some(mut view) = view_of(alloc, &THREE)? {
+    if let Some(mut view) = view_of(alloc, THREE)? {
         let copy = view.copy()?;
         for step in steps {
             take_step(alloc, &mut text, &mut view, *step)?;
@@ -185,12 +205,19 @@ const STORIES: &[(&[Step], &str)] = &[
     ),
 ];
 
+// The number of the first row that is answered otherwise; past the end where there is none.
+fn first_wrong(alloc: Global, rows: &[(&[Step], &str)]) -> usize {
+    for (at, (steps, wanted)) in rows.iter().enumerate() {
+        if !is_told(alloc, story(alloc, steps), wanted) {
+            return at;
+        }
+    }
+    rows.len()
+}
+
 #[test]
 fn a_tree_is_set_where_the_mount_is_not_read_only_and_exchanged_in_any(rt: HostRuntime) {
-    let alloc = rt.alloc();
-    for (steps, wanted) in STORIES {
-        assert!(rt; is_told(alloc, story(alloc, steps), wanted), "{wanted}");
-    }
+    assert_eq!(rt; first_wrong(rt.alloc(), STORIES), STORIES.len());
 }
 
 #[test]

@@ -54,21 +54,30 @@ fn told(alloc: Global, rows: &[Row<'_>]) -> Result<String, TreeFault> {
     Ok(text)
 }
 
+// Trees, and how the nodes and a walk tell them.
+const TOLD: &[(&[Row<'static>], &str)] = &[
+    (&[], " d| d"),
+    (TWO, " d d/e f/f=x| d d/e f/f=x"),
+    (
+        NESTED,
+        " d d/a(700 1:1) f/a/b(644 2:2)=x d/a-(755 3:3) d/a-/c(711 0:0) f/a-/c/d(600 0:0)=y f/b=z|\
+        \x20d d/a(700 1:1) f/a/b(644 2:2)=x d/a-(755 3:3) d/a-/c(711 0:0) f/a-/c/d(600 0:0)=y f/b=z",
+    ),
+];
+
+// The number of the first row that is answered otherwise; past the end where there is none.
+fn first_wrong(alloc: Global, rows: &[(&[Row<'static>], &str)]) -> usize {
+    for (at, (entries, wanted)) in rows.iter().enumerate() {
+        if !is_told(alloc, told(alloc, entries), wanted) {
+            return at;
+        }
+    }
+    rows.len()
+}
+
 #[test]
 fn nodes_and_a_walk_tell_the_same_entries(rt: HostRuntime) {
-    let rows = [
-        (&[] as &[Row<'_>], " d| d"),
-        (TWO, " d d/e f/f=x| d d/e f/f=x"),
-        (
-            NESTED,
-            " d d/a(700 1:1) f/a/b(644 2:2)=x d/a-(755 3:3) d/a-/c(711 0:0) f/a-/c/d(600 0:0)=y f/b=z|\
-            \x20d d/a(700 1:1) f/a/b(644 2:2)=x d/a-(755 3:3) d/a-/c(711 0:0) f/a-/c/d(600 0:0)=y f/b=z",
-        ),
-    ];
-    let alloc = rt.alloc();
-    for (rows, wanted) in rows {
-        assert!(rt; is_told(alloc, told(alloc, rows), wanted), "{wanted}");
-    }
+    assert_eq!(rt; first_wrong(rt.alloc(), TOLD), TOLD.len());
 }
 
 // Where a walk is.
@@ -101,30 +110,36 @@ fn walked(alloc: Global, rows: &[Row<'_>], steps: &str) -> Result<String, TreeFa
     Ok(text)
 }
 
+// Trees, the steps of a walk, and where it is.
+const WALKED: &[(&[Row<'static>], &str, &str)] = &[
+    (&[], "aa", "|end|end|"),
+    (&[], "ss", "|end|end|"),
+    (TWO, "aaa", "|/e|/f|end|"),
+    (TWO, "asssa", "|/e|/f|end|end|end|"),
+    (
+        NESTED,
+        "aaaaaaaas",
+        "|/a|/a/b|/a-|/a-/c|/a-/c/d|/b|end|end|end|",
+    ),
+    (NESTED, "sas", "|end|end|end|"),
+    (NESTED, "asss", "|/a|/a-|/b|end|"),
+    (NESTED, "aasas", "|/a|/a/b|/a-|/a-/c|/b|"),
+    (NESTED, "aaaaasa", "|/a|/a/b|/a-|/a-/c|/a-/c/d|/b|end|"),
+];
+
+// The number of the first row that is answered otherwise; past the end where there is none.
+fn first_other_walk(alloc: Global, rows: &[(&[Row<'static>], &str, &str)]) -> usize {
+    for (at, (entries, steps, wanted)) in rows.iter().enumerate() {
+        if !is_told(alloc, walked(alloc, entries, steps), wanted) {
+            return at;
+        }
+    }
+    rows.len()
+}
+
 #[test]
 fn a_walk_goes_on_and_skips_and_stays_at_its_end(rt: HostRuntime) {
-    let rows = [
-        (&[] as &[Row<'_>], "aa", "|end|end|"),
-        (&[], "ss", "|end|end|"),
-        (TWO, "aaa", "|/e|/f|end|"),
-        (TWO, "asssa", "|/e|/f|end|end|end|"),
-        (
-            NESTED,
-            "aaaaaaaas",
-            "|/a|/a/b|/a-|/a-/c|/a-/c/d|/b|end|end|end|",
-        ),
-        (NESTED, "sas", "|end|end|end|"),
-        (NESTED, "asss", "|/a|/a-|/b|end|"),
-        (NESTED, "aasas", "|/a|/a/b|/a-|/a-/c|/b|"),
-        (NESTED, "aaaaasa", "|/a|/a/b|/a-|/a-/c|/a-/c/d|/b|end|"),
-    ];
-    let alloc = rt.alloc();
-    for (tree, steps, wanted) in rows {
-        assert!(rt;
-            is_told(alloc, walked(alloc, tree, steps), wanted),
-            "{steps} {wanted}"
-        );
-    }
+    assert_eq!(rt; first_other_walk(rt.alloc(), WALKED), WALKED.len());
 }
 
 // The path of the name `a` that many times over.
@@ -154,24 +169,33 @@ fn fits(alloc: Global, levels: usize, cut: Option<usize>, names: usize) -> Resul
     tree.fits(&deep_path(alloc, names)?)
 }
 
+// The levels of a tree, those from which on they are gone, the names above, and whether it fits.
+const DEPTHS: &[(usize, Option<usize>, usize, Result<(), TreeFault>)] = &[
+    (0, None, 128, Ok(())),
+    (1, None, 127, Ok(())),
+    (1, None, 128, Err(TreeFault::BadName)),
+    (64, None, 64, Ok(())),
+    (65, None, 64, Err(TreeFault::BadName)),
+    (128, None, 0, Ok(())),
+    (128, None, 1, Err(TreeFault::BadName)),
+    (128, Some(3), 126, Ok(())),
+    (128, Some(3), 127, Err(TreeFault::BadName)),
+];
+
+// The number of the first row that is answered otherwise; past the end where there is none.
+fn first_other_depth(
+    alloc: Global,
+    rows: &[(usize, Option<usize>, usize, Result<(), TreeFault>)],
+) -> usize {
+    for (at, (levels, cut, names, wanted)) in rows.iter().enumerate() {
+        if fits(alloc, *levels, *cut, *names) != *wanted {
+            return at;
+        }
+    }
+    rows.len()
+}
+
 #[test]
 fn what_is_put_below_a_path_ends_at_128_names(rt: HostRuntime) {
-    let bad = Err(TreeFault::BadName);
-    let rows = [
-        (0, None, 128, Ok(())),
-        (1, None, 127, Ok(())),
-        (1, None, 128, bad),
-        (64, None, 64, Ok(())),
-        (65, None, 64, bad),
-        (128, None, 0, Ok(())),
-        (128, None, 1, bad),
-        (128, Some(3), 126, Ok(())),
-        (128, Some(3), 127, bad),
-    ];
-    for (levels, cut, names, wanted) in rows {
-        assert!(rt;
-            fits(rt.alloc(), levels, cut, names) == wanted,
-            "{levels} below {names}"
-        );
-    }
+    assert_eq!(rt; first_other_depth(rt.alloc(), DEPTHS), DEPTHS.len());
 }

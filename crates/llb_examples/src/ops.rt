@@ -124,14 +124,19 @@ const ENTRIES: &[(&[u8], Result<&[u8], OpFault>)] = &[
     (b"\x22\x01\x80\x0A\x02\x08\x00", Err(OpFault::WrongWireType)),
 ];
 
+// The number of the first row that is answered otherwise; past the end where there is none.
+fn first_wrong(alloc: Global, rows: &[(&[u8], Result<&[u8], OpFault>)]) -> usize {
+    for (at, (entry, wanted)) in rows.iter().enumerate() {
+        if !is_answer(rewritten(alloc, entry), *wanted) {
+            return at;
+        }
+    }
+    rows.len()
+}
+
 #[test]
 fn entries_are_written_in_their_canonical_bytes_or_the_first_fault_is_answered(rt: HostRuntime) {
-    for (entry, wanted) in ENTRIES {
-        assert!(rt;
-            is_answer(rewritten(rt.alloc(), entry), *wanted),
-            "{entry:?}"
-        );
-    }
+    assert_eq!(rt; first_wrong(rt.alloc(), ENTRIES), ENTRIES.len());
 }
 
 // An entry of this many empty inputs.
@@ -247,22 +252,29 @@ fn seen(alloc: Global, entry: &[u8]) -> Option<(&'static str, &'static str, usiz
     }
 }
 
+// Entries, what their ops do, what on, and how many bytes they keep.
+const MESSAGES: &[(&[u8], &str, &str, usize)] = &[
+    (MAKES_A, "makes /a", "nothing", 0),
+    (NAMES_A, "nothing", "/a", 0),
+    (SOURCE, "local://a", "nothing", 0),
+    (MOUNT, "mounts", "nothing", 0),
+    (COPY, "copies /f", "nothing", 0),
+    (RUNS_TRUE, "runs", "/a", 18),
+];
+
+// The number of the first row that is answered otherwise; past the end where there is none.
+fn first_other_op(alloc: Global, rows: &[(&[u8], &str, &str, usize)]) -> usize {
+    for (at, (entry, does, on, kept)) in rows.iter().enumerate() {
+        if seen(alloc, entry) != Some((*does, *on, *kept)) {
+            return at;
+        }
+    }
+    rows.len()
+}
+
 #[test]
 fn messages_are_read_field_by_field(rt: HostRuntime) {
-    let rows = [
-        (MAKES_A, "makes /a", "nothing", 0),
-        (NAMES_A, "nothing", "/a", 0),
-        (SOURCE, "local://a", "nothing", 0),
-        (MOUNT, "mounts", "nothing", 0),
-        (COPY, "copies /f", "nothing", 0),
-        (RUNS_TRUE, "runs", "/a", 18),
-    ];
-    for (entry, does, on, kept) in rows {
-        assert!(rt;
-            seen(rt.alloc(), entry) == Some((does, on, kept)),
-            "{entry:?}"
-        );
-    }
+    assert_eq!(rt; first_other_op(rt.alloc(), MESSAGES), MESSAGES.len());
 }
 
 fn copied(op: &Op) -> &'static str {
@@ -298,20 +310,30 @@ fn definition_rewritten(alloc: Global, definition: &[u8]) -> Result<Bytes, OpFau
     write_definition(alloc, &entries)
 }
 
+// Definitions, and what is written of them.
+const DEFINITIONS: &[(&[u8], Result<&[u8], OpFault>)] = &[
+    (BOTH, Ok(BOTH)),
+    (b"\x12\x01\xFF\x20\x07\x0A\x00", Ok(b"\x0A\x00")),
+    (b"\x10\x00", Err(OpFault::WrongWireType)),
+    (b"\x0A\x01", Err(OpFault::Wire(WireFault::Truncated))),
+];
+
+// The number of the first row that is answered otherwise; past the end where there is none.
+fn first_other_definition(alloc: Global, rows: &[(&[u8], Result<&[u8], OpFault>)]) -> usize {
+    for (at, (definition, wanted)) in rows.iter().enumerate() {
+        if !is_answer(definition_rewritten(alloc, definition), *wanted) {
+            return at;
+        }
+    }
+    rows.len()
+}
+
 #[test]
 fn a_definition_keeps_its_entries_and_skips_other_fields(rt: HostRuntime) {
-    let rows: [(&[u8], Result<&[u8], OpFault>); 4] = [
-        (BOTH, Ok(BOTH)),
-        (b"\x12\x01\xFF\x20\x07\x0A\x00", Ok(b"\x0A\x00")),
-        (b"\x10\x00", Err(OpFault::WrongWireType)),
-        (b"\x0A\x01", Err(OpFault::Wire(WireFault::Truncated))),
-    ];
-    for (definition, wanted) in rows {
-        assert!(rt;
-            is_answer(definition_rewritten(rt.alloc(), definition), wanted),
-            "{definition:?}"
-        );
-    }
+    assert_eq!(rt;
+        first_other_definition(rt.alloc(), DEFINITIONS),
+        DEFINITIONS.len()
+    );
 }
 
 // The entry at a place of a definition.

@@ -118,15 +118,19 @@ const LAID: &[(Given, &[Row<'static>], &[Row<'static>], &str)] = &[
     ),
 ];
 
+// The number of the first row that is answered otherwise; past the end where there is none.
+fn first_wrong(alloc: Global, rows: &[(Given, &[Row<'static>], &[Row<'static>], &str)]) -> usize {
+    for (at, (given, lower, upper, wanted)) in rows.iter().enumerate() {
+        if !is_told(alloc, told(alloc, *given, lower, upper), wanted) {
+            return at;
+        }
+    }
+    rows.len()
+}
+
 #[test]
 fn files_hide_directories_are_one_and_a_way_keeps_and_gives(rt: HostRuntime) {
-    let alloc = rt.alloc();
-    for (given, lower, upper, wanted) in LAID {
-        assert!(rt;
-            is_told(alloc, told(alloc, *given, lower, upper), wanted),
-            "{given:?} {wanted}"
-        );
-    }
+    assert_eq!(rt; first_wrong(rt.alloc(), LAID), LAID.len());
 }
 
 // Whether a tree that was laid over another, and a copy of the lower one, are what they were.
@@ -169,11 +173,27 @@ fn lays_the_same(
     Ok([in_place, handed])
 }
 
+// Lower and upper trees.
+const PAIRS: &[(&[Row<'static>], &[Row<'static>])] = &[
+    (LOWER, UPPER),
+    (UPPER, LOWER),
+    (LOWER, LOWER),
+    (LOWER, &[]),
+];
+
+// The number of the first row that is answered otherwise; past the end where there is none.
+fn first_other_pair(alloc: Global, rows: &[(&[Row<'static>], &[Row<'static>])]) -> usize {
+    for (at, (lower, upper)) in rows.iter().enumerate() {
+        if lays_the_same(alloc, lower, upper) != Ok([true, true]) {
+            return at;
+        }
+    }
+    rows.len()
+}
+
 #[test]
 fn a_lower_tree_is_lent_or_handed_over_or_laid_over_in_place(rt: HostRuntime) {
-    for (lower, upper) in [(LOWER, UPPER), (UPPER, LOWER), (LOWER, LOWER), (LOWER, &[])] {
-        assert!(rt; lays_the_same(rt.alloc(), lower, upper) == Ok([true, true]));
-    }
+    assert_eq!(rt; first_other_pair(rt.alloc(), PAIRS), PAIRS.len());
 }
 
 // Whether a way that keeps and gives comes to the same in place.

@@ -200,15 +200,19 @@ fn told(alloc: Global, given: &[Given<'_>], locals: &[Local]) -> Result<String, 
     }
 }
 
+// The number of the first row that is answered otherwise; past the end where there is none.
+fn first_wrong(alloc: Global, rows: &[Case]) -> usize {
+    for (at, (_, given, locals, wanted)) in rows.iter().enumerate() {
+        if !is_told(alloc, told(alloc, given, locals), wanted) {
+            return at;
+        }
+    }
+    rows.len()
+}
+
 #[test]
 fn a_graph_has_the_outcomes_of_its_vertices_or_is_refused(rt: HostRuntime) {
-    let alloc = rt.alloc();
-    for (name, given, locals, wanted) in CASES {
-        assert!(rt;
-            is_told(alloc, told(alloc, given, locals), wanted),
-            "{name}"
-        );
-    }
+    assert_eq!(rt; first_wrong(rt.alloc(), CASES), CASES.len());
 }
 
 #[test]

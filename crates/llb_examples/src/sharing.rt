@@ -139,17 +139,26 @@ const THE_TREE_IS_EDITED: &[Case] = &[
     ),
 ];
 
-#[test]
-fn one_of_both_is_edited_and_the_other_stays(rt: HostRuntime) {
-    let alloc = rt.alloc();
-    for cases in [WHAT_WAS_TAKEN_IS_EDITED, THE_TREE_IS_EDITED] {
-        for (taking, edits, of_taken, wanted) in cases {
-            assert!(rt;
-                is_told(alloc, told(alloc, *taking, edits, of_taken), wanted),
-                "{wanted}"
-            );
+// The number of the first row that is answered otherwise; past the end where there is none.
+fn first_wrong(alloc: Global, rows: &[Case]) -> usize {
+    for (at, (taking, edits, of_taken, wanted)) in rows.iter().enumerate() {
+        if !is_told(alloc, told(alloc, *taking, edits, of_taken), wanted) {
+            return at;
         }
     }
+    rows.len()
+}
+
+#[test]
+fn one_of_both_is_edited_and_the_other_stays(rt: HostRuntime) {
+    assert_eq!(rt;
+        first_wrong(rt.alloc(), WHAT_WAS_TAKEN_IS_EDITED),
+        WHAT_WAS_TAKEN_IS_EDITED.len()
+    );
+    assert_eq!(rt;
+        first_wrong(rt.alloc(), THE_TREE_IS_EDITED),
+        THE_TREE_IS_EDITED.len()
+    );
 }
 
 // Whether the tree's copy is the same, then an edit changes the tree that it is done on and leaves one that it is refused on, and

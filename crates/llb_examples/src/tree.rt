@@ -49,15 +49,19 @@ const TEXTS: &[(Option<&str>, &str, &str)] = &[
     (Some("/a"), "b\n", "26"),
 ];
 
+// The number of the first row that is answered otherwise; past the end where there is none.
+fn first_other_path(alloc: Global, rows: &[(Option<&str>, &str, &str)]) -> usize {
+    for (at, (start, text, wanted)) in rows.iter().enumerate() {
+        if !is_told(alloc, printed(alloc, *start, text), wanted) {
+            return at;
+        }
+    }
+    rows.len()
+}
+
 #[test]
 fn a_text_is_read_part_by_part_from_the_root_or_a_path(rt: HostRuntime) {
-    let alloc = rt.alloc();
-    for (start, text, wanted) in TEXTS {
-        assert!(rt;
-            is_told(alloc, printed(alloc, *start, text), wanted),
-            "{start:?} {text:?}"
-        );
-    }
+    assert_eq!(rt; first_other_path(rt.alloc(), TEXTS), TEXTS.len());
 }
 
 // How many names the path of a text has that is a part this many times over, and then a rest.
@@ -71,23 +75,31 @@ fn names_of(alloc: Global, part: &str, count: usize, rest: &str) -> Result<usize
     Ok(path.names().len())
 }
 
+// A part that many times over, a rest, and the number of the names.
+type Counted = (&'static str, usize, &'static str, Result<usize, TreeFault>);
+
+const COUNTS: &[Counted] = &[
+    ("a", 255, "", Ok(1)),
+    ("a", 256, "", Err(TreeFault::BadName)),
+    ("/a", 128, "", Ok(128)),
+    ("/a", 129, "", Err(TreeFault::BadName)),
+    ("/a", 128, "/../b/.", Ok(128)),
+    ("/a", 128, "/c/..", Err(TreeFault::BadName)),
+];
+
+// The number of the first row that is answered otherwise; past the end where there is none.
+fn first_other_count(alloc: Global, rows: &[Counted]) -> usize {
+    for (at, (part, count, rest, wanted)) in rows.iter().enumerate() {
+        if names_of(alloc, part, *count, rest) != *wanted {
+            return at;
+        }
+    }
+    rows.len()
+}
+
 #[test]
 fn a_name_has_255_bytes_and_a_path_128_names_at_most(rt: HostRuntime) {
-    let bad = Err(TreeFault::BadName);
-    let rows = [
-        ("a", 255, "", Ok(1)),
-        ("a", 256, "", bad),
-        ("/a", 128, "", Ok(128)),
-        ("/a", 129, "", bad),
-        ("/a", 128, "/../b/.", Ok(128)),
-        ("/a", 128, "/c/..", bad),
-    ];
-    for (part, count, rest, wanted) in rows {
-        assert!(rt;
-            names_of(rt.alloc(), part, count, rest) == wanted,
-            "{count} {part}{rest}"
-        );
-    }
+    assert_eq!(rt; first_other_count(rt.alloc(), COUNTS), COUNTS.len());
 }
 
 // Whether a path is another one, and whether it stands before it.
@@ -97,20 +109,27 @@ fn compared(alloc: Global, one: &str, other: &str) -> Result<(bool, bool), TreeF
     Ok((path.same(&other), path < other))
 }
 
+// Two paths, whether they are the same, and whether the first stands before the second.
+const ORDERED: &[(&str, &str, bool, bool)] = &[
+    ("etc", "etc/a", false, true),
+    ("etc/z", "etc-", false, true),
+    ("etc", "etc", true, false),
+    ("usr/bin", "bin/usr", false, false),
+];
+
+// The number of the first row that is answered otherwise; past the end where there is none.
+fn first_other_order(alloc: Global, rows: &[(&str, &str, bool, bool)]) -> usize {
+    for (at, (one, other, same, before)) in rows.iter().enumerate() {
+        if compared(alloc, one, other) != Ok((*same, *before)) {
+            return at;
+        }
+    }
+    rows.len()
+}
+
 #[test]
 fn paths_are_in_order_name_by_name(rt: HostRuntime) {
-    let rows = [
-        ("etc", "etc/a", false, true),
-        ("etc/z", "etc-", false, true),
-        ("etc", "etc", true, false),
-        ("usr/bin", "bin/usr", false, false),
-    ];
-    for (one, other, same, before) in rows {
-        assert!(rt;
-            compared(rt.alloc(), one, other) == Ok((same, before)),
-            "{one} {other}"
-        );
-    }
+    assert_eq!(rt; first_other_order(rt.alloc(), ORDERED), ORDERED.len());
 }
 
 // Whether the copy of a name has the text of the name.
@@ -318,12 +337,19 @@ fn told(alloc: Global, steps: &[Step]) -> Result<String, TreeFault> {
     Ok(text)
 }
 
+// The number of the first row that is answered otherwise; past the end where there is none.
+fn first_wrong(alloc: Global, rows: &[(&str, &[Step], &str)]) -> usize {
+    for (at, (_, steps, wanted)) in rows.iter().enumerate() {
+        if !is_told(alloc, told(alloc, steps), wanted) {
+            return at;
+        }
+    }
+    rows.len()
+}
+
 #[test]
 fn a_tree_is_changed_step_by_step(rt: HostRuntime) {
-    let alloc = rt.alloc();
-    for (name, steps, wanted) in STORIES {
-        assert!(rt; is_told(alloc, told(alloc, steps), wanted), "{name}");
-    }
+    assert_eq!(rt; first_wrong(rt.alloc(), STORIES), STORIES.len());
 }
 
 // What a graft at a path of this many names answers, for a tree with one name.

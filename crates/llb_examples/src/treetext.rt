@@ -31,56 +31,70 @@ fn answer(alloc: Global, text: &str) -> Result<String, AllocError> {
     }
 }
 
+// Texts of trees.
+const TEXTS: &[&str] = &[
+    "d 0755 0 0 /\n",
+    "d 0755 0 0 /\nf 0600 1 1 - /old\n",
+    "d 0755 0 0 /\nf 0644 0 0 6869 /f\n",
+    "d 0755 0 0 /\nd 0755 0 0 /a\nf 0644 0 0 - /a/b\nf 0644 0 0 - /a b\nf 0644 0 0 - /a!\n",
+    "d 7777 4294967295 10 /\nd 0000 0 0 /a b\nf 4755 1 2 00ff0a /a b/ c\nd 0755 0 0 /a b-\n",
+];
+
+// The number of the first row that is answered otherwise; past the end where there is none.
+fn first_other_text(alloc: Global, rows: &[&str]) -> usize {
+    for (at, text) in rows.iter().enumerate() {
+        if !is_told(alloc, answer(alloc, text), text) {
+            return at;
+        }
+    }
+    rows.len()
+}
+
 #[test]
 fn a_text_is_read_as_the_tree_whose_text_it_is(rt: HostRuntime) {
-    let texts = [
-        "d 0755 0 0 /\n",
-        "d 0755 0 0 /\nf 0600 1 1 - /old\n",
-        "d 0755 0 0 /\nf 0644 0 0 6869 /f\n",
-        "d 0755 0 0 /\nd 0755 0 0 /a\nf 0644 0 0 - /a/b\nf 0644 0 0 - /a b\nf 0644 0 0 - /a!\n",
-        "d 7777 4294967295 10 /\nd 0000 0 0 /a b\nf 4755 1 2 00ff0a /a b/ c\nd 0755 0 0 /a b-\n",
-    ];
-    for text in texts {
-        assert!(rt;
-            is_told(rt.alloc(), answer(rt.alloc(), text), text),
-            "{text:?}"
-        );
+    assert_eq!(rt; first_other_text(rt.alloc(), TEXTS), TEXTS.len());
+}
+
+// Texts, and the faults of their first faulty lines.
+const FAULTY: &[(&str, &str)] = &[
+    ("", "31 1"),
+    ("d 0755 0 0 /", "31 1"),
+    ("\n", "31 1"),
+    ("f 0755 0 0 - /\n", "31 1"),
+    ("d 0755 0 0 /\nf 0644 0 0 - /\n", "31 2"),
+    ("d 0755 0 0 /\nd 0755 0 0 /b\nd 0755 0 0 /a\n", "32 3"),
+    ("d 0755 0 0 /a\n", "32 1"),
+    ("d 0755 0 0 /\nd 0755 0 0 /\n", "32 2"),
+    ("d 0755 0 0 /\nd 0755 0 0 /a\nf 0644 0 0 - /a\n", "32 3"),
+    ("d 0755 0 0 /\nd 0755 0 0 /a/b\n", "33 2"),
+    ("d 0755 0 0 /\nf 0644 0 0 - /a\nd 0755 0 0 /a/b\n", "33 3"),
+    ("d 0755 0 0 /\nd 0755 0 0 /a/b\nd 755 0 0 /c\n", "33 2"),
+    ("d 0755 0 0 /\nd 0755 0 0 /b\nd 0755 0 0 /a/c", "31 3"),
+    ("d 0755 0 0 /\nd 0755 0 0 /b\nd 0755 0 0 /a/c\n", "32 3"),
+    ("d 0755 0 0 /\nd 0755 0 0 /a\nd 0755 0 0 /b", "31 3"),
+    (
+        "d 0755 0 0 /\nd 0755 0 0 /a\nf 0644 0 0 - /a b\nf 0644 0 0 - /a/b\n",
+        "32 4",
+    ),
+    (
+        "d 0755 0 0 /\nd 0755 0 0 /a\nf 0644 0 0 - /a/b\nf 0644 0 0 - /ab/c\n",
+        "33 4",
+    ),
+];
+
+// The number of the first row that is answered otherwise; past the end where there is none.
+fn first_other_fault(alloc: Global, rows: &[(&str, &str)]) -> usize {
+    for (at, (text, wanted)) in rows.iter().enumerate() {
+        if !is_told(alloc, answer(alloc, text), wanted) {
+            return at;
+        }
     }
+    rows.len()
 }
 
 #[test]
 fn the_first_faulty_line_has_its_first_fault(rt: HostRuntime) {
-    let rows = [
-        ("", "31 1"),
-        ("d 0755 0 0 /", "31 1"),
-        ("\n", "31 1"),
-        ("f 0755 0 0 - /\n", "31 1"),
-        ("d 0755 0 0 /\nf 0644 0 0 - /\n", "31 2"),
-        ("d 0755 0 0 /\nd 0755 0 0 /b\nd 0755 0 0 /a\n", "32 3"),
-        ("d 0755 0 0 /a\n", "32 1"),
-        ("d 0755 0 0 /\nd 0755 0 0 /\n", "32 2"),
-        ("d 0755 0 0 /\nd 0755 0 0 /a\nf 0644 0 0 - /a\n", "32 3"),
-        ("d 0755 0 0 /\nd 0755 0 0 /a/b\n", "33 2"),
-        ("d 0755 0 0 /\nf 0644 0 0 - /a\nd 0755 0 0 /a/b\n", "33 3"),
-        ("d 0755 0 0 /\nd 0755 0 0 /a/b\nd 755 0 0 /c\n", "33 2"),
-        ("d 0755 0 0 /\nd 0755 0 0 /b\nd 0755 0 0 /a/c", "31 3"),
-        ("d 0755 0 0 /\nd 0755 0 0 /b\nd 0755 0 0 /a/c\n", "32 3"),
-        ("d 0755 0 0 /\nd 0755 0 0 /a\nd 0755 0 0 /b", "31 3"),
-        (
-            "d 0755 0 0 /\nd 0755 0 0 /a\nf 0644 0 0 - /a b\nf 0644 0 0 - /a/b\n",
-            "32 4",
-        ),
-        (
-            "d 0755 0 0 /\nd 0755 0 0 /a\nf 0644 0 0 - /a/b\nf 0644 0 0 - /ab/c\n",
-            "33 4",
-        ),
-    ];
-    for (text, wanted) in rows {
-        assert!(rt;
-            is_told(rt.alloc(), answer(rt.alloc(), text), wanted),
-            "{text:?}"
-        );
-    }
+    assert_eq!(rt; first_other_fault(rt.alloc(), FAULTY), FAULTY.len());
 }
 
 // A fault, and that of a text.
@@ -91,26 +105,36 @@ fn same_fault(alloc: Global, text: &str, wanted: TextFault) -> bool {
     }
 }
 
+// Texts, and their faults, which are late.
+const LATE: &[(&str, TextFault)] = &[
+    (
+        "d 0755 0 0 /\nd 0755 0 0 /a\nd 0755 0 0 /a/b\nf 0644 0 0 - /a/b/c\nf 0644 0 0 00f /d\n",
+        TextFault::BadLine(5),
+    ),
+    (
+        "d 0755 0 0 /\nd 0755 0 0 /a\nf 0644 0 0 00ff /a/b\nd 0755 0 0 /c\nd 0755 0 0 /a/d\n",
+        TextFault::Order(5),
+    ),
+    (
+        "d 0755 0 0 /\nd 0755 0 0 /a\nd 0755 0 0 /a/b\nd 0755 0 0 /c\nf 0644 0 0 - /d/e\n",
+        TextFault::NoParent(5),
+    ),
+];
+
+// The number of the first row that is answered otherwise; past the end where there is none.
+fn first_other_late_fault(alloc: Global, rows: &[(&str, TextFault)]) -> usize {
+    for (at, (text, wanted)) in rows.iter().enumerate() {
+        if !same_fault(alloc, text, *wanted) {
+            return at;
+        }
+    }
+    rows.len()
+}
+
 // No allocation is made here: the answers stay the same where each one fails.
 #[test]
 fn a_late_fault_is_told_without_memory(rt: HostRuntime) {
-    let rows = [
-        (
-            "d 0755 0 0 /\nd 0755 0 0 /a\nd 0755 0 0 /a/b\nf 0644 0 0 - /a/b/c\nf 0644 0 0 00f /d\n",
-            TextFault::BadLine(5),
-        ),
-        (
-            "d 0755 0 0 /\nd 0755 0 0 /a\nf 0644 0 0 00ff /a/b\nd 0755 0 0 /c\nd 0755 0 0 /a/d\n",
-            TextFault::Order(5),
-        ),
-        (
-            "d 0755 0 0 /\nd 0755 0 0 /a\nd 0755 0 0 /a/b\nd 0755 0 0 /c\nf 0644 0 0 - /d/e\n",
-            TextFault::NoParent(5),
-        ),
-    ];
-    for (text, wanted) in rows {
-        assert!(rt; same_fault(rt.alloc(), text, wanted), "{text:?}");
-    }
+    assert_eq!(rt; first_other_late_fault(rt.alloc(), LATE), LATE.len());
 }
 
 // A root, that many files, and then a path below the last of them.
@@ -139,39 +163,49 @@ fn second_line(alloc: Global, line: &str) -> Result<String, AllocError> {
     answer(alloc, text.as_str())
 }
 
+// Lines that are none of a tree, each after the root.
+const MISSPELLED: &[&str] = &[
+    "f 0644 0 0 6A /f",
+    "f 0644 0 0 6a6 /f",
+    "f 0644 0 0  /f",
+    "f 644 0 0 6a /f",
+    "f 0844 0 0 6a /f",
+    "f 00644 0 0 6a /f",
+    "f 0644 00 0 6a /f",
+    "f 0644 0 01 6a /f",
+    "f 0644 +1 0 6a /f",
+    "f 0644 4294967296 0 6a /f",
+    "f 0644 0  0 6a /f",
+    "f 0644 0 0 6a f",
+    "f 0644 0 0 6a /f/",
+    "f 0644 0 0 6a //f",
+    "f 0644 0 0 6a /./f",
+    "f 0644 0 0 6a /a/../f",
+    "f 0644 0 0 /f",
+    "d 0755 0 0 - /d",
+    "D 0755 0 0 /d",
+    " d 0755 0 0 /d",
+    "d 0755 0 0 /d\r",
+    "d 0755 0 0 /d\x00",
+    "",
+];
+
+// The number of the first row that is answered otherwise; past the end where there is none.
+fn first_that_is_read(alloc: Global, rows: &[&str]) -> usize {
+    for (at, line) in rows.iter().enumerate() {
+        if !is_told(alloc, second_line(alloc, line), "31 2") {
+            return at;
+        }
+    }
+    rows.len()
+}
+
 #[test]
 fn only_the_written_spelling_is_read(rt: HostRuntime) {
-    let lines = [
-        "f 0644 0 0 6A /f",
-        "f 0644 0 0 6a6 /f",
-        "f 0644 0 0  /f",
-        "f 644 0 0 6a /f",
-        "f 0844 0 0 6a /f",
-        "f 00644 0 0 6a /f",
-        "f 0644 00 0 6a /f",
-        "f 0644 0 01 6a /f",
-        "f 0644 +1 0 6a /f",
-        "f 0644 4294967296 0 6a /f",
-        "f 0644 0  0 6a /f",
-        "f 0644 0 0 6a f",
-        "f 0644 0 0 6a /f/",
-        "f 0644 0 0 6a //f",
-        "f 0644 0 0 6a /./f",
-        "f 0644 0 0 6a /a/../f",
-        "f 0644 0 0 /f",
-        "d 0755 0 0 - /d",
-        "D 0755 0 0 /d",
-        " d 0755 0 0 /d",
-        "d 0755 0 0 /d\r",
-        "d 0755 0 0 /d\x00",
-        "",
-    ];
-    for line in lines {
-        assert!(rt;
-            is_told(rt.alloc(), second_line(rt.alloc(), line), "31 2"),
-            "{line:?}"
-        );
-    }
+    assert_eq!(rt;
+        first_that_is_read(rt.alloc(), MISSPELLED),
+        MISSPELLED.len()
+    );
 }
 
 // Whether a tree that is printed is read as the same tree.

@@ -17,37 +17,48 @@ fn number(bytes: &[u8], at: usize) -> Option<Result<(u64, usize), WireFault>> {
     Some(varint(bytes, at))
 }
 
+// Bytes, a place, and the number there with where it ends, or the fault.
+type Numbered = (&'static [u8], usize, Result<(u64, usize), WireFault>);
+
+const NUMBERS: &[Numbered] = &[
+    (&[0xAC, 0x02], 0, Ok((300, 2))),
+    (&[0x00], 0, Ok((0, 1))),
+    (
+        &[0xFF, 0xFF, 0xFF, 0xFF, 0xFF, 0xFF, 0xFF, 0xFF, 0xFF, 0x01],
+        0,
+        Ok((18_446_744_073_709_551_615, 10)),
+    ),
+    (
+        &[0xFF, 0xFF, 0xFF, 0xFF, 0xFF, 0xFF, 0xFF, 0xFF, 0xFF, 0x02],
+        0,
+        Err(WireFault::LongVarint),
+    ),
+    (
+        &[
+            0x80, 0x80, 0x80, 0x80, 0x80, 0x80, 0x80, 0x80, 0x80, 0x80, 0x00,
+        ],
+        0,
+        Err(WireFault::LongVarint),
+    ),
+    (&[0x80], 0, Err(WireFault::Truncated)),
+    (&[], 0, Err(WireFault::Truncated)),
+    (&[0x81, 0x00], 0, Ok((1, 2))),
+    (&[0x08, 0x96, 0x01], 1, Ok((150, 3))),
+];
+
+// The number of the first row that is answered otherwise; past the end where there is none.
+fn first_other_number(rows: &[Numbered]) -> usize {
+    for (at, (bytes, at_byte, wanted)) in rows.iter().enumerate() {
+        if number(bytes, *at_byte) != Some(*wanted) {
+            return at;
+        }
+    }
+    rows.len()
+}
+
 #[test]
 fn a_number_has_at_most_ten_bytes(rt: HostRuntime) {
-    let rows: [(&[u8], usize, Result<(u64, usize), WireFault>); 9] = [
-        (&[0xAC, 0x02], 0, Ok((300, 2))),
-        (&[0x00], 0, Ok((0, 1))),
-        (
-            &[0xFF, 0xFF, 0xFF, 0xFF, 0xFF, 0xFF, 0xFF, 0xFF, 0xFF, 0x01],
-            0,
-            Ok((18_446_744_073_709_551_615, 10)),
-        ),
-        (
-            &[0xFF, 0xFF, 0xFF, 0xFF, 0xFF, 0xFF, 0xFF, 0xFF, 0xFF, 0x02],
-            0,
-            Err(WireFault::LongVarint),
-        ),
-        (
-            &[
-                0x80, 0x80, 0x80, 0x80, 0x80, 0x80, 0x80, 0x80, 0x80, 0x80, 0x00,
-            ],
-            0,
-            Err(WireFault::LongVarint),
-        ),
-        (&[0x80], 0, Err(WireFault::Truncated)),
-        (&[], 0, Err(WireFault::Truncated)),
-        (&[0x81, 0x00], 0, Ok((1, 2))),
-        (&[0x08, 0x96, 0x01], 1, Ok((150, 3))),
-    ];
-    for (bytes, at, wanted) in rows {
-        let found = number(bytes, at) == Some(wanted);
-        assert!(rt; found, "{bytes:?} from {at}");
-    }
+    assert_eq!(rt; first_other_number(NUMBERS), NUMBERS.len());
 }
 
 // The record at a place. A place past the end has none.
@@ -58,73 +69,91 @@ fn record(bytes: &[u8], at: usize) -> Option<Result<Option<Field>, WireFault>> {
     Some(next_record(bytes, at))
 }
 
+// Bytes, and the record at their prefix.
+const RECORDS: &[(&[u8], Field)] = &[
+    (
+        &[0x08, 0x96, 0x01],
+        Field {
+            number: 1,
+            wire: Wire::Varint,
+            value: 150,
+            start: 1,
+            end: 3,
+        },
+    ),
+    (
+        &[0x12, 0x02, 0x68, 0x69, 0x00],
+        Field {
+            number: 2,
+            wire: Wire::Len,
+            value: 2,
+            start: 2,
+            end: 4,
+        },
+    ),
+    (
+        &[0x09, 1, 2, 3, 4, 5, 6, 7, 8],
+        Field {
+            number: 1,
+            wire: Wire::I64,
+            value: 0x0807_0605_0403_0201,
+            start: 1,
+            end: 9,
+        },
+    ),
+    (
+        &[0x0D, 1, 2, 3, 4],
+        Field {
+            number: 1,
+            wire: Wire::I32,
+            value: 0x0403_0201,
+            start: 1,
+            end: 5,
+        },
+    ),
+];
+
+// The number of the first row that is answered otherwise; past the end where there is none.
+fn first_other_record(rows: &[(&[u8], Field)]) -> usize {
+    for (at, (bytes, wanted)) in rows.iter().enumerate() {
+        if record(bytes, 0) != Some(Ok(Some(*wanted))) {
+            return at;
+        }
+    }
+    rows.len()
+}
+
 #[test]
 fn a_record_is_its_number_its_wire_type_and_its_payload(rt: HostRuntime) {
-    let rows: [(&[u8], Field); 4] = [
-        (
-            &[0x08, 0x96, 0x01],
-            Field {
-                number: 1,
-                wire: Wire::Varint,
-                value: 150,
-                start: 1,
-                end: 3,
-            },
-        ),
-        (
-            &[0x12, 0x02, 0x68, 0x69, 0x00],
-            Field {
-                number: 2,
-                wire: Wire::Len,
-                value: 2,
-                start: 2,
-                end: 4,
-            },
-        ),
-        (
-            &[0x09, 1, 2, 3, 4, 5, 6, 7, 8],
-            Field {
-                number: 1,
-                wire: Wire::I64,
-                value: 0x0807_0605_0403_0201,
-                start: 1,
-                end: 9,
-            },
-        ),
-        (
-            &[0x0D, 1, 2, 3, 4],
-            Field {
-                number: 1,
-                wire: Wire::I32,
-                value: 0x0403_0201,
-                start: 1,
-                end: 5,
-            },
-        ),
-    ];
-    for (bytes, wanted) in rows {
-        let found = record(bytes, 0) == Some(Ok(Some(wanted)));
-        assert!(rt; found, "{bytes:?}");
-    }
+    assert_eq!(rt; first_other_record(RECORDS), RECORDS.len());
     let ended = record(&[0x08, 0x96, 0x01], 3) == Some(Ok(None));
     assert!(rt; ended);
 }
 
+// Bytes, and the first fault of the record at their prefix.
+const FAULTY: &[(&[u8], WireFault)] = &[
+    (&[0x00], WireFault::BadField),
+    (&[0x0B], WireFault::BadWireType),
+    (&[0x0A, 0x02, 0x61], WireFault::Truncated),
+    (&[0x0D, 1, 2, 3], WireFault::Truncated),
+    (&[0x03], WireFault::BadField),
+    (&[0xFB, 0xFF, 0xFF, 0xFF, 0x0F], WireFault::BadWireType),
+    (&[0x80, 0x80, 0x80, 0x80, 0x10], WireFault::BadField),
+];
+
+// The number of the first row that is answered otherwise; past the end where there is none.
+fn first_other_fault(rows: &[(&[u8], WireFault)]) -> usize {
+    for (at, (bytes, wanted)) in rows.iter().enumerate() {
+        if record(bytes, 0) != Some(Err(*wanted)) {
+            return at;
+        }
+    }
+    rows.len()
+}
+
 #[test]
 fn a_record_has_its_first_fault(rt: HostRuntime) {
-    let rows: [(&[u8], WireFault); 7] = [
-        (&[0x00], WireFault::BadField),
-        (&[0x0B], WireFault::BadWireType),
-        (&[0x0A, 0x02, 0x61], WireFault::Truncated),
-        (&[0x0D, 1, 2, 3], WireFault::Truncated),
-        (&[0x03], WireFault::BadField),
-        (&[0xFB, 0xFF, 0xFF, 0xFF, 0x0F], WireFault::BadWireType),
-        (&[0x80, 0x80, 0x80, 0x80, 0x10], WireFault::BadField),
-    ];
-    for (bytes, wanted) in rows {
-        let found = record(bytes, 0) == Some(Err(wanted));
-        assert!(rt; found, "{bytes:?}");
-    }
+    assert_eq!(rt; first_other_fault(FAULTY), FAULTY.len());
 }
 
 // A number, and after it four records.

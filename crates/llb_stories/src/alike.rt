@@ -1,80 +1,145 @@
-//! Boards that are the same by value, and boards that differ in one thing.
+//! Boards that are the same by value, boards that differ in one thing, and copies.
 
-use super::landings::MAKES_Z;
-use super::told::is_done;
-use super::written::{A_AND_B, MAKES_A, MAKES_B, NAMES_D, graph_of};
+use super::cached::LOCKED_A_FAILS;
+use super::definitions::{MAKES_B, MAKES_Z, MERGES_0_1, RESULT_0, RESULT_2};
+use super::runs::{IN_A_ROW, TWO_FILES};
+use super::told::are_done;
+use super::written::{Definition, board_of};
 use llb_board::{Board, Event};
-use llb_cache::Caches;
-use llb_loader::Locals;
 use std::alloc::Global;
 
-// A file, the file `/b`, and both of them.
-fn with_file(alloc: Global, file: &[u8], workers: u32) -> Option<Board> {
-    let rows = [("A", file), ("B", MAKES_B), ("D", A_AND_B), ("T", NAMES_D)];
-    let graph = graph_of(alloc, &rows)?;
-    Board::open(
-        alloc,
-        graph,
-        Locals::new(alloc),
-        Caches::new(alloc),
-        workers,
-    )
-    .ok()
+// A board: what it was opened on, for that many workers, and the events that were done on it.
+type Side = (Definition, u32, &'static [Event]);
+
+const OPENED: Side = (TWO_FILES, 2, &[]);
+
+const CLAIMED: Side = (TWO_FILES, 2, &[Event::Claim(0, 0)]);
+
+// What two boards are, and whether they are the same.
+const PAIRS: &[(Side, Side, bool)] = &[
+    // Boards of the same events are the same.
+    (OPENED, OPENED, true),
+    (CLAIMED, OPENED, false),
+    (CLAIMED, CLAIMED, true),
+    // Two claims in two orders: the same state, and another record.
+    (
+        (TWO_FILES, 2, &[Event::Claim(0, 0), Event::Claim(1, 1)]),
+        (TWO_FILES, 2, &[Event::Claim(1, 1), Event::Claim(0, 0)]),
+        false,
+    ),
+    // Another number of workers, and another file.
+    (OPENED, (TWO_FILES, 3, &[]), false),
+    (
+        OPENED,
+        (&[MAKES_Z, MAKES_B, MERGES_0_1, RESULT_2], 2, &[]),
+        false,
+    ),
+];
+
+// Whether two boards are the same once the events of both were done; none where one is refused.
+fn compared(
+    one: &mut Board,
+    events: &[Event],
+    other: &mut Board,
+    others: &[Event],
+) -> Option<bool> {
+    if are_done(one, events) && are_done(other, others) {
+        Some(one.same(other))
+    } else {
+        None
+    }
 }
 
-// Whether two boards are the same, then where one is ahead by an event, then where both have done it.
-fn by_an_event(board: &mut Board, other: &mut Board) -> [bool; 3] {
-    let before = board.same(other);
-    let claimed = is_done(board, Event::Claim(0, 0));
-    let ahead = board.same(other);
-    let followed = is_done(other, Event::Claim(0, 0));
-    [before, ahead, claimed && followed && board.same(other)]
+fn is_same_as(alloc: Global, board: &mut Board, events: &[Event], other: &Side) -> Option<bool> {
+    match board_of(alloc, other.0, &[], other.1) {
+        Some(mut second) => compared(board, events, &mut second, other.2),
+        None => None,
+    }
 }
 
-fn opened_alike(alloc: Global) -> Option<[bool; 3]> {
-    let mut board = with_file(alloc, MAKES_A, 2)?;
-    let mut other = with_file(alloc, MAKES_A, 2)?;
-    Some(by_an_event(&mut board, &mut other))
+fn are_same(alloc: Global, one: &Side, other: &Side) -> Option<bool> {
+    match board_of(alloc, one.0, &[], one.1) {
+        Some(mut board) => is_same_as(alloc, &mut board, one.2, other),
+        None => None,
+    }
 }
 
-// Whether a board is the same as its copy.
-fn copied(alloc: Global) -> Option<bool> {
-    let board = with_file(alloc, MAKES_A, 2)?;
-    let copy = board.copy().ok()?;
-    Some(board.same(&copy))
+// The number of the first pair of which something else holds; past the end where there is none.
+fn first_wrong(alloc: Global, pairs: &[(Side, Side, bool)]) -> usize {
+    for (at, (one, other, wanted)) in pairs.iter().enumerate() {
+        if are_same(alloc, one, other) != Some(*wanted) {
+            return at;
+        }
+    }
+    pairs.len()
 }
 
 #[test]
-fn boards_of_the_same_events_are_the_same(rt: HostRuntime) {
-    let alloc = rt.alloc();
-    assert!(rt; opened_alike(alloc) == Some([true, false, true]));
-    assert!(rt; copied(alloc) == Some(true));
+fn boards_are_the_same_by_all_that_they_hold(rt: HostRuntime) {
+    assert_eq!(rt; first_wrong(rt.alloc(), PAIRS), PAIRS.len());
 }
 
-// Two claims in two orders: the same state, and another record.
-fn by_the_order_of_claims(board: &mut Board, other: &mut Board) -> [bool; 2] {
-    let first = is_done(board, Event::Claim(0, 0)) && is_done(board, Event::Claim(1, 1));
-    let second = is_done(other, Event::Claim(1, 1)) && is_done(other, Event::Claim(0, 0));
-    [first && second, board.same(other)]
+// Boards, and events that are then done on them and not on their copies.
+const COPIED: &[(Side, &[Event])] = &[
+    (OPENED, &[Event::Claim(0, 0)]),
+    (CLAIMED, &[Event::Step(0)]),
+    ((IN_A_ROW, 2, &[]), &[Event::Claim(0, 0), Event::Step(0)]),
+    (
+        (&[LOCKED_A_FAILS, RESULT_0], 2, &[Event::Claim(0, 0)]),
+        &[Event::Step(0)],
+    ),
+];
+
+// Whether a copy is the board, then whether it still is once some events were done on the board alone, and whether it is then as a board
+// on which they were not done.
+fn copied(board: &mut Board, untouched: &Board, events: &[Event]) -> [bool; 3] {
+    match board.copy() {
+        Ok(copy) => {
+            let before = board.same(&copy);
+            let done = are_done(board, events);
+            [
+                before,
+                done && board.same(&copy),
+                done && copy.same(untouched),
+            ]
+        }
+        Err(_) => [false; 3],
+    }
 }
 
-fn claimed_in_two_orders(alloc: Global) -> Option<[bool; 2]> {
-    let mut board = with_file(alloc, MAKES_A, 2)?;
-    let mut other = with_file(alloc, MAKES_A, 2)?;
-    Some(by_the_order_of_claims(&mut board, &mut other))
+fn copied_beside(
+    alloc: Global,
+    board: &mut Board,
+    side: &Side,
+    events: &[Event],
+) -> Option<[bool; 3]> {
+    match board_of(alloc, side.0, &[], side.1) {
+        Some(mut untouched) => {
+            let begun = are_done(board, side.2) && are_done(&mut untouched, side.2);
+            let told = copied(board, &untouched, events);
+            if begun { Some(told) } else { None }
+        }
+        None => None,
+    }
 }
 
-// Whether a board that was just opened is the same as one with another file and another number of workers.
-fn same_as(alloc: Global, file: &[u8], workers: u32) -> Option<bool> {
-    let board = with_file(alloc, MAKES_A, 2)?;
-    let other = with_file(alloc, file, workers)?;
-    Some(board.same(&other))
+fn copied_from(alloc: Global, side: &Side, events: &[Event]) -> Option<[bool; 3]> {
+    match board_of(alloc, side.0, &[], side.1) {
+        Some(mut board) => copied_beside(alloc, &mut board, side, events),
+        None => None,
+    }
+}
+
+fn first_other_copy(alloc: Global, rows: &[(Side, &[Event])]) -> usize {
+    for (at, (side, events)) in rows.iter().enumerate() {
+        if copied_from(alloc, side, events) != Some([true, false, true]) {
+            return at;
+        }
+    }
+    rows.len()
 }
 
 #[test]
-fn boards_that_differ_in_one_thing_are_not(rt: HostRuntime) {
-    let alloc = rt.alloc();
-    assert!(rt; claimed_in_two_orders(alloc) == Some([true, false]));
-    assert!(rt; same_as(alloc, MAKES_A, 3) == Some(false));
-    assert!(rt; same_as(alloc, MAKES_Z, 2) == Some(false));
+fn a_copy_stays_where_the_board_was(rt: HostRuntime) {
+    assert_eq!(rt; first_other_copy(rt.alloc(), COPIED), COPIED.len());
 }

@@ -1,11 +1,18 @@
 //! Many workers, each in a thread of its own, that take their vertices from one queue.
 
-use super::written::{A_AND_B, MAKES_A, MAKES_B, NAMES_D, graph_of};
-use llb_board::{Board, Gate, Stopped};
-use llb_cache::Caches;
-use llb_loader::Locals;
-use llb_work::run_workers;
-use std::alloc::Global;
+use super::cached::{LOCKED_A, LOCKED_B, PRIVATE_A, PRIVATE_B, SHARED_A_B, SHARED_C_D};
+use super::definitions::{MAKES_A, MAKES_B, MERGES_0_1, RESULT_2};
+use super::written::{board_from, board_of};
+use llb_board::{Board, Event, Gate, Stopped};
+use llb_stepper::{Break, Stepper, Stop};
+use llb_wire::Same;
+use llb_work::{RunEnd, run_alone, run_workers};
+use std::alloc::{AllocError, Global};
+use std::fmt::Write;
+use std::sync::Wait;
+use std::sync::atomic::{AtomicU64, Ordering};
+use std::thread;
+use std::thread::Threads;
 
 // Lets everybody pass.
 struct Open;
@@ -20,48 +27,246 @@ impl Gate for Open {
     }
 }
 
-fn opened(alloc: Global, workers: u32) -> Option<Board> {
-    let rows = [
-        ("A", MAKES_A),
-        ("B", MAKES_B),
-        ("D", A_AND_B),
-        ("T", NAMES_D),
-    ];
-    let graph = graph_of(alloc, &rows)?;
-    Board::open(
-        alloc,
-        graph,
-        Locals::new(alloc),
-        Caches::new(alloc),
-        workers,
-    )
-    .ok()
+// Holds each of the first vertices until that many have arrived, at most 1,000,000 turns.
+#[derive(Drop)]
+struct Gather {
+    count: u64,
+    arrived: AtomicU64,
+}
+
+impl Gate for Gather {
+    ghost use Rattle.std.specs.Prelude.{true};
+
+    ghost may_stop = { λ _ _. true };
+
+    fn pass(&self, _w: u32, v: u32) -> Result<(), Stopped> {
+        if u64::from(v) >= self.count {
+            return Ok(());
+        }
+        self.arrived.fetch_add(1, Ordering::SeqCst);
+        for _turn in 0..1_000_000u32 {
+            if self.arrived.load(Ordering::SeqCst) >= self.count {
+                return Ok(());
+            }
+            thread::yield_now();
+        }
+        Err(Stopped)
+    }
+}
+
+// Entries that make the files `/00`, `/01` and so on.
+fn push_files(text: &mut String, count: u32) -> Result<(), AllocError> {
+    for i in 0..count {
+        write!(
+            text,
+            "op {{\nfile {{\nactions {{\ninput -1\nmkfile {{\npath \"/{i:02}\"\nmode 420\n}}\n}}\n}}\n}}\n"
+        )?;
+    }
+    Ok(())
+}
+
+fn push_digests(text: &mut String, count: u32) -> Result<(), AllocError> {
+    for i in 0..count {
+        write!(text, "inputs {{\ndigest %{i}\n}}\n")?;
+    }
+    Ok(())
+}
+
+fn push_layers(text: &mut String, count: u32) -> Result<(), AllocError> {
+    text.push_str("merge {\ninputs {\n}\n")?;
+    for i in 1..count {
+        write!(text, "inputs {{\ninput {i}\n}}\n")?;
+    }
+    text.push_str("}\n")
+}
+
+// The merge of that many entries, which is the result.
+fn push_merge(text: &mut String, count: u32) -> Result<(), AllocError> {
+    text.push_str("op {\n")?;
+    push_digests(text, count)?;
+    push_layers(text, count)?;
+    write!(text, "}}\nop {{\ninputs {{\ndigest %{count}\n}}\n}}\n")?;
+    Ok(())
+}
+
+// So many entries that make a file each, and their merge.
+fn files_and_their_merge(alloc: Global, count: u32) -> Result<String, AllocError> {
+    let mut text = String::new(alloc);
+    push_files(&mut text, count)?;
+    push_merge(&mut text, count)?;
+    Ok(text)
+}
+
+fn merged(alloc: Global, count: u32, workers: u32) -> Option<Board> {
+    match files_and_their_merge(alloc, count) {
+        Ok(text) => board_from(alloc, text.as_str(), workers),
+        Err(_) => None,
+    }
+}
+
+// How many events were made in all, and by the worker that made the fewest of the first ones; none where there is a fault, or something is
+// left to do.
+fn counts(end: &RunEnd, workers: usize) -> Option<(u64, u64)> {
+    if end.fault.is_some() || !end.board.is_complete() {
+        return None;
+    }
+    let mut all = 0u64;
+    let mut least = u64::MAX;
+    for made in end.made.iter().take(workers) {
+        all = all.wrapping_add(*made);
+        least = least.min(*made);
+    }
+    Some((all, least))
+}
+
+#[test]
+fn sixty_four_workers_are_at_work_together(rt: HostRuntime) {
+    let gate = Gather {
+        count: 64,
+        arrived: AtomicU64::new(0),
+    };
+    let made = match merged(rt.alloc(), 64, 64) {
+        Some(board) => counts(&run_workers(&rt, rt.alloc(), board, &gate), 64),
+        None => None,
+    };
+    assert!(rt; matches!(made, Some((258, 3..))));
+}
+
+const TWO_AND_THEIR_MERGE: [&str; 4] = [MAKES_A, MAKES_B, MERGES_0_1, RESULT_2];
+
+// Whether the merge alone is a user of either file, and nothing of the merge.
+fn have_users(board: &Board) -> bool {
+    board.users(0) == [2].as_slice()
+        && board.users(1) == [2].as_slice()
+        && board.users(2).is_empty()
+        && board.users(9).is_empty()
 }
 
 #[test]
 fn users_are_those_that_have_an_edge_to_a_vertex(rt: HostRuntime) {
-    match opened(rt.alloc(), 2) {
-        None => panic!(rt; "no board"),
-        Some(board) => {
-            assert!(rt; board.users(0) == [2].as_slice() && board.users(1) == [2].as_slice());
-            assert!(rt; board.users(2).is_empty() && board.users(9).is_empty());
-        }
+    let users = match board_of(rt.alloc(), &TWO_AND_THEIR_MERGE, &[], 2) {
+        Some(board) => have_users(&board),
+        None => false,
+    };
+    assert!(rt; users);
+}
+
+// Whether two boards have one tree as the result.
+fn have_one_tree(one: &Board, other: &Board) -> bool {
+    match (one.output(2, 0), other.output(2, 0)) {
+        (Some(tree), Some(wanted)) => tree.same(wanted),
+        _ => false,
     }
 }
 
-// How many events were made in all.
-fn sum_of(made: &[u64; 64]) -> u64 {
-    made.iter().fold(0u64, |sum, some| sum.wrapping_add(*some))
+// How many events a run of that many workers has, where its result is that of the board given.
+fn made_by<R: Threads + Wait + Sync>(
+    rt: &R,
+    alloc: Global,
+    wanted: &Board,
+    workers: u32,
+) -> Option<u64> {
+    let board = board_of(alloc, &TWO_AND_THEIR_MERGE, &[], workers)?;
+    let end = run_workers(rt, alloc, board, &Open);
+    match counts(&end, 64) {
+        Some((all, _)) if have_one_tree(&end.board, wanted) => Some(all),
+        _ => None,
+    }
+}
+
+// The first of these numbers of workers that leaves another tree, or has another number of events than ten.
+fn first_apart<R: Threads + Wait + Sync>(rt: &R, alloc: Global, wanted: &Board) -> Option<u32> {
+    for workers in [1, 2, 3, 64] {
+        if made_by(rt, alloc, wanted, workers) != Some(10) {
+            return Some(workers);
+        }
+    }
+    None
 }
 
 #[test]
-fn sixty_four_workers_make_what_one_would(rt: HostRuntime) {
-    match opened(rt.alloc(), 64) {
-        None => panic!(rt; "no board"),
-        Some(board) => {
-            let end = run_workers(&rt, rt.alloc(), board, &Open);
-            assert!(rt; end.fault.is_none() && end.board.is_complete());
-            assert!(rt; sum_of(&end.made) == 10);
-        }
+fn any_number_of_workers_leaves_one_tree(rt: HostRuntime) {
+    let apart = match board_of(rt.alloc(), &TWO_AND_THEIR_MERGE, &[], 1) {
+        Some(board) => first_apart(&rt, rt.alloc(), &run_alone(board).board),
+        None => Some(0),
+    };
+    assert_eq!(rt; apart, None);
+}
+
+// Where the record of threads stops at the claim of the merge, and how many events are left after two steps back: one of the files is made
+// then, and the other's worker has not settled.
+fn walked(stepper: &mut Stepper, events: &[Event]) -> Option<(Stop, usize)> {
+    stepper.break_at(Break::Claims(2)).ok()?;
+    let stop = stepper.replay(events).ok()?;
+    stepper.back().ok()?;
+    stepper.back().ok()?;
+    Some((stop, stepper.board().events().len()))
+}
+
+// The same of what threads have left, in a new stepper.
+fn walked_again(alloc: Global, left: &Board) -> Option<(Stop, usize)> {
+    match board_of(alloc, &TWO_AND_THEIR_MERGE, &[], 2) {
+        Some(board) => walked(&mut Stepper::new(alloc, board), left.events().as_slice()),
+        None => None,
     }
+}
+
+#[test]
+fn a_record_of_threads_is_walked(rt: HostRuntime) {
+    let alloc = rt.alloc();
+    let walk = match board_of(alloc, &TWO_AND_THEIR_MERGE, &[], 2) {
+        Some(board) => walked_again(alloc, &run_workers(&rt, alloc, board, &Open).board),
+        None => None,
+    };
+    let stop = Stop {
+        events: 7,
+        at_break: true,
+    };
+    assert!(rt; walk == Some((stop, 5)));
+}
+
+const ON_CACHES: [&str; 6] = [
+    LOCKED_A, LOCKED_B, PRIVATE_A, PRIVATE_B, SHARED_A_B, SHARED_C_D,
+];
+
+// Executions on a cache that is shared in each of the three ways, two of each, and the merge of what they give.
+fn on_caches(alloc: Global) -> Result<String, AllocError> {
+    let mut text = String::new(alloc);
+    for entry in ON_CACHES {
+        text.push_str(entry)?;
+        text.push_str("\n")?;
+    }
+    push_merge(&mut text, 6)?;
+    Ok(text)
+}
+
+fn on_caches_by(alloc: Global, workers: u32) -> Option<Board> {
+    match on_caches(alloc) {
+        Ok(text) => board_from(alloc, text.as_str(), workers),
+        Err(_) => None,
+    }
+}
+
+fn is_replayed(stepper: &mut Stepper, left: &Board) -> bool {
+    stepper.replay(left.events().as_slice()).is_ok() && stepper.board().same(left)
+}
+
+// Whether the record that threads have left is replayed on a new board to what they left.
+fn is_left(alloc: Global, end: &RunEnd) -> bool {
+    match on_caches_by(alloc, 64) {
+        Some(board) => {
+            end.fault.is_none() && is_replayed(&mut Stepper::new(alloc, board), &end.board)
+        }
+        None => false,
+    }
+}
+
+#[test]
+fn a_record_of_threads_on_caches_is_replayed(rt: HostRuntime) {
+    let alloc = rt.alloc();
+    let left = match on_caches_by(alloc, 64) {
+        Some(board) => is_left(alloc, &run_workers(&rt, alloc, board, &Open)),
+        None => false,
+    };
+    assert!(rt; left);
 }

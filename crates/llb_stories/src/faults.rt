@@ -1,70 +1,125 @@
-//! What faults of calls on a board print: what stands after the word `fault` in a refusal.
+//! What faults of calls on a board print: what stands after the word `fault` in a refusal, and those of an opening.
 
-use llb_board::{ClaimFault, SettleFault, StepFault};
-use llb_cache::{Key, Mode};
+use super::runs::IN_A_ROW;
+use super::written::{graph_from, key_of};
+use llb_board::{ClaimFault, OpenFault, SettleFault, StepFault};
+use llb_cache::{Caches, Mode};
+use llb_loader::{Graph, Locals};
 use llb_wire::Text;
-use std::alloc::{AllocError, Global};
+use std::alloc::Global;
 use std::fmt::Display;
 
-// What faults print, each in a line.
-fn printed<T: Display>(alloc: Global, faults: &[T]) -> Result<String, AllocError> {
-    let mut text = String::new(alloc);
-    for fault in faults {
-        let line = fault.to_string(alloc)?;
-        text.push_str(line.as_str())?;
-        text.push_str("\n")?;
-    }
-    Ok(text)
-}
-
-fn print<T: Display>(alloc: Global, faults: &[T], wanted: &str) -> bool {
-    match printed(alloc, faults) {
+pub fn prints<T: Display>(alloc: Global, fault: &T, wanted: &str) -> bool {
+    match fault.to_string(alloc) {
         Ok(text) => text.as_str() == wanted,
         Err(_) => false,
     }
 }
 
-fn held(alloc: Global, id: &str) -> Option<ClaimFault> {
-    let id = Text::from_str(alloc, id).ok()?;
-    let key = Key {
-        id,
-        seed: None,
-        mode: Mode::Locked,
-    };
-    Some(ClaimFault::Held(key))
+// The number of the first fault that prints something else; past the end where there is none.
+fn first_wrong<T: Display>(alloc: Global, rows: &[(T, &str)]) -> usize {
+    for (at, (fault, wanted)) in rows.iter().enumerate() {
+        if !prints(alloc, fault, wanted) {
+            return at;
+        }
+    }
+    rows.len()
 }
 
-#[test]
-fn a_locked_cache_that_is_held(rt: HostRuntime) {
-    let alloc = rt.alloc();
-    match held(alloc, "go-mod") {
-        Some(fault) => assert!(rt; print(alloc, &[fault], "135 go-mod\n")),
-        None => panic!(rt; "no memory"),
+// The refusal of a claim of that number, but for that of a held key.
+fn claim_fault(at: usize) -> ClaimFault {
+    match at {
+        0 => ClaimFault::NoWorker,
+        1 => ClaimFault::Busy,
+        2 => ClaimFault::NoVertex,
+        3 => ClaimFault::NotReady,
+        _ => ClaimFault::Memory,
     }
 }
+
+const CLAIMS: &[&str] = &["131", "132", "133", "134", "141"];
+
+// The number of the first of them that prints something else; past the end where there is none.
+fn first_other_claim(alloc: Global, texts: &[&str]) -> usize {
+    for (at, wanted) in texts.iter().enumerate() {
+        if !prints(alloc, &claim_fault(at), wanted) {
+            return at;
+        }
+    }
+    texts.len()
+}
+
+const STEPS: &[(StepFault, &str)] = &[
+    (StepFault::NoWorker, "131"),
+    (StepFault::NotRunning, "136"),
+    (StepFault::NothingLeft, "137"),
+    (StepFault::Memory, "141"),
+];
+
+const SETTLES: &[(SettleFault, &str)] = &[
+    (SettleFault::NoWorker, "131"),
+    (SettleFault::NotRunning, "136"),
+    (SettleFault::NotFinished, "138"),
+];
 
 #[test]
 fn faults_of_calls_on_a_board(rt: HostRuntime) {
     let alloc = rt.alloc();
-    let claims = [
-        ClaimFault::NoWorker,
-        ClaimFault::Busy,
-        ClaimFault::NoVertex,
-        ClaimFault::NotReady,
-        ClaimFault::Memory,
-    ];
-    assert!(rt; print(alloc, &claims, "131\n132\n133\n134\n141\n"));
-    let steps = [
-        StepFault::NoWorker,
-        StepFault::NotRunning,
-        StepFault::NothingLeft,
-        StepFault::Memory,
-    ];
-    assert!(rt; print(alloc, &steps, "131\n136\n137\n141\n"));
-    let settles = [
-        SettleFault::NoWorker,
-        SettleFault::NotRunning,
-        SettleFault::NotFinished,
-    ];
-    assert!(rt; print(alloc, &settles, "131\n136\n138\n"));
+    assert_eq!(rt; first_other_claim(alloc, CLAIMS), CLAIMS.len());
+    assert_eq!(rt; first_wrong(alloc, STEPS), STEPS.len());
+    assert_eq!(rt; first_wrong(alloc, SETTLES), SETTLES.len());
+}
+
+// Whether a locked key of that ID that is held prints so.
+fn is_held_printed(alloc: Global, id: &'static str, wanted: &str) -> bool {
+    match key_of(alloc, &(id, Mode::Locked, None)) {
+        Ok(key) => prints(alloc, &ClaimFault::Held(key), wanted),
+        Err(_) => false,
+    }
+}
+
+#[test]
+fn a_locked_cache_that_is_held(rt: HostRuntime) {
+    assert!(rt; is_held_printed(rt.alloc(), "go-mod", "135 go-mod"));
+}
+
+fn workers_fault(alloc: Global, graph: Graph) -> OpenFault {
+    OpenFault::Workers(graph, Locals::new(alloc), Caches::new(alloc))
+}
+
+fn memory_fault(alloc: Global, graph: Graph) -> OpenFault {
+    OpenFault::Memory(graph, Locals::new(alloc), Caches::new(alloc))
+}
+
+fn missing_fault(alloc: Global, name: Text, graph: Graph) -> OpenFault {
+    OpenFault::MissingLocal(name, graph, Locals::new(alloc), Caches::new(alloc))
+}
+
+fn prints_workers(alloc: Global) -> bool {
+    match graph_from(alloc, IN_A_ROW) {
+        Some(graph) => prints(alloc, &workers_fault(alloc, graph), "122"),
+        None => false,
+    }
+}
+
+fn prints_memory(alloc: Global) -> bool {
+    match graph_from(alloc, IN_A_ROW) {
+        Some(graph) => prints(alloc, &memory_fault(alloc, graph), "123"),
+        None => false,
+    }
+}
+
+fn prints_missing(alloc: Global, name: &str, wanted: &str) -> bool {
+    match (Text::from_str(alloc, name), graph_from(alloc, IN_A_ROW)) {
+        (Ok(name), Some(graph)) => prints(alloc, &missing_fault(alloc, name, graph), wanted),
+        _ => false,
+    }
+}
+
+#[test]
+fn a_refused_opening_prints_its_number(rt: HostRuntime) {
+    let alloc = rt.alloc();
+    assert!(rt; prints_workers(alloc));
+    assert!(rt; prints_memory(alloc));
+    assert!(rt; prints_missing(alloc, "src", "121 src"));
 }

@@ -1,17 +1,14 @@
-//! Landings: the work of a job away from the board, and its outcome, which lands where its worker still has just that to do.
+//! Work of jobs away from the board: its outcome, gates that stop it, and where an outcome lands.
 
-use super::board_caches::{SHARED, two};
-use super::told::is_done;
-use super::written::{A_AND_B, MAKES_A, MAKES_B, NAMES_D, graph_of};
-use llb_board::{Board, Event, Gate, LandFault, Outcome, Settled, Stopped, work};
-use llb_cache::Caches;
-use llb_loader::{Graph, Locals};
+use super::cached::{LOCKED_A_FAILS_EARLY, LOCKED_TRUE, SHARED_A_B, SHARED_C_D};
+use super::definitions::{MAKES_B, MAKES_XA, MAKES_Z, MERGES_0_1, RESULT_2};
+use super::runs::TWO_FILES;
+use super::told::{are_done, is_done};
+use super::written::{Definition, board_of};
+use llb_board::{Board, Event, Gate, LandFault, Outcome, Settled, Stopped, WorkFault, work};
 use std::alloc::Global;
 
-// A file `/z` with the content `hi` on nothing.
-pub(crate) const MAKES_Z: &[u8] =
-    b"\x22\x1A\x12\x18\x08\xFF\xFF\xFF\xFF\xFF\xFF\xFF\xFF\xFF\x01\x2A\x0B\x0A\x02/z\x10\xA4\x03\x1A\x02hi";
-
+// Lets all work begin.
 struct Passes;
 
 impl Gate for Passes {
@@ -24,21 +21,116 @@ impl Gate for Passes {
     }
 }
 
-fn opened(alloc: Global, graph: Option<Graph>) -> Option<Board> {
-    Board::open(alloc, graph?, Locals::new(alloc), Caches::new(alloc), 2).ok()
+// Lets worker 1 work, and no other.
+struct Stops;
+
+impl Gate for Stops {
+    ghost use Rattle.std.specs.Prelude.{true};
+
+    ghost may_stop = { λ w v. true };
+
+    fn pass(&self, w: u32, _: u32) -> Result<(), Stopped> {
+        if w == 1 { Ok(()) } else { Err(Stopped) }
+    }
 }
 
-// A file, the file `/b`, and both of them, for two workers.
-fn with_file(alloc: Global, file: &[u8]) -> Option<Board> {
-    let rows = [("A", file), ("B", MAKES_B), ("D", A_AND_B), ("T", NAMES_D)];
-    opened(alloc, graph_of(alloc, &rows))
+const OTHER_FILES: Definition = &[MAKES_Z, MAKES_B, MERGES_0_1, RESULT_2];
+
+const FIRST_FAILS: Definition = &[MAKES_XA, MAKES_B, MERGES_0_1, RESULT_2];
+
+const ON_A_SHARED_CACHE: Definition = &[SHARED_A_B, SHARED_C_D, MERGES_0_1, RESULT_2];
+
+const SECOND_COMMAND_FAILS: Definition = &[LOCKED_A_FAILS_EARLY, LOCKED_TRUE, MERGES_0_1, RESULT_2];
+
+// What worker w works out of vertex 0 behind a gate, or the number of the fault.
+fn worked<G: Gate>(alloc: Global, board: &mut Board, w: u32, gate: &G) -> Result<Outcome, u32> {
+    match board.claim(w, 0) {
+        Ok(job) => match work(alloc, job, gate) {
+            Ok(outcome) => Ok(outcome),
+            Err(WorkFault::Stopped) => Err(143),
+            Err(WorkFault::Memory) => Err(142),
+        },
+        Err(_) => Err(0),
+    }
 }
 
-// What worker 0 works out of vertex 0, which it claims.
-fn outcome_of(alloc: Global, board: &mut Board) -> Option<Outcome> {
-    let job = board.claim(0, 0).ok()?;
-    work(alloc, job, &Passes).ok()
+fn outcome_from<G: Gate>(
+    alloc: Global,
+    definition: Definition,
+    w: u32,
+    gate: &G,
+) -> Result<Outcome, u32> {
+    match board_of(alloc, definition, &[], 2) {
+        Some(mut board) => worked(alloc, &mut board, w, gate),
+        None => Err(0),
+    }
 }
+
+// How many micro-steps were done, and whether the last has failed; or the number of the fault.
+fn counted<G: Gate>(
+    alloc: Global,
+    definition: Definition,
+    w: u32,
+    gate: &G,
+) -> Result<(u32, bool), u32> {
+    match outcome_from(alloc, definition, w, gate) {
+        Ok(outcome) => Ok((outcome.count(), outcome.fault().is_some())),
+        Err(fault) => Err(fault),
+    }
+}
+
+// What worker 0 counts at vertex 0.
+const COUNTS: &[(Definition, (u32, bool))] = &[
+    (TWO_FILES, (1, false)),
+    (FIRST_FAILS, (1, true)),
+    (SECOND_COMMAND_FAILS, (2, true)),
+];
+
+fn first_other_count(alloc: Global, rows: &[(Definition, (u32, bool))]) -> usize {
+    for (at, (definition, wanted)) in rows.iter().enumerate() {
+        if counted(alloc, definition, 0, &Passes) != Ok(*wanted) {
+            return at;
+        }
+    }
+    rows.len()
+}
+
+#[test]
+fn an_outcome_counts_what_was_left_up_to_a_fault(rt: HostRuntime) {
+    assert_eq!(rt; first_other_count(rt.alloc(), COUNTS), COUNTS.len());
+}
+
+#[test]
+fn a_gate_stops_whom_it_does_not_let_work(rt: HostRuntime) {
+    let alloc = rt.alloc();
+    assert!(rt; counted(alloc, TWO_FILES, 0, &Stops) == Err(143));
+    assert!(rt; counted(alloc, TWO_FILES, 1, &Stops) == Ok((1, false)));
+}
+
+// What an outcome of vertex 0 is worked out on by worker 0, the board that it is brought to, what was done there, who brings it, and the
+// fault, or 0 where it lands.
+type Landing = (Definition, Definition, &'static [Event], u32, u32);
+
+const CLAIMED: &[Event] = &[Event::Claim(0, 0)];
+
+const LANDINGS: &[Landing] = &[
+    // An outcome is brought by a worker that runs.
+    (TWO_FILES, TWO_FILES, CLAIMED, 0, 0),
+    (TWO_FILES, TWO_FILES, CLAIMED, 1, 136),
+    (TWO_FILES, TWO_FILES, CLAIMED, 5, 131),
+    (TWO_FILES, TWO_FILES, &[], 0, 136),
+    // It lands only where its worker has just that to do: not over another graph, nor once a step was done.
+    (OTHER_FILES, TWO_FILES, CLAIMED, 0, 139),
+    (
+        TWO_FILES,
+        TWO_FILES,
+        &[Event::Claim(0, 0), Event::Step(0)],
+        0,
+        139,
+    ),
+    // A vertex with a shared cache can't land.
+    (ON_A_SHARED_CACHE, ON_A_SHARED_CACHE, CLAIMED, 0, 140),
+];
 
 // By which fault an outcome does not land; 0 where it does.
 fn landed(board: &mut Board, w: u32, outcome: Outcome) -> u32 {
@@ -51,91 +143,84 @@ fn landed(board: &mut Board, w: u32, outcome: Outcome) -> u32 {
     }
 }
 
-// A board on which an outcome has just landed, and what that answered.
-fn just_landed(alloc: Global) -> Option<(Board, Settled)> {
-    let mut board = with_file(alloc, MAKES_A)?;
-    let outcome = outcome_of(alloc, &mut board)?;
-    let settled = board.land(0, outcome).ok()?;
-    Some((board, settled))
+// What a row's outcome is answered on a board.
+fn brought_to(alloc: Global, row: &Landing, board: &mut Board) -> Option<u32> {
+    match outcome_from(alloc, row.0, 0, &Passes) {
+        Ok(outcome) => Some(landed(board, row.3, outcome)),
+        Err(_) => None,
+    }
+}
+
+// The same after the row's events.
+fn brought_behind(alloc: Global, row: &Landing, board: &mut Board) -> Option<u32> {
+    if are_done(board, row.2) {
+        brought_to(alloc, row, board)
+    } else {
+        None
+    }
+}
+
+fn brought(alloc: Global, row: &Landing) -> Option<u32> {
+    match board_of(alloc, row.1, &[], 2) {
+        Some(mut board) => brought_behind(alloc, row, &mut board),
+        None => None,
+    }
+}
+
+fn first_wrong(alloc: Global, rows: &[Landing]) -> usize {
+    for (at, row) in rows.iter().enumerate() {
+        if brought(alloc, row) != Some(row.4) {
+            return at;
+        }
+    }
+    rows.len()
+}
+
+#[test]
+fn an_outcome_lands_where_its_worker_has_just_that_to_do(rt: HostRuntime) {
+    assert_eq!(rt; first_wrong(rt.alloc(), LANDINGS), LANDINGS.len());
+}
+
+// Whether the outcome of a board lands on it as the steps that are left and the settle.
+fn is_a_block(board: &mut Board, outcome: Outcome) -> [bool; 3] {
+    let record = [Event::Claim(0, 0), Event::Step(0), Event::Settle(0)];
+    let settled = matches!(board.land(0, outcome), Ok(Settled::Done(0)));
+    [
+        settled,
+        board.events().as_slice() == record.as_slice(),
+        board.output(0, 0).is_some(),
+    ]
+}
+
+// Whether an outcome doesn't land once a step was done of the job that it is of, and its worker can still settle.
+fn is_late(board: &mut Board, outcome: Outcome) -> [bool; 3] {
+    let stepped = is_done(board, Event::Step(0));
+    let refused = landed(board, 0, outcome) == 139;
+    let settled = is_done(board, Event::Settle(0));
+    [stepped && settled, refused, board.events().len() == 3]
+}
+
+// What is told of a board's own outcome of vertex 0, which is brought at once or late.
+fn own_on(alloc: Global, board: &mut Board, late: bool) -> Option<[bool; 3]> {
+    match worked(alloc, board, 0, &Passes) {
+        Ok(outcome) => Some(if late {
+            is_late(board, outcome)
+        } else {
+            is_a_block(board, outcome)
+        }),
+        Err(_) => None,
+    }
+}
+
+fn own(alloc: Global, late: bool) -> Option<[bool; 3]> {
+    match board_of(alloc, TWO_FILES, &[], 2) {
+        Some(mut board) => own_on(alloc, &mut board, late),
+        None => None,
+    }
 }
 
 #[test]
 fn a_landing_is_the_steps_that_are_left_and_the_settle(rt: HostRuntime) {
-    let Some((board, settled)) = just_landed(rt.alloc()) else {
-        assert!(rt; false);
-        return;
-    };
-    let record = [Event::Claim(0, 0), Event::Step(0), Event::Settle(0)];
-    assert!(rt; settled == Settled::Done(0));
-    assert!(rt; board.events().as_slice() == record.as_slice());
-    assert!(rt; board.output(0, 0).is_some());
-}
-
-// By which fault the outcome of a board over another graph does not land.
-fn landed_from_another(alloc: Global, board: &mut Board) -> Option<u32> {
-    let mut other = with_file(alloc, MAKES_Z)?;
-    let stranger = outcome_of(alloc, &mut other)?;
-    Some(landed(board, 0, stranger))
-}
-
-// The same on a board whose worker 0 runs the vertex of that number.
-fn by_another_graph(alloc: Global) -> Option<u32> {
-    let mut board = with_file(alloc, MAKES_A)?;
-    if !is_done(&mut board, Event::Claim(0, 0)) {
-        return None;
-    }
-    landed_from_another(alloc, &mut board)
-}
-
-// By which fault a worker's own outcome does not land once a step of it was done, whether the worker can still settle, and the length of
-// the record then.
-fn landed_late(board: &mut Board, own: Outcome) -> (u32, bool, usize) {
-    let stepped = is_done(board, Event::Step(0));
-    let refused = landed(board, 0, own);
-    let settled = is_done(board, Event::Settle(0));
-    (refused, stepped && settled, board.events().as_slice().len())
-}
-
-fn behind_a_step(alloc: Global) -> Option<(u32, bool, usize)> {
-    let mut board = with_file(alloc, MAKES_A)?;
-    let own = outcome_of(alloc, &mut board)?;
-    Some(landed_late(&mut board, own))
-}
-
-#[test]
-fn an_outcome_lands_only_where_its_worker_has_just_that_to_do(rt: HostRuntime) {
-    let alloc = rt.alloc();
-    assert!(rt; by_another_graph(alloc) == Some(139));
-    assert!(rt; behind_a_step(alloc) == Some((139, true, 3)));
-}
-
-// What worker w is answered with the outcome of worker 0.
-fn brought_by(alloc: Global, w: u32) -> Option<u32> {
-    let mut board = with_file(alloc, MAKES_A)?;
-    let outcome = outcome_of(alloc, &mut board)?;
-    Some(landed(&mut board, w, outcome))
-}
-
-#[test]
-fn an_outcome_is_brought_by_a_worker_that_runs(rt: HostRuntime) {
-    assert!(rt; brought_by(rt.alloc(), 0) == Some(0));
-    assert!(rt; brought_by(rt.alloc(), 1) == Some(136));
-    assert!(rt; brought_by(rt.alloc(), 5) == Some(131));
-}
-
-// What an outcome is answered whose vertex has a shared cache.
-fn with_a_shared_cache(alloc: Global) -> Option<u32> {
-    let graph = two(
-        alloc,
-        ("append /c/l a && append /c/l b", SHARED),
-        ("append /c/l c && append /c/l d", SHARED),
-    );
-    let mut board = opened(alloc, graph)?;
-    let outcome = outcome_of(alloc, &mut board)?;
-    Some(landed(&mut board, 0, outcome))
-}
-
-#[test]
-fn a_vertex_with_a_shared_cache_can_not_land(rt: HostRuntime) {
-    assert!(rt; with_a_shared_cache(rt.alloc()) == Some(140));
+    assert!(rt; own(rt.alloc(), false) == Some([true; 3]));
+    assert!(rt; own(rt.alloc(), true) == Some([true; 3]));
 }

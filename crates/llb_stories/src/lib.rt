@@ -5,21 +5,33 @@
 #[cfg(test)]
 mod alike;
 #[cfg(test)]
-mod board;
+mod cached;
 #[cfg(test)]
-mod board_caches;
+mod caches;
+#[cfg(test)]
+mod calling;
+#[cfg(test)]
+mod conversations;
 #[cfg(test)]
 mod crew;
+#[cfg(test)]
+mod definitions;
+#[cfg(test)]
+mod executions;
 #[cfg(test)]
 mod farm;
 #[cfg(test)]
 mod faults;
 #[cfg(test)]
+mod instances;
+#[cfg(test)]
 mod landings;
 #[cfg(test)]
-mod outcomes;
+mod openings;
 #[cfg(test)]
 mod queue;
+#[cfg(test)]
+mod runs;
 #[cfg(test)]
 mod sessions;
 #[cfg(test)]

@@ -1,18 +1,15 @@
-//! Runs that are walked to their ends and taken back, event by event: then all is as it was.
+//! Runs that are walked to their ends and taken back, event by event: then all is as it was. And records that are gone through again.
 
 ghost use Rattle.std.specs.Prelude.{◌≡◌};
 
-use super::board_caches::{HAS_A, K_LOCKED, LOCKED, one};
-use super::told::{Call, answered, is_done};
-use super::written::{D_ON_A, MAKES_A, MAKES_XA, NAMES_D, graph_of};
-use llb_board::{Board, Event};
-use llb_cache::Caches;
-use llb_loader::{Graph, Locals};
+use super::caches::WRITES_AND_FAILS;
+use super::instances::{HAS_A, K_LOCKED};
+use super::runs::{FAILS_FIRST, IN_A_ROW, TWO_FILES};
+use super::told::{Call, answered, are_done, is_done};
+use super::written::{Definition, board_of};
+use llb_board::{At, Board, Event, Status};
+use llb_stepper::{Break, Stepper, Stop};
 use std::alloc::Global;
-
-fn opened(alloc: Global, graph: Option<Graph>) -> Option<Board> {
-    Board::open(alloc, graph?, Locals::new(alloc), Caches::new(alloc), 2).ok()
-}
 
 // Walks the chosen events, at most that many, and takes them back: whether the board was complete in between.
 fn there_and_back(board: &mut Board, most: u32) -> bool
@@ -34,126 +31,132 @@ fn there_and_back(board: &mut Board, most: u32) -> bool
     }
 }
 
-// Whether a run that is walked and taken back leaves a board as its copy was, and both go on to the same end.
-fn is_walked(
-    alloc: Global,
-    board: Option<Board>,
-    begun: &[(Call, &str)],
-    ended: &[(Call, &str)],
-) -> bool {
-    let Some(mut board) = board else {
-        return false;
-    };
-    let Ok(mut fresh) = board.copy() else {
-        return false;
-    };
-    if !there_and_back(&mut board, 50) || answered(alloc, &mut board, begun) < begun.len() {
-        return false;
+fn finish(board: &mut Board) -> bool {
+    for _i in 0..50 {
+        if let Some(event) = board.chosen() {
+            let _ = is_done(board, event);
+        }
     }
-    if answered(alloc, &mut board, ended) < ended.len() {
-        return false;
+    board.is_complete()
+}
+
+// Definitions, and what is then answered on the complete board.
+const WALKED: &[(Definition, &[(Call, &str)])] = &[
+    (FAILS_FIRST, &[(Call::Leases, "0")]),
+    (IN_A_ROW, &[(Call::Worker(0), "idle")]),
+    (
+        WRITES_AND_FAILS,
+        &[
+            (Call::Instance(K_LOCKED, 0), HAS_A),
+            (Call::Instance(K_LOCKED, 1), "none"),
+            (Call::Leases, "0"),
+        ],
+    ),
+];
+
+// Whether a run that is walked and taken back leaves a board as its copy, and both go on to the same end, where this is answered.
+fn goes_and_comes(alloc: Global, board: &mut Board, ended: &[(Call, &str)]) -> [bool; 4] {
+    match board.copy() {
+        Ok(mut fresh) => {
+            let complete = there_and_back(board, 50);
+            let back = board.same(&fresh);
+            let both = finish(board) && finish(&mut fresh) && board.same(&fresh);
+            let told = answered(alloc, board, ended) == ended.len();
+            [complete, back, both, told]
+        }
+        Err(_) => [false; 4],
     }
-    answered(alloc, &mut fresh, begun) == begun.len()
-        && answered(alloc, &mut fresh, ended) == ended.len()
+}
+
+fn is_walked(alloc: Global, definition: Definition, ended: &[(Call, &str)]) -> bool {
+    match board_of(alloc, definition, &[], 2) {
+        Some(mut board) => goes_and_comes(alloc, &mut board, ended) == [true; 4],
+        None => false,
+    }
+}
+
+fn first_wrong(alloc: Global, rows: &[(Definition, &[(Call, &str)])]) -> usize {
+    for (at, (definition, ended)) in rows.iter().enumerate() {
+        if !is_walked(alloc, definition, ended) {
+            return at;
+        }
+    }
+    rows.len()
 }
 
 #[test]
-fn a_run_with_a_failure_is_taken_back(rt: HostRuntime) {
-    let rows = [("A", MAKES_XA), ("D", D_ON_A), ("T", NAMES_D)];
-    let graph = graph_of(rt.alloc(), &rows);
-    let begun = [
-        (Call::Vertex(0), "ready"),
-        (Call::Vertex(1), "waiting"),
-        (Call::Worker(0), "idle"),
-        (Call::Chosen, "claim 0 0"),
-        (Call::Complete, "false"),
-        (Call::Events, ""),
-    ];
-    let ended = [
-        (Call::Finish, "true"),
-        (Call::Vertex(0), "failed action 0 fault 21"),
-        (Call::Vertex(1), "blocked"),
-        (Call::Output(0, 0), "none"),
-        (Call::Events, "claim 0 0|step 0|settle 0|"),
-    ];
-    assert!(rt; is_walked(rt.alloc(), opened(rt.alloc(), graph), &begun, &ended));
+fn a_run_that_is_walked_is_taken_back(rt: HostRuntime) {
+    assert_eq!(rt; first_wrong(rt.alloc(), WALKED), WALKED.len());
 }
 
-#[test]
-fn a_run_with_its_outputs_is_taken_back(rt: HostRuntime) {
-    let rows = [("A", MAKES_A), ("D", D_ON_A), ("T", NAMES_D)];
-    let graph = graph_of(rt.alloc(), &rows);
-    let begun = [
-        (Call::Vertex(0), "ready"),
-        (Call::Vertex(1), "waiting"),
-        (Call::Output(0, 0), "none"),
-        (Call::Events, ""),
-    ];
-    let ended = [
-        (Call::Finish, "true"),
-        (Call::Output(0, 0), "2"),
-        (Call::Output(1, 0), "3"),
-        (
-            Call::Events,
-            "claim 0 0|step 0|settle 0|claim 0 1|step 0|settle 0|",
-        ),
-    ];
-    assert!(rt; is_walked(rt.alloc(), opened(rt.alloc(), graph), &begun, &ended));
-}
-
-#[test]
-fn what_a_run_wrote_to_a_cache_is_taken_back(rt: HostRuntime) {
-    let graph = one(rt.alloc(), ("write /c/a x && false", LOCKED));
-    let begun = [
-        (Call::Vertex(0), "ready"),
-        (Call::Instance(K_LOCKED, 0), "none"),
-        (Call::Leases, "0"),
-        (Call::Events, ""),
-    ];
-    let ended = [
-        (Call::Finish, "true"),
-        (Call::Vertex(0), "failed command 1 status 1"),
-        (Call::Instance(K_LOCKED, 0), HAS_A),
-        (Call::Instance(K_LOCKED, 1), "none"),
-        (Call::Leases, "0"),
-        (Call::Events, "claim 0 0|step 0|step 0|settle 0|"),
-    ];
-    assert!(rt; is_walked(rt.alloc(), opened(rt.alloc(), graph), &begun, &ended));
-}
-
-// Whether a copy from before some events is as the board was then, and a refused event prints this.
-fn is_left_behind(alloc: Global, events: &[Event], then: &[(Call, &str)], refused: &str) -> bool {
-    let rows = [("A", MAKES_A), ("D", D_ON_A), ("T", NAMES_D)];
-    let Some(mut board) = opened(alloc, graph_of(alloc, &rows)) else {
-        return false;
-    };
-    let Ok(mut copy) = board.copy() else {
-        return false;
-    };
-    for event in events {
-        let _ = is_done(&mut board, *event);
-    }
-    answered(alloc, &mut copy, then) == then.len() && is_refused(alloc, board, refused)
-}
-
-// Whether the claim of a running worker is refused by what is printed so.
-fn is_refused(alloc: Global, mut board: Board, refused: &str) -> bool {
-    match board.walk(Event::Claim(0, 1)) {
+// What the walk of an event that is refused prints.
+fn is_refused(alloc: Global, board: &mut Board, event: Event, wanted: &str) -> bool {
+    match board.walk(event) {
         Ok(_) => false,
         Err(fault) => match fault.to_string(alloc) {
-            Ok(text) => text.as_str() == refused,
+            Ok(text) => text.as_str() == wanted,
             Err(_) => false,
         },
     }
 }
 
+fn refused_behind_a_step(alloc: Global) -> Option<bool> {
+    match board_of(alloc, IN_A_ROW, &[], 2) {
+        Some(mut board) => {
+            let done = are_done(&mut board, &[Event::Claim(0, 0), Event::Step(0)]);
+            Some(done && is_refused(alloc, &mut board, Event::Claim(0, 1), "132"))
+        }
+        None => None,
+    }
+}
+
 #[test]
-fn a_copy_stays_where_the_board_was(rt: HostRuntime) {
-    let then = [
-        (Call::Vertex(0), "ready"),
-        (Call::Worker(0), "idle"),
-        (Call::Events, ""),
-    ];
-    let events = [Event::Claim(0, 0), Event::Step(0)];
-    assert!(rt; is_left_behind(rt.alloc(), &events, &then, "132"));
+fn a_walk_is_refused_as_the_event_is(rt: HostRuntime) {
+    assert!(rt; refused_behind_a_step(rt.alloc()) == Some(true));
+}
+
+// The record of two workers on two files and both of them.
+const OF_TWO_WORKERS: [Event; 10] = [
+    Event::Claim(0, 0),
+    Event::Claim(1, 1),
+    Event::Step(0),
+    Event::Step(1),
+    Event::Settle(0),
+    Event::Settle(1),
+    Event::Claim(0, 2),
+    Event::Step(0),
+    Event::Step(0),
+    Event::Settle(0),
+];
+
+// Whether the stepper is two events before a breakpoint at the merge: one file is done, and the other is finished and not settled.
+fn is_two_before(board: &Board) -> bool {
+    board.events().len() == 5
+        && board.status(0) == Some(Status::Done)
+        && board.status(1) == Some(Status::Running(1))
+        && board.worker(1) == Some(At::Runs(1, 1, true))
+}
+
+// Whether a replay of that record stops with a breakpoint at a claim of the merge, and is taken back from there.
+fn is_replayed(stepper: &mut Stepper) -> [bool; 3] {
+    let broken = stepper.break_at(Break::Claims(2)).is_ok();
+    let wanted = Stop {
+        events: 7,
+        at_break: true,
+    };
+    let stopped = matches!(stepper.replay(&OF_TWO_WORKERS), Ok(stop) if stop == wanted);
+    let back = stepper.back().is_ok() && stepper.back().is_ok();
+    [broken, stopped, back && is_two_before(stepper.board())]
+}
+
+fn replayed(alloc: Global) -> Option<[bool; 3]> {
+    match board_of(alloc, TWO_FILES, &[], 2) {
+        Some(board) => Some(is_replayed(&mut Stepper::new(alloc, board))),
+        None => None,
+    }
+}
+
+#[test]
+fn a_record_is_replayed_up_to_a_breakpoint(rt: HostRuntime) {
+    assert!(rt; replayed(rt.alloc()) == Some([true; 3]));
 }

@@ -1,128 +1,127 @@
-//! What the stories are about, written: graphs by the bytes of their rows, executions by their scripts and mounts, and keys of
-//! caches by rows.
+//! Boards over what is written: definitions by the texts of their entries, local trees by their texts, and keys of caches by rows.
 
-use llb_cache::{Key, Mode, Need, Seed};
-use llb_loader::{Graph, Row, link};
+use super::definitions;
+use llb_asm::assemble;
+use llb_board::Board;
+use llb_cache::{Caches, Key, Mode, Need, Seed};
+use llb_loader::{Graph, Locals, load};
+use llb_ops::write_definition;
 use llb_tree::{Tree, TreeFault};
-use llb_wire::{Bytes, Memory, Text, write_varint};
-use std::alloc::Global;
+use llb_treetext::read_tree;
+use llb_wire::{Memory, Text};
+use std::alloc::{AllocError, Global};
 
-// A file `/a` with the content `hi` on nothing.
-pub const MAKES_A: &[u8] =
-    b"\x22\x1A\x12\x18\x08\xFF\xFF\xFF\xFF\xFF\xFF\xFF\xFF\xFF\x01\x2A\x0B\x0A\x02/a\x10\xA4\x03\x1A\x02hi";
+// Two files and both of them, as the rows A, B and D of a graph, and the row that names D.
+pub const MAKES_A: &str = definitions::MAKES_A;
 
-// A file `/b` with the content `ho` on nothing.
-pub const MAKES_B: &[u8] =
-    b"\x22\x1A\x12\x18\x08\xFF\xFF\xFF\xFF\xFF\xFF\xFF\xFF\xFF\x01\x2A\x0B\x0A\x02/b\x10\xA4\x03\x1A\x02ho";
+pub const MAKES_B: &str = definitions::MAKES_B;
 
-// A file `/x/a`, whose directory is missing.
-pub const MAKES_XA: &[u8] =
-    b"\x22\x1C\x12\x1A\x08\xFF\xFF\xFF\xFF\xFF\xFF\xFF\xFF\xFF\x01\x2A\x0D\x0A\x04/x/a\x10\xA4\x03\x1A\x02hi";
+pub const A_AND_B: &str = definitions::MERGES_0_1;
 
-// What B is, laid over what A is.
-pub const A_AND_B: &[u8] = b"\x0A\x03\x0A\x01A\x0A\x03\x0A\x01B2\x06\x0A\x00\x0A\x02\x08\x01";
+pub const NAMES_D: &str = definitions::RESULT_2;
 
-// A directory `/d` on what A is.
-pub const D_ON_A: &[u8] = b"\x0A\x03\x0A\x01A\x22\x0B\x12\x09\x32\x07\x0A\x02/d\x10\xED\x03";
+// A local tree: its name, and its text.
+pub type Local = (&'static str, &'static str);
 
-// The result is what D is.
-pub const NAMES_D: &[u8] = b"\x0A\x03\x0A\x01D";
+// A definition by its entries, one after the other.
+pub type Definition = &'static [&'static str];
 
-// A mount: where it is, and its fields. It shows the empty tree and gives output 0 where they say nothing else.
-pub type Shown<'a> = (&'a str, &'a [u8]);
-
-pub const ROOT: Shown<'_> = ("/", b"");
-
-// The input -1 of a mount.
-const SHOWS_NOTHING: &[u8] = b"\x08\xFF\xFF\xFF\xFF\xFF\xFF\xFF\xFF\xFF\x01";
-
-// A key: its ID, its mode, and the output of the row `sha256:00` that is its seed, or none.
+// A key: its ID, its mode, and the output of the first entry that is its seed, or none.
 pub type CacheRow = (&'static str, Mode, Option<u32>);
 
-fn push_row(rows: &mut Vec<Row>, digest: &str, entry: &[u8]) -> Result<(), Memory> {
-    let alloc = *rows.allocator();
-    let digest = Text::from_str(alloc, digest)?;
-    let bytes = Bytes::from_slice(alloc, entry)?;
-    rows.push(Row { digest, bytes })?;
-    Ok(())
+fn push_entry(text: &mut String, entry: &str) -> Result<(), AllocError> {
+    text.push_str(entry)?;
+    text.push_str("\n")
 }
 
-fn rows_of(alloc: Global, given: &[(&str, &[u8])]) -> Result<Vec<Row>, Memory> {
-    let mut rows = Vec::new(alloc);
-    for (digest, entry) in given {
-        push_row(&mut rows, digest, entry)?;
+fn text_of(alloc: Global, entries: &[&str]) -> Result<String, AllocError> {
+    let mut text = String::new(alloc);
+    for entry in entries {
+        push_entry(&mut text, entry)?;
     }
-    Ok(rows)
+    Ok(text)
 }
 
-fn linked(alloc: Global, rows: &[Row]) -> Option<Graph> {
-    if rows.len() > 65_536 {
-        return None;
+// The text of rows, each of which has a name before its entry: their places count.
+fn text_of_rows(alloc: Global, given: &[(&str, &str)]) -> Result<String, AllocError> {
+    let mut text = String::new(alloc);
+    for (_, entry) in given {
+        push_entry(&mut text, entry)?;
     }
-    match link(alloc, rows) {
-        Ok(graph) => Some(graph),
+    Ok(text)
+}
+
+// The graph of the definition that a text is assembled to.
+fn graph_in(alloc: Global, text: &str) -> Option<Graph> {
+    let entries = assemble(alloc, text.as_bytes()).ok()?;
+    let definition = write_definition(alloc, &entries).ok()?;
+    load(alloc, definition.as_slice()).ok()
+}
+
+pub fn graph_of(alloc: Global, given: &[(&str, &str)]) -> Option<Graph> {
+    match text_of_rows(alloc, given) {
+        Ok(text) => graph_in(alloc, text.as_str()),
         Err(_) => None,
     }
 }
 
-pub fn graph_of(alloc: Global, given: &[(&str, &[u8])]) -> Option<Graph> {
-    match rows_of(alloc, given) {
-        Ok(rows) => linked(alloc, &rows),
+pub fn graph_from(alloc: Global, entries: &[&str]) -> Option<Graph> {
+    match text_of(alloc, entries) {
+        Ok(text) => graph_in(alloc, text.as_str()),
         Err(_) => None,
     }
 }
 
-// Puts bytes after a tag and their length.
-fn put_under(out: &mut Vec<u8>, tag: u8, bytes: &[u8]) -> Result<(), Memory> {
-    out.push(tag)?;
-    write_varint(bytes.len() as u64, out)?;
-    out.extend_from_slice(bytes)?;
-    Ok(())
+// A board over the definition that a text is assembled to, without local trees.
+pub fn board_from(alloc: Global, text: &str, workers: u32) -> Option<Board> {
+    let graph = graph_in(alloc, text)?;
+    Board::open(
+        alloc,
+        graph,
+        Locals::new(alloc),
+        Caches::new(alloc),
+        workers,
+    )
+    .ok()
 }
 
-// The words `/bin/sh -c` and a script.
-fn meta_of(alloc: Global, script: &str) -> Result<Vec<u8>, Memory> {
-    let mut meta = Vec::new(alloc);
-    for word in ["/bin/sh", "-c", script] {
-        put_under(&mut meta, 0x0A, word.as_bytes())?;
+// Adds a local tree; one whose text is refused is missing.
+fn give(alloc: Global, locals: &mut Locals, local: &Local) -> Option<()> {
+    let tree = read_tree(alloc, local.1.as_bytes()).ok()?;
+    let name = Text::from_str(alloc, local.0).ok()?;
+    locals.add(name, tree).ok()
+}
+
+pub fn locals_of(alloc: Global, given: &[Local]) -> Locals {
+    let mut locals = Locals::new(alloc);
+    for local in given {
+        let _ = give(alloc, &mut locals, local);
     }
-    Ok(meta)
+    locals
 }
 
-fn mount_of(alloc: Global, mount: &Shown<'_>) -> Result<Vec<u8>, Memory> {
-    let mut out = Vec::new(alloc);
-    out.extend_from_slice(SHOWS_NOTHING)?;
-    put_under(&mut out, 0x1A, mount.0.as_bytes())?;
-    out.extend_from_slice(mount.1)?;
-    Ok(out)
-}
-
-fn exec_of(alloc: Global, script: &str, mounts: &[Shown<'_>]) -> Result<Vec<u8>, Memory> {
-    let mut exec = Vec::new(alloc);
-    put_under(&mut exec, 0x0A, &meta_of(alloc, script)?)?;
-    for mount in mounts {
-        put_under(&mut exec, 0x12, &mount_of(alloc, mount)?)?;
-    }
-    Ok(exec)
-}
-
-// The entry that runs a script on some mounts, after the bytes of its inputs.
-pub fn script_on(
+pub fn board_of(
     alloc: Global,
-    inputs: &[u8],
-    script: &str,
-    mounts: &[Shown<'_>],
-) -> Result<Vec<u8>, Memory> {
-    let mut entry = Vec::new(alloc);
-    entry.extend_from_slice(inputs)?;
-    put_under(&mut entry, 0x12, &exec_of(alloc, script, mounts)?)?;
-    Ok(entry)
+    definition: &[&str],
+    given: &[Local],
+    workers: u32,
+) -> Option<Board> {
+    match graph_from(alloc, definition) {
+        Some(graph) => {
+            let locals = locals_of(alloc, given);
+            Board::open(alloc, graph, locals, Caches::new(alloc), workers).ok()
+        }
+        None => None,
+    }
 }
+
+// The digest of the entry that makes `/a`, which is the first where a cache begins with an output.
+const DIGEST_OF_A: &str = "sha256:17d299b0a332287e9d0f57a4a7f23e97dbf1203cd154f7157e30471c769cda1b";
 
 fn seed_of(alloc: Global, index: Option<u32>) -> Result<Option<Seed>, Memory> {
     match index {
         Some(index) => {
-            let digest = Text::from_str(alloc, "sha256:00")?;
+            let digest = Text::from_str(alloc, DIGEST_OF_A)?;
             Ok(Some(Seed { digest, index }))
         }
         None => Ok(None),

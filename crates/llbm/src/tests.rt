@@ -3,7 +3,7 @@
 mod assembling;
 mod definitions;
 mod devices;
-mod executions;
+mod execution_definitions;
 mod many;
 mod reading;
 mod run;

@@ -1,97 +1,422 @@
-//! Definitions, in hexadecimal digits.
+//! Definitions by their entries, each in the assembler's text: `%0` is the first entry of the definition that it stands in.
 
-pub const FIRST_RUN: &str =
-    "0a322230122e08ffffffffffffffffff0110ffffffffffffffffff012a160a022f6110a4031a02686928ffffffffffffffffff010a4b0a490a477368613235363a65303064363535393738393537393066376463323664626637323461343131626438336338653135383831616233656561313865613735303935373832646162";
+use llb_asm::assemble;
+use llb_ops::write_definition;
+use llb_wire::Bytes;
+use std::alloc::Global;
+use std::test::Fail;
 
-pub const MISSING_PARENT: &str =
-    "0a342232123008ffffffffffffffffff0110ffffffffffffffffff012a180a042f782f6110a4031a02686928ffffffffffffffffff010a4b0a490a477368613235363a38326134636261323934363731363263663439373137353165386134333461303331323466356231376664356435343566376533326239323763633864623165";
+/// The bytes of the definition that has these entries.
+pub fn bytes_of(alloc: Global, entries: &[&str]) -> Result<Bytes, Fail> {
+    let mut text = String::new(alloc);
+    for entry in entries {
+        text.push_str(entry)?;
+        text.push_str("\n")?;
+    }
+    let entries = assemble(alloc, text.as_bytes())?;
+    Ok(write_definition(alloc, &entries)?)
+}
 
-pub const OUT_OF_ORDER: &str =
-    "0a6e0a490a477368613235363a653030643635353937383935373930663764633236646266373234613431316264383363386531353838316162336565613138656137353039353738326461622221121f10ffffffffffffffffff0132120a022f6410ed0328ffffffffffffffffff010a322230122e08ffffffffffffffffff0110ffffffffffffffffff012a160a022f6110a4031a02686928ffffffffffffffffff010a4b0a490a477368613235363a31633261313035373763613536643138306634646130366332653034396536366135373138646262323839363038366161383838306330646361333031353266";
+// A file `/a` with the content `hi` on nothing.
+pub const MAKES_A: &str = r#"op {
+  file {
+    actions {
+      input -1
+      secondaryInput -1
+      mkfile {
+        path "/a"
+        mode 420
+        data 6869
+        timestamp -1
+      }
+    }
+  }
+}"#;
 
-pub const IN_ORDER: &str =
-    "0a322230122e08ffffffffffffffffff0110ffffffffffffffffff012a160a022f6110a4031a02686928ffffffffffffffffff010a6e0a490a477368613235363a653030643635353937383935373930663764633236646266373234613431316264383363386531353838316162336565613138656137353039353738326461622221121f10ffffffffffffffffff0132120a022f6410ed0328ffffffffffffffffff010a4b0a490a477368613235363a31633261313035373763613536643138306634646130366332653034396536366135373138646262323839363038366161383838306330646361333031353266";
+// A file `/b` on nothing.
+pub const MAKES_B: &str = r#"op {
+  file {
+    actions {
+      input -1
+      secondaryInput -1
+      mkfile {
+        path "/b"
+        mode 420
+        data 686f
+        timestamp -1
+      }
+    }
+  }
+}"#;
 
-pub const ONE_ENTRY: &str =
-    "0a322230122e08ffffffffffffffffff0110ffffffffffffffffff012a160a022f6110a4031a02686928ffffffffffffffffff01";
+// A file `/x/a`, whose directory is missing.
+pub const MAKES_XA: &str = r#"op {
+  file {
+    actions {
+      input -1
+      secondaryInput -1
+      mkfile {
+        path "/x/a"
+        mode 420
+        data 6869
+        timestamp -1
+      }
+    }
+  }
+}"#;
 
-pub const ONE_ENTRY_TWICE: &str =
-    "0a322230122e08ffffffffffffffffff0110ffffffffffffffffff012a160a022f6110a4031a02686928ffffffffffffffffff010a322230122e08ffffffffffffffffff0110ffffffffffffffffff012a160a022f6110a4031a02686928ffffffffffffffffff01";
+// A directory `/d` on what the first entry gives.
+pub const D_ON_0: &str = r#"op {
+  inputs {
+    digest %0
+  }
+  file {
+    actions {
+      secondaryInput -1
+      mkdir {
+        path "/d"
+        mode 493
+        timestamp -1
+      }
+    }
+  }
+}"#;
 
-pub const INDEX_ONE: &str =
-    "0a322230122e08ffffffffffffffffff0110ffffffffffffffffff012a160a022f6110a4031a02686928ffffffffffffffffff010a4d0a4b0a477368613235363a653030643635353937383935373930663764633236646266373234613431316264383363386531353838316162336565613138656137353039353738326461621001";
+// A directory `/d` on what the second entry gives; the first is an input, too.
+pub const D_ON_1: &str = r#"op {
+  inputs {
+    digest %0
+  }
+  inputs {
+    digest %1
+  }
+  file {
+    actions {
+      input 1
+      secondaryInput -1
+      mkdir {
+        path "/d"
+        mode 493
+        timestamp -1
+      }
+    }
+  }
+}"#;
 
-pub const INDEX_BELOW: &str =
-    "0a322230122e08ffffffffffffffffff0110ffffffffffffffffff012a160a022f6110a4031a02686928ffffffffffffffffff010a560a540a477368613235363a6530306436353539373839353739306637646332366462663732346134313162643833633865313538383161623365656131386561373530393537383264616210ffffffffffffffffff01";
+// A directory `/d` on what the entry of the file `/a` gives, which may stand after it.
+pub const D_ON_A: &str = r#"op {
+  inputs {
+    digest "sha256:e00d65597895790f7dc26dbf724a411bd83c8e15881ab3eea18ea75095782dab"
+  }
+  file {
+    actions {
+      secondaryInput -1
+      mkdir {
+        path "/d"
+        mode 493
+        timestamp -1
+      }
+    }
+  }
+}"#;
 
-pub const DIFF_REACHED: &str =
-    "0a023a000a4b0a490a477368613235363a37363438656238316334653966656637623531383739633666636436666234623838363365656130636232613937386335303837313164633532633830303431";
+// A file on an input that the op does not have.
+pub const ON_NO_INPUT: &str = r#"op {
+  file {
+    actions {
+      secondaryInput -1
+      mkfile {
+        path "/a"
+        mode 420
+        data 6869
+        timestamp -1
+      }
+    }
+  }
+}"#;
 
-pub const DIFF_UNREACHED: &str =
-    "0a023a000a322230122e08ffffffffffffffffff0110ffffffffffffffffff012a160a022f6110a4031a02686928ffffffffffffffffff010a4b0a490a477368613235363a65303064363535393738393537393066376463323664626637323461343131626438336338653135383831616233656561313865613735303935373832646162";
+// A file op without actions.
+pub const NO_ACTIONS: &str = r#"op {
+  file {
+  }
+}"#;
 
-pub const UNKNOWN_DIGEST: &str =
-    "0a322230122e08ffffffffffffffffff0110ffffffffffffffffff012a160a022f6110a4031a02686928ffffffffffffffffff010a4b0a490a477368613235363a38326134636261323934363731363263663439373137353165386134333461303331323466356231376664356435343566376533326239323763633864623165";
+// A directory `/p` with a file `/p/q`, another file `/p`, and a directory `/p` with a file `/p/r`.
+pub const P_WITH_Q: &str = r#"op {
+  file {
+    actions {
+      input -1
+      secondaryInput -1
+      output -1
+      mkdir {
+        path "/p"
+        mode 493
+      }
+    }
+    actions {
+      secondaryInput -1
+      mkfile {
+        path "/p/q"
+        mode 420
+        data 31
+      }
+    }
+  }
+}"#;
 
-pub const NO_RESULT: &str =
-    "0a322230122e08ffffffffffffffffff0110ffffffffffffffffff012a160a022f6110a4031a02686928ffffffffffffffffff010a00";
+pub const FILE_P: &str = r#"op {
+  file {
+    actions {
+      input -1
+      secondaryInput -1
+      mkfile {
+        path "/p"
+        mode 420
+        data 32
+      }
+    }
+  }
+}"#;
 
-pub const FIELD_ZERO: &str =
-    "0a01000a4b0a490a477368613235363a65303064363535393738393537393066376463323664626637323461343131626438336338653135383831616233656561313865613735303935373832646162";
+pub const P_WITH_R: &str = r#"op {
+  file {
+    actions {
+      input -1
+      secondaryInput -1
+      output -1
+      mkdir {
+        path "/p"
+        mode 493
+      }
+    }
+    actions {
+      secondaryInput -1
+      mkfile {
+        path "/p/r"
+        mode 420
+        data 33
+      }
+    }
+  }
+}"#;
 
-pub const NO_ACTIONS: &str =
-    "0a0222000a4b0a490a477368613235363a33376161333937306236383031633964323836343634663764383665353062663431633838653534633762346430386633666636313933356233663539633363";
+// The first three entries, laid over each other.
+pub const LAYERS: &str = r#"op {
+  inputs {
+    digest %0
+  }
+  inputs {
+    digest %1
+  }
+  inputs {
+    digest %2
+  }
+  merge {
+    inputs {
+    }
+    inputs {
+      input 1
+    }
+    inputs {
+      input 2
+    }
+  }
+}"#;
 
-pub const PAST_THE_INPUTS: &str =
-    "0a272225122310ffffffffffffffffff012a160a022f6110a4031a02686928ffffffffffffffffff010a4b0a490a477368613235363a33633430373462306363363463346463306436323630396432623765316565373232613335663262666530663861376163363464656536383736343037333634";
+// A file `/a`, and a directory `/e` on it: two outputs.
+pub const TWO_OUTPUTS: &str = r#"op {
+  file {
+    actions {
+      input -1
+      secondaryInput -1
+      mkfile {
+        path "/a"
+        mode 420
+        data 6869
+        timestamp -1
+      }
+    }
+    actions {
+      secondaryInput -1
+      output 1
+      mkdir {
+        path "/e"
+        mode 493
+        timestamp -1
+      }
+    }
+  }
+}"#;
 
-/// Files `/a` and `/b`, each on nothing, and a directory `/d` on the second, with both as inputs.
-pub const THREE_VERTICES: &str =
-    "0a322230122e08ffffffffffffffffff0110ffffffffffffffffff012a160a022f6110a4031a02686928ffffffffffffffffff010a322230122e08ffffffffffffffffff0110ffffffffffffffffff012a160a022f6210a4031a02686f28ffffffffffffffffff010abb010a490a477368613235363a653030643635353937383935373930663764633236646266373234613431316264383363386531353838316162336565613138656137353039353738326461620a490a477368613235363a3836306337653466373861613637323230386161376663396236623732396663623165383766356561633761303636366535346639636261393439386137303822231221080110ffffffffffffffffff0132120a022f6410ed0328ffffffffffffffffff010a4b0a490a477368613235363a30626565663566333033633535616538623937663338303161643763633037383762346131346561323430643335386230623437656238363065383264363665";
+// The second output of the first entry and then the first one, of which the second is changed.
+pub const TAKES_BOTH: &str = r#"op {
+  inputs {
+    digest %0
+    index 1
+  }
+  inputs {
+    digest %0
+  }
+  file {
+    actions {
+      secondaryInput -1
+      output -1
+      mkdir {
+        path "/d"
+        mode 493
+        timestamp -1
+      }
+    }
+    actions {
+      input 2
+      secondaryInput -1
+      mkdir {
+        path "/f"
+        mode 493
+        timestamp -1
+      }
+    }
+  }
+}"#;
 
-/// A file below a directory that is missing, and a directory on it.
-pub const FAILED_INPUT: &str =
-    "0a342232123008ffffffffffffffffff0110ffffffffffffffffff012a180a042f782f6110a4031a02686928ffffffffffffffffff010a6e0a490a477368613235363a383261346362613239343637313632636634393731373531653861343334613033313234663562313766643564353435663765333262393237636338646231652221121f10ffffffffffffffffff0132120a022f6410ed0328ffffffffffffffffff010a4b0a490a477368613235363a64653132323861363838646165653062313636383731643036353837313364373131656665333336656666626433386639336166313234373033336566643631";
+// Local sources.
+pub const SOURCE_P: &str = r#"op {
+  source {
+    identifier "local://p"
+  }
+}"#;
 
-/// A vertex of two outputs, which the next one takes in the other order.
-pub const TWO_OUTPUTS: &str =
-    "0a552253122e08ffffffffffffffffff0110ffffffffffffffffff012a160a022f6110a4031a02686928ffffffffffffffffff01122110ffffffffffffffffff01180132120a022f6510ed0328ffffffffffffffffff010ae9010a4b0a477368613235363a3230336330346634336438623565653035373535353533396262326333333130613733623931303638396262616431386661646332303263653833613037336410010a490a477368613235363a32303363303466343364386235656530353735353535333962623263333331306137336239313036383962626164313866616463323032636538336130373364224f122a10ffffffffffffffffff0118ffffffffffffffffff0132120a022f6410ed0328ffffffffffffffffff011221080210ffffffffffffffffff0132120a022f6610ed0328ffffffffffffffffff010a4b0a490a477368613235363a35396138323465666338343861353038643732393531616261623464383338336332626134353365646331373963326332616439373965326465643434653137";
+pub const SOURCE_Q: &str = r#"op {
+  source {
+    identifier "local://q"
+  }
+}"#;
 
-pub const TWO_LOCALS: &str =
-    "0a0d1a0b0a096c6f63616c3a2f2f700a0d1a0b0a096c6f63616c3a2f2f710af7010a490a477368613235363a633362643737366463386164613836623335646237393634356632623837363363333964653032323439393232303938656539633761366438636131313436660a490a477368613235363a64393438653831616339613832326231343736636530323263373131343363613731363434613430326331363638376665343535356234643064613133343066225f121f10ffffffffffffffffff0118ffffffffffffffffff0132070a022f6410ed0312250802100118ffffffffffffffffff0122140a022f6612032f642f20ffffffffffffffffff011215080310ffffffffffffffffff013a060a042f6f6c640a4b0a490a477368613235363a62396235313066353734336430636231306237323436363363613635316562633864383431356237373833386562333239623463666335633739313364306361";
+pub const SOURCE_X: &str = r#"op {
+  source {
+    identifier "local://x"
+  }
+}"#;
 
-pub const THREE_LAYERS: &str =
-    "0a492247122a08ffffffffffffffffff0110ffffffffffffffffff0118ffffffffffffffffff0132070a022f7010ed03121910ffffffffffffffffff012a0c0a042f702f7110a4031a01310a262224122208ffffffffffffffffff0110ffffffffffffffffff012a0a0a022f7010a4031a01320a492247122a08ffffffffffffffffff0110ffffffffffffffffff0118ffffffffffffffffff0132070a022f7010ed03121910ffffffffffffffffff012a0c0a042f702f7210a4031a01330aed010a490a477368613235363a343366366330326233343538363134643833313739613966616533386366666233623565633139623233633438623137353536313433633864336462333062650a490a477368613235363a666332313438366361323738303234663835353662363661383932396139363337623531643636613164316366336662303361363936656465663563653030390a490a477368613235363a66303634366638316232316634356465336137393265343832303236393366346362396231313934666466613539666137363838333536356438353061303334320a0a000a0208010a0208020a4b0a490a477368613235363a38323038653531386338653465313139363165386532646662343131643834323164333465333431626338396537616563623131643130396433376363386139";
+pub const SOURCE_Y: &str = r#"op {
+  source {
+    identifier "local://y"
+  }
+}"#;
 
-pub const IMAGE_SOURCE: &str =
-    "0a141a120a10646f636b65722d696d6167653a2f2f610a4b0a490a477368613235363a32626538333733373830363664316533616165333732316237366435663235663832353139343934656237333337656638366537383636313434366165383332";
+// A source of another kind.
+pub const IMAGE: &str = r#"op {
+  source {
+    identifier "docker-image://a"
+  }
+}"#;
 
-/// An exec on two local sources with three mounts, of which two give an output. The result is the first.
-pub const FIRST_OUTPUT: &str =
-    "0a0d1a0b0a096c6f63616c3a2f2f780a0d1a0b0a096c6f63616c3a2f2f790a87020a490a477368613235363a303237373439313438303661643630376237326637653336383036323165666234396439323037386431633134376130386666643632336132333435323230610a490a477368613235363a33396638356231313037656533326361386162363365363437643033373031386465316663336166666564646135333339343534643963616133346564666432126f0a420a072f62696e2f73680a022d630a306370202f742f696e2f66202f742f78202626206370202f742f78202f79202626207772697465202f742f696e2f67206b1a012f12031a012f12111a022f7420ffffffffffffffffff0130041211080112042f7375621a052f742f696e20010a4b0a490a477368613235363a64356235613930626666666238323234666364303638383166653532623966623839353431373833366637396334653031373162616539336362363034366336";
+// On the first entry: a directory `/d`, in it a copy of the file `/f` of the second, and `/old` goes.
+pub const CHANGES_0_BY_1: &str = r#"op {
+  inputs {
+    digest %0
+  }
+  inputs {
+    digest %1
+  }
+  file {
+    actions {
+      secondaryInput -1
+      output -1
+      mkdir {
+        path "/d"
+        mode 493
+      }
+    }
+    actions {
+      input 2
+      secondaryInput 1
+      output -1
+      copy {
+        src "/f"
+        dest "/d/"
+        mode -1
+      }
+    }
+    actions {
+      input 3
+      secondaryInput -1
+      rm {
+        path "/old"
+      }
+    }
+  }
+}"#;
 
-/// The same with the second output as the result.
-pub const SECOND_OUTPUT: &str =
-    "0a0d1a0b0a096c6f63616c3a2f2f780a0d1a0b0a096c6f63616c3a2f2f790a87020a490a477368613235363a303237373439313438303661643630376237326637653336383036323165666234396439323037386431633134376130386666643632336132333435323230610a490a477368613235363a33396638356231313037656533326361386162363365363437643033373031386465316663336166666564646135333339343534643963616133346564666432126f0a420a072f62696e2f73680a022d630a306370202f742f696e2f66202f742f78202626206370202f742f78202f79202626207772697465202f742f696e2f67206b1a012f12031a012f12111a022f7420ffffffffffffffffff0130041211080112042f7375621a052f742f696e20010a4d0a4b0a477368613235363a643562356139306266666662383232346663643036383831666535326239666238393534313738333666373963346530313731626165393363623630343663361001";
+// A diff op.
+pub const DIFF: &str = r#"op {
+  diff -
+}"#;
 
-/// An exec of `false` on nothing.
-pub const FAILING_COMMAND: &str =
-    "0a1e121c0a0a0a0566616c73651a012f120e08ffffffffffffffffff011a012f0a4b0a490a477368613235363a66613366363762333065646330656565386439373738613364316330313930346335303737663534326665393966356239643334366362616234303134613330";
+// An entry without inputs and without a kind.
+pub const EMPTY: &str = r#"op {
+}"#;
 
-/// Execs whose words are no script.
-pub const NO_APPLET: &str =
-    "0a1d121b0a090a046e6f70651a012f120e08ffffffffffffffffff011a012f0a4b0a490a477368613235363a31356439636465336636646630356263323730613539663262353434373764626635613737393965316638626231306233313963333135663631313663393165";
+// Bytes whose first field has the number 0.
+pub const FIELD_ZERO: &str = "raw 00";
 
-pub const WRONG_WORDS: &str =
-    "0a30122e0a1c0a072f62696e2f73680a022d630a0a7472756520262620726d1a012f120e08ffffffffffffffffff011a012f0a4b0a490a477368613235363a66326538653135376231303236373430336466663633326431626232626236313437616435373233646166663162646565623065316133393362346238626563";
+// The terminal: the result is the first output of the entry of that number.
+pub const RESULT_0: &str = r#"op {
+  inputs {
+    digest %0
+  }
+}"#;
 
-pub const BAD_BYTE: &str =
-    "0a31122f0a1d0a072f62696e2f73680a022d630a0b74727565203b20747275651a012f120e08ffffffffffffffffff011a012f0a4b0a490a477368613235363a63393336356433613862323536383032663833666332313431633336663861346131646137646135303634306261356632316262653933316363663764666131";
+pub const RESULT_1: &str = r#"op {
+  inputs {
+    digest %1
+  }
+}"#;
 
-/// An exec that writes to a cache of locked mode and then fails; a vertex on its output; that vertex's output as the result.
-pub const FAILING_WITH_CACHE: &str =
-    "0a61125f0a270a072f62696e2f73680a022d630a157772697465202f632f6120782026262066616c73651a012f120e08ffffffffffffffffff011a012f122408ffffffffffffffffff011a022f6320ffffffffffffffffff013003a201050a016b10020a6e0a490a477368613235363a663561303430326537376461633230313634376366623835376363343931343938353032663030666435646366643034353932373739396663333437633935332221121f10ffffffffffffffffff0132120a022f6410ed0328ffffffffffffffffff010a4b0a490a477368613235363a39313934656339653730613361643961363961393338323665616164633431643830386461363463313966653962313332616363613535373633396461323439";
+pub const RESULT_2: &str = r#"op {
+  inputs {
+    digest %2
+  }
+}"#;
 
-/// An exec that writes to a shared cache; another, on the first one's output, that copies from the same cache; its output as the result.
-pub const READ_FROM_CACHE: &str =
-    "0a5612540a1e0a072f62696e2f73680a022d630a0c7772697465202f632f6120781a012f120e08ffffffffffffffffff011a012f122208ffffffffffffffffff011a022f6320ffffffffffffffffff013003a201030a016b0a94010a490a477368613235363a3933653137393039333332333062626237623162303265393335633633323864656431666432356635646336353737343061626339366430303639656638666212470a1c0a072f62696e2f73680a022d630a0a6370202f632f61202f621a012f12031a012f122208ffffffffffffffffff011a022f6320ffffffffffffffffff013003a201030a016b0a4b0a490a477368613235363a62333239393762363839623232346232316636353830616234336239356635653132336434373534643462376233616438376533636639363938333437366165";
+pub const RESULT_3: &str = r#"op {
+  inputs {
+    digest %3
+  }
+}"#;
+
+// The second output of the third entry.
+pub const RESULT_2_1: &str = r#"op {
+  inputs {
+    digest %2
+    index 1
+  }
+}"#;
+
+// Outputs that the first entry does not have.
+pub const RESULT_0_BELOW: &str = r#"op {
+  inputs {
+    digest %0
+    index -1
+  }
+}"#;
+
+pub const RESULT_0_1: &str = r#"op {
+  inputs {
+    digest %0
+    index 1
+  }
+}"#;
+
+// A result by a digest that is spelled: that of the file `/a`, and one that no entry has.
+pub const RESULT_A: &str = r#"op {
+  inputs {
+    digest "sha256:e00d65597895790f7dc26dbf724a411bd83c8e15881ab3eea18ea75095782dab"
+  }
+}"#;
+
+pub const RESULT_OF_NONE: &str = r#"op {
+  inputs {
+    digest "sha256:82a4cba29467162cf4971751e8a434a03124f5b17fd5d545f7e32b927cc8db1e"
+  }
+}"#;

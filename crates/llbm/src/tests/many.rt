@@ -33,35 +33,44 @@ fn are_alike(one: &Ran, other: &Ran) -> bool {
         && one.err.as_slice() == other.err.as_slice()
 }
 
+const DEFINITIONS: [&[&str]; 5] = [
+    &[MAKES_A, RESULT_0],
+    &[MAKES_XA, RESULT_0],
+    &[D_ON_A, MAKES_A, RESULT_0],
+    &[P_WITH_Q, FILE_P, P_WITH_R, LAYERS, RESULT_3],
+    &[MAKES_A],
+];
+
 #[test]
-fn two_workers_print_what_one_prints(rt: HostRuntime) -> Result<(), Fail> {
-    let alloc = rt.alloc();
-    for definition in [
-        FIRST_RUN,
-        MISSING_PARENT,
-        OUT_OF_ORDER,
-        THREE_LAYERS,
-        ONE_ENTRY,
-    ] {
-        let bytes = hex::decode(alloc, definition)?;
-        let one = alone(alloc, &bytes);
-        let two = together(&rt, alloc, &bytes, 2);
-        assert!(rt; are_alike(&one, &two));
+fn many_workers_print_what_one_prints(rt: HostRuntime) -> Result<(), Fail> {
+    for entries in DEFINITIONS {
+        let bytes = bytes_of(rt.alloc(), entries)?;
+        let one = alone(rt.alloc(), bytes.as_slice());
+        for workers in [2, 64] {
+            let many = together(&rt, rt.alloc(), bytes.as_slice(), workers);
+            assert!(rt; are_alike(&one, &many));
+        }
     }
     Ok(())
 }
 
+// The entries of a definition, the number of workers, and the refusal.
+const REFUSED: &[(&[&str], u32, &str)] = &[
+    (&[MAKES_A, RESULT_0], 0, "fault 122\n"),
+    (&[MAKES_A, RESULT_0], 65, "fault 122\n"),
+    (&[MAKES_A, RESULT_0], 4_294_967_295, "fault 122\n"),
+    (&[], 0, "fault 83\n"),
+    (&[SOURCE_P, RESULT_0], 3, "fault 121 p\n"),
+];
+
 #[test]
-fn a_number_of_workers_that_is_none_is_told_behind_the_definition(
+fn a_number_of_workers_that_is_none_is_told_after_the_definition(
     rt: HostRuntime,
 ) -> Result<(), Fail> {
-    let alloc = rt.alloc();
-    let bytes = hex::decode(alloc, FIRST_RUN)?;
-    for workers in [0, 65, 4_294_967_295] {
-        assert!(rt; together(&rt, alloc, &bytes, workers).is(2, "", "fault 122\n"));
+    for (entries, workers, line) in REFUSED {
+        let bytes = bytes_of(rt.alloc(), entries)?;
+        let ran = together(&rt, rt.alloc(), bytes.as_slice(), *workers);
+        assert!(rt; ran.is(2, "", line), "{line}");
     }
-    assert!(rt; together(&rt, alloc, b"", 0).is(2, "", "fault 83\n"));
-    let lacking = hex::decode(alloc, TWO_LOCALS)?;
-    assert!(rt; together(&rt, alloc, &lacking, 3).is(2, "", "fault 121 p\n"));
     Ok(())
 }

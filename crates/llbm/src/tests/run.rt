@@ -2,6 +2,7 @@
 
 use super::definitions::*;
 use super::devices::{Narrow, Ran, Slow};
+use super::execution_definitions::*;
 use crate::run::run_over;
 use llb_loader::Locals;
 use llb_treetext::read_tree;
@@ -11,90 +12,158 @@ use std::test::Fail;
 
 const TREE: &str = "d 0755 0 0 /\nf 0644 0 0 6869 /a\n";
 
-fn run_on(alloc: Global, bytes: &[u8]) -> Ran {
-    let mut input = bytes;
-    let mut out = Vec::new(alloc);
-    let mut err = Vec::new(alloc);
-    let status = run_over(alloc, &mut input, &mut out, &mut err, Locals::new(alloc));
-    Ran { status, out, err }
-}
+/// Local trees by name, each by its text.
+type Given = &'static [(&'static str, &'static str)];
 
-// Whether a definition, given in hexadecimal digits, has this answer.
-fn answers(
-    alloc: Global,
-    definition: &str,
-    status: u8,
-    out: &str,
-    err: &str,
-) -> Result<bool, Fail> {
-    let bytes = hex::decode(alloc, definition)?;
-    let ran = run_on(alloc, &bytes);
-    Ok(ran.is(status, out, err))
-}
+/// A definition by its entries, local trees, and what is answered: the status, what is printed, and what is told.
+type Row = (
+    &'static [&'static str],
+    Given,
+    u8,
+    &'static str,
+    &'static str,
+);
 
-#[test]
-fn the_bytes_of_a_mkfile_action_become_the_printed_tree(rt: HostRuntime) -> Result<(), Fail> {
-    assert!(rt; answers(rt.alloc(), FIRST_RUN, 0, TREE, "")?);
-    Ok(())
-}
+const P: (&str, &str) = ("p", "d 0755 0 0 /\nf 0600 1 1 - /old\n");
 
-#[test]
-fn a_missing_parent_fails_the_vertex(rt: HostRuntime) -> Result<(), Fail> {
-    let failed = "failed 0 action 0 fault 21\n";
-    assert!(rt; answers(rt.alloc(), MISSING_PARENT, 1, "", failed)?);
-    Ok(())
-}
+const Q: (&str, &str) = ("q", "d 0755 0 0 /\nf 0644 0 0 6869 /f\n");
 
-#[test]
-fn the_order_of_entries_is_free(rt: HostRuntime) -> Result<(), Fail> {
-    let tree = "d 0755 0 0 /\nf 0644 0 0 6869 /a\nd 0755 0 0 /d\n";
-    assert!(rt; answers(rt.alloc(), OUT_OF_ORDER, 0, tree, "")?);
-    assert!(rt; answers(rt.alloc(), IN_ORDER, 0, tree, "")?);
-    Ok(())
-}
+const CHANGED: &[&str] = &[SOURCE_P, SOURCE_Q, CHANGES_0_BY_1, RESULT_2];
 
-#[test]
-fn fewer_than_two_rows_are_too_few(rt: HostRuntime) -> Result<(), Fail> {
-    let alloc = rt.alloc();
-    assert!(rt; answers(alloc, "", 2, "", "fault 83\n")?);
-    assert!(rt; answers(alloc, ONE_ENTRY, 2, "", "fault 83\n")?);
-    assert!(rt; answers(alloc, ONE_ENTRY_TWICE, 2, "", "fault 83\n")?);
-    Ok(())
-}
+const X: (&str, &str) = ("x", "d 0755 0 0 /\n");
 
-#[test]
-fn an_index_of_no_output_is_refused(rt: HostRuntime) -> Result<(), Fail> {
-    let alloc = rt.alloc();
-    assert!(rt; answers(alloc, INDEX_ONE, 2, "", "fault 90 1 0\n")?);
-    assert!(rt; answers(alloc, INDEX_BELOW, 2, "", "fault 90 1 0\n")?);
-    Ok(())
-}
+const Y: (&str, &str) = (
+    "y",
+    "d 0755 0 0 /\nd 0755 0 0 /sub\nf 0644 0 0 6869 /sub/f\n",
+);
 
-#[test]
-fn a_diff_op_is_refused_where_it_is_reached(rt: HostRuntime) -> Result<(), Fail> {
-    let alloc = rt.alloc();
-    assert!(rt; answers(alloc, DIFF_REACHED, 2, "", "fault 88 0 DiffOp\n")?);
-    assert!(rt; answers(alloc, DIFF_UNREACHED, 0, TREE, "")?);
-    Ok(())
-}
+const TREE_AND_D: &str = "d 0755 0 0 /\nf 0644 0 0 6869 /a\nd 0755 0 0 /d\n";
 
-#[test]
-fn a_digest_that_names_nothing_is_refused(rt: HostRuntime) -> Result<(), Fail> {
-    let alloc = rt.alloc();
-    assert!(rt; answers(alloc, UNKNOWN_DIGEST, 2, "", "fault 86 1 0\n")?);
-    assert!(rt; answers(alloc, NO_RESULT, 2, "", "fault 85\n")?);
-    Ok(())
-}
-
-#[test]
-fn rules_and_unreadable_entries_are_refused(rt: HostRuntime) -> Result<(), Fail> {
-    let alloc = rt.alloc();
-    assert!(rt; answers(alloc, FIELD_ZERO, 2, "", "fault 82 0 3\n")?);
-    assert!(rt; answers(alloc, NO_ACTIONS, 2, "", "fault 89 0 NoActions\n")?);
-    assert!(rt; answers(alloc, PAST_THE_INPUTS, 2, "", "fault 89 0 ActionInput\n")?);
-    assert!(rt; answers(alloc, "0a", 2, "", "fault 81 1\n")?);
-    Ok(())
-}
+const RUNS: &[Row] = &[
+    // The bytes of a mkfile action become the printed tree.
+    (&[MAKES_A, RESULT_0], &[], 0, TREE, ""),
+    // A missing parent fails the vertex.
+    (
+        &[MAKES_XA, RESULT_0],
+        &[],
+        1,
+        "",
+        "failed 0 action 0 fault 21\n",
+    ),
+    // The order of entries is free.
+    (&[D_ON_A, MAKES_A, RESULT_0], &[], 0, TREE_AND_D, ""),
+    (&[MAKES_A, D_ON_0, RESULT_1], &[], 0, TREE_AND_D, ""),
+    // Fewer than two rows are too few.
+    (&[], &[], 2, "", "fault 83\n"),
+    (&[MAKES_A], &[], 2, "", "fault 83\n"),
+    (&[MAKES_A, MAKES_A], &[], 2, "", "fault 83\n"),
+    // An index of no output is refused.
+    (&[MAKES_A, RESULT_0_1], &[], 2, "", "fault 90 1 0\n"),
+    (&[MAKES_A, RESULT_0_BELOW], &[], 2, "", "fault 90 1 0\n"),
+    // A diff op is refused where it is reached.
+    (&[DIFF, RESULT_0], &[], 2, "", "fault 88 0 DiffOp\n"),
+    (&[DIFF, MAKES_A, RESULT_1], &[], 0, TREE, ""),
+    // A digest that names nothing is refused.
+    (&[MAKES_A, RESULT_OF_NONE], &[], 2, "", "fault 86 1 0\n"),
+    (&[MAKES_A, EMPTY], &[], 2, "", "fault 85\n"),
+    // Rules and unreadable entries are refused.
+    (&[FIELD_ZERO, RESULT_A], &[], 2, "", "fault 82 0 3\n"),
+    (
+        &[NO_ACTIONS, RESULT_0],
+        &[],
+        2,
+        "",
+        "fault 89 0 NoActions\n",
+    ),
+    (
+        &[ON_NO_INPUT, RESULT_0],
+        &[],
+        2,
+        "",
+        "fault 89 0 ActionInput\n",
+    ),
+    // A file op changes one local tree by another.
+    (
+        CHANGED,
+        &[P, Q],
+        0,
+        "d 0755 0 0 /\nd 0755 0 0 /d\nf 0644 0 0 6869 /d/f\n",
+        "",
+    ),
+    (CHANGED, &[P], 2, "", "fault 121 q\n"),
+    (CHANGED, &[], 2, "", "fault 121 p\n"),
+    // A file hides for good what is below it.
+    (
+        &[P_WITH_Q, FILE_P, P_WITH_R, LAYERS, RESULT_3],
+        &[],
+        0,
+        "d 0755 0 0 /\nd 0755 0 0 /p\nf 0644 0 0 33 /p/r\n",
+        "",
+    ),
+    // A source of an image is refused.
+    (&[IMAGE, RESULT_0], &[], 2, "", "fault 88 0 Source\n"),
+    // Each output of an execution is the whole tree of its mount.
+    (
+        &[SOURCE_X, SOURCE_Y, COPIES, RESULT_2],
+        &[X, Y],
+        0,
+        "d 0755 0 0 /\nf 0644 0 0 6869 /y\n",
+        "",
+    ),
+    (
+        &[SOURCE_X, SOURCE_Y, COPIES, RESULT_2_1],
+        &[X, Y],
+        0,
+        "d 0755 0 0 /\nd 0755 0 0 /sub\nf 0644 0 0 6869 /sub/f\nf 0644 0 0 6b0a /sub/g\n",
+        "",
+    ),
+    // A command that ends with another status fails the vertex.
+    (
+        &[FALSE, RESULT_0],
+        &[],
+        1,
+        "",
+        "failed 0 command 0 status 1\n",
+    ),
+    // Words that are no script are refused.
+    (
+        &[NO_APPLET, RESULT_0],
+        &[],
+        2,
+        "",
+        "fault 89 0 Script 71 nope\n",
+    ),
+    (
+        &[WRONG_WORDS, RESULT_0],
+        &[],
+        2,
+        "",
+        "fault 89 0 Script 72 1\n",
+    ),
+    (
+        &[BAD_BYTE, RESULT_0],
+        &[],
+        2,
+        "",
+        "fault 89 0 Script 73 5\n",
+    ),
+    // A vertex with a cache fails, and the one after it is blocked.
+    (
+        &[WRITES_AND_FAILS, D_ON_0, RESULT_1],
+        &[],
+        1,
+        "",
+        "failed 0 command 1 status 1\n",
+    ),
+    // A cache keeps what an earlier vertex wrote.
+    (
+        &[WRITES, COPIES_FROM_CACHE, RESULT_1],
+        &[],
+        0,
+        "d 0755 0 0 /\nf 0644 0 0 780a /b\n",
+        "",
+    ),
+];
 
 // The tree of each text under its name.
 fn locals_of(alloc: Global, texts: &[(&str, &str)]) -> Result<Locals, Fail> {
@@ -106,94 +175,48 @@ fn locals_of(alloc: Global, texts: &[(&str, &str)]) -> Result<Locals, Fail> {
     Ok(locals)
 }
 
-/// Whether a definition has this answer on local trees.
-pub fn answers_on(
-    alloc: Global,
-    texts: &[(&str, &str)],
-    definition: &str,
-    status: u8,
-    out: &str,
-    err: &str,
-) -> Result<bool, Fail> {
-    let locals = locals_of(alloc, texts)?;
-    let bytes = hex::decode(alloc, definition)?;
-    let mut printed = Vec::new(alloc);
-    let mut faults = Vec::new(alloc);
-    let ended = run_over(
-        alloc,
-        &mut bytes.as_slice(),
-        &mut printed,
-        &mut faults,
-        locals,
-    );
-    let ran = Ran {
-        status: ended,
-        out: printed,
-        err: faults,
-    };
-    Ok(ran.is(status, out, err))
-}
-
-#[test]
-fn a_file_op_changes_one_local_tree_by_another(rt: HostRuntime) -> Result<(), Fail> {
-    let alloc = rt.alloc();
-    let p = ("p", "d 0755 0 0 /\nf 0600 1 1 - /old\n");
-    let q = ("q", "d 0755 0 0 /\nf 0644 0 0 6869 /f\n");
-    let tree = "d 0755 0 0 /\nd 0755 0 0 /d\nf 0644 0 0 6869 /d/f\n";
-    assert!(rt; answers_on(alloc, &[p, q], TWO_LOCALS, 0, tree, "")?);
-    assert!(rt; answers_on(alloc, &[p], TWO_LOCALS, 2, "", "fault 121 q\n")?);
-    assert!(rt; answers_on(alloc, &[], TWO_LOCALS, 2, "", "fault 121 p\n")?);
-    Ok(())
-}
-
-#[test]
-fn a_file_hides_for_good_what_is_below_it(rt: HostRuntime) -> Result<(), Fail> {
-    let tree = "d 0755 0 0 /\nd 0755 0 0 /p\nf 0644 0 0 33 /p/r\n";
-    assert!(rt; answers(rt.alloc(), THREE_LAYERS, 0, tree, "")?);
-    Ok(())
-}
-
-#[test]
-fn a_source_of_an_image_is_refused(rt: HostRuntime) -> Result<(), Fail> {
-    assert!(rt; answers(rt.alloc(), IMAGE_SOURCE, 2, "", "fault 88 0 Source\n")?);
-    Ok(())
-}
-
-fn slowly(alloc: Global, room: usize) -> Result<Ran, Fail> {
-    let bytes = hex::decode(alloc, FIRST_RUN)?;
-    let mut input = Slow {
-        bytes: &bytes,
-        room,
-    };
+fn run_on(alloc: Global, bytes: &[u8], locals: Locals) -> Ran {
+    let mut input = bytes;
     let mut out = Vec::new(alloc);
     let mut err = Vec::new(alloc);
-    let status = run_over(alloc, &mut input, &mut out, &mut err, Locals::new(alloc));
-    Ok(Ran { status, out, err })
+    let status = run_over(alloc, &mut input, &mut out, &mut err, locals);
+    Ran { status, out, err }
 }
 
-#[test]
-fn a_reader_of_one_byte_a_read_is_read_to_its_end(rt: HostRuntime) -> Result<(), Fail> {
-    let ran = slowly(rt.alloc(), 200)?;
-    assert_eq!(rt; ran.status, 0);
-    assert_eq!(rt; ran.out.as_slice(), TREE.as_bytes());
-    Ok(())
-}
-
-#[test]
-fn a_reader_that_fails_at_its_kth_read_gives_no_text(rt: HostRuntime) -> Result<(), Fail> {
-    for room in [0, 1, 52, 128, 129] {
-        let ran = slowly(rt.alloc(), room)?;
-        assert_eq!(rt; ran.status, 3);
-        assert!(rt; ran.out.is_empty());
-        assert_eq!(rt; ran.err.as_slice(), b"fault 181\n".as_slice());
+// The number of the first definition that is answered otherwise; past the end where there is none.
+fn first_wrong(alloc: Global, rows: &[Row]) -> Result<usize, Fail> {
+    for (at, (entries, texts, status, out, err)) in rows.iter().enumerate() {
+        let bytes = bytes_of(alloc, entries)?;
+        let ran = run_on(alloc, bytes.as_slice(), locals_of(alloc, texts)?);
+        if !ran.is(*status, out, err) {
+            return Ok(at);
+        }
     }
+    Ok(rows.len())
+}
+
+#[test]
+fn definitions_are_run_or_refused(rt: HostRuntime) -> Result<(), Fail> {
+    assert_eq!(rt; first_wrong(rt.alloc(), RUNS)?, RUNS.len());
     Ok(())
 }
 
-fn narrowly(alloc: Global, room: usize) -> Result<Ran, Fail> {
-    let bytes = hex::decode(alloc, FIRST_RUN)?;
-    let mut input = bytes.as_slice();
-    let mut out = Narrow::new(alloc, room);
+#[test]
+fn bytes_that_end_in_a_record_are_no_definition(rt: HostRuntime) {
+    let ran = run_on(rt.alloc(), b"\x0a", Locals::new(rt.alloc()));
+    assert!(rt; ran.is(2, "", "fault 81 1\n"));
+}
+
+// What comes of the first definition over a reader that gives a byte a read and fails after that many, and over a writer that takes a byte
+// a write, fails after that many, and may fail at its end.
+fn narrowly(alloc: Global, reads: usize, writes: usize, flushes: bool) -> Result<Ran, Fail> {
+    let bytes = bytes_of(alloc, &[MAKES_A, RESULT_0])?;
+    let mut input = Slow {
+        bytes: bytes.as_slice(),
+        room: reads,
+    };
+    let mut out = Narrow::new(alloc, writes);
+    out.flushes = flushes;
     let mut err = Vec::new(alloc);
     let status = run_over(alloc, &mut input, &mut out, &mut err, Locals::new(alloc));
     let Narrow { held, .. } = out;
@@ -204,61 +227,53 @@ fn narrowly(alloc: Global, room: usize) -> Result<Ran, Fail> {
     })
 }
 
-#[test]
-fn a_writer_that_fails_at_its_kth_write_gets_a_front(rt: HostRuntime) -> Result<(), Fail> {
-    for room in [0, 1, 12, 13, 31] {
-        let ran = narrowly(rt.alloc(), room)?;
-        assert_eq!(rt; ran.status, 3);
-        assert_eq!(rt; ran.out.len(), room);
-        assert!(rt; TREE.as_bytes().starts_with(&ran.out));
-        assert_eq!(rt; ran.err.as_slice(), b"fault 35\n".as_slice());
-    }
-    let whole = narrowly(rt.alloc(), 32)?;
-    assert_eq!(rt; whole.status, 0);
-    assert_eq!(rt; whole.out.as_slice(), TREE.as_bytes());
-    Ok(())
-}
+// The definition has 129 bytes and its tree 32.
+const DEVICES: &[(usize, usize, bool, u8, &str, &str)] = &[
+    // A reader of one byte a read is read to its end, and a writer of one byte a write gets all.
+    (200, 100, true, 0, TREE, ""),
+    (200, 32, true, 0, TREE, ""),
+    // A reader that fails at some read gives no text.
+    (0, 100, true, 3, "", "fault 181\n"),
+    (1, 100, true, 3, "", "fault 181\n"),
+    (52, 100, true, 3, "", "fault 181\n"),
+    (128, 100, true, 3, "", "fault 181\n"),
+    (129, 100, true, 3, "", "fault 181\n"),
+    // A writer that fails at some write gets a prefix.
+    (200, 0, true, 3, "", "fault 35\n"),
+    (200, 1, true, 3, "d", "fault 35\n"),
+    (200, 12, true, 3, "d 0755 0 0 /", "fault 35\n"),
+    (200, 13, true, 3, "d 0755 0 0 /\n", "fault 35\n"),
+    (
+        200,
+        31,
+        true,
+        3,
+        "d 0755 0 0 /\nf 0644 0 0 6869 /a",
+        "fault 35\n",
+    ),
+    // One that fails at its end is a failed write.
+    (200, 100, false, 3, TREE, "fault 35\n"),
+];
 
 #[test]
-fn a_writer_that_fails_at_its_end_is_a_failed_write(rt: HostRuntime) -> Result<(), Fail> {
-    let alloc = rt.alloc();
-    let bytes = hex::decode(alloc, FIRST_RUN)?;
-    let mut out = Narrow::new(alloc, 100);
-    out.flushes = false;
-    let mut err = Vec::new(alloc);
-    assert_eq!(rt;
-        run_over(
-            alloc,
-            &mut bytes.as_slice(),
-            &mut out,
-            &mut err,
-            Locals::new(alloc)
-        ),
-        3
-    );
-    assert_eq!(rt; out.held.as_slice(), TREE.as_bytes());
-    assert_eq!(rt; err.as_slice(), b"fault 35\n".as_slice());
+fn devices_that_fail_end_a_run(rt: HostRuntime) -> Result<(), Fail> {
+    for (reads, writes, flushes, status, out, err) in DEVICES {
+        let ran = narrowly(rt.alloc(), *reads, *writes, *flushes)?;
+        assert!(rt; ran.is(*status, out, err), "{reads} {writes}");
+    }
     Ok(())
 }
 
 #[test]
 fn an_error_line_that_is_not_out_is_a_failed_write(rt: HostRuntime) -> Result<(), Fail> {
     let alloc = rt.alloc();
-    for definition in ["0a", MISSING_PARENT] {
-        let bytes = hex::decode(alloc, definition)?;
+    for entries in [[FIELD_ZERO, RESULT_A], [MAKES_XA, RESULT_0]] {
+        let bytes = bytes_of(alloc, &entries)?;
+        let mut input = bytes.as_slice();
         let mut out = Vec::new(alloc);
         let mut err = Narrow::new(alloc, 5);
-        assert_eq!(rt;
-            run_over(
-                alloc,
-                &mut bytes.as_slice(),
-                &mut out,
-                &mut err,
-                Locals::new(alloc)
-            ),
-            3
-        );
-        assert!(rt; out.is_empty());
+        let status = run_over(alloc, &mut input, &mut out, &mut err, Locals::new(alloc));
+        assert!(rt; status == 3 && out.is_empty());
     }
     Ok(())
 }

@@ -2,6 +2,7 @@
 
 use super::definitions::*;
 use super::devices::{Narrow, Ran, Slow};
+use super::execution_definitions::*;
 use crate::show::show_over;
 use std::alloc::Global;
 use std::test::Fail;
@@ -9,89 +10,24 @@ use std::test::Fail;
 const TWO_IN_A_ROW: &str =
     "0 file steps 1 outputs 1 inputs -\n1 file steps 1 outputs 1 inputs 0.0\nresult 1.0\n";
 
-// Whether a definition, given in hexadecimal digits, has this answer.
-fn answers(
+// What comes of a definition over a reader that gives a byte a read and fails after that many, and over a writer that takes a byte a write,
+// fails after that many, and may fail at its end.
+fn shown(
     alloc: Global,
-    definition: &str,
-    status: u8,
-    out: &str,
-    err: &str,
-) -> Result<bool, Fail> {
-    let bytes = hex::decode(alloc, definition)?;
-    let mut shown = Vec::new(alloc);
-    let mut faults = Vec::new(alloc);
-    let ended = show_over(alloc, &mut bytes.as_slice(), &mut shown, &mut faults);
-    let ran = Ran {
-        status: ended,
-        out: shown,
-        err: faults,
+    entries: &[&str],
+    reads: usize,
+    writes: usize,
+    flushes: bool,
+) -> Result<Ran, Fail> {
+    let bytes = bytes_of(alloc, entries)?;
+    let mut input = Slow {
+        bytes: bytes.as_slice(),
+        room: reads,
     };
-    Ok(ran.is(status, out, err))
-}
-
-#[test]
-fn both_orders_of_entries_show_one_graph(rt: HostRuntime) -> Result<(), Fail> {
-    assert!(rt; answers(rt.alloc(), OUT_OF_ORDER, 0, TWO_IN_A_ROW, "")?);
-    assert!(rt; answers(rt.alloc(), IN_ORDER, 0, TWO_IN_A_ROW, "")?);
-    Ok(())
-}
-
-#[test]
-fn inputs_are_shown_in_the_order_of_the_op(rt: HostRuntime) -> Result<(), Fail> {
-    let two =
-        "0 file steps 2 outputs 2 inputs -\n1 file steps 2 outputs 1 inputs 0.1 0.0\nresult 1.0\n";
-    assert!(rt; answers(rt.alloc(), TWO_OUTPUTS, 0, two, "")?);
-    Ok(())
-}
-
-#[test]
-fn an_execution_is_shown_with_its_commands_and_outputs(rt: HostRuntime) -> Result<(), Fail> {
-    let three =
-        "0 source steps 1 outputs 1 inputs -\n1 source steps 1 outputs 1 inputs -\n2 exec steps 3 outputs 2 inputs 0.0 1.0\nresult 2.0\n";
-    assert!(rt; answers(rt.alloc(), FIRST_OUTPUT, 0, three, "")?);
-    Ok(())
-}
-
-#[test]
-fn a_graph_whose_run_fails_is_shown(rt: HostRuntime) -> Result<(), Fail> {
-    assert!(rt; answers(rt.alloc(), FAILED_INPUT, 0, TWO_IN_A_ROW, "")?);
-    Ok(())
-}
-
-#[test]
-fn a_refused_definition_shows_nothing(rt: HostRuntime) -> Result<(), Fail> {
-    let alloc = rt.alloc();
-    assert!(rt; answers(alloc, "", 2, "", "fault 83\n")?);
-    assert!(rt; answers(alloc, "0a", 2, "", "fault 81 1\n")?);
-    assert!(rt; answers(alloc, FIELD_ZERO, 2, "", "fault 82 0 3\n")?);
-    assert!(rt; answers(alloc, INDEX_ONE, 2, "", "fault 90 1 0\n")?);
-    Ok(())
-}
-
-#[test]
-fn a_reader_that_fails_at_its_kth_read_shows_nothing(rt: HostRuntime) -> Result<(), Fail> {
-    let alloc = rt.alloc();
-    let bytes = hex::decode(alloc, FIRST_RUN)?;
-    for room in [0, 1, 129] {
-        let mut input = Slow {
-            bytes: &bytes,
-            room,
-        };
-        let mut out = Vec::new(alloc);
-        let mut err = Vec::new(alloc);
-        assert_eq!(rt; show_over(alloc, &mut input, &mut out, &mut err), 3);
-        assert!(rt; out.is_empty());
-        assert_eq!(rt; err.as_slice(), b"fault 181\n".as_slice());
-    }
-    Ok(())
-}
-
-fn narrowly(alloc: Global, room: usize, flushes: bool) -> Result<Ran, Fail> {
-    let bytes = hex::decode(alloc, IN_ORDER)?;
-    let mut out = Narrow::new(alloc, room);
+    let mut out = Narrow::new(alloc, writes);
     out.flushes = flushes;
     let mut err = Vec::new(alloc);
-    let status = show_over(alloc, &mut bytes.as_slice(), &mut out, &mut err);
+    let status = show_over(alloc, &mut input, &mut out, &mut err);
     let Narrow { held, .. } = out;
     Ok(Ran {
         status,
@@ -100,17 +36,84 @@ fn narrowly(alloc: Global, room: usize, flushes: bool) -> Result<Ran, Fail> {
     })
 }
 
+// The entries of a definition, the status, what is printed, and what is told.
+const GRAPHS: &[(&[&str], u8, &str, &str)] = &[
+    // Both orders of entries show one graph.
+    (&[D_ON_A, MAKES_A, RESULT_0], 0, TWO_IN_A_ROW, ""),
+    (&[MAKES_A, D_ON_0, RESULT_1], 0, TWO_IN_A_ROW, ""),
+    // Inputs are shown in the order of the op.
+    (
+        &[TWO_OUTPUTS, TAKES_BOTH, RESULT_1],
+        0,
+        "0 file steps 2 outputs 2 inputs -\n1 file steps 2 outputs 1 inputs 0.1 0.0\nresult 1.0\n",
+        "",
+    ),
+    (
+        &[MAKES_A, MAKES_B, D_ON_1, RESULT_2],
+        0,
+        "0 file steps 1 outputs 1 inputs -\n1 file steps 1 outputs 1 inputs -\n2 file steps 1 outputs 1 inputs 0.0 1.0\n\
+        result 2.0\n",
+        "",
+    ),
+    // An execution is shown with its commands and outputs.
+    (
+        &[SOURCE_X, SOURCE_Y, COPIES, RESULT_2],
+        0,
+        "0 source steps 1 outputs 1 inputs -\n1 source steps 1 outputs 1 inputs -\n2 exec steps 3 outputs 2 inputs 0.0 1.0\n\
+        result 2.0\n",
+        "",
+    ),
+    // A graph whose run fails is shown.
+    (&[MAKES_XA, D_ON_0, RESULT_1], 0, TWO_IN_A_ROW, ""),
+    // A refused definition shows nothing.
+    (&[], 2, "", "fault 83\n"),
+    (&[FIELD_ZERO, RESULT_A], 2, "", "fault 82 0 3\n"),
+    (&[MAKES_A, RESULT_0_1], 2, "", "fault 90 1 0\n"),
+];
+
 #[test]
-fn a_writer_that_fails_at_its_kth_write_gets_a_front(rt: HostRuntime) -> Result<(), Fail> {
-    let whole = TWO_IN_A_ROW.len();
-    for room in [0, 1, 33, 34, 71, whole - 1] {
-        let ran = narrowly(rt.alloc(), room, true)?;
-        assert_eq!(rt; ran.status, 3);
-        assert_eq!(rt; ran.out.len(), room);
-        assert!(rt; TWO_IN_A_ROW.as_bytes().starts_with(&ran.out));
-        assert_eq!(rt; ran.err.as_slice(), b"fault 182\n".as_slice());
+fn graphs_are_shown_or_refused(rt: HostRuntime) -> Result<(), Fail> {
+    for (entries, status, out, err) in GRAPHS {
+        let ran = shown(rt.alloc(), entries, 2_000, 2_000, true)?;
+        assert!(rt; ran.is(*status, out, err), "{out}{err}");
     }
-    assert!(rt; narrowly(rt.alloc(), whole, true)?.is(0, TWO_IN_A_ROW, ""));
-    assert!(rt; narrowly(rt.alloc(), whole, false)?.is(3, TWO_IN_A_ROW, "fault 182\n"));
+    Ok(())
+}
+
+#[test]
+fn bytes_that_end_in_a_record_are_no_definition(rt: HostRuntime) {
+    let mut input = b"\x0a".as_slice();
+    let mut out = Vec::new(rt.alloc());
+    let mut err = Vec::new(rt.alloc());
+    let status = show_over(rt.alloc(), &mut input, &mut out, &mut err);
+    let ran = Ran { status, out, err };
+    assert!(rt; ran.is(2, "", "fault 81 1\n"));
+}
+
+// How many bytes are read and written, whether the writer ends well, the status, how many bytes of the text are out, and what is told.
+const DEVICES: &[(usize, usize, bool, u8, usize, &str)] = &[
+    // A reader that fails at some read shows nothing.
+    (0, 500, true, 3, 0, "fault 181\n"),
+    (1, 500, true, 3, 0, "fault 181\n"),
+    (129, 500, true, 3, 0, "fault 181\n"),
+    // A writer that fails at some write gets a prefix.
+    (500, 0, true, 3, 0, "fault 182\n"),
+    (500, 1, true, 3, 1, "fault 182\n"),
+    (500, 33, true, 3, 33, "fault 182\n"),
+    (500, 34, true, 3, 34, "fault 182\n"),
+    (500, 71, true, 3, 71, "fault 182\n"),
+    (500, 80, true, 3, 80, "fault 182\n"),
+    (500, 81, true, 0, 81, ""),
+    (500, 81, false, 3, 81, "fault 182\n"),
+];
+
+#[test]
+fn devices_that_fail_end_a_graph(rt: HostRuntime) -> Result<(), Fail> {
+    for (reads, writes, flushes, status, out, err) in DEVICES {
+        let entries = [MAKES_A, D_ON_0, RESULT_1];
+        let ran = shown(rt.alloc(), &entries, *reads, *writes, *flushes)?;
+        let text = TWO_IN_A_ROW.get(..*out).unwrap_or("none");
+        assert!(rt; ran.is(*status, text, err), "{reads} {writes}");
+    }
     Ok(())
 }

@@ -1,0 +1,106 @@
+//! The callers that docs/CALLING.md shows.
+
+use super::definitions::{RESULT_0, SOURCE_P};
+use super::written::{board_of, graph_from};
+use llb_asm::assemble;
+use llb_board::{Board, Settled};
+use llb_cache::Caches;
+use llb_loader::{Graph, LoadFault, Locals, load};
+use llb_ops::write_definition;
+use llb_stepper::{Break, Stepper, kind_name};
+use llb_tree::Tree;
+use llb_treetext::{print_tree, read_tree};
+use llb_wire::{Bytes, Over, Text};
+use llb_work::run_alone;
+use std::alloc::Global;
+
+// The kinds of a definition's vertices, by number, a line each.
+fn kinds(alloc: Global, definition: &[u8]) -> Result<String, LoadFault> {
+    let graph = load(alloc, definition)?;
+    let mut text = String::new(alloc);
+    for vertex in graph.vertices() {
+        text.push_str(kind_name(&vertex.op))?;
+        text.push_str("\n")?;
+    }
+    Ok(text)
+}
+
+// The text of the result of a graph, of which one local source has a tree.
+fn result_text(alloc: Global, graph: Graph, name: Text, tree: Tree) -> Option<Vec<u8>> {
+    let mut locals = Locals::new(alloc);
+    locals.add(name, tree).ok()?;
+    let result = graph.result();
+    let board = Board::open(alloc, graph, locals, Caches::new(alloc), 1).ok()?;
+    let end = run_alone(board);
+    let mut text = Vec::new(alloc);
+    let tree = end.board.output(result.vertex, result.index)?;
+    print_tree(alloc, tree, &mut Over::new(&mut text)).ok()?;
+    Some(text)
+}
+
+// A vertex of one micro-step, by worker 0.
+fn by_hand(board: &mut Board, vertex: u32) -> Option<Settled> {
+    board.claim(0, vertex).ok()?;
+    board.step(0).ok()?;
+    board.settle(0).ok()
+}
+
+// Goes to the first failure or to the end, and takes the last event back: how many events are left.
+fn looked_at(stepper: &mut Stepper) -> Option<usize> {
+    stepper.break_at(Break::Fails).ok()?;
+    stepper.go().ok()?;
+    stepper.back().ok()?;
+    Some(stepper.board().events().len())
+}
+
+// The definition of the entries that a text stands for.
+fn assembled(alloc: Global, text: &[u8]) -> Option<Bytes> {
+    let entries = assemble(alloc, text).ok()?;
+    write_definition(alloc, &entries).ok()
+}
+
+const DEFINITION: [&str; 2] = [SOURCE_P, RESULT_0];
+
+const A_FILE: &str =
+    "op {\nfile {\nactions {\ninput -1\nmkfile {\npath \"/a\"\n}\n}\n}\n}\nop {\ninputs {\ndigest %0\n}\n}\n";
+
+const TREE: &str = "d 0755 0 0 /\nf 0644 0 0 6869 /a\n";
+
+fn are_kinds_told(alloc: Global, text: &str) -> bool {
+    match assembled(alloc, text.as_bytes()) {
+        Some(definition) => {
+            matches!(kinds(alloc, definition.as_slice()), Ok(told) if told.as_str() == "file\n")
+        }
+        None => false,
+    }
+}
+
+fn told(alloc: Global) -> Option<Vec<u8>> {
+    let tree = read_tree(alloc, TREE.as_bytes()).ok()?;
+    let name = Text::from_str(alloc, "p").ok()?;
+    let graph = graph_from(alloc, &DEFINITION)?;
+    result_text(alloc, graph, name, tree)
+}
+
+fn is_driven(alloc: Global) -> bool {
+    match board_of(alloc, &DEFINITION, &[("p", TREE)], 1) {
+        Some(mut board) => by_hand(&mut board, 0) == Some(Settled::Done(0)),
+        None => false,
+    }
+}
+
+fn is_looked_at(alloc: Global) -> bool {
+    match board_of(alloc, &DEFINITION, &[("p", TREE)], 1) {
+        Some(board) => looked_at(&mut Stepper::new(alloc, board)) == Some(2),
+        None => false,
+    }
+}
+
+#[test]
+fn callers_do_what_they_say(rt: HostRuntime) {
+    let alloc = rt.alloc();
+    assert!(rt; are_kinds_told(alloc, A_FILE));
+    assert!(rt; matches!(told(alloc), Some(text) if text.as_slice() == TREE.as_bytes()));
+    assert!(rt; is_driven(alloc));
+    assert!(rt; is_looked_at(alloc));
+}

@@ -1,0 +1,200 @@
+//! Sessions as conversations: the lines that are commands and those that are none, the end of a session, its bounds, and that each line is
+//! answered before the next is waited for.
+
+use super::runs::ONE_FILE;
+use super::sessions::{LIMIT, READS};
+use super::written::board_of;
+use llb_session::{SessionFault, converse};
+use llb_stepper::Stepper;
+use std::alloc::Global;
+use std::cell::Cell;
+use std::io;
+use std::io::{ErrorKind, Read, Write};
+
+// What is said to a stepper on one file by one worker, and all that it prints.
+const CONVERSATIONS: &[(&str, &str)] = &[
+    // A session ends with its commands, or with a line that says so.
+    ("", ""),
+    ("next\n", "1 claim 0 0 -> file 1\n"),
+    (
+        "go\nnext\ngo\n",
+        "1 claim 0 0 -> file 1\n2 step 0 -> acted 0\n3 settle 0 -> 0 done\nend\nend\nend\n",
+    ),
+    ("quit\nnext\n", ""),
+    ("next\nquit", "1 claim 0 0 -> file 1\n"),
+    (
+        "break settle 0\ngo\nquit\nnext\n",
+        "1 claim 0 0 -> file 1\n2 step 0 -> acted 0\n3 settle 0 -> 0 done\nstop\n",
+    ),
+    ("next", "1 claim 0 0 -> file 1\n"),
+    ("tree 0 0\ntree 0 1\ntree 7 0\n", "none\nnone\nnone\n"),
+    // Any other line is refused by its number.
+    (
+        "\nnext \n next\nbreak\nbreak fail 1\nclaim 0\nclaim 0  0\nstep +0\nstep 4294967296\ngo\r\nclaim 00 00\nQUIT\n",
+        "fault 173 1\nfault 173 2\nfault 173 3\nfault 173 4\nfault 173 5\nfault 173 6\nfault 173 7\nfault 173 8\nfault 173 9\n\
+        fault 173 10\n1 claim 0 0 -> file 1\nfault 173 12\n",
+    ),
+];
+
+fn on_one_file(alloc: Global) -> Option<Stepper> {
+    match board_of(alloc, ONE_FILE, &[], 1) {
+        Some(board) => Some(Stepper::new(alloc, board)),
+        None => None,
+    }
+}
+
+// How a conversation within bounds ends, where it prints this.
+fn ended_on(
+    alloc: Global,
+    stepper: &mut Stepper,
+    commands: &str,
+    bounds: (usize, u64),
+    wanted: &str,
+) -> Option<Result<(), SessionFault>> {
+    let mut lines = commands.as_bytes();
+    let mut out: Vec<u8> = Vec::new(alloc);
+    let end = converse(alloc, stepper, &mut lines, &mut out, bounds.0, bounds.1);
+    if out.as_slice() == wanted.as_bytes() {
+        Some(end)
+    } else {
+        None
+    }
+}
+
+// The same on one file.
+fn ended(
+    alloc: Global,
+    commands: &str,
+    limit: usize,
+    reads: u64,
+    wanted: &str,
+) -> Option<Result<(), SessionFault>> {
+    match on_one_file(alloc) {
+        Some(mut stepper) => ended_on(alloc, &mut stepper, commands, (limit, reads), wanted),
+        None => None,
+    }
+}
+
+// The number of the first conversation that prints something else; past the end where there is none.
+fn first_wrong(alloc: Global, rows: &[(&str, &str)]) -> usize {
+    for (at, (commands, wanted)) in rows.iter().enumerate() {
+        if !matches!(ended(alloc, commands, LIMIT, READS, wanted), Some(Ok(()))) {
+            return at;
+        }
+    }
+    rows.len()
+}
+
+#[test]
+fn lines_are_answered_up_to_the_end(rt: HostRuntime) {
+    assert_eq!(rt; first_wrong(rt.alloc(), CONVERSATIONS), CONVERSATIONS.len());
+}
+
+const TWICE: &str = "next\nnext\n";
+
+// The bounds on bytes and on reads, what two lines print within them, and the fault, or 0.
+const BOUNDS: &[(usize, u64, &str, u32)] = &[
+    (9, 5, "1 claim 0 0 -> file 1\n", 185),
+    (5, 5, "1 claim 0 0 -> file 1\n", 185),
+    (10, 1, "1 claim 0 0 -> file 1\n2 step 0 -> acted 0\n", 181),
+    (10, 2, "1 claim 0 0 -> file 1\n2 step 0 -> acted 0\n", 0),
+];
+
+fn number_of(end: Option<Result<(), SessionFault>>) -> Option<u32> {
+    match end? {
+        Ok(()) => Some(0),
+        Err(SessionFault::Read) => Some(181),
+        Err(SessionFault::Write) => Some(182),
+        Err(SessionFault::Memory) => Some(184),
+        Err(SessionFault::TooLong) => Some(185),
+    }
+}
+
+// The number of the first row of bounds that a session ends otherwise within.
+fn first_other_end(alloc: Global, rows: &[(usize, u64, &str, u32)]) -> usize {
+    for (at, (limit, reads, wanted, number)) in rows.iter().enumerate() {
+        if number_of(ended(alloc, TWICE, *limit, *reads, wanted)) != Some(*number) {
+            return at;
+        }
+    }
+    rows.len()
+}
+
+#[test]
+fn lines_within_the_bounds_are_answered(rt: HostRuntime) {
+    assert_eq!(rt; first_other_end(rt.alloc(), BOUNDS), BOUNDS.len());
+}
+
+// A reader that gives a byte a read, and those of a line only once the lines before it are answered.
+#[derive(Drop)]
+struct Waits<'a> {
+    bytes: &'a [u8],
+    ended: u32,
+    answered: &'a Cell<u32>,
+}
+
+impl Read for Waits<'_> {
+    fn read(&mut self, piece: &mut [u8]) -> io::Result<usize> {
+        if self.answered.get() < self.ended {
+            return Err(ErrorKind::WouldBlock.into());
+        }
+        match self.bytes.split_first() {
+            Some((first, rest)) if !piece.is_empty() => {
+                piece[0] = *first;
+                self.bytes = rest;
+                if *first == b'\n' {
+                    self.ended = self.ended.saturating_add(1);
+                }
+                Ok(1)
+            }
+            _ => Ok(0),
+        }
+    }
+}
+
+// A writer that counts the answers that are out.
+#[derive(Drop)]
+struct Counts<'a> {
+    text: Vec<u8>,
+    answered: &'a Cell<u32>,
+}
+
+impl Write for Counts<'_> {
+    fn write(&mut self, bytes: &[u8]) -> io::Result<usize> {
+        self.text.write(bytes)
+    }
+
+    fn flush(&mut self) -> io::Result<()> {
+        self.answered.set(self.answered.get().saturating_add(1));
+        Ok(())
+    }
+}
+
+// Whether each line is answered before the next is waited for.
+fn is_conversation(alloc: Global, stepper: &mut Stepper, commands: &str, wanted: &str) -> bool {
+    let answered = Cell::new(0);
+    let mut lines = Waits {
+        bytes: commands.as_bytes(),
+        ended: 0,
+        answered: &answered,
+    };
+    let mut out = Counts {
+        text: Vec::new(alloc),
+        answered: &answered,
+    };
+    let end = converse(alloc, stepper, &mut lines, &mut out, LIMIT, READS);
+    end.is_ok() && out.text.as_slice() == wanted.as_bytes()
+}
+
+fn is_held(alloc: Global, commands: &str, wanted: &str) -> bool {
+    match on_one_file(alloc) {
+        Some(mut stepper) => is_conversation(alloc, &mut stepper, commands, wanted),
+        None => false,
+    }
+}
+
+#[test]
+fn each_line_is_answered_before_the_next_is_waited_for(rt: HostRuntime) {
+    let wanted = "1 claim 0 0 -> file 1\n2 step 0 -> acted 0\nback 1\n";
+    assert!(rt; is_held(rt.alloc(), "next\nbreak fail\nnext\nback\n", wanted));
+}
