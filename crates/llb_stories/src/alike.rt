@@ -1,9 +1,10 @@
 //! Boards that are the same by value, boards that differ in one thing, and copies.
 
 use super::cached::LOCKED_A_FAILS;
+use super::calls;
+use super::calls::{are_done, copy_of};
 use super::definitions::{MAKES_B, MAKES_Z, MERGES_0_1, RESULT_0, RESULT_2};
 use super::runs::{IN_A_ROW, TWO_FILES};
-use super::told::are_done;
 use super::written::{Definition, board_of};
 use llb_board::{Board, Event};
 use std::alloc::Global;
@@ -44,7 +45,7 @@ fn compared(
     others: &[Event],
 ) -> Option<bool> {
     if are_done(one, events) && are_done(other, others) {
-        Some(one.same(other))
+        Some(calls::are_same(one, other))
     } else {
         None
     }
@@ -93,17 +94,17 @@ const COPIED: &[(Side, &[Event])] = &[
 // Whether a copy is the board, then whether it still is once some events were done on the board alone, and whether it is then as a board
 // on which they were not done.
 fn copied(board: &mut Board, untouched: &Board, events: &[Event]) -> [bool; 3] {
-    match board.copy() {
-        Ok(copy) => {
-            let before = board.same(&copy);
+    match copy_of(board) {
+        Some(copy) => {
+            let before = calls::are_same(board, &copy);
             let done = are_done(board, events);
             [
                 before,
-                done && board.same(&copy),
-                done && copy.same(untouched),
+                done && calls::are_same(board, &copy),
+                done && calls::are_same(&copy, untouched),
             ]
         }
-        Err(_) => [false; 3],
+        None => [false; 3],
     }
 }
 

@@ -1,6 +1,7 @@
 //! Many workers, each in a thread of its own, that take their vertices from one queue.
 
 use super::cached::{LOCKED_A, LOCKED_B, PRIVATE_A, PRIVATE_B, SHARED_A_B, SHARED_C_D};
+use super::calls::{are_same, breaks_at, goes_back, replayed};
 use super::definitions::{MAKES_A, MAKES_B, MERGES_0_1, RESULT_2};
 use super::written::{board_from, board_of};
 use llb_board::{Board, Event, Gate, Stopped};
@@ -196,11 +197,14 @@ fn any_number_of_workers_leaves_one_tree(rt: HostRuntime) {
 // Where the record of threads stops at the claim of the merge, and how many events are left after two steps back: one of the files is made
 // then, and the other's worker has not settled.
 fn walked(stepper: &mut Stepper, events: &[Event]) -> Option<(Stop, usize)> {
-    stepper.break_at(Break::Claims(2)).ok()?;
-    let stop = stepper.replay(events).ok()?;
-    stepper.back().ok()?;
-    stepper.back().ok()?;
-    Some((stop, stepper.board().events().len()))
+    let broken = breaks_at(stepper, Break::Claims(2));
+    let stop = replayed(stepper, events)?;
+    let back = broken && goes_back(stepper) && goes_back(stepper);
+    if back {
+        Some((stop, stepper.board().events().len()))
+    } else {
+        None
+    }
 }
 
 // The same of what threads have left, in a new stepper.
@@ -248,7 +252,7 @@ fn on_caches_by(alloc: Global, workers: u32) -> Option<Board> {
 }
 
 fn is_replayed(stepper: &mut Stepper, left: &Board) -> bool {
-    stepper.replay(left.events().as_slice()).is_ok() && stepper.board().same(left)
+    replayed(stepper, left.events().as_slice()).is_some() && are_same(stepper.board(), left)
 }
 
 // Whether the record that threads have left is replayed on a new board to what they left.

@@ -1,11 +1,11 @@
 //! Work of jobs away from the board: its outcome, gates that stop it, and where an outcome lands.
 
 use super::cached::{LOCKED_A_FAILS_EARLY, LOCKED_TRUE, SHARED_A_B, SHARED_C_D};
+use super::calls::{are_done, is_done, landed, worked};
 use super::definitions::{MAKES_B, MAKES_XA, MAKES_Z, MERGES_0_1, RESULT_2};
 use super::runs::TWO_FILES;
-use super::told::{are_done, is_done};
 use super::written::{Definition, board_of};
-use llb_board::{Board, Event, Gate, LandFault, Outcome, Settled, Stopped, WorkFault, work};
+use llb_board::{Board, Event, Gate, Outcome, Status, Stopped};
 use std::alloc::Global;
 
 // Lets all work begin.
@@ -42,18 +42,6 @@ const ON_A_SHARED_CACHE: Definition = &[SHARED_A_B, SHARED_C_D, MERGES_0_1, RESU
 
 const SECOND_COMMAND_FAILS: Definition = &[LOCKED_A_FAILS_EARLY, LOCKED_TRUE, MERGES_0_1, RESULT_2];
 
-// What worker w works out of vertex 0 behind a gate, or the number of the fault.
-fn worked<G: Gate>(alloc: Global, board: &mut Board, w: u32, gate: &G) -> Result<Outcome, u32> {
-    match board.claim(w, 0) {
-        Ok(job) => match work(alloc, job, gate) {
-            Ok(outcome) => Ok(outcome),
-            Err(WorkFault::Stopped) => Err(143),
-            Err(WorkFault::Memory) => Err(142),
-        },
-        Err(_) => Err(0),
-    }
-}
-
 fn outcome_from<G: Gate>(
     alloc: Global,
     definition: Definition,
@@ -61,7 +49,7 @@ fn outcome_from<G: Gate>(
     gate: &G,
 ) -> Result<Outcome, u32> {
     match board_of(alloc, definition, &[], 2) {
-        Some(mut board) => worked(alloc, &mut board, w, gate),
+        Some(mut board) => worked(alloc, &mut board, w, 0, gate),
         None => Err(0),
     }
 }
@@ -132,17 +120,6 @@ const LANDINGS: &[Landing] = &[
     (ON_A_SHARED_CACHE, ON_A_SHARED_CACHE, CLAIMED, 0, 140),
 ];
 
-// By which fault an outcome does not land; 0 where it does.
-fn landed(board: &mut Board, w: u32, outcome: Outcome) -> u32 {
-    match board.land(w, outcome) {
-        Ok(_) => 0,
-        Err(LandFault::NoWorker(_)) => 131,
-        Err(LandFault::NotRunning(_)) => 136,
-        Err(LandFault::Stranger(_)) => 139,
-        Err(LandFault::HasShared(_)) => 140,
-    }
-}
-
 // What a row's outcome is answered on a board.
 fn brought_to(alloc: Global, row: &Landing, board: &mut Board) -> Option<u32> {
     match outcome_from(alloc, row.0, 0, &Passes) {
@@ -184,9 +161,9 @@ fn an_outcome_lands_where_its_worker_has_just_that_to_do(rt: HostRuntime) {
 // Whether the outcome of a board lands on it as the steps that are left and the settle.
 fn is_a_block(board: &mut Board, outcome: Outcome) -> [bool; 3] {
     let record = [Event::Claim(0, 0), Event::Step(0), Event::Settle(0)];
-    let settled = matches!(board.land(0, outcome), Ok(Settled::Done(0)));
+    let lands = landed(board, 0, outcome) == 0;
     [
-        settled,
+        lands && board.status(0) == Some(Status::Done),
         board.events().as_slice() == record.as_slice(),
         board.output(0, 0).is_some(),
     ]
@@ -202,7 +179,7 @@ fn is_late(board: &mut Board, outcome: Outcome) -> [bool; 3] {
 
 // What is told of a board's own outcome of vertex 0, which is brought at once or late.
 fn own_on(alloc: Global, board: &mut Board, late: bool) -> Option<[bool; 3]> {
-    match worked(alloc, board, 0, &Passes) {
+    match worked(alloc, board, 0, 0, &Passes) {
         Ok(outcome) => Some(if late {
             is_late(board, outcome)
         } else {

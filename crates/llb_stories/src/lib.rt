@@ -11,6 +11,8 @@ mod caches;
 #[cfg(test)]
 mod calling;
 #[cfg(test)]
+mod calls;
+#[cfg(test)]
 mod conversations;
 #[cfg(test)]
 mod crew;

@@ -1,16 +1,17 @@
 //! What the opening of a board takes and gives back, and what a board that is left gives to the next.
 
 use super::cached::{LOCKED_A_AND_TRUE, LOCKED_B, LOCKED_TRUE, PRIVATE_A, PRIVATE_B, SHARED_TRUE};
+use super::calls::{are_done, opened};
 use super::definitions::{MERGES_0_1, RESULT_2};
 use super::executions::{MERGES, OLD_AND_F};
 use super::faults::prints;
 use super::instances::{HAS_A, K_LOCKED, K_SHARED};
 use super::runs::D_ON_SECOND;
-use super::told::{Call, answered, are_done};
+use super::told::{Call, answered};
 use super::written::{CacheRow, Definition, Local, board_of, graph_from, locals_of, needs_of};
 use llb_board::{Board, Event, OpenFault};
 use llb_cache::{Caches, Many};
-use llb_loader::Graph;
+use llb_loader::Locals;
 use std::alloc::Global;
 
 // Numbers of workers, and how many vertices the graph has that comes back, where the number is refused.
@@ -23,11 +24,6 @@ const WORKERS: &[(u32, Option<usize>)] = &[
     (64, None),
 ];
 
-fn opened(alloc: Global, graph: Graph, given: &[Local], workers: u32) -> Result<Board, OpenFault> {
-    let locals = locals_of(alloc, given);
-    Board::open(alloc, graph, locals, Caches::new(alloc), workers)
-}
-
 // How many vertices the graph has that comes back with a refused number of workers.
 fn vertices_back(fault: &OpenFault) -> Option<usize> {
     match fault {
@@ -38,7 +34,13 @@ fn vertices_back(fault: &OpenFault) -> Option<usize> {
 
 fn given_back(alloc: Global, workers: u32) -> Option<usize> {
     match graph_from(alloc, D_ON_SECOND) {
-        Some(graph) => match opened(alloc, graph, &[], workers) {
+        Some(graph) => match opened(
+            alloc,
+            graph,
+            Locals::new(alloc),
+            Caches::new(alloc),
+            workers,
+        ) {
             Err(fault) => vertices_back(&fault),
             Ok(_) => None,
         },
@@ -74,7 +76,7 @@ const MISSING: &[(&[Local], &str)] = &[
 
 fn is_missing(alloc: Global, given: &[Local], wanted: &str) -> bool {
     match graph_from(alloc, MERGES) {
-        Some(graph) => match opened(alloc, graph, given, 0) {
+        Some(graph) => match opened(alloc, graph, locals_of(alloc, given), Caches::new(alloc), 0) {
             Err(fault) => prints(alloc, &fault, wanted),
             Ok(_) => false,
         },
@@ -198,7 +200,7 @@ fn opened_with(
     workers: u32,
 ) -> Result<Board, Option<OpenFault>> {
     match graph_from(alloc, definition) {
-        Some(graph) => match Board::open(alloc, graph, locals_of(alloc, &[]), caches, workers) {
+        Some(graph) => match opened(alloc, graph, Locals::new(alloc), caches, workers) {
             Ok(board) => Ok(board),
             Err(fault) => Err(Some(fault)),
         },

@@ -1,6 +1,7 @@
 //! What a session doesn't say of a board: where its workers are, and which instances of caches there are. A story of calls is a list of them
 //! with what each is answered.
 
+use super::calls::are_done;
 use super::written::{CacheRow, Definition, Local, board_of, key_of};
 use llb_board::laws::headline;
 use llb_board::{At, Board, Event, Job};
@@ -27,23 +28,6 @@ pub struct Calls {
     pub locals: &'static [Local],
     pub workers: u32,
     pub answers: &'static [(Call, &'static str)],
-}
-
-pub fn is_done(board: &mut Board, event: Event) -> bool {
-    match event {
-        Event::Claim(w, v) => board.claim(w, v).is_ok(),
-        Event::Step(w) => board.step(w).is_ok(),
-        Event::Settle(w) => board.settle(w).is_ok(),
-    }
-}
-
-pub fn are_done(board: &mut Board, events: &[Event]) -> bool {
-    for event in events {
-        if !is_done(board, *event) {
-            return false;
-        }
-    }
-    true
 }
 
 fn push_done(text: &mut String, board: &mut Board, events: &[Event]) -> Result<(), AllocError> {

@@ -3,9 +3,10 @@
 ghost use Rattle.std.specs.Prelude.{◌≡◌};
 
 use super::caches::WRITES_AND_FAILS;
+use super::calls::{are_done, are_same, breaks_at, copy_of, goes_back, is_done, replayed};
 use super::instances::{HAS_A, K_LOCKED};
 use super::runs::{FAILS_FIRST, IN_A_ROW, TWO_FILES};
-use super::told::{Call, answered, are_done, is_done};
+use super::told::{Call, answered};
 use super::written::{Definition, board_of};
 use llb_board::{At, Board, Event, Status};
 use llb_stepper::{Break, Stepper, Stop};
@@ -56,15 +57,15 @@ const WALKED: &[(Definition, &[(Call, &str)])] = &[
 
 // Whether a run that is walked and taken back leaves a board as its copy, and both go on to the same end, where this is answered.
 fn goes_and_comes(alloc: Global, board: &mut Board, ended: &[(Call, &str)]) -> [bool; 4] {
-    match board.copy() {
-        Ok(mut fresh) => {
+    match copy_of(board) {
+        Some(mut fresh) => {
             let complete = there_and_back(board, 50);
-            let back = board.same(&fresh);
-            let both = finish(board) && finish(&mut fresh) && board.same(&fresh);
+            let back = are_same(board, &fresh);
+            let both = finish(board) && finish(&mut fresh) && are_same(board, &fresh);
             let told = answered(alloc, board, ended) == ended.len();
             [complete, back, both, told]
         }
-        Err(_) => [false; 4],
+        None => [false; 4],
     }
 }
 
@@ -139,17 +140,17 @@ fn is_two_before(board: &Board) -> bool {
 
 // Whether a replay of that record stops with a breakpoint at a claim of the merge, and is taken back from there.
 fn is_replayed(stepper: &mut Stepper) -> [bool; 3] {
-    let broken = stepper.break_at(Break::Claims(2)).is_ok();
+    let broken = breaks_at(stepper, Break::Claims(2));
     let wanted = Stop {
         events: 7,
         at_break: true,
     };
-    let stopped = matches!(stepper.replay(&OF_TWO_WORKERS), Ok(stop) if stop == wanted);
-    let back = stepper.back().is_ok() && stepper.back().is_ok();
+    let stopped = replayed(stepper, &OF_TWO_WORKERS) == Some(wanted);
+    let back = goes_back(stepper) && goes_back(stepper);
     [broken, stopped, back && is_two_before(stepper.board())]
 }
 
-fn replayed(alloc: Global) -> Option<[bool; 3]> {
+fn walked(alloc: Global) -> Option<[bool; 3]> {
     match board_of(alloc, TWO_FILES, &[], 2) {
         Some(board) => Some(is_replayed(&mut Stepper::new(alloc, board))),
         None => None,
@@ -158,5 +159,5 @@ fn replayed(alloc: Global) -> Option<[bool; 3]> {
 
 #[test]
 fn a_record_is_replayed_up_to_a_breakpoint(rt: HostRuntime) {
-    assert!(rt; replayed(rt.alloc()) == Some([true; 3]));
+    assert!(rt; walked(rt.alloc()) == Some([true; 3]));
 }

@@ -1,0 +1,97 @@
+//! Calls on boards and steppers as stories make them, each in a function without clauses: a story compares values, and what a call promises
+//! besides need not be carried through it.
+
+use llb_board::{Board, Event, Gate, LandFault, OpenFault, Outcome, WorkFault, work};
+use llb_cache::Caches;
+use llb_loader::{Graph, Locals};
+use llb_stepper::{Break, Stepper, Stop};
+use llb_wire::Same;
+use std::alloc::Global;
+
+pub fn opened(
+    alloc: Global,
+    graph: Graph,
+    locals: Locals,
+    caches: Caches,
+    workers: u32,
+) -> Result<Board, OpenFault> {
+    Board::open(alloc, graph, locals, caches, workers)
+}
+
+fn is_claimed(board: &mut Board, w: u32, v: u32) -> bool {
+    board.claim(w, v).is_ok()
+}
+
+fn is_stepped(board: &mut Board, w: u32) -> bool {
+    board.step(w).is_ok()
+}
+
+fn is_settled(board: &mut Board, w: u32) -> bool {
+    board.settle(w).is_ok()
+}
+
+pub fn is_done(board: &mut Board, event: Event) -> bool {
+    match event {
+        Event::Claim(w, v) => is_claimed(board, w, v),
+        Event::Step(w) => is_stepped(board, w),
+        Event::Settle(w) => is_settled(board, w),
+    }
+}
+
+pub fn are_done(board: &mut Board, events: &[Event]) -> bool {
+    for event in events {
+        if !is_done(board, *event) {
+            return false;
+        }
+    }
+    true
+}
+
+pub fn are_same(one: &Board, other: &Board) -> bool {
+    one.same(other)
+}
+
+pub fn copy_of(board: &Board) -> Option<Board> {
+    board.copy().ok()
+}
+
+// What worker w works out of a vertex behind a gate, or the number of the fault.
+pub fn worked<G: Gate>(
+    alloc: Global,
+    board: &mut Board,
+    w: u32,
+    v: u32,
+    gate: &G,
+) -> Result<Outcome, u32> {
+    match board.claim(w, v) {
+        Ok(job) => match work(alloc, job, gate) {
+            Ok(outcome) => Ok(outcome),
+            Err(WorkFault::Stopped) => Err(143),
+            Err(WorkFault::Memory) => Err(142),
+        },
+        Err(_) => Err(0),
+    }
+}
+
+// By which fault an outcome does not land; 0 where it does.
+pub fn landed(board: &mut Board, w: u32, outcome: Outcome) -> u32 {
+    match board.land(w, outcome) {
+        Ok(_) => 0,
+        Err(LandFault::NoWorker(_)) => 131,
+        Err(LandFault::NotRunning(_)) => 136,
+        Err(LandFault::Stranger(_)) => 139,
+        Err(LandFault::HasShared(_)) => 140,
+    }
+}
+
+pub fn breaks_at(stepper: &mut Stepper, stop: Break) -> bool {
+    stepper.break_at(stop).is_ok()
+}
+
+pub fn replayed(stepper: &mut Stepper, events: &[Event]) -> Option<Stop> {
+    stepper.replay(events).ok()
+}
+
+pub fn goes_back(stepper: &mut Stepper) -> bool {
+    stepper.back().is_ok()
+}
