@@ -79,7 +79,7 @@ invariant_of-self c =
     c.args.before can in
     let is : slice_set ss x.vertex c.replace-had.new.dest ≡ new = ap (slice_set ss x.vertex) c.replace-had.ensures.after in
     let at : slice_get ss x.vertex ≡ Some c.replace-had.result
-    = slice_get-get_or ss x.vertex c.index_mut-5.result.now low ∙ ap (λ s. Some s) (sym (c.replace-had.ensures.value ∙ c.index_mut-5.ensures.value)) in
+    = slice_get-get_or ss x.vertex c.index_mut-2.result.now low ∙ ap (λ s. Some s) (sym (c.replace-had.ensures.value ∙ c.index_mut-2.ensures.value)) in
     let anew : c.has_failed.result ≡ true → marks ≡ stopped b.build (map status_of new)
     = λ failed. on_true c.has_failed.result _ c.mark_anew.ensures.anew failed
     ∙ (λ i. by_number (next_stopped (map status_of (c.deref.ensures.value i))) [] (c.vertices-vertices.ensures.all i))
@@ -126,7 +126,7 @@ returns c =
     c.args.before can in
     let is : slice_set ss x.vertex c.replace-had.new.dest ≡ new = ap (slice_set ss x.vertex) c.replace-had.ensures.after in
     let at : slice_get ss x.vertex ≡ Some c.replace-had.result
-    = slice_get-get_or ss x.vertex c.index_mut-5.result.now low ∙ ap (λ s. Some s) (sym (c.replace-had.ensures.value ∙ c.index_mut-5.ensures.value)) in
+    = slice_get-get_or ss x.vertex c.index_mut-2.result.now low ∙ ap (λ s. Some s) (sym (c.replace-had.ensures.value ∙ c.index_mut-2.ensures.value)) in
     let anew : c.has_failed.result ≡ true → marks ≡ stopped b.build (map status_of new)
     = λ failed. on_true c.has_failed.result _ c.mark_anew.ensures.anew failed
     ∙ (λ i. by_number (next_stopped (map status_of (c.deref.ensures.value i))) [] (c.vertices-vertices.ensures.all i))
