@@ -12,17 +12,22 @@ use llb_tree::Tree;
 use llb_treetext::{print_tree, read_tree};
 use llb_wire::{Bytes, Over, Text};
 use llb_work::run_alone;
-use std::alloc::Global;
+use std::alloc::{AllocError, Global};
 
-// The kinds of a definition's vertices, by number, a line each.
-fn kinds(alloc: Global, definition: &[u8]) -> Result<String, LoadFault> {
-    let graph = load(alloc, definition)?;
+// The kinds of a graph's vertices, by number, a line each.
+fn kinds(alloc: Global, graph: &Graph) -> Result<String, AllocError> {
     let mut text = String::new(alloc);
     for vertex in graph.vertices() {
         text.push_str(kind_name(&vertex.op))?;
         text.push_str("\n")?;
     }
     Ok(text)
+}
+
+// The same of a definition, or why it is refused.
+fn kinds_in(alloc: Global, definition: &[u8]) -> Result<String, LoadFault> {
+    let graph = load(alloc, definition)?;
+    Ok(kinds(alloc, &graph)?)
 }
 
 // The text of the result of a graph, of which one local source has a tree.
@@ -69,7 +74,7 @@ const TREE: &str = "d 0755 0 0 /\nf 0644 0 0 6869 /a\n";
 fn are_kinds_told(alloc: Global, text: &str) -> bool {
     match assembled(alloc, text.as_bytes()) {
         Some(definition) => {
-            matches!(kinds(alloc, definition.as_slice()), Ok(told) if told.as_str() == "file\n")
+            matches!(kinds_in(alloc, definition.as_slice()), Ok(told) if told.as_str() == "file\n")
         }
         None => false,
     }
