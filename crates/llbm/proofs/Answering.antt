@@ -199,6 +199,11 @@ pub tells_not_run : (workers : ℕ) (ls : List Local) (left : Option (List ℕ))
     → TellsRefusal (IsNotRun workers ls) left e
 tells_not_run workers ls left e tells h = some_map IsRefused (IsNotRun workers ls) left (λ bytes refused. inl refused) (tells h)
 
+-- what is refused has no run
+pub tells_no_run : (workers : ℕ) (ls : List Local) (left : Option (List ℕ)) (e : ProgramFault) → TellsRefusal IsRefused left e
+    → TellsRefusal (IsNotRun workers ls) left e
+tells_no_run workers ls left e tells h = some_map IsRefused (IsNotRun workers ls) left (λ bytes refused. inl refused) (tells h)
+
 -- nor is what has no board, or too many workers
 pub tells_unrun : (workers : ℕ) (ls : List Local) (left : Option (List ℕ)) (g : Numbered) (e : ProgramFault) → IfSome left (λ bytes. IsGraphIn bytes g)
     → (IsRefusal e → IsUnopened ls g workers) → TellsRefusal (IsNotRun workers ls) left e

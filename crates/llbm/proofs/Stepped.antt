@@ -15,7 +15,7 @@ use Rattle.llb_stepper.specs.Stepping.{Stepping}
 use Rattle.llb_session.specs.Conversation.{Converses}
 use Rattle.llb_session.specs.declared.fault.SessionFault.{SessionFault}
 use Rattle.llb_session.specs.declared.fault.SessionFault.TheVariants as session
-use Rattle.llbm.specs.Answer.{build_of, Lacks, IsUnopened}
+use Rattle.llbm.specs.Answer.{IsRefused, build_of, Lacks, IsUnopened}
 use Rattle.llbm.specs.Running.{IsRefusal, TellsRefusal}
 use Rattle.llbm.specs.Sources.{limit}
 use Rattle.llbm.specs.Stepping.{begun, session_fault, IsNotOpened, IsSession, IsBroken, StepsIn, Steps}
@@ -54,6 +54,10 @@ begins locals g workers s b made is = made ∙ ap on is where
   on x = record { board = x; past = []; breaks = [] }
 
 module _ (locals : List Local) (workers : ℕ) (file : Option (List ℕ)) where
+  -- what is refused has no session
+  pub tells_unread : (e : ProgramFault) → TellsRefusal IsRefused file e → TellsRefusal (IsNotOpened locals workers) file e
+  tells_unread e tells is = some_map IsRefused (IsNotOpened locals workers) file (λ bytes refused. inl refused) (tells is)
+
   -- the graph of the bytes has no board
   pub tells_unopened : (g : Numbered) (e : ProgramFault) → IfSome file (λ bytes. IsGraphIn bytes g) → (IsRefusal e → IsUnopened locals g workers)
       → TellsRefusal (IsNotOpened locals workers) file e

@@ -5,7 +5,7 @@ use Rattle.llb_model.specs.State.{ending_at}
 use Rattle.std.proofs.KnownBytes.{Keeps-refl}
 use Rattle.std.proofs.lemmas.Result.{err_from_is_err_and}
 use Rattle.llbm.specs.Running.{Shows}
-use Rattle.llbm.proofs.Answering.{answers, tells_unrun}
+use Rattle.llbm.proofs.Answering.{answers, tells_no_run, tells_unrun}
 use Rattle.llbm.proofs.run.answer.Goals as goal
 
 pub returns : goal.returns
@@ -25,3 +25,9 @@ returns-in_err-board g c =
     (g.R.Read.remaining c.args.input.now) c.in_ok-graph.graph c.in_err-board.field-0.0 c.in_ok-graph.ensures c.in_err-board.ensures.fault in
     let p = err_from_is_err_and c.from_residual-in_err-board.result c.from_residual-in_err-board.ensures.1 in
     rw (p.1, p.2) (inl (Keeps-refl (g.W.Write.contents c.args.out.now), unrun))
+
+pub returns-in_err-graph : goal.returns-in_err-graph
+returns-in_err-graph g c =
+    let unread = tells_no_run 1 c.args.locals (g.R.Read.remaining c.args.input.now) c.in_err-graph.field-0.0 c.in_err-graph.ensures in
+    let p = err_from_is_err_and c.from_residual.result c.from_residual.ensures.1 in
+    rw (p.1, p.2) (inl (Keeps-refl (g.W.Write.contents c.args.out.now), unread))

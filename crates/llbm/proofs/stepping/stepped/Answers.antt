@@ -2,7 +2,7 @@ use Rattle.std.proofs.Common.{inl, inr}
 use Rattle.std.specs.Prelude.{Ok, Err}
 use Rattle.std.proofs.KnownBytes.{Keeps-refl}
 use Rattle.std.proofs.lemmas.Result.{err_from_is_err_and}
-use Rattle.llbm.proofs.Stepped.{begins, tells_unopened, tells_session}
+use Rattle.llbm.proofs.Stepped.{begins, tells_unread, tells_unopened, tells_session}
 use Rattle.llbm.proofs.stepping.stepped.Goals as goal
 
 pub returns-in_err-board : goal.returns-in_err-board
@@ -33,3 +33,9 @@ returns g c =
           (g.C.Read.remaining c.converse.new.commands) (g.W.Write.contents c.args.out.now) (g.W.Write.contents c.converse.new.out) graph c.new-stepper.result
           c.converse.new.session (Err fault) c.in_ok-graph.ensures begun c.in-Err.ensures,
     )
+
+pub returns-in_err-graph : goal.returns-in_err-graph
+returns-in_err-graph g c =
+    let tells = tells_unread c.args.locals c.args.workers (g.R.Read.remaining c.args.file.now) c.in_err-graph.field-0.0 c.in_err-graph.ensures in
+    let p = err_from_is_err_and c.from_residual.result c.from_residual.ensures.1 in
+    rw (p.1, p.2) (inl (Keeps-refl (g.W.Write.contents c.args.out.now), tells))
