@@ -8,14 +8,18 @@ use llb_stepper::{Break, Stepper, Stop};
 use llb_wire::Same;
 use std::alloc::Global;
 
+// None where a lease of the caches is out.
 pub fn opened(
     alloc: Global,
     graph: Graph,
     locals: Locals,
     caches: Caches,
     workers: u32,
-) -> Result<Board, OpenFault> {
-    Board::open(alloc, graph, locals, caches, workers)
+) -> Option<Result<Board, OpenFault>> {
+    if caches.leases() > 0 {
+        return None;
+    }
+    Some(Board::open(alloc, graph, locals, caches, workers))
 }
 
 fn is_claimed(board: &mut Board, w: u32, v: u32) -> bool {

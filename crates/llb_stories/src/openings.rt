@@ -41,8 +41,8 @@ fn given_back(alloc: Global, workers: u32) -> Option<usize> {
             Caches::new(alloc),
             workers,
         ) {
-            Err(fault) => vertices_back(&fault),
-            Ok(_) => None,
+            Some(Err(fault)) => vertices_back(&fault),
+            _ => None,
         },
         None => None,
     }
@@ -77,8 +77,8 @@ const MISSING: &[(&[Local], &str)] = &[
 fn is_missing(alloc: Global, given: &[Local], wanted: &str) -> bool {
     match graph_from(alloc, MERGES) {
         Some(graph) => match opened(alloc, graph, locals_of(alloc, given), Caches::new(alloc), 0) {
-            Err(fault) => prints(alloc, &fault, wanted),
-            Ok(_) => false,
+            Some(Err(fault)) => prints(alloc, &fault, wanted),
+            _ => false,
         },
         None => false,
     }
@@ -201,8 +201,9 @@ fn opened_with(
 ) -> Result<Board, Option<OpenFault>> {
     match graph_from(alloc, definition) {
         Some(graph) => match opened(alloc, graph, Locals::new(alloc), caches, workers) {
-            Ok(board) => Ok(board),
-            Err(fault) => Err(Some(fault)),
+            Some(Ok(board)) => Ok(board),
+            Some(Err(fault)) => Err(Some(fault)),
+            None => Err(None),
         },
         None => Err(None),
     }
