@@ -141,10 +141,12 @@ const FEATURES: &[(Feature, &str)] = &[
 
 // The number of the first feature that prints something else, as that of the row of its own number; past the end where there is none.
 fn first_other_feature(alloc: Global, rows: &[(Feature, &str)]) -> usize {
+    let mut row = 0u32;
     for (at, (feature, wanted)) in rows.iter().enumerate() {
-        if !prints(alloc, &LoadFault::Unsupported(at as u32, *feature), wanted) {
+        if !prints(alloc, &LoadFault::Unsupported(row, *feature), wanted) {
             return at;
         }
+        row = row.saturating_add(1);
     }
     rows.len()
 }
@@ -206,10 +208,12 @@ const RULES: &[&str] = &[
 
 // The number of the first rule that prints something else, as that of the row of its own number; past the end where there is none.
 fn first_other_rule(alloc: Global, texts: &[&str]) -> usize {
+    let mut row = 0u32;
     for (at, wanted) in texts.iter().enumerate() {
-        if !prints(alloc, &LoadFault::Invalid(at as u32, rule(at)), wanted) {
+        if !prints(alloc, &LoadFault::Invalid(row, rule(at)), wanted) {
             return at;
         }
+        row = row.saturating_add(1);
     }
     texts.len()
 }
