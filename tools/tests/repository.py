@@ -175,13 +175,13 @@ class Lines(Folder):
         self.answers(self.look(), 1, b"a/b:1: 161 columns\na/b:3: 200 columns\nz:1: 162 columns\n")
 
     def test_what_is_passed_over(self):
-        for name in ["crates.txt", "examples/a/printed", "examples/a/words", "crates/llbm/src/tests/definitions.rt"]:
+        for name in ["crates.txt", "examples/a/printed", "examples/a/words"]:
             self.add(name, b"a" * 161)
         self.add("binary", b"\xff" * 161)
         self.add("gone", b"a" * 161)
         (self.at / "gone").unlink()
         self.passes(self.look())
-        for name in ["a/crates.txt", "examples/a/run", "examples/printed", "crates/llbm/src/definitions.rt"]:
+        for name in ["a/crates.txt", "examples/a/run", "examples/printed"]:
             self.add(name, b"a" * 161)
         self.assertEqual(self.look().stdout.count(b": 161 columns\n"), 4)
 
