@@ -183,7 +183,7 @@ class Lines(Folder):
         self.passes(self.look())
         for name in ["a/crates.txt", "examples/a/run", "examples/printed"]:
             self.add(name, b"a" * 161)
-        self.assertEqual(self.look().stdout.count(b": 161 columns\n"), 4)
+        self.assertEqual(self.look().stdout.count(b": 161 columns\n"), 3)
 
     def test_no_repository(self):
         done = run("lines", "--repository", self.at / "none")
