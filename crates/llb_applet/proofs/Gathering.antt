@@ -102,9 +102,11 @@ module _ (number : ℕ) (call : List (List ℕ)) (part : List ℕ) (rest : List 
       >>= λ c. commands_of (number + 1) (front [] (slice_split is_and rest)) >>= λ cs. Ok (c ∷ cs))
   ended = ap (λ calls. verdict (commands_of number calls)) (at_and call part rest is)
 
+  -- a call that ends at an `&&` and is right leaves the verdict to the calls after it
   pub judged_on : verdict (command_of number call) ≡ Ok tt → judged number call (some_word part ++ rest) ≡ judged (number + 1) [] rest
   judged_on right = ended ∙ verdict_on _ (command_of number call) _ right (λ c. verdict_more c _)
 
+  -- and one that is wrong is what is wrong with them all
   pub judged_stops : (e : ScriptFault) → Refuses e (verdict (command_of number call)) → Refuses e (judged number call (some_word part ++ rest))
   judged_stops e refuses = record {
     known = λ k. ended ∙ verdict_stops _ (command_of number call) e (refuses.known k);
@@ -181,10 +183,12 @@ pub refuses_last : (e : ScriptFault) (rule : Result (Unit {0}) ScriptFault) → 
 refuses_last e rule refuses m = or_right (is_ok rule) (names_word rule) (refuses.last m)
 
 module _ (number : ℕ) (call : List (List ℕ)) (rule : Result (Unit {0}) ScriptFault) (is : judged number call [] ≡ rule) where
+  -- where no word is left, the answer about the last call is what the rule gives
   pub gives_last : (r : Result (Unit {0}) ScriptFault) → JudgesCall r number call → Gives (λ _. tt) r rule
   gives_last (Ok _) judges = sym is ∙ judged_last number call ∙ judges
   gives_last (Err e) judges = λ known. sym is ∙ judged_last number call ∙ judges.known known
 
+  -- and out of memory comes last there too
   pub memory_last : (r : Result (Unit {0}) ScriptFault) → JudgesCall r number call → MemoryLast r rule
   memory_last (Ok _) judges = tt
   memory_last (Err e) judges = λ m. or_right (is_ok rule) (names_word rule) (ap names_word (sym is ∙ judged_last number call) ∙ judges.last m)

@@ -95,6 +95,7 @@ items_of labels here (message row inner rest) =
     (items_of labels (behind here row.1) rest)
 
 module _ (labels : List (List ℕ)) where
+  -- among the items of fields no message is left open
   pub items_whole : (here : Here) (fs : Fields) → IsWhole (items_of labels here fs)
   items_whole here (extra []) = tt
   items_whole here (extra (b ∷ more)) = tt
@@ -102,6 +103,7 @@ module _ (labels : List (List ℕ)) where
   items_whole here (bytes row held rest) = items_whole (behind here row.1) rest
   items_whole here (message row inner rest) = items_whole (behind here row.1) rest
 
+  -- the records of the items together are the bytes of the fields
   pub items_records : (here : Here) (fs : Fields) → records_of (items_of labels here fs) ≡ bytes_of fs
   items_records here (extra []) = refl
   items_records here (extra (b ∷ more)) = append-nil (b ∷ more)
@@ -111,6 +113,7 @@ module _ (labels : List (List ℕ)) where
       ap (λ x. set_bytes row.1.number x ++ records_of (items_of labels (behind here row.1) rest)) (items_records (inside (sub_of row.1.kind)) inner)
       ∙ ap (λ x. set_bytes row.1.number (bytes_of inner) ++ x) (items_records (behind here row.1) rest)
 
+  -- the items have the lines that the fields are written in, at whatever depth those are indented
   pub items_lines : (here : Here) (depth : ℕ) (fs : Fields) → lines_of (items_of labels here fs) ≡ map (λ l. l.1) (field_lines labels depth fs)
   items_lines here depth (extra []) = refl
   items_lines here depth (extra (b ∷ more)) = refl
@@ -142,6 +145,7 @@ module _ (labels : List (List ℕ)) (small : length labels < 2 ^ 64) where
       room (length hand.bytes + record_length n k)
       (omega (arith, length-append (set_bytes n inner) more, length_record n inner, record_grows n k (length inner) (omega (arith, below))))
 
+  -- where there is room for the bytes of the fields, each line that is written of them adds its item to the message at hand
   pub items_fit : (hand : Hand) (fs : Fields) → AreFields hand.here.message hand.here.last hand.here.set fs → AreFew hand.here.last hand.here.count fs
       → hand.here.ended ≡ false → HoldBytes fs → HasRoom hand (length (bytes_of fs)) → Fits labels hand (items_of labels hand.here fs)
   unfolding held_in

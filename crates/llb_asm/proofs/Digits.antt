@@ -37,9 +37,11 @@ digit_plus : (b : ℕ) → is_digit b ≡ true → digit_value b + 48 ≡ b
 digit_plus b is = let both = and_parts (nat_le 48 b) (nat_le b 57) is in digit_value_digit b (leb-true 48 b both.0, leb-true b 57 both.1)
 
 module _ (text : List ℕ) (i : ℕ) (inside : i < length text) (digit : is_digit (get_or text i 0) ≡ true) where
+  -- one byte more is read, and all so far are still digits
   pub digits_more : list_all is_digit (take i text) ≡ true → list_all is_digit (take (i + 1) text) ≡ true
   digits_more all = list_all_more is_digit text i 0 inside ∙ and_from _ _ all digit
 
+  -- ten times the value so far and the digit, each capped at 64 bits, is the capped value of the digits with the new one
   pub value_more : (n m d r : ℕ) → n ≡ capped (digits_value 10 (take i text)) → m ≡ min (n * 10) (2 ^ 64 - 1) → d ≡ get_or text i 0 - 48
       → r ≡ min (m + d) (2 ^ 64 - 1) → r ≡ capped (digits_value 10 (take (i + 1) text))
   value_more n m d r held times is plus =

@@ -218,6 +218,7 @@ module _ (m : MessageName) (b : ℕ) (bytes : List ℕ) where
       let (rs, is, kept) = bind_ok (records_from (shape_of m) 0 (b ∷ bytes)) texts records e in
       records_ok records (is ∙ ap (λ x. Ok x) (kept_if (texts_fit (shape_of m) rs) rs records NotUtf8 kept))
 
+  -- bytes of fields that the message doesn't name begin with the record of such a field
   pub unnamed_first : AreUnnamed m (b ∷ bytes) → Unnamed m (b ∷ bytes)
   unfolding row_numbered
   unnamed_first h =

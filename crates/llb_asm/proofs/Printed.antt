@@ -314,6 +314,7 @@ module _ (labels : List (List ℕ)) (depth : ℕ) where
   numeric_text Bytes row v p text later is h = absurd is
   numeric_text (Message m) row v p text later is h = absurd is
 
+  -- once its line is written, a number has moved from the text that is to come to the text that is out
   pub number_arm : (row : Row) (v : ℕ) (p written written' text later : List ℕ) → IsNumeric row.1.kind
       → written' ≡ written ++ line_text (item_line depth row.0 (number_text row.1.kind v)) → HeadText row.1.kind row v p text later
       → written' ++ later ≡ written ++ text
@@ -331,6 +332,7 @@ module _ (labels : List (List ℕ)) (depth : ℕ) where
   held_of Bytes row v p text later is h = h
   held_of (Message m) row v p text later is h = absurd is
 
+  -- so has a string or bytes, also where an empty one has no line
   pub held_arm : (row : Row) (v : ℕ) (p written written' text later : List ℕ) → IsHeld row.1.kind
       → (IsBytesOf row.1.kind p → written' ≡ written ++ text_of_lines (held_lines labels depth row p)) → HeadText row.1.kind row v p text later
       → written' ++ later ≡ written ++ text
@@ -338,6 +340,7 @@ module _ (labels : List (List ℕ)) (depth : ℕ) where
       let x = held_of row.1.kind row v p text later is h in
       behind written written' (text_of_lines (held_lines labels depth row p)) text later (pushed x.0) x.1
 
+  -- and so has a message, after its opening line, its fields one deeper, and its closing line
   pub message_arm : (n : MessageName) (row : Row) (v : ℕ) (p written one two three text later : List ℕ) → row.1.kind ≡ Message n
       → one ≡ written ++ line_text (item_line depth row.0 opening)
       → ((last : ℕ) (set : Bool) (fs : Fields) → AreFields n last set fs → p ≡ bytes_of fs → two ≡ one ++ fields_text labels (depth + 1) fs)

@@ -25,10 +25,12 @@ module _ {X : Type 0} where
       go again true e = let same : y ≡ x = cc in subst P same here
       go again false e = again e
 
+  -- a test that a whole list passes holds of each member
   pub passes_all : (p : X → Bool) (xs : List X) → list_all p xs ≡ true → AllByRecursion (λ x. p x ≡ true) xs
   passes_all p [] e = tt
   passes_all p (x ∷ xs) e = let both = and_parts (p x) (list_all p xs) e in (both.0, passes_all p xs both.1)
 
+  -- and one that holds of each member is passed by the whole list
   pub all_passes : (p : X → Bool) (xs : List X) → AllByRecursion (λ x. p x ≡ true) xs → list_all p xs ≡ true
   all_passes p [] all = refl
   all_passes p (x ∷ xs) (here, all) = rw here (all_passes p xs all)
@@ -72,15 +74,18 @@ not_true true e = absurd cc
 not_true false e = refl
 
 module _ (m : MessageName) (row : Row) (known : by_number row.1.number (rows_of m) ≡ Some row) where
+  -- a row that is found by its number is found by its name too
   pub named_again : row_named m row.0 ≡ Some row
   named_again = (found_of (IsApart m) (λ r. r.1.number == row.1.number) (rows_of m) row (rows_found m) known).name
 
   row_good : is_name row ≡ true
   row_good = found_of (λ r. is_name r ≡ true) (λ r. r.1.number == row.1.number) (rows_of m) row (passes_all is_name (rows_of m) (names_good m)) known
 
+  -- its name can stand as the first word of a line
   pub name_is_word : is_word row.0 ≡ true
   name_is_word = (and_parts (is_word row.0) (not (is_text row.0 (codes "extra"))) row_good).0
 
+  -- and is not the word that lines of unnamed bytes begin with
   pub name_not_extra : is_text row.0 (codes "extra") ≡ false
   name_not_extra = not_true (is_text row.0 (codes "extra")) (and_parts (is_word row.0) (not (is_text row.0 (codes "extra"))) row_good).1
 

@@ -63,6 +63,7 @@ module _ (labels : List (List ℕ)) (small : length labels < 2 ^ 64) where
 
   -- ---- bytes
 
+  -- the text of a string or of bytes is read back as the record of what is held
   pub bytes_said : (row : Row) (kind : FieldKind) (held : List ℕ) → IsBytesOf kind held → AreBytes held
       → held_by labels row kind (held_text kind labels row.0 held) ≡ Ok (bytes_record row.1 held)
   bytes_said row String held is bytes = ap (λ r. r >>= λ s. Ok (bytes_record row.1 s)) (string_said row.0 held)
@@ -74,6 +75,7 @@ module _ (labels : List (List ℕ)) (small : length labels < 2 ^ 64) where
   bytes_said row Flag held is bytes = absurd is
   bytes_said row (Message m) held is bytes = absurd is
 
+  -- and that text is UTF-8, also where the bytes themselves are not
   pub bytes_utf8 : (row : Row) (kind : FieldKind) (held : List ℕ) → IsBytesOf kind held → AreBytes held
       → is_utf8 (held_text kind labels row.0 held) ≡ true
   bytes_utf8 row String held is bytes = string_utf8 row.0 held is

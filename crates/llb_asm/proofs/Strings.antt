@@ -43,6 +43,7 @@ no_two_digits (a ∷ []) short = go (is_lower a && nat_lt (digit_of a) 8)
 no_two_digits (a ∷ b ∷ text) short = absurd (omega arith)
 
 module _ (text : List ℕ) (long : 2 ≤ length text) where
+  -- after `\x`, two bytes that are not digits up to 7f spell no string
   pub digits_refused : None ≡ escape_of (get_or text 0 0) (get_or text 1 0) → string_from first text ≡ None
   unfolding string_from
   digits_refused none =
@@ -56,6 +57,7 @@ module _ (text : List ℕ) (long : 2 ≤ length text) where
       go true false false v r none = refl
       go false k s v r none = refl
 
+  -- two such digits spell their byte, and the string goes on after them
   pub digits_lead : (w : ℕ) → Some w ≡ escape_of (get_or text 0 0) (get_or text 1 0)
       → GoesOn first text w (rest_of 2 text)
   unfolding string_from
@@ -78,10 +80,12 @@ module _ (text : List ℕ) (long : 1 ≤ length text) where
   unfolding string_from
   at_x is = ap (string_from backslash) (split text long) ∙ ap (λ b. string_from backslash (b ∷ rest_of 1 text)) is
 
+  -- after a backslash, an x leaves it to the two digits that come next
   pub x_leads : get_or text 0 0 ≡ 120 → (r : Option (ℕ × Bor (List ℕ))) → Continues first (rest_of 1 text) r → Continues backslash text r
   x_leads is None refused = at_x is ∙ refused
   x_leads is (Some x) leads = (at_x is ∙ leads.0, omega (arith, leads.1, ap length (split text long)))
 
+  -- a quote or a backslash after a backslash spells itself
   pub itself_leads : (get_or text 0 0 ≡ 34) ⊎ (get_or text 0 0 ≡ 92)
       → GoesOn backslash text (get_or text 0 0) (rest_of 1 text)
   unfolding string_from
@@ -115,10 +119,12 @@ module _ (text : List ℕ) (long : 1 ≤ length text) where
   unfolding string_from
   at_backslash is = ap (string_from closed) (split text long) ∙ ap (λ b. string_from closed (b ∷ rest_of 1 text)) is
 
+  -- which byte a backslash spells is left to what comes after it
   pub backslash_leads : get_or text 0 0 ≡ 92 → (r : Option (ℕ × Bor (List ℕ))) → Continues backslash (rest_of 1 text) r → Leads text r
   backslash_leads is None refused = λ other. at_backslash is ∙ refused
   backslash_leads is (Some x) leads = (at_backslash is ∙ leads.0, omega (arith, leads.1, ap length (split text long)))
 
+  -- a byte that is neither a quote nor a backslash spells itself
   pub plain_leads : (get_or text 0 0 ≡ 34 → ⊥) → (get_or text 0 0 ≡ 92 → ⊥)
       → GoesOn closed text (get_or text 0 0) (rest_of 1 text)
   unfolding string_from

@@ -180,6 +180,7 @@ users_told b graph done l so v = elim (cases_lt v (length b.graph.vertices)) [
 -- ---- a vertex is settled, or runs again
 
 module _ (vs : List Vertex) (done : ℕ → Bool) (l : Linked) (so : IsLinked vs done l) where
+  -- each vertex has its place in the lists of users
   pub low_user : (v : ℕ) → v < length vs → v < length l.users
   low_user v low = omega (arith, low, so.same_users)
 
@@ -208,6 +209,7 @@ module _ (vs : List Vertex) (done : ℕ → Bool) (l : Linked) (so : IsLinked vs
       none (y ∷ ys) zero past = absurd (omega (arith, past))
       none (y ∷ ys) (suc x) past = none ys x (omega (arith, past))
 
+  -- in a graph of at most 65,536 vertices, a count and the number of a vertex's users add up without overflow
   pub counts_fit : (v : ℕ) → v < length vs → length vs ≤ 65536 → (x : ℕ) → get_or l.counts x 0 + length (users_at l v) < 2 ^ 32
   counts_fit v low few x = omega (arith, counts_few x, ap length (so.users_are v low), users_from_few v 0 vs, few)
 

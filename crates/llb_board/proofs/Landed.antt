@@ -217,6 +217,7 @@ module _ (b : Build) (first : List Row) (d : Data) (es : List Event) (capacity w
       ∙ further_keeps (program_in b (execution_of own)).steps own.done (left_so_far (execution_of own) (trees_at (store_of d.rows) own.places.items)) o.count
       ∙ hold_length (store_of d.rows) own.places.items (trees_at (store_of d.rows) own.places.items) hold
 
+  -- as the vertex has few needs, the number of trees that come back fits in 32 bits
   pub few_trees : length o.left.work.trees < 2 ^ 32
   few_trees =
       let many : length own.places.items ≡ length (needs_at (slice_get b.graph.vertices own.vertex))
@@ -255,6 +256,7 @@ module _ (b : Build) (first : List Row) (d : Data) (es : List Event) (capacity w
   lease_is k leased =
       ap (leased_places d.out) (inside (sym leased ∙ get_map leased_by d.desks w (desk.Runs l own) at)) ∙ places_are d.out l own.places.items holds.has
 
+  -- as many trees come back as the worker's lease has places
   pub leased_count : (k : Option ℕ) → slice_get (map leased_by d.desks) w ≡ Some k → length o.left.work.trees ≡ length (leased_places d.out k)
   leased_count k leased = trees_count ∙ ap length (sym (lease_is k leased))
 

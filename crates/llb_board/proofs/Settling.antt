@@ -30,29 +30,37 @@ module _ (b : Build) (first : List Row) (ss : List Stand) (ds : List Desk) (c : 
   abbrev pub after : List Bool → Data
   after marks = settled (data_of ss ds c stop_marks) w v s (given_back c l).out marks
 
+  -- the worker can leave the vertex, so it runs it, is finished, and may settle
   pub ends : CanSettle b (state_as (data_of ss ds c stop_marks)) w v (status_of s)
   ends = can_settle b (state_as (data_of ss ds c stop_marks)) w v (status_of s) left
 
+  -- the settle is granted, and its state is that of the data after it, whatever the marks are
   pub grants : (marks : List Bool) → settle_grant b (state_as (data_of ss ds c stop_marks)) w ≡ Ok (state_as (after marks), settle_reply v ends.ending)
   grants marks = settle_does b (data_of ss ds c stop_marks) w v s (given_back c l).out marks ends
 
+  -- before the settle, the vertex is the one that runs on this worker
   pub running : slice_get (map status_of ss) v ≡ Some (Running w)
   running = leaves_running (seen_as b first (data_of ss ds c stop_marks) es) w v (status_of s) kept.replays ends
 
+  -- the vertex has a stand to be written
   pub low : v < length ss
   low = omega (arith, slice_get_within (map status_of ss) v (Running w) running, length_map status_of ss)
 
+  -- and it is a vertex of the graph
   pub low_graph : v < length b.graph.vertices
   low_graph =
       let count = (consistent (seen_as b first (data_of ss ds c stop_marks) es) kept.replays).count in
       omega (arith, slice_get_within (map status_of ss) v (Running w) running, count)
 
+  -- the lease that the worker gives back, if it has one, is out
   pub is_out : IsOutIf c.out l
   is_out = lease_out c.out (map at_of ds) (map leased_by ds) w l kept.leased leased
 
+  -- a settle writes no instances of a cache
   pub rows_stay : (marks : List Bool) → c.rows ≡ rows_after c.rows (state_as (after marks)) w
   rows_stay marks = settle_rows (data_of ss ds c stop_marks) w v s (given_back c l).out marks (Runs ends.x) ends.there
 
+  -- with the marks of what is stopped now, the board keeps after the settle what its type keeps
   pub keeps : (marks : List Bool) → marks ≡ stopped b (map status_of (slice_set ss v s)) → Keeps b first (after marks) (es ++ Settle w ∷ []) capacity
   keeps marks are =
       kept_after b first (data_of ss ds c stop_marks) (after marks) es capacity (Settle w) (settle_reply v ends.ending) kept
@@ -64,6 +72,7 @@ module _ (b : Build) (first : List Row) (ss : List Stand) (ds : List Desk) (c : 
         marks = are;
       })
 
+  -- the vertices that were over before the settle still are
   pub stay_over : (n : ℕ) → IsGraph b.graph → AreOver b (map status_of ss) n → AreOver b (map status_of (slice_set ss v s)) n
   stay_over n graph over =
       still_over b first (data_of ss ds c stop_marks) (after stop_marks) es capacity n (Settle w) (settle_reply v ends.ending) graph kept

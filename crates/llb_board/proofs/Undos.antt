@@ -80,23 +80,28 @@ module _ (b : Build) (first : List Row) (ss : List Stand) (ds : List Desk) (c : 
   -- ---- a claim
 
   module _ (w v : ℕ) (o : Option before.Before) (can : CanUndo (record { back = Unclaim w v; caches = caches_in o }) board) where
+    -- the worker whose claim is taken back has a desk
     pub low_w : w < length ds
     low_w =
         let r = runs_there board w v kept.replays can.stands in
         omega (arith, slice_get_within (map at_of ds) w (Runs r.0) r.1, length_map at_of ds)
 
+    -- and the vertex has a stand
     pub low_v : v < length ss
     low_v =
         let runs = can.stands.runs in
         omega (arith, slice_get_within (map status_of ss) v (Running w) runs, length_map status_of ss)
 
+    -- the lease of the worker, if it has one, is out and can be given back
     pub lease_is_out : (l : Option ℕ) → slice_get (map leased_by ds) w ≡ Some l → IsOutIf c.out l
     lease_is_out l at = lease_out c.out (map at_of ds) (map leased_by ds) w l kept.leased at
 
+    -- with the worker idle again, the leases of before match the workers
     pub places_unclaimed : (ds1 : List Desk) → ds1 ≡ slice_set ds w desk.Idle → ForSome o (λ x. HasPlaceFor x.leases.items (map at_of ds1))
     places_unclaimed ds1 is =
         places_put (record { back = Unclaim w v; caches = caches_in o }) board o (map at_of ds1) can.leased (ap (map at_of) is ∙ unclaimed_workers ds w v)
 
+    -- the vertex waits, the worker is idle, and the lease and the caches are put back: that leaves the claim undone
     pub unclaim_leaves : (l : Option ℕ) (ds1 ds2 : List Desk) (c1 c2 : CachesValue) → slice_get (map leased_by ds) w ≡ Some l → ds1
         ≡ slice_set ds w desk.Idle → c1 ≡ given_back c l
         → PutsCaches o ds1 ds2 c1 c2
@@ -125,11 +130,13 @@ module _ (b : Build) (first : List Row) (ss : List Stand) (ds : List Desk) (c : 
         × (map at_of (slice_set ds w (desk_before mark (slice_get ds w))) ≡ workers_before (Unstep w mark) (map at_of ds))
     parts = unstep_leaves b first ss ds c es capacity w mark stop_marks kept can.stands.x can.stands.runs can.stands.mounts
 
+    -- with the desk put back to the mark, the leases of before match the workers
     pub places_unstepped : (ds1 : List Desk) → ds1 ≡ slice_set ds w (desk_before mark (slice_get ds w))
         → ForSome o (λ x. HasPlaceFor x.leases.items (map at_of ds1))
     places_unstepped ds1 is =
         places_put (record { back = Unstep w mark; caches = caches_in o }) board o (map at_of ds1) can.leased (ap (map at_of) is ∙ parts.2)
 
+    -- the desk is at the mark and the caches are put back: that leaves the micro-step undone
     pub unstep_leaves_so : (ds1 ds2 : List Desk) (c2 : CachesValue) → ds1 ≡ slice_set ds w (desk_before mark (slice_get ds w)) → PutsCaches o ds1 ds2 c c2
         → Leaves b (data_of ss ds c stop_marks) (data_of ss ds2 c2 stop_marks) (record { back = Unstep w mark; caches = caches_in o })
     unstep_leaves_so ds1 ds2 c2 is puts =
@@ -145,22 +152,26 @@ module _ (b : Build) (first : List Row) (ss : List Stand) (ds : List Desk) (c : 
         let idle = can.stands.idle in
         omega (arith, slice_get_within (map at_of ds) w Idle idle, length_map at_of ds)
 
+    -- the vertex that is resumed has a stand
     pub low_vertex : x.vertex < length ss
     low_vertex =
         let low = resumed_there (record { back = Resume w (left_in x); caches = caches_in o }) board w (left_in x) refl can.replays can.stands.idle in
         omega (arith, low, length_map status_of ss)
 
+    -- and it is a vertex of the graph
     pub low_graph : x.vertex < length b.graph.vertices
     low_graph =
         let count = (consistent board kept.replays).count in
         let low = resumed_there (record { back = Resume w (left_in x); caches = caches_in o }) board w (left_in x) refl can.replays can.stands.idle in
         omega (arith, low, count)
 
+    -- with the worker at its execution again, the leases of before match the workers
     pub places_resumed : (ds1 : List Desk) → ds1 ≡ slice_set ds w (desk.Runs None x) → ForSome o (λ y. HasPlaceFor y.leases.items (map at_of ds1))
     places_resumed ds1 is =
         places_put (record { back = Resume w (left_in x); caches = caches_in o }) board o (map at_of ds1) can.leased (ap (map at_of) is
         ∙ resumed_workers ds w None x)
 
+    -- the vertex runs again, and only where a failure is taken back the marks change: that leaves the settle undone
     pub resume_leaves : (had : Stand) (failed : Bool) (ds1 ds2 : List Desk) (c2 : CachesValue) (marks : List Bool) → ds1
         ≡ slice_set ds w (desk.Runs None x) → PutsCaches o ds1 ds2 c c2
         → slice_get ss x.vertex ≡ Some had → failed ≡ is_failed (ending_of (Some (status_of had)))

@@ -86,6 +86,7 @@ module _ (steps : List MicroStep) (done : ℕ) (first : View) (trees : List Tree
         subst (λ (n : ℕ). AreThere steps done (left_with first trees None) n) next
         (one_more_there steps done (left_with first trees None) (k - done) are.there more)
 
+    -- it leaves what the micro-steps leave together, from the first of them up to it
     pub leaves : left_with view' now' fault ≡ further steps done (left_with first trees None) (k + 1 - done)
     leaves =
         does
@@ -95,6 +96,7 @@ module _ (steps : List MicroStep) (done : ℕ) (first : View) (trees : List Tree
         ∙ sym (further_last steps done (left_with first trees None) (k - done))
         ∙ ap (further steps done (left_with first trees None)) next
 
+    -- it has no fault, and the mounts are as they were: one more is done
     pub goes_on : fault ≡ None → mounts_in view' ≡ mounts_in view → shown_in view' ≡ shown_in view → length now' ≡ length now
         → AreDone steps done first trees (k + 1) view' now'
     goes_on clean mounts shown count = record {
@@ -106,6 +108,7 @@ module _ (steps : List MicroStep) (done : ℕ) (first : View) (trees : List Tree
       count = count ∙ are.count;
     }
 
+    -- it has a fault, so no more micro-steps follow
     pub stops : is_some fault ≡ true → AreLeft steps done (left_with first trees None) (k + 1 - done)
     stops some = record {
       there = one_more;

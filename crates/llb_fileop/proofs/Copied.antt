@@ -118,6 +118,7 @@ module _ (c : CopyFile) (second t u : TreeMap) (s goal : List (List ℕ)) (grant
   abbrev es : List Pair
   es = at_target second s goal
 
+  -- a granted copy has the entries of the source at their places, and changes nothing else but for the parents that it makes
   pub is_copied : IsCopied c second t u s goal
   is_copied =
       let fit = bind_ok (fits goal) (λ _. parents_for c.create_dest_path goal t >>= land given es) u granted in

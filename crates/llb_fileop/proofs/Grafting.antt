@@ -79,6 +79,7 @@ module _ (given : MetaValue → MetaValue) (here source t : TreeMap) (goal : Lis
   lands : (q : List (List ℕ)) (e : Entry) → finite.get source q ≡ Some e → Lands t (goal ++ q) e
   lands q e is = each_lands t goal (finite.entries source) all q e (sym (finite.get-entries source q) ∙ is)
 
+  -- where every entry can land, no file of the source meets a directory at the target, or the other way round
   pub agrees : AgreeOn here source
   agrees q e is = ap (λ o. meets o e) (same q) ∙ (lands q e is).meets
 
@@ -182,6 +183,7 @@ module _ (given : MetaValue → MetaValue) (source t : TreeMap) (goal : List (Li
       refused (Some (Dir m)) there not_dir = absurd (true≢false not_dir)
       refused (Some (File m b)) there not_dir = refl
 
+  -- something is at the target, so the walk to it can't fail, and only the landing decides
   pub walks_there : IsTree t → IsSome (finite.get t goal) → land_at given es' goal t ≡ land given es' t
   walks_there tree there = ap (λ r. r >>= λ _. land given es' t) (tree.closed goal there)
 
@@ -259,6 +261,7 @@ module _ (given : MetaValue → MetaValue) (source t : TreeMap) (goal : List (Li
             ∙ ap (λ k. laid given (finite.get t k) (finite.find path_cmp k es')) (sym same)
         by_tie false tie = ap (λ o. laid given o (finite.find path_cmp q es')) (u_other q tie)
 
+    -- the landing comes to the same whether the directory is put first or not
     pub dir_made : land given es' u ≡ land_at given es' goal t
     dir_made =
         ap (λ r. r >>= λ _. Ok (laid_on given u es')) all_same
@@ -267,6 +270,7 @@ module _ (given : MetaValue → MetaValue) (source t : TreeMap) (goal : List (Li
         (λ q. get-laid_on given u es' q ∙ laid_same q ∙ sym (get-laid_on given t es' q)))
         ∙ sym (ap (λ r. r >>= λ _. land given es' t) walks)
 
+    -- once it is put, a directory is at the target
     pub dir_is_made : is_dir (finite.get u goal) ≡ true
     dir_is_made = ap is_dir u_goal
 
@@ -287,6 +291,7 @@ module _ (given : MetaValue → MetaValue) (t : TreeMap) (goal : List (List ℕ)
   abbrev one : List Pair
   one = (goal, File m b) ∷ []
 
+  -- a directory is in the way
   pub file_refused : is_dir (finite.get t goal) ≡ true → land_at given one goal t ≡ Err Conflict
   file_refused is =
       by_there (finite.get t goal) refl is
@@ -312,6 +317,7 @@ module _ (given : MetaValue → MetaValue) (t : TreeMap) (goal : List (List ℕ)
       by_tie q true = ap Some (own (finite.get t q))
       by_tie q false = refl
 
+  -- with no directory in the way, the landing of one file is the edit that puts it
   pub file_lands : is_dir (finite.get t goal) ≡ false → land_at given one goal t ≡ put (File (given m) b) t goal
   file_lands not_dir =
       ap (λ x. walk (finite.get t) goal >>= λ _. x) (lands_one ∙ sym fits_one)
@@ -415,6 +421,7 @@ module _ (c : CopyFile) (second : TreeMap) (s place goal : List (List ℕ)) (t :
       ap (λ p. copy_to c second s p t) place_is
       ∙ ap (λ r. r >>= λ _. parents_for c.create_dest_path goal t >>= land given (at_target second s goal)) (fits-Ok goal place_short)
 
+  -- a copy that makes its missing parents lands in the tree that has them
   pub copy_made : (u : TreeMap) → c.create_dest_path ≡ true → make_all new_dir_meta (parents goal) t ≡ Ok u
       → copy_to c second s place t ≡ land_at given (at_target second s goal) goal u
   copy_made u create made =
@@ -423,6 +430,7 @@ module _ (c : CopyFile) (second : TreeMap) (s place goal : List (List ℕ)) (t :
       ∙ ap (λ r. r >>= land given (at_target second s goal)) made
       ∙ sym (ap (λ r. r >>= λ _. land given (at_target second s goal) u) (walk_after new_dir_meta goal t u made))
 
+  -- and one that makes none lands in the tree as it is
   pub copy_kept : c.create_dest_path ≡ false → copy_to c second s place t ≡ land_at given (at_target second s goal) goal t
   copy_kept create = fits_place ∙ ap (λ b. parents_for b goal t >>= land given (at_target second s goal)) create ∙ by_walk (walk (finite.get t) goal)
     where

@@ -34,6 +34,7 @@ pub get-laid_on : (given : MetaValue → MetaValue) (t : TreeMap) (es : List Pai
 get-laid_on given t es q = finite.get-from_entries path_cmp-IsTotalOrder (map (landed_on given t) es ++ finite.entries t) q ∙ find_laid given t es q
 
 module _ (given : MetaValue → MetaValue) (here source : TreeMap) where
+  -- where all entries of a source are laid on a tree, each path has the source's own entry laid on the tree's
   pub get-whole : (q : List (List ℕ)) → finite.get (laid_on given here (finite.entries source)) q ≡ laid given (finite.get here q) (finite.get source q)
   get-whole q = get-laid_on given here (finite.entries source) q ∙ ap (laid given (finite.get here q)) (sym (finite.get-entries source q))
 

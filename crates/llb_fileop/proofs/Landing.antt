@@ -62,15 +62,18 @@ meet_where_fit here goal (e ∷ es) fit = by_test (nat_lt 128 (length goal + len
 -- ---- a step of a walk
 
 module _ (here : TreeMap) (es : List Pair) (k : List (List ℕ)) (e : Entry) (is : slice_get es 0 ≡ Some (k, e)) where
+  -- the first entry is tested against what is at its path, and then the others are
   pub meet_next : all_meet here es ≡ (meets (finite.get here k) e >>= λ _. all_meet here (drop 1 es))
   meet_next = ap (all_meet here) (walk_first es k e is)
 
   abbrev on : ℕ → Result (Unit {0}) TreeFault
   on depth = meets (finite.get here k) e >>= λ _. all_below here depth (drop 1 es)
 
+  -- the first entry would have a path of more than 128 names, so it can't land
   pub below_deep : (depth : ℕ) → 128 < depth + length k → all_below here depth es ≡ Err BadName
   below_deep depth deep = ap (all_below here depth) (walk_first es k e is) ∙ ap (λ b. cond b (Err BadName) (on depth)) (lt-ltb 128 (depth + length k) deep)
 
+  -- where its path is short enough, what is there decides, and then the others
   pub below_next : (depth : ℕ) → depth + length k ≤ 128 → all_below here depth es ≡ on depth
   below_next depth short = ap (all_below here depth) (walk_first es k e is) ∙ ap (λ b. cond b (Err BadName) (on depth)) (le-ltb 128 (depth + length k) short)
 

@@ -90,12 +90,14 @@ module _ (quoted : Bool) (letters : List ℕ) (i c : ℕ) (inside : i < length l
         ∙ ap (λ r. r >>= and_then (drop (i + 1) letters)) says
         ∙ ap (λ q. behind (option_to_list said) (items_from q (drop (i + 1) letters))) (is_none_from said next none)
 
+    -- the item that a character gives, if any, joins the items before it, and all comes to the same
     pub cut_more :
         (before : List Item) (r : Result (List Item) PatternFault)
         → behind before (items_from quoted (drop i letters)) ≡ r
         → behind (before ++ option_to_list said) (items_from next (drop (i + 1) letters)) ≡ r
     cut_more before r so_far = sym (behind_both before (option_to_list said) _) ∙ ap (behind before) (sym letter_says) ∙ so_far
 
+    -- and the characters from it on can be cut just if those after it can
     pub is_more : (r : Bool) → is_ok (items_from quoted (drop i letters)) ≡ r → is_ok (items_from next (drop (i + 1) letters)) ≡ r
     is_more r so_far = sym (is_ok-behind (option_to_list said) _) ∙ ap is_ok (sym letter_says) ∙ so_far
 
@@ -103,12 +105,14 @@ module _ (quoted : Bool) (letters : List ℕ) (i c : ℕ) (inside : i < length l
     letter_stops : items_from quoted (drop i letters) ≡ Err e
     letter_stops = at_letter ∙ ap (λ r. r >>= and_then (drop (i + 1) letters)) says
 
+    -- a character that is refused has the whole refused, for the same cause
     pub cut_stops :
         (before : List Item) (r : Result (List Item) PatternFault)
         → behind before (items_from quoted (drop i letters)) ≡ r
         → r ≡ Err e
     cut_stops before r so_far = sym so_far ∙ ap (behind before) letter_stops
 
+    -- and then the characters can't be cut
     pub is_stopped : (r : Bool) → is_ok (items_from quoted (drop i letters)) ≡ r → false ≡ r
     is_stopped r so_far = ap is_ok (sym letter_stops) ∙ so_far
 
@@ -132,6 +136,7 @@ module _ (names : List (List ℕ)) (i : ℕ) (name : List ℕ) (inside : i < len
       → each_cut (drop i names) ≡ (r >>= λ part. behind (part ∷ []) (each_cut (drop (i + 1) names)))
   name_says r says = at_name ∙ ap (λ r. r >>= λ part. behind (part ∷ []) (each_cut (drop (i + 1) names))) says
 
+  -- the part that a name is cut into joins the parts before it, and all comes to the same
   pub part_more :
       (part : List Item)
       → items_of (chars name) ≡ Ok part
@@ -140,6 +145,7 @@ module _ (names : List (List ℕ)) (i : ℕ) (name : List ℕ) (inside : i < len
       → behind (before ++ part ∷ []) (each_cut (drop (i + 1) names)) ≡ r
   part_more part says before r so_far = sym (behind_both before (part ∷ []) _) ∙ ap (behind before) (sym (name_says (Ok part) says)) ∙ so_far
 
+  -- a name that can't be cut has the whole pattern refused, for the same cause
   pub part_stops :
       (e : PatternFault)
       → items_of (chars name) ≡ Err e

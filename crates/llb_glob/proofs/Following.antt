@@ -40,6 +40,7 @@ module _
     steps (Ok next) e stands = record { path = next; stands = stands; follows = ap (λ s. s >>= λ q. follow q (drop (i + 1) parts)) (sym e) ∙ at_part }
     steps (Err fault) e stands = absurd stands
 
+    -- a part was entered, and the parts after it lead on to where the whole text does
     pub leads_more : Enters (enter so_far.path part) true new → Leads (drop (i + 1) parts) r new
     leads_more stands = steps (enter so_far.path part) refl stands
 
@@ -47,6 +48,7 @@ module _
     stops (Ok next) e none = absurd none
     stops (Err fault) e none = ap is_ok (sym at_part ∙ ap (λ s. s >>= λ q. follow q (drop (i + 1) parts)) e)
 
+    -- a part was not entered, so the whole text leads nowhere
     pub leads_nowhere : Enters (enter so_far.path part) false new → is_ok r ≡ false
     leads_nowhere none = stops (enter so_far.path part) refl none
 
@@ -81,6 +83,7 @@ goes_up path part some dot dots = λ i.
 -- ---- how many names are parts
 
 module _ {A : Type 0} (p : A → Bool) where
+  -- a list that is cut short has as long a passing prefix as before, or passes to its end
   pub prefix_len-take : (n : ℕ) (xs : List A) → prefix_len p (take n xs) ≡ min (prefix_len p xs) n
   prefix_len-take zero xs = omega arith
   prefix_len-take (suc n) [] = omega arith
@@ -99,9 +102,11 @@ module _ (path : List (List ℕ)) (part : List ℕ) (sound : ℕ) (is : sound �
   all_and_one : sound ≡ length path → (b : Bool) → is_part part ≡ b → prefix_len is_part (path ++ part ∷ []) ≡ length path + cond b 1 0
   all_and_one all b part_is = one_more ∙ (λ i. cond (eq-eqb sound (length path) all i) (length path + cond (part_is i) 1 0) sound)
 
+  -- where all names so far are parts and the new one is too, the count is one more
   pub sound_more : sound ≡ length path → is_part part ≡ true → sound + 1 ≡ prefix_len is_part (path ++ part ∷ [])
   sound_more all part_is = ap (λ n. n + 1) all ∙ sym (all_and_one all true part_is)
 
+  -- the count stays where an earlier name is no part, or the new one is none
   pub sound_stays : (sound ≡ length path → is_part part ≡ false) → sound ≡ prefix_len is_part (path ++ part ∷ [])
   sound_stays part_is_not =
       elim (cases_eq sound (length path)) [

@@ -26,8 +26,10 @@ module _
         subst (λ ps. Matches ps (name ∷ drop (i + 1) path) ↔ Matches parts path) here
         (subst (λ ns. Matches (drop i parts) ns ↔ Matches parts path) there so_far)
 
+    -- the name at hand matches its part, so what follows them decides
     pub matches_more : MatchesName part (chars name) → Matches (drop (i + 1) parts) (drop (i + 1) path) ↔ Matches parts path
     matches_more m = (λ rest. at_hand.0 (m, rest), λ all. (at_hand.1 all).1)
 
+    -- it doesn't match, so the whole path does not
     pub matches_not : (MatchesName part (chars name) → ⊥) → Matches parts path → ⊥
     matches_not not all = not (at_hand.1 all).0

@@ -177,6 +177,7 @@ module _ (p : Plan) (seen : List Bool) (exact : (k : ℕ) → IsMarked seen k �
   named_places n k = named_at (λ (i : Input). row_named p.rows p.terminal i.digest) (op_at p.ops k).inputs (record { digest = []; index = pos 0; extra = [] })
       (asked_of p.ops seen p.terminal k) (asked_there n.started.result k) (asked_named n k)
 
+  -- each input that is looked at has its link in the graph
   pub asked_linked : IsNamed p → (k : ℕ) → asked_of p.ops seen p.terminal k ≤ length (inputs (links_in p) k)
   asked_linked n k = subst (λ (xs : List ℕ). asked_of p.ops seen p.terminal k ≤ length xs) (sym (graph_at p.rows p.terminal p.ops k)) (named_places n k).0
 
@@ -195,6 +196,7 @@ module _ (p : Plan) (seen : List Bool) (exact : (k : ℕ) → IsMarked seen k �
       ap (λ (r : ℕ). get_or (map output_count p.ops) r 0) (linked_row n k i l)
       ∙ get_or-map output_count p.ops (unwrap_or (input_row p k i) 0) (record { inputs = []; kind = None; extra = [] }) 0 (let m = len in omega (arith, b, m))
 
+  -- where the indexes of all rows passed their test, no input asks for an output that isn't there
   pub indexes_fit : IsNamed p → length p.ops ≡ length p.rows
       → ((k : ℕ) → k < length p.ops → FitsAll (map output_count p.ops) (inputs (links_in p) k) (op_at p.ops k) (asked_of p.ops seen p.terminal k))
       → (k i : ℕ) → ¬ IsBadIndex p k i

@@ -276,6 +276,7 @@ module _ (b : Build) (graph : IsGraph b.graph) where
       let c = claim_is b s 0 v a given in
       ap (λ (x : Answer). is_waiting (slice_get x.0.statuses v)) c.gives ∙ ap is_waiting (get_set_same s.statuses v (Running 0) Waiting c.begins.waits)
 
+  -- after the event that a driver chooses, the claims still ascend
   pub alone_step : (s t : State) (e : Event) (r : Reply) (es : List Event) → IsConsistent b s → chosen b s ≡ Some e
       → table b s e ≡ Some (t, r) → Ascends b s es → Ascends b t (es ++ e ∷ [])
   alone_step s t e r es here is given up = elim (chosen_is b s e is) [ inl n ↦ no_claim n | inr c ↦ one_more c.0 c.1 c.2 ]

@@ -34,6 +34,7 @@ module _ {A B : Type 0} (next : List B → A → B) where
       let place : length (before ++ next before y ∷ []) + k ≡ length before + suc k = omega (arith, length-append before (next before y ∷ [])) in
       subst (λ n. Next (by_number next (before ++ next before y ∷ []) xs) n x) place (next_at (before ++ next before y ∷ []) xs k x there)
 
+  -- each result is worked out from the results before it and the member of its own number
   pub by_number_is : (xs : List A) (k : ℕ) (x : A) → slice_get xs k ≡ Some x
       → slice_get (by_number next [] xs) k ≡ Some (next (take k (by_number next [] xs)) x)
   unfolding Next
@@ -46,5 +47,6 @@ module _ {A B : Type 0} (next : List B → A → B) where
   longer before [] = sym (add-zero (length before))
   longer before (x ∷ xs) = longer (before ++ next before x ∷ []) xs ∙ omega (arith, length-append before (next before x ∷ []))
 
+  -- there is one result for each member
   pub by_number_length : (xs : List A) → length (by_number next [] xs) ≡ length xs
   by_number_length xs = longer [] xs ∙ omega arith

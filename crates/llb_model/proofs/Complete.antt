@@ -121,6 +121,7 @@ module _ (b : Build) (graph : IsGraph b.graph) (s : State) (here : IsConsistent 
           stopped_is b graph s.statuses e.vertex v there ∙ ap (λ o. is_failed (ending_of o) || any_stopped b s.statuses v.inputs) is
       by_status v there (Some (Settled (Done trees))) is over undone = absurd (cc (ap (λ o. is_done (ending_of o)) is, undone))
 
+  -- where no vertex below a number runs or is Ready, all of them are over
   pub progress : (n : ℕ) → n ≤ length b.graph.vertices → ((k w : ℕ) → k < n → slice_get s.statuses k ≢ Some (Running w))
       → ((k : ℕ) → k < n → is_ready b s.statuses k ≡ false)
       → (k : ℕ) → k < n → is_over b s k ≡ true
@@ -186,6 +187,7 @@ module _ (b : Build) (graph : IsGraph b.graph) (s : State) (here : IsConsistent 
   map_none None e = refl
   map_none (Some v) e = absurd cc
 
+  -- a driver finds no event to choose only where every vertex is over
   pub none_is_complete : chosen b s ≡ None → is_complete b s ≡ true
   none_is_complete e =
       let o = or_none (next_of b 0 s.workers) (next_claim b s) e in
@@ -195,6 +197,7 @@ module _ (b : Build) (graph : IsGraph b.graph) (s : State) (here : IsConsistent 
       (λ k low high. progress (length b.graph.vertices) (omega arith) (λ j w lt runs. let x = here.running j w runs in idle w x.0 x.1)
       (λ j lt. ready j (omega arith) (omega arith)) k (omega arith))
 
+  -- and where every vertex is over it finds none
   pub complete_is_none : is_complete b s ≡ true → chosen b s ≡ None
   complete_is_none e =
       let over : (k : ℕ) → k < length b.graph.vertices → is_over b s k ≡ true =

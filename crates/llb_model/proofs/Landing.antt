@@ -98,6 +98,7 @@ module _ (b : Build) where
     pub reply : Reply
     pub grants : table b s (Step w) ≡ Some (after_steps s w x 1 left, reply)
 
+  -- a worker that is not finished may step, and leaves what its next micro-step leaves
   pub first_step : (s : State) (w : ℕ) (x : Execution) (trees : List TreeMap) → slice_get s.workers w ≡ Some (Runs x) → Hold s.store x.places trees
       → is_over (program_steps x) x.done (left_so_far x trees) ≡ false → FirstStep s w x trees
   first_step s w x trees there hold more =
@@ -112,6 +113,7 @@ module _ (b : Build) where
             ∙ ap (λ ts. Some (step_by s w x m.0 (step_on x.done (Some m.0) (record { own = x.own; trees = ts })))) (hold_trees s.store x.places trees hold);
       }
 
+  -- the steps alone have the effect of the block: each goes on from what the one before it left
   pub steps_as_block : StepsAsBlock b
   unfolding run
   steps_as_block s w x trees zero there apart hold steps = (
@@ -145,6 +147,7 @@ module _ (b : Build) where
             ∙ ap (λ (l : Left). Some (after_steps s w x (suc n) l, one.reply ∷ rest.0)) last_is,
       )
 
+  -- and with the settle, which is granted as the steps leave the worker finished, a job that was done apart lands
   pub lands_as_block : LandsAsBlock b
   lands_as_block s w x trees n there apart hold left =
       let last = further (program_steps x) x.done (left_so_far x trees) n in

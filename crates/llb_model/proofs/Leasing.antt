@@ -94,7 +94,7 @@ same_lease e = cc
 runs_same : {x y : Execution} → ◌≡◌ {A = Option At} (Some (Runs x)) (Some (Runs y)) → x ≡ y
 runs_same e = cc
 
--- a lease is no want of one
+-- having no lease differs from having one
 some_apart : (l : ℕ) → ◌≡◌ {A = Option (Option ℕ)} (Some None) (Some (Some l)) → ⊥
 some_apart l e = cc
 

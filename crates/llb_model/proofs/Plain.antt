@@ -41,6 +41,7 @@ bare_work s x bare = ap (λ ps. work_with x.own (trees_at s.store ps)) bare
     work_with own trees = record { own = own; trees = trees }
 
 module _ (b : Build) (graph : IsGraph b.graph) (s : State) (stands : StandsByOutcomes b s) where
+  -- a vertex with no cache mount at or before it ends, if it has ended, as its plain outcome says
   pub ending_plain : (j : ℕ) (e : Ending) → is_plain b j ≡ true → ending_at s.statuses j ≡ Some e → plain b j ≡ Some e
   ending_plain j e is there = ap ending_in (stands.settled j e is (ending_settled (slice_get s.statuses j) e there))
 

@@ -108,6 +108,7 @@ module _ (b n : Seen) (e : Event) (ws : List Walked) (w : Walked) (back : undone
       ap (λ us. record { board = n; past = past_of n us; breaks = breaks }) turned
       ∙ ap (λ x. record { board = n; past = x ∷ past_of x (reverse ws); breaks = breaks }) back
 
+  -- the reply tells whether the event meets a breakpoint, and the stepper is one event on
   pub meets_more : (s : Stepping) (ks : List Break) (us : List Walked) (met : Bool) → us ≡ ws ++ w ∷ [] → stepping b ws ks ≡ s
       → met ≡ list_any (meets_told e w.reply) ks → MeetsOn s e (stepping n us ks) met
   meets_more s ks us met more view is =

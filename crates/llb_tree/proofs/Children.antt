@@ -61,9 +61,11 @@ module _ (k : Kind) (ks : List Child) (v : TreeMap) (n : List ℕ) (q : List (Li
   read_child : finite.get v (n ∷ q) ≡ look_in (child n ks) q
   read_child = ap (λ t. finite.get t (n ∷ q)) (sym view) ∙ get-child k n q sorted ∙ ap (λ x. look_in (child n x) q) is
 
+  -- the child that is found under a name has what the node has below that name
   pub read_found : (i : ℕ) (d : Child) → Ok i ≡ place n ks → finite.get (get_or ks i d).node q ≡ finite.get v (n ∷ q)
   read_found i d at = sym (read_child ∙ ap (λ o. look_in o q) ((is_found n ks i (sym at)).found d))
 
+  -- where no child has the name, the node has nothing below it
   pub read_gap : (i : ℕ) → Err i ≡ place n ks → None ≡ finite.get v (n ∷ q)
   read_gap i at = sym (read_child ∙ ap (λ o. look_in o q) ((is_gap n ks i (sym at)).none (subst AreSorted is sorted)))
 

@@ -121,6 +121,7 @@ module _ (a b : Kind) (v w : TreeMap) (view : map_of a ≡ v) (view2 : map_of b 
   maps_same = (λ same. (nodes_same a b).0 (view ∙ same ∙ sym view2), λ parts. sym view ∙ (nodes_same a b).1 parts ∙ view2)
 
   module _ (m n : MetaValue) where
+    -- two directories are the same just where their metadata is and their children are alike
     pub dirs_same : (ks ls : List Child) → own_entry a ≡ Dir m → own_entry b ≡ Dir n → kids_of a ≡ ks → kids_of b ≡ ls →
         (v ≡ w) ↔ ((m ≡ n) × Alike ks ls)
     dirs_same ks ls own own2 kids kids2 = (
@@ -135,6 +136,7 @@ module _ (a b : Kind) (v w : TreeMap) (view : map_of a ≡ v) (view2 : map_of b 
         dir_same : (m n : MetaValue) → Dir m ≡ Dir n → m ≡ n
         dir_same m n is = cc
 
+    -- two files are the same just where their metadata and their bytes are
     pub files_same : (xs ys : List ℕ) → own_entry a ≡ File m xs → own_entry b ≡ File n ys → kids_of a ≡ [] → kids_of b ≡ [] →
         (v ≡ w) ↔ ((m ≡ n) × (xs ≡ ys))
     files_same xs ys own own2 kids kids2 = (
@@ -145,6 +147,7 @@ module _ (a b : Kind) (v w : TreeMap) (view : map_of a ≡ v) (view2 : map_of b 
         file_same : (m n : MetaValue) (xs ys : List ℕ) → File m xs ≡ File n ys → (m ≡ n) × (xs ≡ ys)
         file_same m n xs ys is = (cc, cc)
 
+    -- a file is never the same as a directory
     pub file_no_dir : (xs : List ℕ) → own_entry a ≡ File m xs → own_entry b ≡ Dir n → v ≡ w → ⊥
     file_no_dir xs own own2 same = apart m n xs (sym own ∙ (maps_same.0 same).0 ∙ own2)
       where
@@ -172,14 +175,17 @@ here : (ks : List Child) (i : ℕ) (k : Child) → k ≡ get_or ks i k → i < l
 here ks i k at lt = drop-cons ks i k lt ∙ ap (λ x. x ∷ drop (suc i) ks) (sym at)
 
 module _ (ks ls : List Child) (i : ℕ) (so : SoFar ks ls i) where
+  -- no child is left on either side, so all are alike
   pub all_alike : length ks ≤ i → length ls ≤ i → Alike ks ls
   all_alike none none2 = so.rest.1 (subst (Alike (drop i ks)) (drop_past ks i none ∙ sym (drop_past ls i none2)) (λ n q. refl))
 
+  -- a child is left on the first side alone, so they are not alike
   pub one_more : (k : Child) → k ≡ get_or ks i k → i < length ks → length ls ≤ i → is_some (finite.get k.node []) ≡ true → Alike ks ls → ⊥
   one_more k at lt none there alike =
       let rest = subst (Alike (drop i ks)) (drop_past ls i none) (so.rest.0 alike) in
       alike_none k (drop (suc i) ks) there (subst (λ x. Alike x []) (here ks i k at lt) rest)
 
+  -- or on the second side alone
   pub one_less : (l : Child) → l ≡ get_or ls i l → i < length ls → length ks ≤ i → is_some (finite.get l.node []) ≡ true → Alike ks ls → ⊥
   one_less l at lt none there alike =
       let turned = subst (Alike (drop i ls)) (drop_past ks i none) (λ n q. sym (so.rest.0 alike n q)) in
@@ -200,12 +206,15 @@ module _ (ks ls : List Child) (i : ℕ) (so : SoFar ks ls i) where
           λ alike. so.rest.1 (subst (λ x. Alike x (drop i ls)) (sym first) (subst (Alike (k ∷ drop (suc i) ks)) (sym first2) alike)),
         )
 
+    -- where all are alike, the next children of both sides have one name
     pub same_name : is_some (finite.get k.node []) ≡ true → is_some (finite.get l.node []) ≡ true → Alike ks ls → name_of k ≡ name_of l
     same_name there there2 alike = alike_names k l (drop (suc i) ks) (drop (suc i) ls) sorted_here sorted_here2 there there2 (alike_here.0 alike)
 
+    -- and the same below it
     pub same_node : name_of k ≡ name_of l → Alike ks ls → k.node ≡ l.node
     same_node names alike = alike_nodes k l (drop (suc i) ks) (drop (suc i) ls) sorted_here sorted_here2 names (alike_here.0 alike)
 
+    -- where name and node are the same, the children after them decide
     pub one_further : name_of k ≡ name_of l → k.node ≡ l.node → SoFar ks ls (i + 1)
     one_further names nodes =
         let rest = alike_rest k l (drop (suc i) ks) (drop (suc i) ls) sorted_here sorted_here2 names nodes in

@@ -94,6 +94,7 @@ module _ (w : WayValue) where
   take_more (k ∷ ks) zero d h = refl
   take_more (k ∷ ks) (suc i) d h = ap (λ es. dress_pair w (pair_of k) ∷ es) (take_more ks i d (omega arith))
 
+  -- one more child is dressed and pushed, and those so far are the dressed ones of one child more
   pub dressed_pushed : (ks old new : List Child) (i : ℕ) (made kid : Child) → map pair_of old ≡ take i (worn_pairs ks) → new ≡ old ++ made ∷ []
       → kid ≡ get_or ks i kid → pair_of made ≡ dress_pair w (pair_of kid) → i < length ks → map pair_of new ≡ take (i + 1) (worn_pairs ks)
   dressed_pushed ks old new i made kid so_far pushed is same h =
@@ -105,6 +106,7 @@ module _ (w : WayValue) where
   lengths [] = refl
   lengths (k ∷ ks) = ap suc (lengths ks)
 
+  -- when no child is left, all are dressed
   pub pairs_taken : (ks new : List Child) (i : ℕ) → length ks ≤ i → map pair_of new ≡ take i (worn_pairs ks) → map pair_of new ≡ worn_pairs ks
   pairs_taken ks new i h is = is ∙ take_all i (worn_pairs ks) (omega (arith, h, lengths ks))
 

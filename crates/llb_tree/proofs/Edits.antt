@@ -18,6 +18,7 @@ use Rattle.llb_tree.proofs.Changed.{dir_put, file_put, taken_away, tree_put, tre
 module _ (t new one : TreeMap) (d n : ℕ) (p : List (List ℕ)) (m : MetaValue) (whole : IsWhole t d) (path : IsPath p) (is : IsMeta m)
     (walks : walk (finite.get t) p ≡ Ok tt) (le : d ≤ n) (long : length p ≤ n) (short : n ≤ 128)
     (set : (q : List (List ℕ)) → finite.get new q ≡ set_look p (Some one) (finite.get t) q) where
+  -- a node of the file alone, set at the path, is the edit that puts the file, and the tree stays whole
   pub file_edit : (b : List ℕ) → AreBytes b → p ≢ [] → file_fits (finite.get t p) ≡ Ok tt
       → ((q : List (List ℕ)) → finite.get one q ≡ file_look m b q) → IsWhole new n × (put_file t p m b ≡ Ok new)
   file_edit b bytes named fits made =
@@ -32,6 +33,7 @@ module _ (t new one : TreeMap) (d n : ℕ) (p : List (List ℕ)) (m : MetaValue)
       below long made [] there = omega arith
       below long made (x ∷ q) there = absurd (let e = sym (ap is_some (made (x ∷ q))) ∙ there in cc)
 
+  -- a node of the directory, with what was below it, is the edit that puts the directory
   pub dir_edit : dir_fits (finite.get t p) ≡ Ok tt → ((q : List (List ℕ)) → finite.get one q ≡ dir_look m (λ r. finite.get t (p ++ r)) q)
       → IsWhole new n × (put_dir t p m ≡ Ok new)
   dir_edit fits made =
@@ -66,6 +68,7 @@ module _ (t new other : TreeMap) (d e n : ℕ) (p : List (List ℕ)) (whole : Is
   tree : IsTree new
   tree = subst IsTree (sym same) (IsTree-with_tree t whole.tree p path other whole2.tree walks fit)
 
+  -- the other tree, set at the path, is the graft of it, and the tree stays whole if the depth has room
   pub grafting : d ≤ n → n ≤ 128 → ((k : ℕ) → k ≤ length p + e → k ≤ 128 → k ≤ n) → IsWhole new n × (graft t p other ≡ Ok new)
   grafting le short room = (
     whole_set t new p (Some other) d n whole tree le short

@@ -105,15 +105,18 @@ fit_none p t short lt = sym (fits_none p (finite.entries t) short lt)
 -- ---- the levels of a node, by its kind
 
 module _ (k : Kind) (v : TreeMap) (view : map_of k ≡ v) (levels : ℕ) where
+  -- every node has a height, so none fits in no levels
   pub above_none : levels ≡ 0 → height v ≤ levels → ⊥
   above_none none le = let some : 1 ≤ height v = subst (λ m. 1 ≤ height m) view (height_some k) in absurd (omega (arith, some, le, none))
 
+  -- a node fits if all its children fit in one level less
   pub within_kids : (ks : List Child) → kids_of k ≡ ks → 1 ≤ levels → AllWithin ks (length ks) (levels - 1) → height v ≤ levels
   within_kids ks kids some all =
       let own : height (map_of k) ≤ (levels - 1) + 1 = height_kids k (levels - 1) (subst (λ xs. AllWithin xs (length xs) (levels - 1)) (sym kids) all) in
       let le : height v ≤ (levels - 1) + 1 = subst (λ m. height m ≤ (levels - 1) + 1) view own in
       omega (arith, le, some)
 
+  -- and if it fits, each of its children fits in one level less
   pub kid_within : (ks : List Child) (j : ℕ) (kid : Child) → kids_of k ≡ ks → kid ≡ get_or ks j kid → j < length ks → height v ≤ levels →
       height kid.node ≤ levels - 1
   kid_within ks j kid kids at lt le =

@@ -62,6 +62,7 @@ all_moved p es = All-map (λ (e : Pair). is_within p e.0 ≡ true) (moved 0 p) e
 -- ---- what the tree has
 
 module _ (t : TreeMap) (p : List (List ℕ)) (other : TreeMap) where
+  -- at and below the path, a grafted tree has what the other tree has
   pub get_inside : (q : List (List ℕ)) → finite.get (with_tree t p other) (p ++ q) ≡ finite.get other q
   get_inside q =
       finite.get-from_entries path_cmp-IsTotalOrder (map (moved 0 p) (finite.entries other) ++ finite.entries (without t p)) (p ++ q)
@@ -70,6 +71,7 @@ module _ (t : TreeMap) (p : List (List ℕ)) (other : TreeMap) where
       ∙ ap (λ b. cond (not b) (finite.get t (p ++ q)) None) (within-append p q))
       ∙ find_moved p q (finite.entries other) ∙ sym (finite.get-entries other q)
 
+  -- and everywhere else it has what it had
   pub get_outside : (q : List (List ℕ)) → is_within p q ≡ false → finite.get (with_tree t p other) q ≡ finite.get t q
   get_outside q out =
       finite.get-from_entries path_cmp-IsTotalOrder (map (moved 0 p) (finite.entries other) ++ finite.entries (without t p)) q
@@ -143,6 +145,7 @@ module _ (t : TreeMap) (tree : IsTree t) (p : List (List ℕ)) (path : IsPath p)
   same_above : (r : List (List ℕ)) → is_within p r ≡ false → finite.get t r ≡ finite.get grafted r
   same_above r out = sym (get_outside t p other r out)
 
+  -- a tree that is grafted where its place can be reached and its paths fit makes a tree
   pub IsTree-with_tree : IsTree grafted
   IsTree-with_tree = record {
     root = by_place (λ q. (length q ≡ 0) → (m : MetaValue) × (finite.get grafted q ≡ Some (Dir m)))

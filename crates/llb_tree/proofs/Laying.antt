@@ -134,12 +134,15 @@ lays_put w kid ks new t h is laid = record {
 -- over the child of the name
 module _ (kid : Child) (ks : List Child) (i : ℕ) (there new : Child) (h : AreSorted ks) (at : Ok i ≡ place (name_of kid) ks) (is : there ≡ get_or ks i there)
     (same : name_of new ≡ name_of there) where
+  -- to write over the child of that name is to put the new node under the name
   pub put_found : map pair_of (set ks i new) ≡ put name_cmp (name_of kid) new.node (map pair_of ks)
   put_found = (is_found (name_of kid) ks i (sym at)).written there new (same ∙ ap name_of is)
 
+  -- the names stay in order
   pub sorted_found : AreSorted (set ks i new)
   sorted_found = sorted_put (name_of kid) ks (set ks i new) new.node h put_found
 
+  -- a new node that is the child's node laid over the one there is the child laid over the list
   pub lays_found : (w : WayValue)
       → ((q : List (List ℕ)) → finite.get new.node q ≡ over_at w (finite.get there.node) (finite.get kid.node) q) → Lays w (kid ∷ []) ks (set ks i new)
   lays_found w laid =

@@ -72,6 +72,7 @@ pushed list new kid es is =
     ap (λ ks. map pair_of ks ++ es) is ∙ ap (λ ks. ks ++ es) (map_push pair_of list kid) ∙ append_assoc (map pair_of list) (pair_of kid ∷ []) es
 
 module _ (child : Child) (first others list rest after new : List Child) (so_far : Passes child first others list rest) where
+  -- a child of the rest that is below the child to be put goes to the list, and the same comes of all
   pub one_passes : (kid : Child) → rest ≡ kid ∷ after → name_cmp (name_of kid) (name_of child) ≡ Less → new ≡ list ++ kid ∷ []
       → Passes child first others new after
   one_passes kid is lt more ks h =
@@ -80,6 +81,7 @@ module _ (child : Child) (first others list rest after new : List Child) (so_far
       (sym (goes_on kid (pair_of child) ks (map pair_of after) lt h) ∙ ap (λ r. puts (pair_of child ∷ ks) (map pair_of r)) (sym is))
       ∙ so_far ks h
 
+  -- when no such one is left, the child itself goes there, in the place of one of its name
   pub next_put : (taken : Option Child) → IsNotFirst (name_of child) Less rest → TakesFirst (name_of child) Equal rest taken after
       → new ≡ list ++ child ∷ [] → PutsNext child first others new after
   next_put taken low took more ks h =

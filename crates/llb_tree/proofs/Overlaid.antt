@@ -111,6 +111,7 @@ module _ (w : WayValue) (a b t : TreeMap) (is : (q : List (List ℕ)) → finite
       → (finite.get b p ≡ None → below_file (finite.get b) p ≡ false → finite.get a p ≡ Some e → C) → finite.get t p ≡ Some e → C
   by_entry C p e up low there = laid_cases C w (finite.get a) (finite.get b) p e up low (sym (is p) ∙ there)
 
+  -- a map that has at each path what one tree laid over another has is a tree
   pub IsTree-overlaid : IsWay w → IsTree a → IsTree b → IsTree t
   unfolding dir_over
   IsTree-overlaid way lower upper =
@@ -131,6 +132,7 @@ module _ (w : WayValue) (a b t : TreeMap) (is : (q : List (List ℕ)) → finite
             (λ none clear low. lower.stands p e low);
       }
 
+  -- and it is no higher than the higher of the two
   pub height-overlaid : (n : ℕ) → height a ≤ n → height b ≤ n → height t ≤ n
   height-overlaid n low up = height_le t n (λ q there.
       let some = some_is (finite.get t q) there in

@@ -178,6 +178,7 @@ module _ (p : List (List ℕ)) (ls : List (List Child)) (m : TreeMap) (e : Entry
   pub first_left : map (moved 0 p) (finite.entries m) ++ behind p ls ≡ (p, e) ∷ (map (moved 0 p) rest ++ behind p ls)
   first_left = ap (λ es. map (moved 0 p) es ++ behind p ls) is ∙ ap (λ q. (q, e) ∷ (map (moved 0 p) rest ++ behind p ls)) (append-nil p)
 
+  -- past the present node and all below it, the entries of the levels above are left
   pub skipped : AreBehind p ls → past (map (moved 0 p) (finite.entries m) ++ behind p ls) ≡ behind p ls
   skipped h =
       ap past first_left

@@ -22,6 +22,7 @@ module _ (look : Look) (p : List (List ℕ)) (i : ℕ) (lt : i < length p) (so_f
   after : (e : Option Entry) → look (take i p) ≡ e → walk look p ≡ all_dirs (e ∷ map (λ q. look (take (suc i) p ++ q)) (parents (drop (suc i) p)))
   after e is = sym so_far ∙ walk_split look p i lt ∙ ap (λ x. all_dirs (x ∷ map (λ q. look (take (suc i) p ++ q)) (parents (drop (suc i) p)))) is
 
+  -- a directory is there, so the names after it decide
   pub walk_dir : (m : MetaValue) → look (take i p) ≡ Some (Dir m) → walk_from look p (i + 1) ≡ walk look p
   walk_dir m is = ap (walk_from look p) (add-one i) ∙ sym (after (Some (Dir m)) is)
 

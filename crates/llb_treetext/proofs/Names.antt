@@ -54,13 +54,16 @@ module _ (text : List ℕ) (k : ℕ) (so_far : list_all is_name (drop k (parts_o
     at_part = ap (list_all is_name) (drop-cons (parts_of text) k part lt)
         ∙ (λ i. is_name (sym is i) && list_all is_name (drop (sym (add-one k) i) (parts_of text)))
 
+    -- this part is a name, so those after it decide
     pub names_more : is_name part ≡ true → list_all is_name (drop (k + 1) (parts_of text)) ≡ list_all is_name (parts_of text)
     names_more name = ap (λ b. b && list_all is_name (drop (k + 1) (parts_of text))) (sym name) ∙ sym at_part ∙ so_far
 
+    -- this part is no name, so the text is not one of names
     pub no_names : is_name part ≡ false → false ≡ are_names text
     no_names none = ap (λ b. b && nat_le (length (parts_of text)) 128)
         (ap (λ b. b && list_all is_name (drop (k + 1) (parts_of text))) (sym none) ∙ sym at_part ∙ so_far)
 
+    -- 128 parts are read and there is another, so there are too many
     pub many_names : 128 ≤ k → false ≡ are_names text
     many_names many = sym (and_false (list_all is_name (parts_of text)))
         ∙ ap (λ b. list_all is_name (parts_of text) && b) (sym (lt-leb (length (parts_of text)) 128 (omega (arith, many, lt))))
@@ -69,6 +72,7 @@ module _ (text : List ℕ) (k : ℕ) (so_far : list_all is_name (drop k (parts_o
   drop_all [] = refl
   drop_all (x ∷ xs) = drop_all xs
 
+  -- every part was a name, and there are at most 128
   pub all_names : k ≡ length (parts_of text) → k ≤ 128 → true ≡ are_names text
   all_names end few =
       (λ i. sym (le-leb (length (parts_of text)) 128 (omega (arith, end, few))) i)

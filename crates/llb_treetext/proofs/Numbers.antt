@@ -36,11 +36,13 @@ pub number_end : (n k : ℕ) (text : List ℕ) → length text ≤ k → number_
 number_end n k text le = ap (number_from n) (drop_end text k le) ∙ number_none n
 
 module _ (n k d : ℕ) (text : List ℕ) (lt : k < length text) (digit : d ≡ get_or text k 0 - 48) where
+  -- a digit that keeps the number in 32 bits is read, and the digits after it decide
   pub number_next : n * 10 + d < 2 ^ 32 → number_from n (drop k text) ≡ number_from (n * 10 + d) (drop (k + 1) text)
   number_next small =
       ap (number_from n) (digit_at text k lt) ∙ number_more n (get_or text k 0) (drop (k + 1) text) (omega (arith, digit, small))
       ∙ ap (λ e. number_from (n * 10 + e) (drop (k + 1) text)) (sym digit)
 
+  -- a digit that takes the number past 32 bits ends the reading
   pub number_stops : 2 ^ 32 ≤ n * 10 + d → number_from n (drop k text) ≡ None
   number_stops large = ap (number_from n) (digit_at text k lt) ∙ number_past n (get_or text k 0) (drop (k + 1) text) (omega (arith, digit, large))
 
@@ -100,6 +102,7 @@ front_same (z ∷ xs) (w ∷ ys) x y same = let one : z ≡ w = cc in let rest =
 module _ (text front : List ℕ) (last n : ℕ) (is : text ≡ front ++ last ∷ []) (small : n < 2 ^ 32) where
   -- a number of one digit
   module _ (one : n < 10) where
+    -- with the right last digit, the text is the number just where nothing is before that digit
     pub last_alone : (b : Bool) → last ≡ 48 + n % 10 → b ≡ (length front == 0) → (b ≡ true → text ≡ decimal n) × (text ≡ decimal n → b ≡ true)
     last_alone b same none = (there front b none is, λ own. none ∙ ap (λ k. k == 0) (short (ap length (sym is ∙ own ∙ decimal_digit n one))))
       where
@@ -117,6 +120,7 @@ module _ (text front : List ℕ) (last n : ℕ) (is : text ≡ front ++ last ∷
     step : decimal n ≡ decimal (n / 10) ++ (48 + n % 10) ∷ []
     step = decimal_step n more (omega arith)
 
+    -- with the right last digit, the text is the number just where what is before that digit is the text of n / 10
     pub last_of_more : (b : Bool) → last ≡ 48 + n % 10 → (b ≡ true → front ≡ decimal (n / 10)) × (front ≡ decimal (n / 10) → b ≡ true)
         → (b ≡ true → text ≡ decimal n) × (text ≡ decimal n → b ≡ true)
     last_of_more b same rest = (
@@ -127,6 +131,7 @@ module _ (text front : List ℕ) (last n : ℕ) (is : text ≡ front ++ last ∷
     more_other : (last ≡ 48 + n % 10 → ⊥) → text ≡ decimal n → ⊥
     more_other other own = other (last_same front (decimal (n / 10)) last (48 + n % 10) (sym is ∙ own ∙ step))
 
+  -- a text with another last digit is not the number's
   pub other_last : (last ≡ 48 + n % 10 → ⊥) → text ≡ decimal n → ⊥
   other_last other own = elim (cases_lt n 10) [ inl one ↦ one_other one other own | inr more ↦ more_other more other own ]
 

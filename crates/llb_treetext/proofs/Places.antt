@@ -165,6 +165,7 @@ module _ (t : TreeMap) (tree : IsTree t) (place : Place) (last : IsLast t place)
     next_is : comes_next (finite.entries t) row.0 ≡ b
     next_is = sym (b_is ∙ order_is row.0 names is.stands.path names_is)
 
+    -- the row's path is not after the last one, and the fault names this line
     pub out_of_order : (rest later : List ℕ) (n : ℕ) → n ≡ finite.len t + 1 → rest ≡ line_of row ++ later → b ≡ false
         → IsFault (finite.entries t) rest (Order n)
     out_of_order rest later n number text fails = (number ∙ ap (λ k. k + 1) (finite.len-entries t), (row, (is, (later, text)), next_is ∙ fails))
@@ -189,6 +190,7 @@ module _ (t : TreeMap) (tree : IsTree t) (place : Place) (last : IsLast t place)
       dir_is = dir_of (names_text ends.0) ends.1.0 (slashless ends.1.0 (named_end ends.0 ends.1.0 named))
           (names_is ∙ ap names_text ends.1.1 ∙ names_more ends.0 ends.1.0)
 
+      -- the row comes next, but its directory is not there
       pub no_directory : (rest later : List ℕ) (n : ℕ) → n ≡ finite.len t + 1 → rest ≡ line_of row ++ later → h ≡ false
           → IsFault (finite.entries t) rest (NoParent n)
       no_directory rest later n number text fails = (
@@ -202,6 +204,7 @@ module _ (t : TreeMap) (tree : IsTree t) (place : Place) (last : IsLast t place)
         ),
       )
 
+      -- its directory is there, so the row is put and is the last one now
       pub goes_to : (rest later : List ℕ) (new : Place) → rest ≡ line_of row ++ later → new.names.now ≡ names_text row.0 → new.is_dir ≡ is_dir row.1 → h ≡ true
           → (u : TreeMap) × GoesOn t u rest later × IsLast u new × (finite.len u ≡ finite.len t + 1)
       goes_to rest later new text place_is kind_is there =
@@ -231,9 +234,11 @@ seen_kind f None = refl
 seen_kind f (Some x) = refl
 
 module _ (row : Pair) (is : IsRow row) (x : Parts) (parts : parts_seen x ≡ parts_from row) where
+  -- the names that are kept of a line are those of its row's path
   pub place_names : (names : List ℕ) → names ≡ trail x.path.now → names ≡ names_text row.0
   place_names names same = same ∙ ap (λ (f : Fields). trail f.2) parts ∙ ap trail (fields_path row) ∙ trail_is row.0 is.stands.path
 
+  -- a line without the digits of a content is a directory's
   pub place_kind : (b : Bool) → b ≡ is_none x.digits → b ≡ is_dir row.1
   place_kind b same = same ∙ seen_kind (λ digits. digits.now) x.digits ∙ ap (λ (f : Fields). is_none f.1) parts ∙ fields_kind row
 
@@ -286,12 +291,14 @@ module _ (row : Pair) (is : IsRow row) (bytes later : List ℕ) (text : bytes �
         finite.len-entries (root_of m) ∙ ap length (root_entries m),
       )
 
+  -- a first line with no names is the root's, and the tree of the root alone is read
   pub starts : place.is_dir ≡ is_dir row.1 → (length place.names.now == 0) ≡ true → (t : TreeMap) × IsFront bytes t later × IsLast t place × (finite.len t ≡ 1)
   starts kind empty =
       let at : row.0 ≡ [] = no_names_left row.0 (ap length (sym names) ∙ eqb-true (length place.names.now) 0 empty) in
       let (m, dir) = is.root at in
       starts_at m at dir kind
 
+  -- a first line of any other path is out of order
   pub not_first : (length place.names.now == 0) ≡ false → IsFault [] bytes (Order 1)
   not_first some = (refl, (row, (is, (later, text)), by_path row.0 refl))
     where

@@ -125,12 +125,15 @@ module _ (t : TreeMap) (tree : IsTree t) (row : Pair) (is : IsRow row) (next : c
   behind : comes_next (some_rows.0 ∷ some_rows.1.0) row.0 ≡ true
   behind = ap (λ es. comes_next es row.0) (sym some_rows.1.1) ∙ next
 
+  -- what comes next after all entries of a tree is not in it yet
   pub not_there : finite.get t row.0 ≡ None
   not_there = finite.get-entries t row.0 ∙ ap (finite.find path_cmp row.0) some_rows.1.1 ∙ find_behind some_rows.0 some_rows.1.0 row.0 sorted behind
 
+  -- so it is not the root, which every tree has
   pub not_root : row.0 ≢ []
   not_root at = let e : ◌≡◌ {A = Option Entry} None (Some (Dir tree.root.0)) = sym not_there ∙ ap (finite.get t) at ∙ tree.root.1 in absurd cc
 
+  -- once it is put, it is the last of the entries
   pub entries_put : finite.entries (finite.insert t row.0 row.1) ≡ finite.entries t ++ row ∷ []
   entries_put =
       finite.entries-insert path_cmp-IsTotalOrder t row.0 row.1 ∙ ap (finite.put path_cmp row.0 row.1) some_rows.1.1
@@ -153,6 +156,7 @@ module _ (t : TreeMap) (tree : IsTree t) (row : Pair) (is : IsRow row) (next : c
       more q dir = get-insert_cases (λ o. (m : MetaValue) × (o ≡ Some (Dir m))) t row.0 row.1 q
           (λ same. let e : ◌≡◌ {A = Option Entry} None (Some (Dir dir.0)) = sym not_there ∙ ap (finite.get t) (sym same) ∙ dir.1 in absurd cc) dir
 
+  -- an edit puts the row where nothing is, if the walk to it passes
   pub put_ok : (p : List (List ℕ)) (e : Entry) → p ≢ [] → finite.get t p ≡ None → walk (finite.get t) p ≡ Ok tt → put_row t (p, e) ≡ Ok (finite.insert t p e)
   put_ok p (Dir m) named none walks = ap (λ r. r >>= λ _. dir_fits (finite.get t p) >>= λ _. Ok (finite.insert t p (Dir m))) walks
       ∙ ap (λ o. dir_fits o >>= λ _. Ok (finite.insert t p (Dir m))) none
@@ -165,6 +169,7 @@ module _ (t : TreeMap) (tree : IsTree t) (row : Pair) (is : IsRow row) (next : c
   put_err [] (File m c) f named walks = absurd (named refl)
   put_err (n ∷ p) (File m c) f named walks = ap (λ r. r >>= λ _. file_fits (finite.get t (n ∷ p)) >>= λ _. Ok (finite.insert t (n ∷ p) (File m c))) walks
 
+  -- an edit that is granted gives a tree whose text has the row's line at its end
   pub goes_on : (new : TreeMap) (rest later : List ℕ) → rest ≡ line_of row ++ later → put_row t row ≡ Ok new → GoesOn t new rest later
   goes_on new rest later begins put = by_walk (walk (finite.get t) row.0) refl
     where
@@ -195,9 +200,11 @@ module _ (t : TreeMap) (tree : IsTree t) (row : Pair) (is : IsRow row) (next : c
 -- ---- a line that is not faulty
 
 module _ (rows : List Pair) (rest : List ℕ) (sound : HasNoFault rows rest) where
+  -- where the next line is not faulty, it is some row's
   pub is_line : ((row : Pair) → ¬ Begins rest row) → ⊥
   is_line none = sound (BadLine (length rows + 1)) (refl, none)
 
+  -- and the row's path is after the last one
   pub is_next : (row : Pair) → Begins rest row → comes_next rows row.0 ≡ true
   is_next row begins = go (comes_next rows row.0) refl
     where
@@ -229,12 +236,14 @@ none_empty = no_length (finite.entries (finite.empty {X = Entry} {R = path_cmp})
     no_length (e ∷ es) is = absurd (omega arith)
 
 module _ (m : MetaValue) where
+  -- the tree of the root alone has that one entry
   pub root_entries : finite.entries (finite.insert empty_tree [] (Dir m)) ≡ ([], Dir m) ∷ []
   root_entries =
       finite.entries-insert path_cmp-IsTotalOrder empty_tree [] (Dir m)
       ∙ ap (finite.put path_cmp [] (Dir m)) (finite.entries-insert path_cmp-IsTotalOrder finite.empty [] (Dir new_dir_meta)
       ∙ ap (finite.put path_cmp [] (Dir new_dir_meta)) none_empty)
 
+  -- a text whose first line is the root's starts with the text of the tree of the root alone
   pub root_front : (p : List (List ℕ)) (o : Option (List ℕ)) (t : TreeMap) (bytes later : List ℕ) → IsRow (p, entry_of m o)
       → bytes ≡ line_of (p, entry_of m o) ++ later → p ≡ [] → finite.insert empty_tree [] (Dir m) ≡ t → IsTree t → IsFront bytes t later
   root_front p o t bytes later row begins at is tree = record {
@@ -256,6 +265,7 @@ no_fault_first bytes t is = λ e fault.
     (one_answer bytes).apart t e is (record { rows = []; rest = bytes; before = inl refl; split = refl; more = λ _. refl; fault = fault })
 
 module _ (bytes : List ℕ) (t : TreeMap) (rest : List ℕ) (front : IsFront bytes t rest) where
+  -- the test says that the rest isn't empty, so bytes are left
   pub some_left : (b : Bool) → b ≡ (length rest == 0) → b ≡ false → 0 < length rest
   some_left b is no_b = by_length (length rest) (sym is ∙ no_b)
     where
@@ -263,9 +273,11 @@ module _ (bytes : List ℕ) (t : TreeMap) (rest : List ℕ) (front : IsFront byt
       by_length zero e = absurd (true≢false e)
       by_length (suc n) e = omega arith
 
+  -- as long as bytes are left, there are fewer entries than bytes, so their number can't overflow
   pub few_lines : 0 < length rest → finite.len t < length bytes
   few_lines some = omega (arith, few_rows (finite.entries t), finite.len-entries t, ap length front.text, length-append (tree_text t) rest, some)
 
+  -- a fault in what is left, after the lines of a tree, is a fault of the whole text
   pub stops : (e : TextFault) → 0 < length rest → IsFault (finite.entries t) rest e → Stops bytes e
   stops e some fault = record {
     rows = finite.entries t;
@@ -276,12 +288,15 @@ module _ (bytes : List ℕ) (t : TreeMap) (rest : List ℕ) (front : IsFront byt
     fault = fault;
   }
 
+  -- so where the whole is the text of a tree, there is no fault in what is left
   pub no_fault_left : (u : TreeMap) → IsText bytes u → 0 < length rest → HasNoFault (finite.entries t) rest
   no_fault_left u is some = λ e fault. (one_answer bytes).apart u e is (stops e some fault)
 
+  -- once one more line is read, the text starts with the text of the larger tree
   pub front_more : (new : TreeMap) (later : List ℕ) → GoesOn t new rest later → IsFront bytes new later
   front_more new later goes = record { tree = goes.tree; text = front.text ∙ goes.text }
 
+  -- when nothing is left, the whole is the text of the tree
   pub whole_text : (length rest == 0) ≡ true → IsText bytes t
   whole_text none = record {
     tree = front.tree;

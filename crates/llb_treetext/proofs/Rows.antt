@@ -58,6 +58,7 @@ module _ (bytes : List ℕ) where
       go true is = absurd cc
       go false is = refl
 
+  -- bytes without a line end do not begin with a line
   pub no_line_end : position (λ b. nat_eq b 10) bytes ≡ None → (row : Pair) (later : List ℕ) → IsRow row → bytes ≢ line_of row ++ later
   no_line_end is row later stands same =
       let one : ◌≡◌ {A = Option (List ℕ × List ℕ)} None (Some (row_text row, later)) = sym (cut_none is) ∙ ap (cut_at 10) same
@@ -78,6 +79,7 @@ module _ (bytes : List ℕ) where
         ap (λ t. cond {A = Option (List ℕ × List ℕ)} t (Some (before_first (λ b. nat_eq b 10) bytes, after_first (λ b. nat_eq b 10) bytes)) None) found.1
         ∙ ap (λ n. Some (take n bytes, drop (n + 1) bytes)) found.0
 
+    -- nor do they where what is before the first line end is no row's text
     pub no_first_line : ((row : Pair) → IsRow row → take end bytes ≢ row_text row) → (row : Pair) (later : List ℕ) → IsRow row → bytes ≢ line_of row ++ later
     no_first_line none row later stands same =
         let one : ◌≡◌ {A = Option (List ℕ × List ℕ)} (Some (take end bytes, drop (end + 1) bytes)) (Some (row_text row, later)) =
@@ -91,6 +93,7 @@ module _ (bytes : List ℕ) where
         split_at_first (λ b. nat_eq b 10) bytes 0 first
         ∙ (λ i. take (found.0 i) bytes ++ (eqb-true _ 10 (passes_at_first (λ b. nat_eq b 10) bytes 0 first) i ∷ drop (found.0 i + 1) bytes))
 
+    -- where it is a row's text, they begin with the row's line
     pub has_first_line : (row : Pair) (rest later : List ℕ) → rest ≡ drop end bytes → later ≡ drop 1 rest → take end bytes ≡ row_text row
         → bytes ≡ line_of row ++ later
     has_first_line row rest later one two same =

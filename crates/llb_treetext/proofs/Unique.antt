@@ -59,9 +59,11 @@ find_here (e ∷ es) (suc i) x h is =
     ∙ find_here es i x (and_second _ _ h) is
 
 module _ (t : TreeMap) (tree : IsTree t) where
+  -- a listed entry is the one that the tree has at its path
   pub there : (k : ℕ) (x : Pair) → slice_get (finite.entries t) k ≡ Some x → finite.get t x.0 ≡ Some x.1
   there k x is = finite.get-entries t x.0 ∙ find_here (finite.entries t) k x (finite.entries_sorted t) is
 
+  -- it can stand at its path, and at the root it is a directory, so it is a row
   pub entry_is_row : (k : ℕ) (x : Pair) → slice_get (finite.entries t) k ≡ Some x → IsRow x
   entry_is_row k x is = record {
     stands = tree.stands x.0 x.1 (there k x is);

@@ -51,6 +51,7 @@ module _ (c : ℕ) where
   drop_front [] rest n is = ap (λ k. drop k (c ∷ rest)) is
   drop_front (x ∷ w) rest n is = ap (λ k. drop k (x ∷ w ++ c ∷ rest)) is ∙ drop_front w rest (suc (length w)) refl
 
+  -- a word without the byte is cut off at the byte, and the rest is what comes after it
   pub cut_is : (w rest : List ℕ) → All (λ b. nat_eq b c ≡ false) w → cut_at c (w ++ c ∷ rest) ≡ Some (w, rest)
   cut_is w rest all =
       let at = place w rest all in
@@ -123,6 +124,7 @@ module _ (m : MetaValue) (is : IsMeta m) where
       le_not : (a b : ℕ) → b ≤ a → nat_lt a b ≡ false
       le_not a b le = le-ltb a b le
 
+  -- the text of the metadata, in the groups in which it is read: the mode, the user and the group, a space after each
   pub grouped : (rest : List ℕ) → meta_text m ++ rest ≡ mode_text m.mode ++ 32 ∷ (decimal m.uid ++ 32 ∷ (decimal m.gid ++ 32 ∷ rest))
   grouped rest =
       append_assoc (mode_text m.mode) (32 ∷ (decimal m.uid ++ (32 ∷ (decimal m.gid ++ 32 ∷ [])))) rest

@@ -41,6 +41,7 @@ module _ (T : RattleType) (g' : ledger.Ghosts T.Denot) where
   tally_crosses : IsSend (tally.the_row T g')
   tally_crosses = declared_send (tally.the_type T g') (search sendable, (as_row_send (share.the_field T g') (share_crosses.the_send T g'), tt))
 
+  -- what a worker has of its own may go to another thread
   pub kit_crosses : IsSend (kit.the_row T g')
   kit_crosses = declared_send (kit.the_type T g') (
     tally_crosses,
@@ -60,6 +61,7 @@ module _ (T : RattleType) (g : gated.Ghosts T.Denot) (g' : ledger.Ghosts T.Denot
     ),
   )
 
+  -- the desk in its lock may be used by several threads at once
   pub lock_crosses : IsSync (mutex.the_row (desk.the_row T g g'))
   lock_crosses = search (desk_crosses, crosses, sendable) depth 20
 

@@ -180,9 +180,11 @@ module _ (made : List ℕ) (es : List event.Event) (i u : ℕ) (d : event.Event)
   other : (w : ℕ) → w ≢ u → count_by (of_worker w) (take (i + 1) es) ≡ count_by (of_worker w) (take i es)
   other w apart = count_by_more_no (of_worker w) es i d fits (ne_eqb _ _ (λ e. apart (sym e ∙ sym is)))
 
+  -- an event of a worker past the 64 leaves all counts right
   pub not_counted : 64 ≤ u → Counts made es (i + 1)
   not_counted past = (so_far.0, λ w lt. so_far.1 w lt ∙ sym (other w (λ e. omega (arith, e, past, lt))))
 
+  -- one of a worker among them has that worker's count raised by one
   pub counted : u < 64 → Counts (set made u (slice_index made u + 1)) es (i + 1)
   counted low = (length-set made u (slice_index made u + 1) ∙ so_far.0, each)
     where

@@ -29,9 +29,11 @@ module _ {L : Type 0} where
       let e : from + 0 ≡ from = omega arith in
       subst P e (h 0 p (omega arith))
 
+  -- a list that is equal to one that keeps all its passes keeps them too
   pub keeps_same : (q : ReadyQueue) (from : ℕ) (xs ys : List (Post L)) → xs ≡ ys → AllKeep q from ys → AllKeep q from xs
   keeps_same q from xs ys e h = let P : List (Post L) → Type 0 = AllKeep q from in subst P (sym e) h
 
+  -- the first post keeps its pass, and the rest keep theirs, counted from one further
   pub keeps_next : (q : ReadyQueue) (from : ℕ) (p : Post L) (xs rest : List (Post L)) → xs ≡ p ∷ rest → AllKeep q from xs
       → PostKeeps q from p × AllKeep q (from + 1) rest
   keeps_next q from p xs rest e h =
@@ -41,6 +43,7 @@ module _ {L : Type 0} where
       let e' : suc from ≡ from + 1 = omega arith in
       (keeps_first q from p rest all, subst Q e' (keeps_rest q from p rest all))
 
+  -- a post that keeps its pass is pushed at the place of its worker, and all still keep theirs
   pub keeps_pushed : (q : ReadyQueue) (n : ℕ) (xs posts : List (Post L)) (p : Post L) → xs ≡ posts ++ p ∷ [] → length posts ≡ n → AllKeep q 0 posts
       → PostKeeps q n p
       → AllKeep q 0 xs

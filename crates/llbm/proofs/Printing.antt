@@ -100,5 +100,6 @@ module _ {A : Type 0} (line : A → List ℕ) where
       → Appends a b (flat_map line (take (at + 1) es))
   prints_none es at a b none before = subst (λ xs. Appends a b (flat_map line xs)) (sym (no_more es at (sym none))) before
 
+  -- past the last place, all lines are out
   pub prints_all : (es : List A) (at : ℕ) (a b : Option (List ℕ)) → length es ≤ at → Appends a b (flat_map line (take at es)) → Appends a b (flat_map line es)
   prints_all es at a b all before = subst (λ xs. Appends a b (flat_map line xs)) (all_taken es at all) before

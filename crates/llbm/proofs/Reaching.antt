@@ -62,6 +62,7 @@ module _ (b : Build) (s : State) (here : IsConsistent b s) where
       inputs_done (ending_at s.statuses) v.0.inputs walk.2.0 k there (subst (λ ns. walk.2.0 < length ns) names walk.2.1)
       (subst (λ ns. slice_index_or ns walk.2.0 k ≡ k) names walk.2.2)
 
+  -- all vertices lead to the result, so once it has its tree none of them has failed
   pub none_fails : IsGraph b.graph → (t : TreeMap) → output_in (ending_at s.statuses b.graph.result.vertex) b.graph.result.index ≡ Some t
       → (v : ℕ) (f : VertexFault) → ending_at s.statuses v ≡ Some (Failed f) → ⊥
   none_fails graph t is v f failed =

@@ -89,6 +89,7 @@ module _ (locals : List Local) (workers : ℕ) (file : Option (List ℕ)) where
     broken f held = some_map (IsSession locals workers commands commands' out out' (Err f)) (IsBroken locals workers commands commands' out out') file
         (λ bytes is. (f, is)) held
 
+    -- a run that ended with a fault has status 3, or 2 where the fault is a refusal
     pub ends_by : (e : ProgramFault) (status : ℕ) → StepsIn locals workers file commands commands' out out' (Err e)
         → (status ≡ 3) ⊎ ((status ≡ 2) × IsRefusal e) → Steps locals workers file commands commands' out out' status
     ends_by e status (inl (keeps, tells)) (inl three) = inr (inr (three, inl keeps))
