@@ -1,4 +1,5 @@
 -- Laws of the definitions beside this file, for whoever rests on them.
 pub mod Varints
 pub mod Own
+pub mod Payloads
 pub mod Records

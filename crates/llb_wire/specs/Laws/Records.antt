@@ -19,6 +19,7 @@ use Rattle.llb_wire.specs.Reading.{varint_at, number_of, wire_of, fixed_at, as_f
 use Rattle.llb_wire.specs.Spelling.{code_of, between, Spells, IsVarint, IsFieldNumber, AreBytes, varint_text, tag_text, payload_text, value_text}
 use Rattle.llb_wire.specs.Records.{Record, record_of, record_at, placed, IsFixed, IsPayload, IsRecord, SpellRecords, Walks, own_text}
 use Rattle.llb_wire.specs.Records.{written_record, IsShortestRecord}
+use Rattle.llb_wire.specs.Laws.Payloads.{written_bytes, least_payload}
 use Rattle.llb_wire.specs.Laws.Varints.{varint_found, varint_read, is_shortest, least_spelling, are_bytes-append, are_bytes-front, are_bytes-back}
 
 -- ---- what is spelled is read, whatever follows
@@ -230,8 +231,7 @@ fixed_found w bytes at x le e =
       omega (arith, stop, long, length-drop at bytes, le),
       record {
         size = ap length own ∙ omega (arith, length-take (byte_len w) (drop at bytes), long);
-        value = sym value
-            ∙ ap (λ xs. from_le_bytes w xs) (sym own);
+        value = sym value ∙ ap (λ xs. from_le_bytes w xs) (sym own);
       },
     )
 
@@ -284,9 +284,8 @@ pub record FoundRecord (bytes : List ℕ) (at : ℕ) (f : Field) : Type 0 where
   pub inside : f.«end» ≤ length bytes
   pub spelled : IsRecord (record_at bytes at f)
 
-found_by_parts : (bytes : List ℕ) (at : ℕ) (f : Field) (tag : ℕ × ℕ) (n : ℕ) (w : Wire) → AreBytes bytes → at ≤ length bytes
-    → varint_at bytes at ≡ Ok tag → number_of (tag.0 / 8) ≡ Ok n → wire_of (tag.0 % 8) ≡ Ok w
-    → payload_at n w bytes tag.1 ≡ Ok f → FoundRecord bytes at f
+found_by_parts : (bytes : List ℕ) (at : ℕ) (f : Field) (tag : ℕ × ℕ) (n : ℕ) (w : Wire) → AreBytes bytes → at ≤ length bytes → varint_at bytes at ≡ Ok tag
+    → number_of (tag.0 / 8) ≡ Ok n → wire_of (tag.0 % 8) ≡ Ok w → payload_at n w bytes tag.1 ≡ Ok f → FoundRecord bytes at f
 found_by_parts bytes at f tag n w are le tag_read number_read wire_read payload_read =
     let there = spelled_there bytes at tag are le tag_read in
     let number = number_ok tag.0 n number_read in
@@ -451,9 +450,8 @@ tag_small number wire.Len high = omega arith
 tag_small number wire.I32 high = omega arith
 
 -- what is written is a record by the grammar
-pub written_is_record : (number : ℕ) (w : Wire) (value : ℕ) (payload : List ℕ) → IsFieldNumber number → value < 2 ^ 64
-    → length payload < 2 ^ 64 → (w ≡ wire.I32 → value < 2 ^ 32)
-    → IsRecord (written_record number w value payload)
+pub written_is_record : (number : ℕ) (w : Wire) (value : ℕ) (payload : List ℕ) → IsFieldNumber number → value < 2 ^ 64 → length payload < 2 ^ 64
+    → (w ≡ wire.I32 → value < 2 ^ 32) → IsRecord (written_record number w value payload)
 written_is_record number w value payload named small len narrow =
     record {
       tag = tag_text number w;
@@ -464,29 +462,9 @@ written_is_record number w value payload named small len narrow =
       payload = written_payload w value payload small len narrow;
     }
 
-written_bytes : (w : Wire) (value : ℕ) (payload : List ℕ) → value < 2 ^ 64 → length payload < 2 ^ 64 → AreBytes payload
-    → AreBytes (payload_text w value payload)
-written_bytes wire.Varint value payload small len are = (is_shortest value small).bytes
-written_bytes wire.I64 value payload small len are =
-    (omega arith, (omega arith, (omega arith, (omega arith, (omega arith, (omega arith, (omega arith, (omega arith, tt))))))))
-written_bytes wire.Len value payload small len are = are_bytes-append (varint_text (length payload)) payload (is_shortest (length payload) len).bytes are
-written_bytes wire.I32 value payload small len are = (omega arith, (omega arith, (omega arith, (omega arith, tt))))
-
-least_payload : (w : Wire) (value : ℕ) (payload behind own : List ℕ) → AreBytes behind
-    → IsPayload w behind (value_text w value payload) own → length (payload_text w value payload) ≤ length behind
-least_payload wire.Varint value payload behind own are h = least_spelling 9 value behind are h.1.spells
-least_payload wire.I64 value payload behind own are h = omega (arith, h.1.size)
-least_payload wire.Len value payload behind own are h =
-    let count = h.0 in
-    let size : length behind ≡ length count + length own = ap length h.1 ∙ length-append count own in
-    let front : AreBytes count = are_bytes-front count own (subst AreBytes h.1 are) in
-    omega (arith, least_spelling 9 (length payload) count front h.2.spells, size, h.3, length-append (varint_text (length payload)) payload)
-least_payload wire.I32 value payload behind own are h = omega (arith, h.1.size)
-
 -- and no bytes that spell it are fewer
-pub written_is_shortest : (number : ℕ) (w : Wire) (value : ℕ) (payload : List ℕ) → IsFieldNumber number → value < 2 ^ 64
-    → length payload < 2 ^ 64 → (w ≡ wire.I32 → value < 2 ^ 32) → AreBytes payload
-    → IsShortestRecord (written_record number w value payload)
+pub written_is_shortest : (number : ℕ) (w : Wire) (value : ℕ) (payload : List ℕ) → IsFieldNumber number → value < 2 ^ 64 → length payload < 2 ^ 64
+    → (w ≡ wire.I32 → value < 2 ^ 32) → AreBytes payload → IsShortestRecord (written_record number w value payload)
 written_is_shortest number w value payload named small len narrow are =
     let tag = 8 * number + code_of w in
     record {
