@@ -333,8 +333,6 @@ pub(crate) fn first_wrong(alloc: Global, tables: &[Table]) -> (usize, usize) {
 
 #[test]
 fn applets_do_what_they_say_on_one_tree(rt: HostRuntime) {
-    assert_eq!(rt;
-        first_wrong(rt.alloc(), ON_ONE_TREE),
-        (ON_ONE_TREE.len(), 0)
-    );
+    let tables = ON_ONE_TREE;
+    assert_eq!(rt; first_wrong(rt.alloc(), tables), (tables.len(), 0));
 }

@@ -99,8 +99,6 @@ const ON_MORE_MOUNTS: &[Table] = &[
 
 #[test]
 fn scripts_run_on_views_of_more_than_one_mount(rt: HostRuntime) {
-    assert_eq!(rt;
-        first_wrong(rt.alloc(), ON_MORE_MOUNTS),
-        (ON_MORE_MOUNTS.len(), 0)
-    );
+    let tables = ON_MORE_MOUNTS;
+    assert_eq!(rt; first_wrong(rt.alloc(), tables), (tables.len(), 0));
 }

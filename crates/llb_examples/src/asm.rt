@@ -1,6 +1,6 @@
 //! Texts are assembled: each to the entries that it stands for, or to the fault of its first faulty line. Entries are written as text.
 
-use super::told::is_told;
+use super::told::{are_all_told, is_told};
 use llb_asm::{assemble, disassemble, one_answer, reads_back};
 use llb_ops::Entries;
 use llb_wire::{Over, push_hex};
@@ -108,7 +108,8 @@ fn first_other_entries(alloc: Global, rows: &[(&str, &str)]) -> usize {
 
 #[test]
 fn a_text_is_assembled_to_canonical_bytes(rt: HostRuntime) {
-    assert_eq!(rt; first_other_entries(rt.alloc(), ASSEMBLED), ASSEMBLED.len());
+    let rows = ASSEMBLED;
+    are_all_told(&rt, first_other_entries(rt.alloc(), rows), rows.len());
 }
 
 // Texts, and the faults of their first faulty lines.
@@ -150,7 +151,8 @@ const FAULTY: &[(&str, &str)] = &[
 
 #[test]
 fn the_first_faulty_line_is_told_with_its_first_rule(rt: HostRuntime) {
-    assert_eq!(rt; first_other_entries(rt.alloc(), FAULTY), FAULTY.len());
+    let rows = FAULTY;
+    are_all_told(&rt, first_other_entries(rt.alloc(), rows), rows.len());
 }
 
 // Whether two texts stand for the same entries.
@@ -204,5 +206,6 @@ fn first_other_text(alloc: Global, rows: &[(&str, &str)]) -> usize {
 
 #[test]
 fn entries_are_written_as_the_one_text_that_is_assembled_to_them(rt: HostRuntime) {
-    assert_eq!(rt; first_other_text(rt.alloc(), WRITTEN), WRITTEN.len());
+    let rows = WRITTEN;
+    are_all_told(&rt, first_other_text(rt.alloc(), rows), rows.len());
 }

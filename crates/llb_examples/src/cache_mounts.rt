@@ -2,7 +2,7 @@
 
 use super::execs::{ROOT, RUNS_TRUE, Shown, TRUE, exec_text, said_of_words};
 use super::graphs::{NAMES_A, linked};
-use super::told::is_told;
+use super::told::{are_all_told, is_told};
 use llb_loader::LoadFault;
 use std::alloc::{AllocError, Global};
 
@@ -134,7 +134,8 @@ fn first_wrong(alloc: Global, rows: &[(&[Shown<'static>], &str)]) -> usize {
 
 #[test]
 fn caches_are_taken_one_key_once_and_judged_in_order(rt: HostRuntime) {
-    assert_eq!(rt; first_wrong(rt.alloc(), MOUNTS), MOUNTS.len());
+    let rows = MOUNTS;
+    are_all_told(&rt, first_wrong(rt.alloc(), rows), rows.len());
 }
 
 #[test]
@@ -206,7 +207,8 @@ fn first_other_seed(alloc: Global, rows: &[(&[Shown<'static>], &str)]) -> usize 
 
 #[test]
 fn caches_that_begin_with_different_outputs_are_different(rt: HostRuntime) {
-    assert_eq!(rt; first_other_seed(rt.alloc(), SEEDS), SEEDS.len());
+    let rows = SEEDS;
+    are_all_told(&rt, first_other_seed(rt.alloc(), rows), rows.len());
 }
 
 // What is said of `true` in two rows, of which the first stands on the second.
@@ -250,5 +252,6 @@ fn first_other_pair(alloc: Global, rows: &[(&[Shown<'static>], &[Shown<'static>]
 
 #[test]
 fn of_two_rows_the_least_that_breaks_a_rule_is_named(rt: HostRuntime) {
-    assert_eq!(rt; first_other_pair(rt.alloc(), TWO_ROWS), TWO_ROWS.len());
+    let rows = TWO_ROWS;
+    are_all_told(&rt, first_other_pair(rt.alloc(), rows), rows.len());
 }

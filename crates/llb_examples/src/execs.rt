@@ -1,7 +1,7 @@
 //! Executions in graphs: what they give, and by which feature or rule others are refused. They are told as graphs are.
 
 use super::graphs::{MAKES_A, linked, said_of};
-use super::told::is_told;
+use super::told::{are_all_told, is_told};
 use llb_loader::LoadFault;
 use std::alloc::{AllocError, Global};
 
@@ -135,7 +135,8 @@ fn first_other_case(alloc: Global, rows: &[Case]) -> usize {
 
 #[test]
 fn an_exec_is_taken_or_refused_by_its_feature_or_its_rule(rt: HostRuntime) {
-    assert_eq!(rt; first_other_case(rt.alloc(), CASES), CASES.len());
+    let rows = CASES;
+    are_all_told(&rt, first_other_case(rt.alloc(), rows), rows.len());
 }
 
 // The mounts of `true`.
@@ -200,7 +201,8 @@ fn first_other_mounts(alloc: Global, rows: &[(&[Shown<'static>], &str)]) -> usiz
 
 #[test]
 fn the_mounts_of_an_exec_are_judged_in_order(rt: HostRuntime) {
-    assert_eq!(rt; first_other_mounts(rt.alloc(), MOUNTS), MOUNTS.len());
+    let rows = MOUNTS;
+    are_all_told(&rt, first_other_mounts(rt.alloc(), rows), rows.len());
 }
 
 // Words at the root.
@@ -237,7 +239,8 @@ fn first_other_words(alloc: Global, rows: &[(&[&str], &str)]) -> usize {
 
 #[test]
 fn the_words_of_an_exec_are_a_script(rt: HostRuntime) {
-    assert_eq!(rt; first_other_words(rt.alloc(), WORDS), WORDS.len());
+    let rows = WORDS;
+    are_all_told(&rt, first_other_words(rt.alloc(), rows), rows.len());
 }
 
 const NAMES_INDEX_ONE_OF_B: &str = r#"op {
@@ -280,5 +283,6 @@ fn first_other_output(alloc: Global, rows: &[(i64, &str)]) -> usize {
 
 #[test]
 fn an_exec_gives_what_its_mounts_hold(rt: HostRuntime) {
-    assert_eq!(rt; first_other_output(rt.alloc(), OUTPUTS), OUTPUTS.len());
+    let rows = OUTPUTS;
+    are_all_told(&rt, first_other_output(rt.alloc(), rows), rows.len());
 }

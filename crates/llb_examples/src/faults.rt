@@ -1,5 +1,6 @@
 //! What faults print: what stands after the word `fault` in a refusal.
 
+use super::told::are_all_told;
 use llb_applet::ScriptFault;
 use llb_glob::PatternFault;
 use llb_loader::{Feature, LoadFault, Rule};
@@ -45,8 +46,10 @@ const MESSAGES: &[(OpFault, &str)] = &[
 #[test]
 fn faults_of_records_and_messages(rt: HostRuntime) {
     let alloc = rt.alloc();
-    assert_eq!(rt; first_wrong(alloc, WIRE), WIRE.len());
-    assert_eq!(rt; first_wrong(alloc, MESSAGES), MESSAGES.len());
+    let rows = WIRE;
+    are_all_told(&rt, first_wrong(alloc, rows), rows.len());
+    let rows = MESSAGES;
+    are_all_told(&rt, first_wrong(alloc, rows), rows.len());
     assert!(rt; prints(alloc, &Memory, "5"));
 }
 
@@ -73,9 +76,12 @@ const VERTICES: &[(VertexFault, &str)] = &[
 #[test]
 fn faults_of_trees_patterns_and_vertices(rt: HostRuntime) {
     let alloc = rt.alloc();
-    assert_eq!(rt; first_wrong(alloc, TREES), TREES.len());
-    assert_eq!(rt; first_wrong(alloc, PATTERNS), PATTERNS.len());
-    assert_eq!(rt; first_wrong(alloc, VERTICES), VERTICES.len());
+    let rows = TREES;
+    are_all_told(&rt, first_wrong(alloc, rows), rows.len());
+    let rows = PATTERNS;
+    are_all_told(&rt, first_wrong(alloc, rows), rows.len());
+    let rows = VERTICES;
+    are_all_told(&rt, first_wrong(alloc, rows), rows.len());
 }
 
 // The refusal of that number.
@@ -122,7 +128,8 @@ fn first_other_refusal(alloc: Global, texts: &[&str]) -> usize {
 #[test]
 fn refusals_of_a_definition(rt: HostRuntime) {
     let alloc = rt.alloc();
-    assert_eq!(rt; first_other_refusal(alloc, REFUSALS), REFUSALS.len());
+    let rows = REFUSALS;
+    are_all_told(&rt, first_other_refusal(alloc, rows), rows.len());
 }
 
 const FEATURES: &[(Feature, &str)] = &[
@@ -154,7 +161,8 @@ fn first_other_feature(alloc: Global, rows: &[(Feature, &str)]) -> usize {
 #[test]
 fn features_by_their_names(rt: HostRuntime) {
     let alloc = rt.alloc();
-    assert_eq!(rt; first_other_feature(alloc, FEATURES), FEATURES.len());
+    let rows = FEATURES;
+    are_all_told(&rt, first_other_feature(alloc, rows), rows.len());
 }
 
 // The rule of that number.
@@ -221,5 +229,6 @@ fn first_other_rule(alloc: Global, texts: &[&str]) -> usize {
 #[test]
 fn rules_by_their_names(rt: HostRuntime) {
     let alloc = rt.alloc();
-    assert_eq!(rt; first_other_rule(alloc, RULES), RULES.len());
+    let rows = RULES;
+    are_all_told(&rt, first_other_rule(alloc, rows), rows.len());
 }

@@ -4,7 +4,7 @@
 use super::deeds::{
     CONTENTS, Deed, EMPTY_WILDCARD, NOTHING, PARENTS, PARENTS_WILDCARD, WILDCARD, deeds_text,
 };
-use super::told::{Row, is_told, push_path, push_tree, tree_of};
+use super::told::{Row, are_all_told, is_told, push_path, push_tree, tree_of};
 use llb_asm::assemble;
 use llb_fileop::{ActFault, act, resolve};
 use llb_ops::{Action, Kind, Op, read_op};
@@ -110,7 +110,8 @@ fn first_other_path(alloc: Global, rows: &[(&str, &str)]) -> usize {
 
 #[test]
 fn a_text_leads_to_a_path_and_may_end_in_a_slash(rt: HostRuntime) {
-    assert_eq!(rt; first_other_path(rt.alloc(), TEXTS), TEXTS.len());
+    let rows = TEXTS;
+    are_all_told(&rt, first_other_path(rt.alloc(), rows), rows.len());
 }
 
 // What a story shows, the two trees, the deeds, and how it is told.
@@ -305,7 +306,8 @@ fn first_wrong(alloc: Global, rows: &[Story]) -> usize {
 
 #[test]
 fn files_and_directories_are_made_copied_and_removed(rt: HostRuntime) {
-    assert_eq!(rt; first_wrong(rt.alloc(), STORIES), STORIES.len());
+    let rows = STORIES;
+    are_all_told(&rt, first_wrong(rt.alloc(), rows), rows.len());
 }
 
 // What is told of a directory of that many names that is made with its parents: how long it is, or its prefix.

@@ -1,5 +1,6 @@
 //! Patterns. A row is the text of a pattern and the text of a path.
 
+use super::told::are_all_told;
 use llb_glob::{Pattern, PatternFault};
 use llb_tree::Path;
 use std::alloc::{AllocError, Global};
@@ -69,7 +70,8 @@ fn first_wrong(alloc: Global, rows: &[Case]) -> usize {
 
 #[test]
 fn a_path_matches_part_by_part_and_a_bad_pattern_is_refused(rt: HostRuntime) {
-    assert_eq!(rt; first_wrong(rt.alloc(), CASES), CASES.len());
+    let rows = CASES;
+    are_all_told(&rt, first_wrong(rt.alloc(), rows), rows.len());
 }
 
 fn repeated(alloc: Global, text: &str, count: usize, rest: &str) -> Result<String, AllocError> {
@@ -123,7 +125,8 @@ fn first_other_long(alloc: Global, rows: &[Long]) -> usize {
 
 #[test]
 fn long_patterns_end(rt: HostRuntime) {
-    assert_eq!(rt; first_other_long(rt.alloc(), LONG), LONG.len());
+    let rows = LONG;
+    are_all_told(&rt, first_other_long(rt.alloc(), rows), rows.len());
 }
 
 fn has_no_parts(alloc: Global, text: &str) -> Result<bool, PatternFault> {

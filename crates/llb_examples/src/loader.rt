@@ -1,7 +1,7 @@
 //! Definitions, and rows under digest texts of any kind: the graph that they are, or what is refused of them.
 
 use super::graphs::{Given, MAKES_A, NAMES_A, linked, push_row, told};
-use super::told::is_told;
+use super::told::{are_all_told, is_told};
 use llb_asm::assemble;
 use llb_loader::{Graph, LoadFault, Row, link, load, load_owned};
 use llb_ops::write_definition;
@@ -117,10 +117,8 @@ fn first_other_definition(alloc: Global, rows: &[(&[&str], &str)]) -> usize {
 
 #[test]
 fn definitions_are_graphs_or_are_refused(rt: HostRuntime) {
-    assert_eq!(rt;
-        first_other_definition(rt.alloc(), DEFINITIONS),
-        DEFINITIONS.len()
-    );
+    let rows = DEFINITIONS;
+    are_all_told(&rt, first_other_definition(rt.alloc(), rows), rows.len());
     let alloc = rt.alloc();
     assert!(rt; is_told(alloc, told(alloc, load(alloc, &[0x08])), "81 1"));
 }
@@ -317,7 +315,8 @@ fn first_other_rows(alloc: Global, rows: &[(&[Given<'static>], &str)]) -> usize 
 
 #[test]
 fn rows_are_graphs_or_are_refused(rt: HostRuntime) {
-    assert_eq!(rt; first_other_rows(rt.alloc(), ROWS), ROWS.len());
+    let rows = ROWS;
+    are_all_told(&rt, first_other_rows(rt.alloc(), rows), rows.len());
 }
 
 // The op of a chain that stands on the op of that number, or makes `/a` where there is none.

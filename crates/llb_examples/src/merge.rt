@@ -1,6 +1,6 @@
 //! One tree laid over another. A tree is a table of its paths, and what is laid is told by its entries.
 
-use super::told::{Row, is_told, tree_of, tree_text};
+use super::told::{Row, are_all_told, is_told, tree_of, tree_text};
 use llb_merge::{
     Memory, at_each_path, lay, over_itself, over_the_empty_tree, under_the_empty_tree,
 };
@@ -92,7 +92,8 @@ fn first_wrong(alloc: Global, rows: &[(&[&[Row<'static>]], &str)]) -> usize {
 
 #[test]
 fn a_file_hides_what_was_below_and_the_upper_entry_stands(rt: HostRuntime) {
-    assert_eq!(rt; first_wrong(rt.alloc(), FOLDS), FOLDS.len());
+    let rows = FOLDS;
+    are_all_told(&rt, first_wrong(rt.alloc(), rows), rows.len());
 }
 
 // The second tree with the third over it, over the first.

@@ -1,6 +1,6 @@
 //! The nodes of a tree, the walks over it, and the paths below which it fits.
 
-use super::told::{Row, is_told, push_node, push_path, push_tree, tree_of};
+use super::told::{Row, are_all_told, is_told, push_node, push_path, push_tree, tree_of};
 use llb_tree::{Meta, Node, Path, Tree, TreeFault, Walk};
 use std::alloc::{AllocError, Global};
 
@@ -77,7 +77,8 @@ fn first_wrong(alloc: Global, rows: &[(&[Row<'static>], &str)]) -> usize {
 
 #[test]
 fn nodes_and_a_walk_tell_the_same_entries(rt: HostRuntime) {
-    assert_eq!(rt; first_wrong(rt.alloc(), TOLD), TOLD.len());
+    let rows = TOLD;
+    are_all_told(&rt, first_wrong(rt.alloc(), rows), rows.len());
 }
 
 // Where a walk is.
@@ -139,7 +140,8 @@ fn first_other_walk(alloc: Global, rows: &[(&[Row<'static>], &str, &str)]) -> us
 
 #[test]
 fn a_walk_goes_on_and_skips_and_stays_at_its_end(rt: HostRuntime) {
-    assert_eq!(rt; first_other_walk(rt.alloc(), WALKED), WALKED.len());
+    let rows = WALKED;
+    are_all_told(&rt, first_other_walk(rt.alloc(), rows), rows.len());
 }
 
 // The path of the name `a` that many times over.
@@ -197,5 +199,6 @@ fn first_other_depth(
 
 #[test]
 fn what_is_put_below_a_path_ends_at_128_names(rt: HostRuntime) {
-    assert_eq!(rt; first_other_depth(rt.alloc(), DEPTHS), DEPTHS.len());
+    let rows = DEPTHS;
+    are_all_told(&rt, first_other_depth(rt.alloc(), rows), rows.len());
 }

@@ -1,5 +1,6 @@
 //! Entries and definitions. What an op is, its canonical bytes show; and of each message once its fields.
 
+use super::told::are_all_told;
 use llb_ops::{
     Action, ActionKind, Entries, ExecOp, FileOp, Kind, MessageName, Mount, Op, OpFault, SourceOp,
     definition_is_read_again, entry_has_fields, field_named, field_numbered, fields_of,
@@ -136,7 +137,8 @@ fn first_wrong(alloc: Global, rows: &[(&[u8], Result<&[u8], OpFault>)]) -> usize
 
 #[test]
 fn entries_are_written_in_their_canonical_bytes_or_the_first_fault_is_answered(rt: HostRuntime) {
-    assert_eq!(rt; first_wrong(rt.alloc(), ENTRIES), ENTRIES.len());
+    let rows = ENTRIES;
+    are_all_told(&rt, first_wrong(rt.alloc(), rows), rows.len());
 }
 
 // An entry of this many empty inputs.
@@ -274,7 +276,8 @@ fn first_other_op(alloc: Global, rows: &[(&[u8], &str, &str, usize)]) -> usize {
 
 #[test]
 fn messages_are_read_field_by_field(rt: HostRuntime) {
-    assert_eq!(rt; first_other_op(rt.alloc(), MESSAGES), MESSAGES.len());
+    let rows = MESSAGES;
+    are_all_told(&rt, first_other_op(rt.alloc(), rows), rows.len());
 }
 
 fn copied(op: &Op) -> &'static str {
@@ -330,10 +333,8 @@ fn first_other_definition(alloc: Global, rows: &[(&[u8], Result<&[u8], OpFault>)
 
 #[test]
 fn a_definition_keeps_its_entries_and_skips_other_fields(rt: HostRuntime) {
-    assert_eq!(rt;
-        first_other_definition(rt.alloc(), DEFINITIONS),
-        DEFINITIONS.len()
-    );
+    let rows = DEFINITIONS;
+    are_all_told(&rt, first_other_definition(rt.alloc(), rows), rows.len());
 }
 
 // The entry at a place of a definition.

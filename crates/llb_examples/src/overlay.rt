@@ -1,6 +1,6 @@
 //! One tree laid over another in a way: told by the entries of what comes of it.
 
-use super::told::{Row, is_told, tree_of, tree_text};
+use super::told::{Row, are_all_told, is_told, tree_of, tree_text};
 use llb_merge::{Memory, lay, lay_onto, lay_over};
 use llb_tree::{Tree, TreeFault, Way};
 use llb_wire::Same;
@@ -130,7 +130,8 @@ fn first_wrong(alloc: Global, rows: &[(Given, &[Row<'static>], &[Row<'static>], 
 
 #[test]
 fn files_hide_directories_are_one_and_a_way_keeps_and_gives(rt: HostRuntime) {
-    assert_eq!(rt; first_wrong(rt.alloc(), LAID), LAID.len());
+    let rows = LAID;
+    are_all_told(&rt, first_wrong(rt.alloc(), rows), rows.len());
 }
 
 // Whether a tree that was laid over another, and a copy of the lower one, are what they were.
@@ -193,7 +194,8 @@ fn first_other_pair(alloc: Global, rows: &[(&[Row<'static>], &[Row<'static>])]) 
 
 #[test]
 fn a_lower_tree_is_lent_or_handed_over_or_laid_over_in_place(rt: HostRuntime) {
-    assert_eq!(rt; first_other_pair(rt.alloc(), PAIRS), PAIRS.len());
+    let rows = PAIRS;
+    are_all_told(&rt, first_other_pair(rt.alloc(), rows), rows.len());
 }
 
 // Whether a way that keeps and gives comes to the same in place.

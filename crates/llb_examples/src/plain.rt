@@ -6,7 +6,7 @@ use super::plain_ops::{
     A_B_C, D_ON_A, FAILS_ON_CACHE, MAKES_P, MAKES_PQ, MAKES_PR, MAKES_XA, NAMES_D, P_Q,
     REMOVES_NONE, SHOWS_CACHE, SHOWS_CACHE_AGAIN, SOURCE_P, SOURCE_Q, THREE_MOUNTS, TURNED_OUTPUTS,
 };
-use super::told::{Row, is_told, push_tree, tree_of};
+use super::told::{Row, are_all_told, is_told, push_tree, tree_of};
 use llb_loader::{Graph, Locals};
 use llb_plain::{Outcome, Outcomes, PlainFault, evaluate};
 use llb_tree::{Tree, TreeFault};
@@ -212,7 +212,8 @@ fn first_wrong(alloc: Global, rows: &[Case]) -> usize {
 
 #[test]
 fn a_graph_has_the_outcomes_of_its_vertices_or_is_refused(rt: HostRuntime) {
-    assert_eq!(rt; first_wrong(rt.alloc(), CASES), CASES.len());
+    let rows = CASES;
+    are_all_told(&rt, first_wrong(rt.alloc(), rows), rows.len());
 }
 
 #[test]

@@ -1,6 +1,6 @@
 //! Scripts that are read. One is told by how many commands it has, and the mode of the first where that is a `chmod`; or by its fault.
 
-use super::told::is_told;
+use super::told::{are_all_told, is_told};
 use llb_applet::{Command, Memory, Script, ScriptFault, Text, read_script};
 use std::alloc::{AllocError, Global};
 
@@ -105,7 +105,8 @@ fn first_other_text(alloc: Global, rows: &[(&str, &str)]) -> usize {
 
 #[test]
 fn a_text_is_calls_of_applets_with_two_ampersands_between(rt: HostRuntime) {
-    assert_eq!(rt; first_other_text(rt.alloc(), TEXTS), TEXTS.len());
+    let rows = TEXTS;
+    are_all_told(&rt, first_other_text(rt.alloc(), rows), rows.len());
 }
 
 const WORDS: &[(&[&str], &str)] = &[
@@ -134,7 +135,8 @@ fn first_other_words(alloc: Global, rows: &[(&[&str], &str)]) -> usize {
 
 #[test]
 fn other_arguments_are_one_call_of_any_words(rt: HostRuntime) {
-    assert_eq!(rt; first_other_words(rt.alloc(), WORDS), WORDS.len());
+    let rows = WORDS;
+    are_all_told(&rt, first_other_words(rt.alloc(), rows), rows.len());
 }
 
 // The fault of a word that names no applet.

@@ -1,6 +1,6 @@
 //! Trees that share what they have in common: an edit of one, done or refused, leaves the other as it was.
 
-use super::told::{Row, Step, is_told, push_tree, take_step, tree_of};
+use super::told::{Row, Step, are_all_told, is_told, push_tree, take_step, tree_of};
 use llb_tree::{Path, Tree, TreeFault};
 use llb_wire::Same;
 use std::alloc::Global;
@@ -151,14 +151,10 @@ fn first_wrong(alloc: Global, rows: &[Case]) -> usize {
 
 #[test]
 fn one_of_both_is_edited_and_the_other_stays(rt: HostRuntime) {
-    assert_eq!(rt;
-        first_wrong(rt.alloc(), WHAT_WAS_TAKEN_IS_EDITED),
-        WHAT_WAS_TAKEN_IS_EDITED.len()
-    );
-    assert_eq!(rt;
-        first_wrong(rt.alloc(), THE_TREE_IS_EDITED),
-        THE_TREE_IS_EDITED.len()
-    );
+    let rows = WHAT_WAS_TAKEN_IS_EDITED;
+    are_all_told(&rt, first_wrong(rt.alloc(), rows), rows.len());
+    let rows = THE_TREE_IS_EDITED;
+    are_all_told(&rt, first_wrong(rt.alloc(), rows), rows.len());
 }
 
 // Whether the tree's copy is the same, then an edit changes the tree that it is done on and leaves one that it is refused on, and

@@ -3,7 +3,7 @@
 
 use super::execs::RUNS_TRUE;
 use super::graphs::{NAMES_A, linked};
-use super::told::is_told;
+use super::told::{are_all_told, is_told};
 use llb_loader::LoadFault;
 use std::alloc::{AllocError, Global};
 
@@ -100,5 +100,6 @@ fn first_wrong(alloc: Global, entries: &[(&[Piece], &str)]) -> usize {
 
 #[test]
 fn an_entry_says_the_same_in_any_spelling(rt: HostRuntime) {
-    assert_eq!(rt; first_wrong(rt.alloc(), ENTRIES), ENTRIES.len());
+    let rows = ENTRIES;
+    are_all_told(&rt, first_wrong(rt.alloc(), rows), rows.len());
 }

@@ -4,6 +4,7 @@
 use llb_tree::{Bytes, Entry, Meta, Node, Path, Tree, TreeFault};
 use std::alloc::{AllocError, Global};
 use std::fmt::Display;
+use std::process::Abort;
 
 // A path, the mode, the user and the group there, and the content of a file.
 pub(crate) type Row<'a> = (&'a str, u16, u32, u32, Option<&'a str>);
@@ -53,6 +54,11 @@ pub(crate) fn is_told<E: Display + Drop>(
             Err(_) => false,
         },
     }
+}
+
+// Ends the test where the first row of a table that is told otherwise is not past its end.
+pub(crate) fn are_all_told(rt: &impl Abort, first_wrong: usize, rows: usize) {
+    assert_eq!(rt; first_wrong, rows);
 }
 
 // A path by its names.

@@ -1,7 +1,9 @@
 //! Names, paths and trees. A story is told in a line of text: a `;` after each step, what was asked for or the step's fault before
 //! it, and then the entries.
 
-use super::told::{Row, Step, file, is_told, push_path, push_tree, take_step, tree_of};
+use super::told::{
+    Row, Step, are_all_told, file, is_told, push_path, push_tree, take_step, tree_of,
+};
 use llb_tree::{Meta, Name, Path, Tree, TreeFault};
 use llb_wire::Same;
 use std::alloc::Global;
@@ -61,7 +63,8 @@ fn first_other_path(alloc: Global, rows: &[(Option<&str>, &str, &str)]) -> usize
 
 #[test]
 fn a_text_is_read_part_by_part_from_the_root_or_a_path(rt: HostRuntime) {
-    assert_eq!(rt; first_other_path(rt.alloc(), TEXTS), TEXTS.len());
+    let rows = TEXTS;
+    are_all_told(&rt, first_other_path(rt.alloc(), rows), rows.len());
 }
 
 // How many names the path of a text has that is a part this many times over, and then a rest.
@@ -99,7 +102,8 @@ fn first_other_count(alloc: Global, rows: &[Counted]) -> usize {
 
 #[test]
 fn a_name_has_255_bytes_and_a_path_128_names_at_most(rt: HostRuntime) {
-    assert_eq!(rt; first_other_count(rt.alloc(), COUNTS), COUNTS.len());
+    let rows = COUNTS;
+    are_all_told(&rt, first_other_count(rt.alloc(), rows), rows.len());
 }
 
 // Whether a path is another one, and whether it stands before it.
@@ -129,7 +133,8 @@ fn first_other_order(alloc: Global, rows: &[(&str, &str, bool, bool)]) -> usize 
 
 #[test]
 fn paths_are_in_order_name_by_name(rt: HostRuntime) {
-    assert_eq!(rt; first_other_order(rt.alloc(), ORDERED), ORDERED.len());
+    let rows = ORDERED;
+    are_all_told(&rt, first_other_order(rt.alloc(), rows), rows.len());
 }
 
 // Whether the copy of a name has the text of the name.
@@ -349,7 +354,8 @@ fn first_wrong(alloc: Global, rows: &[(&str, &[Step], &str)]) -> usize {
 
 #[test]
 fn a_tree_is_changed_step_by_step(rt: HostRuntime) {
-    assert_eq!(rt; first_wrong(rt.alloc(), STORIES), STORIES.len());
+    let rows = STORIES;
+    are_all_told(&rt, first_wrong(rt.alloc(), rows), rows.len());
 }
 
 // What a graft at a path of this many names answers, for a tree with one name.

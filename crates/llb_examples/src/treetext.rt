@@ -1,6 +1,6 @@
 //! The text of a tree: written, named by its digest, and read. A text is read and written again, or its fault printed.
 
-use super::told::{file, is_told, tree_of};
+use super::told::{are_all_told, file, is_told, tree_of};
 use llb_tree::{Tree, TreeFault};
 use llb_treetext::{TextFault, one_answer, print_tree, read_tree, reads_back, tree_digest};
 use llb_wire::{Over, Same};
@@ -52,7 +52,8 @@ fn first_other_text(alloc: Global, rows: &[&str]) -> usize {
 
 #[test]
 fn a_text_is_read_as_the_tree_whose_text_it_is(rt: HostRuntime) {
-    assert_eq!(rt; first_other_text(rt.alloc(), TEXTS), TEXTS.len());
+    let rows = TEXTS;
+    are_all_told(&rt, first_other_text(rt.alloc(), rows), rows.len());
 }
 
 // Texts, and the faults of their first faulty lines.
@@ -94,7 +95,8 @@ fn first_other_fault(alloc: Global, rows: &[(&str, &str)]) -> usize {
 
 #[test]
 fn the_first_faulty_line_has_its_first_fault(rt: HostRuntime) {
-    assert_eq!(rt; first_other_fault(rt.alloc(), FAULTY), FAULTY.len());
+    let rows = FAULTY;
+    are_all_told(&rt, first_other_fault(rt.alloc(), rows), rows.len());
 }
 
 // A fault, and that of a text.
@@ -134,7 +136,8 @@ fn first_other_late_fault(alloc: Global, rows: &[(&str, TextFault)]) -> usize {
 // No allocation is made here: the answers stay the same where each one fails.
 #[test]
 fn a_late_fault_is_told_without_memory(rt: HostRuntime) {
-    assert_eq!(rt; first_other_late_fault(rt.alloc(), LATE), LATE.len());
+    let rows = LATE;
+    are_all_told(&rt, first_other_late_fault(rt.alloc(), rows), rows.len());
 }
 
 // A root, that many files, and then a path below the last of them.
@@ -202,10 +205,8 @@ fn first_that_is_read(alloc: Global, rows: &[&str]) -> usize {
 
 #[test]
 fn only_the_written_spelling_is_read(rt: HostRuntime) {
-    assert_eq!(rt;
-        first_that_is_read(rt.alloc(), MISSPELLED),
-        MISSPELLED.len()
-    );
+    let rows = MISSPELLED;
+    are_all_told(&rt, first_that_is_read(rt.alloc(), rows), rows.len());
 }
 
 // Whether a tree that is printed is read as the same tree.

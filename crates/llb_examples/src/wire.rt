@@ -1,5 +1,6 @@
 //! The wire: numbers, records, texts and lists, and writers that fail.
 
+use super::told::are_all_told;
 use llb_wire::{
     Bytes, Failed, Field, Many, Memory, Over, Same, Sink, Text, Wire, WireFault, is_hex,
     next_record, push_hex, read_hex, text_of_digest, varint, write_all, write_record, write_varint,
@@ -58,7 +59,8 @@ fn first_other_number(rows: &[Numbered]) -> usize {
 
 #[test]
 fn a_number_has_at_most_ten_bytes(rt: HostRuntime) {
-    assert_eq!(rt; first_other_number(NUMBERS), NUMBERS.len());
+    let rows = NUMBERS;
+    are_all_told(&rt, first_other_number(rows), rows.len());
 }
 
 // The record at a place. A place past the end has none.
@@ -125,7 +127,8 @@ fn first_other_record(rows: &[(&[u8], Field)]) -> usize {
 
 #[test]
 fn a_record_is_its_number_its_wire_type_and_its_payload(rt: HostRuntime) {
-    assert_eq!(rt; first_other_record(RECORDS), RECORDS.len());
+    let rows = RECORDS;
+    are_all_told(&rt, first_other_record(rows), rows.len());
     let ended = record(&[0x08, 0x96, 0x01], 3) == Some(Ok(None));
     assert!(rt; ended);
 }
@@ -153,7 +156,8 @@ fn first_other_fault(rows: &[(&[u8], WireFault)]) -> usize {
 
 #[test]
 fn a_record_has_its_first_fault(rt: HostRuntime) {
-    assert_eq!(rt; first_other_fault(FAULTY), FAULTY.len());
+    let rows = FAULTY;
+    are_all_told(&rt, first_other_fault(rows), rows.len());
 }
 
 // A number, and after it four records.

@@ -5,16 +5,17 @@ use super::calls;
 use super::calls::{are_done, copy_of};
 use super::definitions::{MAKES_B, MAKES_Z, MERGES_0_1, RESULT_0, RESULT_2};
 use super::runs::{IN_A_ROW, TWO_FILES};
+use super::sessions::are_all_told;
 use super::written::{Definition, board_of};
-use llb_board::{Board, Event};
+use llb_board::Board;
 use std::alloc::Global;
 
-// A board: what it was opened on, for that many workers, and the events that were done on it.
-type Side = (Definition, u32, &'static [Event]);
+// A board: what it was opened on, for that many workers, and the events that were done on it, a line each.
+type Side = (Definition, u32, &'static str);
 
-const OPENED: Side = (TWO_FILES, 2, &[]);
+const OPENED: Side = (TWO_FILES, 2, "");
 
-const CLAIMED: Side = (TWO_FILES, 2, &[Event::Claim(0, 0)]);
+const CLAIMED: Side = (TWO_FILES, 2, "claim 0 0");
 
 // What two boards are, and whether they are the same.
 const PAIRS: &[(Side, Side, bool)] = &[
@@ -24,26 +25,21 @@ const PAIRS: &[(Side, Side, bool)] = &[
     (CLAIMED, CLAIMED, true),
     // Two claims in two orders: the same state, and another record.
     (
-        (TWO_FILES, 2, &[Event::Claim(0, 0), Event::Claim(1, 1)]),
-        (TWO_FILES, 2, &[Event::Claim(1, 1), Event::Claim(0, 0)]),
+        (TWO_FILES, 2, "claim 0 0\nclaim 1 1"),
+        (TWO_FILES, 2, "claim 1 1\nclaim 0 0"),
         false,
     ),
     // Another number of workers, and another file.
-    (OPENED, (TWO_FILES, 3, &[]), false),
+    (OPENED, (TWO_FILES, 3, ""), false),
     (
         OPENED,
-        (&[MAKES_Z, MAKES_B, MERGES_0_1, RESULT_2], 2, &[]),
+        (&[MAKES_Z, MAKES_B, MERGES_0_1, RESULT_2], 2, ""),
         false,
     ),
 ];
 
 // Whether two boards are the same once the events of both were done; none where one is refused.
-fn compared(
-    one: &mut Board,
-    events: &[Event],
-    other: &mut Board,
-    others: &[Event],
-) -> Option<bool> {
+fn compared(one: &mut Board, events: &str, other: &mut Board, others: &str) -> Option<bool> {
     if are_done(one, events) && are_done(other, others) {
         Some(calls::are_same(one, other))
     } else {
@@ -51,7 +47,7 @@ fn compared(
     }
 }
 
-fn is_same_as(alloc: Global, board: &mut Board, events: &[Event], other: &Side) -> Option<bool> {
+fn is_same_as(alloc: Global, board: &mut Board, events: &str, other: &Side) -> Option<bool> {
     match board_of(alloc, other.0, &[], other.1) {
         Some(mut second) => compared(board, events, &mut second, other.2),
         None => None,
@@ -77,23 +73,21 @@ fn first_wrong(alloc: Global, pairs: &[(Side, Side, bool)]) -> usize {
 
 #[test]
 fn boards_are_the_same_by_all_that_they_hold(rt: HostRuntime) {
-    assert_eq!(rt; first_wrong(rt.alloc(), PAIRS), PAIRS.len());
+    let rows = PAIRS;
+    are_all_told(&rt, first_wrong(rt.alloc(), rows), rows.len());
 }
 
 // Boards, and events that are then done on them and not on their copies.
-const COPIED: &[(Side, &[Event])] = &[
-    (OPENED, &[Event::Claim(0, 0)]),
-    (CLAIMED, &[Event::Step(0)]),
-    ((IN_A_ROW, 2, &[]), &[Event::Claim(0, 0), Event::Step(0)]),
-    (
-        (&[LOCKED_A_FAILS, RESULT_0], 2, &[Event::Claim(0, 0)]),
-        &[Event::Step(0)],
-    ),
+const COPIED: &[(Side, &str)] = &[
+    (OPENED, "claim 0 0"),
+    (CLAIMED, "step 0"),
+    ((IN_A_ROW, 2, ""), "claim 0 0\nstep 0"),
+    ((&[LOCKED_A_FAILS, RESULT_0], 2, "claim 0 0"), "step 0"),
 ];
 
 // Whether a copy is the board, then whether it still is once some events were done on the board alone, and whether it is then as a board
 // on which they were not done.
-fn copied(board: &mut Board, untouched: &Board, events: &[Event]) -> [bool; 3] {
+fn copied(board: &mut Board, untouched: &Board, events: &str) -> [bool; 3] {
     match copy_of(board) {
         Some(copy) => {
             let before = calls::are_same(board, &copy);
@@ -108,12 +102,7 @@ fn copied(board: &mut Board, untouched: &Board, events: &[Event]) -> [bool; 3] {
     }
 }
 
-fn copied_beside(
-    alloc: Global,
-    board: &mut Board,
-    side: &Side,
-    events: &[Event],
-) -> Option<[bool; 3]> {
+fn copied_beside(alloc: Global, board: &mut Board, side: &Side, events: &str) -> Option<[bool; 3]> {
     match board_of(alloc, side.0, &[], side.1) {
         Some(mut untouched) => {
             let begun = are_done(board, side.2) && are_done(&mut untouched, side.2);
@@ -124,14 +113,14 @@ fn copied_beside(
     }
 }
 
-fn copied_from(alloc: Global, side: &Side, events: &[Event]) -> Option<[bool; 3]> {
+fn copied_from(alloc: Global, side: &Side, events: &str) -> Option<[bool; 3]> {
     match board_of(alloc, side.0, &[], side.1) {
         Some(mut board) => copied_beside(alloc, &mut board, side, events),
         None => None,
     }
 }
 
-fn first_other_copy(alloc: Global, rows: &[(Side, &[Event])]) -> usize {
+fn first_other_copy(alloc: Global, rows: &[(Side, &str)]) -> usize {
     for (at, (side, events)) in rows.iter().enumerate() {
         if copied_from(alloc, side, events) != Some([true, false, true]) {
             return at;
@@ -142,5 +131,6 @@ fn first_other_copy(alloc: Global, rows: &[(Side, &[Event])]) -> usize {
 
 #[test]
 fn a_copy_stays_where_the_board_was(rt: HostRuntime) {
-    assert_eq!(rt; first_other_copy(rt.alloc(), COPIED), COPIED.len());
+    let rows = COPIED;
+    are_all_told(&rt, first_other_copy(rt.alloc(), rows), rows.len());
 }

@@ -6,7 +6,7 @@ use super::cached::{
     PRIVATE_SEED_SEEN_GOES, SHARED_A_B_SEEN, SHARED_C_D_SEEN,
 };
 use super::definitions::{MAKES_A, MERGES_0_1, MERGES_1_2, RESULT_0, RESULT_2, RESULT_3};
-use super::sessions::{Story, first_wrong};
+use super::sessions::{Story, are_all_told, first_wrong};
 use super::written::Definition;
 
 pub const WRITES_AND_FAILS: Definition = &[LOCKED_A_FAILS, RESULT_0];
@@ -328,10 +328,12 @@ const NOT_LOCKED: &[Story] = &[
 
 #[test]
 fn a_locked_cache_is_had_by_one_at_a_time(rt: HostRuntime) {
-    assert_eq!(rt; first_wrong(rt.alloc(), LOCKED), LOCKED.len());
+    let rows = LOCKED;
+    are_all_told(&rt, first_wrong(rt.alloc(), rows), rows.len());
 }
 
 #[test]
 fn private_and_shared_caches_are_had_by_many(rt: HostRuntime) {
-    assert_eq!(rt; first_wrong(rt.alloc(), NOT_LOCKED), NOT_LOCKED.len());
+    let rows = NOT_LOCKED;
+    are_all_told(&rt, first_wrong(rt.alloc(), rows), rows.len());
 }

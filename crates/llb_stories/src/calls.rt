@@ -4,6 +4,7 @@
 use llb_board::{Board, Event, Gate, LandFault, OpenFault, Outcome, WorkFault, work};
 use llb_cache::Caches;
 use llb_loader::{Graph, Locals};
+use llb_session::{Request, request_in};
 use llb_stepper::{Break, Stepper, Stop};
 use llb_wire::Same;
 use std::alloc::Global;
@@ -22,6 +23,14 @@ pub fn opened(
     Some(Board::open(alloc, graph, locals, caches, workers))
 }
 
+// The event that a line of a session asks for.
+pub fn event_in(line: &str) -> Option<Event> {
+    match request_in(line.as_bytes()) {
+        Some(Request::Event(event)) => Some(event),
+        _ => None,
+    }
+}
+
 fn is_claimed(board: &mut Board, w: u32, v: u32) -> bool {
     board.claim(w, v).is_ok()
 }
@@ -34,7 +43,7 @@ fn is_settled(board: &mut Board, w: u32) -> bool {
     board.settle(w).is_ok()
 }
 
-pub fn is_done(board: &mut Board, event: Event) -> bool {
+pub fn is_event_done(board: &mut Board, event: Event) -> bool {
     match event {
         Event::Claim(w, v) => is_claimed(board, w, v),
         Event::Step(w) => is_stepped(board, w),
@@ -42,9 +51,17 @@ pub fn is_done(board: &mut Board, event: Event) -> bool {
     }
 }
 
-pub fn are_done(board: &mut Board, events: &[Event]) -> bool {
-    for event in events {
-        if !is_done(board, *event) {
+fn is_done(board: &mut Board, line: &str) -> bool {
+    match event_in(line) {
+        Some(event) => is_event_done(board, event),
+        None => false,
+    }
+}
+
+// Whether events are done, each written in a line as in a session.
+pub fn are_done(board: &mut Board, events: &str) -> bool {
+    for line in events.lines() {
+        if !is_done(board, line) {
             return false;
         }
     }

@@ -2,7 +2,7 @@
 //! answered before the next is waited for.
 
 use super::runs::ONE_FILE;
-use super::sessions::{LIMIT, READS};
+use super::sessions::{LIMIT, READS, are_all_told};
 use super::written::board_of;
 use llb_session::{SessionFault, converse};
 use llb_stepper::Stepper;
@@ -87,7 +87,8 @@ fn first_wrong(alloc: Global, rows: &[(&str, &str)]) -> usize {
 
 #[test]
 fn lines_are_answered_up_to_the_end(rt: HostRuntime) {
-    assert_eq!(rt; first_wrong(rt.alloc(), CONVERSATIONS), CONVERSATIONS.len());
+    let rows = CONVERSATIONS;
+    are_all_told(&rt, first_wrong(rt.alloc(), rows), rows.len());
 }
 
 const TWICE: &str = "next\nnext\n";
@@ -122,7 +123,8 @@ fn first_other_end(alloc: Global, rows: &[(usize, u64, &str, u32)]) -> usize {
 
 #[test]
 fn lines_within_the_bounds_are_answered(rt: HostRuntime) {
-    assert_eq!(rt; first_other_end(rt.alloc(), BOUNDS), BOUNDS.len());
+    let rows = BOUNDS;
+    are_all_told(&rt, first_other_end(rt.alloc(), rows), rows.len());
 }
 
 // A reader that gives a byte a read, and those of a line only once the lines before it are answered.

@@ -1,11 +1,9 @@
 //! Two workers, each in a thread of its own: a gate that holds each until the other has come.
 
-use super::written::{A_AND_B, MAKES_A, MAKES_B, NAMES_D, graph_of};
-use llb_board::{Board, Event, Gate, Status, Stopped};
-use llb_cache::Caches;
-use llb_loader::Locals;
-use llb_work::{RunFault, run_workers};
-use std::alloc::Global;
+use super::runs::TWO_FILES;
+use super::written::board_of;
+use llb_board::{Event, Gate, Status, Stopped};
+use llb_work::{RunEnd, RunFault, run_workers};
 use std::sync::atomic::{AtomicU64, Ordering};
 use std::thread;
 
@@ -64,24 +62,6 @@ impl Gate for Meet {
     }
 }
 
-fn opened(alloc: Global, workers: u32) -> Option<Board> {
-    let rows = [
-        ("A", MAKES_A),
-        ("B", MAKES_B),
-        ("D", A_AND_B),
-        ("T", NAMES_D),
-    ];
-    let graph = graph_of(alloc, &rows)?;
-    Board::open(
-        alloc,
-        graph,
-        Locals::new(alloc),
-        Caches::new(alloc),
-        workers,
-    )
-    .ok()
-}
-
 // How many claims there are, each of which the gate let pass; none where it did not.
 fn claims_let_pass(events: &[Event], gate: &Meet) -> Option<u32> {
     let mut count = 0u32;
@@ -96,36 +76,39 @@ fn claims_let_pass(events: &[Event], gate: &Meet) -> Option<u32> {
     Some(count)
 }
 
+// The fewest and the most events that one of two workers made, and how many claims there are, each of which the gate let pass; none where
+// there is a fault, or something is left to do.
+fn told(end: &RunEnd, gate: &Meet) -> Option<(u64, u64, u32)> {
+    let [first, second, ..] = end.made;
+    let claims = claims_let_pass(end.board.events().as_slice(), gate)?;
+    if end.fault.is_some() || !end.board.is_complete() {
+        return None;
+    }
+    Some((first.min(second), first.max(second), claims))
+}
+
 #[test]
 fn two_workers_are_at_work_together(rt: HostRuntime) {
-    let alloc = rt.alloc();
     let gate = Meet::new();
-    match opened(alloc, 2) {
-        None => panic!(rt; "no board"),
-        Some(board) => {
-            let end = run_workers(&rt, alloc, board, &gate);
-            assert!(rt; end.fault.is_none());
-            assert!(rt; end.board.is_complete());
-            assert_eq!(rt; end.made[0].min(end.made[1]), 3);
-            assert_eq!(rt; end.made[0].max(end.made[1]), 7);
-            assert_eq!(rt;
-                claims_let_pass(end.board.events().as_slice(), &gate),
-                Some(3)
-            );
-        }
-    }
+    let told = match board_of(rt.alloc(), TWO_FILES, &[], 2) {
+        Some(board) => told(&run_workers(&rt, rt.alloc(), board, &gate), &gate),
+        None => None,
+    };
+    assert!(rt; told == Some((3, 7, 3)));
+}
+
+// Whether the run was stopped right after its claim of vertex 0.
+fn is_stopped(end: &RunEnd) -> bool {
+    matches!(end.fault, Some(RunFault::Stopped))
+        && end.board.status(0) == Some(Status::Running(0))
+        && end.board.events().len() == 1
 }
 
 #[test]
 fn a_worker_alone_waits_for_nobody_and_is_stopped(rt: HostRuntime) {
-    let alloc = rt.alloc();
-    match opened(alloc, 1) {
-        None => panic!(rt; "no board"),
-        Some(board) => {
-            let end = run_workers(&rt, alloc, board, &Meet::new());
-            assert!(rt; matches!(end.fault, Some(RunFault::Stopped)));
-            assert_eq!(rt; end.board.status(0), Some(Status::Running(0)));
-            assert_eq!(rt; end.board.events().len(), 1);
-        }
-    }
+    let stopped = match board_of(rt.alloc(), TWO_FILES, &[], 1) {
+        Some(board) => is_stopped(&run_workers(&rt, rt.alloc(), board, &Meet::new())),
+        None => false,
+    };
+    assert!(rt; stopped);
 }

@@ -4,7 +4,7 @@ use super::definitions::{
     CHANGES_0_BY_1, COPIES_BY_A_TMPFS, FAILS_AT_1, MAKES_OUT, MERGES_0_1_EMPTY, OUTPUTS_TURNED,
     RESULT_2, SOURCE, SOURCE_P, SOURCE_Q, WORKS_IN_OUT,
 };
-use super::sessions::{Story, first_wrong};
+use super::sessions::{Story, are_all_told, first_wrong};
 use super::written::{Definition, Local};
 
 // The local tree `p` has a file `/old`, and `q` a file `/f`.
@@ -279,16 +279,12 @@ const COMMANDS_ARE_RUN: &[Story] = &[
 
 #[test]
 fn sources_merges_and_file_operations_go_step_by_step(rt: HostRuntime) {
-    assert_eq!(rt;
-        first_wrong(rt.alloc(), LOCALS_ARE_READ),
-        LOCALS_ARE_READ.len()
-    );
+    let rows = LOCALS_ARE_READ;
+    are_all_told(&rt, first_wrong(rt.alloc(), rows), rows.len());
 }
 
 #[test]
 fn executions_run_a_command_a_step(rt: HostRuntime) {
-    assert_eq!(rt;
-        first_wrong(rt.alloc(), COMMANDS_ARE_RUN),
-        COMMANDS_ARE_RUN.len()
-    );
+    let rows = COMMANDS_ARE_RUN;
+    are_all_told(&rt, first_wrong(rt.alloc(), rows), rows.len());
 }

@@ -1,6 +1,7 @@
 //! What faults of calls on a board print: what stands after the word `fault` in a refusal, and those of an opening.
 
 use super::runs::IN_A_ROW;
+use super::sessions::are_all_told;
 use super::written::{graph_from, key_of};
 use llb_board::{ClaimFault, OpenFault, SettleFault, StepFault};
 use llb_cache::{Caches, Mode};
@@ -65,9 +66,12 @@ const SETTLES: &[(SettleFault, &str)] = &[
 #[test]
 fn faults_of_calls_on_a_board(rt: HostRuntime) {
     let alloc = rt.alloc();
-    assert_eq!(rt; first_other_claim(alloc, CLAIMS), CLAIMS.len());
-    assert_eq!(rt; first_wrong(alloc, STEPS), STEPS.len());
-    assert_eq!(rt; first_wrong(alloc, SETTLES), SETTLES.len());
+    let rows = CLAIMS;
+    are_all_told(&rt, first_other_claim(alloc, rows), rows.len());
+    let rows = STEPS;
+    are_all_told(&rt, first_wrong(alloc, rows), rows.len());
+    let rows = SETTLES;
+    are_all_told(&rt, first_wrong(alloc, rows), rows.len());
 }
 
 // Whether a locked key of that ID that is held prints so.

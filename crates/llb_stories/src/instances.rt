@@ -8,189 +8,200 @@ use super::caches::WRITES_AND_FAILS;
 use super::definitions::{MAKES_A, MERGES_0_1, MERGES_1_2, RESULT_0, RESULT_2, RESULT_3};
 use super::executions::{COPIES, EMPTY_AND_SUB, FAILS, MERGES, OLD_AND_F};
 use super::runs::{FAILS_FIRST, IN_A_ROW, TWO_FILES};
-use super::told::{Call, Calls, first_wrong};
+use super::sessions::{Story, are_all_told};
+use super::told::first_wrong;
 use super::written::{CacheRow, Definition};
-use llb_board::Event;
 use llb_cache::Mode;
 
 pub const K_SHARED: CacheRow = ("k", Mode::Shared, None);
 
-const K_PRIVATE: CacheRow = ("k", Mode::Private, None);
+pub const K_PRIVATE: CacheRow = ("k", Mode::Private, None);
 
 pub const K_LOCKED: CacheRow = ("k", Mode::Locked, None);
 
-const K_SEEDED: CacheRow = ("k", Mode::Locked, Some(0));
-
-// Trees: nothing, the file `/a`, the file `/b`, and both, with `x` in the one and `y` in the other.
-const NOTHING: &str = "d 0755 0 0 /\n";
-
-pub const HAS_A: &str = "d 0755 0 0 /\nf 0644 0 0 780a /a\n";
-
-const HAS_B: &str = "d 0755 0 0 /\nf 0644 0 0 790a /b\n";
-
-const HAS_BOTH: &str = "d 0755 0 0 /\nf 0644 0 0 780a /a\nf 0644 0 0 790a /b\n";
-
-// The tree of the entry that a cache begins with.
-const SEED: &str = "d 0755 0 0 /\nf 0644 0 0 6869 /a\n";
+pub const K_SEEDED: CacheRow = ("k", Mode::Locked, Some(0));
 
 const TWO_PRIVATE: Definition = &[PRIVATE_A, PRIVATE_B, MERGES_0_1, RESULT_2];
 
-const WORKERS: &[Calls] = &[
-    Calls {
+const WORKERS: &[Story] = &[
+    Story {
         shows: "a worker is idle, runs a vertex with some of its steps done, has finished it, and is idle again",
         definition: IN_A_ROW,
         locals: &[],
         workers: 1,
-        answers: &[
-            (Call::Worker(0), "idle"),
-            (Call::Worker(1), "none"),
-            (Call::Begin(0, 0), "0 at 0, 0 done\n"),
-            (Call::Worker(0), "runs 0, 0 done, false"),
-            (Call::Do(&[Event::Step(0)]), ""),
-            (Call::Worker(0), "runs 0, 1 done, true"),
-            (Call::Do(&[Event::Settle(0)]), ""),
-            (Call::Worker(0), "idle"),
-        ],
+        told: "
+            > worker 0
+            idle
+            > worker 1
+            none
+            > job 0 0
+            0 at 0, 0 done
+            > worker 0
+            runs 0, 0 done, false
+            > step 0
+            > worker 0
+            runs 0, 1 done, true
+            > settle 0
+            > worker 0
+            idle
+            ",
     },
-    Calls {
+    Story {
         shows: "a worker whose action has failed has finished",
         definition: FAILS_FIRST,
         locals: &[],
         workers: 1,
-        answers: &[
-            (Call::Do(&[Event::Claim(0, 0), Event::Step(0)]), ""),
-            (Call::Worker(0), "runs 0, 1 done, true"),
-        ],
+        told: "
+            > claim 0 0
+            > step 0
+            > worker 0
+            runs 0, 1 done, true
+            ",
     },
-    Calls {
+    Story {
         shows: "a worker that merges has finished behind the last input",
         definition: MERGES,
         locals: OLD_AND_F,
         workers: 1,
-        answers: &[
-            (
-                Call::Do(&[Event::Claim(0, 0), Event::Step(0), Event::Settle(0)]),
-                "",
-            ),
-            (Call::Begin(0, 1), "0 at 1, 0 done\n"),
-            (Call::Do(&[Event::Step(0), Event::Settle(0)]), ""),
-            (Call::Begin(0, 2), "0 at 2, 0 done\n"),
-            (Call::Do(&[Event::Step(0), Event::Step(0)]), ""),
-            (Call::Worker(0), "runs 2, 2 done, false"),
-            (Call::Do(&[Event::Step(0)]), ""),
-            (Call::Worker(0), "runs 2, 3 done, true"),
-        ],
+        told: "
+            > claim 0 0
+            > step 0
+            > settle 0
+            > job 0 1
+            0 at 1, 0 done
+            > step 0
+            > settle 0
+            > job 0 2
+            0 at 2, 0 done
+            > step 0
+            > step 0
+            > worker 0
+            runs 2, 2 done, false
+            > step 0
+            > worker 0
+            runs 2, 3 done, true
+            ",
     },
-    Calls {
+    Story {
         shows: "a worker that runs commands has finished behind the last",
         definition: COPIES,
         locals: EMPTY_AND_SUB,
         workers: 1,
-        answers: &[
-            (
-                Call::Do(&[
-                    Event::Claim(0, 0),
-                    Event::Step(0),
-                    Event::Settle(0),
-                    Event::Claim(0, 1),
-                    Event::Step(0),
-                    Event::Settle(0),
-                ]),
-                "",
-            ),
-            (Call::Begin(0, 2), "0 at 2, 0 done\n"),
-            (Call::Do(&[Event::Step(0), Event::Step(0)]), ""),
-            (Call::Worker(0), "runs 2, 2 done, false"),
-            (Call::Do(&[Event::Step(0)]), ""),
-            (Call::Worker(0), "runs 2, 3 done, true"),
-        ],
+        told: "
+            > claim 0 0
+            > step 0
+            > settle 0
+            > claim 0 1
+            > step 0
+            > settle 0
+            > job 0 2
+            0 at 2, 0 done
+            > step 0
+            > step 0
+            > worker 0
+            runs 2, 2 done, false
+            > step 0
+            > worker 0
+            runs 2, 3 done, true
+            ",
     },
-    Calls {
+    Story {
         shows: "a worker whose command has failed has finished",
         definition: FAILS,
         locals: EMPTY_AND_SUB,
         workers: 1,
-        answers: &[
-            (
-                Call::Do(&[
-                    Event::Claim(0, 0),
-                    Event::Step(0),
-                    Event::Settle(0),
-                    Event::Claim(0, 1),
-                    Event::Step(0),
-                    Event::Settle(0),
-                    Event::Claim(0, 2),
-                    Event::Step(0),
-                    Event::Step(0),
-                ]),
-                "",
-            ),
-            (Call::Worker(0), "runs 2, 2 done, true"),
-        ],
+        told: "
+            > claim 0 0
+            > step 0
+            > settle 0
+            > claim 0 1
+            > step 0
+            > settle 0
+            > claim 0 2
+            > step 0
+            > step 0
+            > worker 0
+            runs 2, 2 done, true
+            ",
     },
-    Calls {
+    Story {
         shows: "two workers are told by themselves",
         definition: TWO_FILES,
         locals: &[],
         workers: 2,
-        answers: &[
-            (Call::Do(&[Event::Claim(0, 0), Event::Step(0)]), ""),
-            (Call::Begin(1, 1), "1 at 1, 0 done\n"),
-            (Call::Worker(0), "runs 0, 1 done, true"),
-            (Call::Worker(1), "runs 1, 0 done, false"),
-        ],
+        told: "
+            > claim 0 0
+            > step 0
+            > job 1 1
+            1 at 1, 0 done
+            > worker 0
+            runs 0, 1 done, true
+            > worker 1
+            runs 1, 0 done, false
+            ",
     },
 ];
 
-const LOCKED: &[Calls] = &[
-    Calls {
+const LOCKED: &[Story] = &[
+    Story {
         shows: "what was written before an execution fails stays",
         definition: WRITES_AND_FAILS,
         locals: &[],
         workers: 2,
-        answers: &[
-            (Call::Instance(K_LOCKED, 0), "none"),
-            (
-                Call::Do(&[
-                    Event::Claim(0, 0),
-                    Event::Step(0),
-                    Event::Step(0),
-                    Event::Settle(0),
-                ]),
-                "",
-            ),
-            (Call::Instance(K_LOCKED, 0), HAS_A),
-            (Call::Instance(K_LOCKED, 1), "none"),
-            (Call::Leases, "0"),
-        ],
+        told: "
+            > instance locked 0
+            none
+            > claim 0 0
+            > step 0
+            > step 0
+            > settle 0
+            > instance locked 0
+            d 0755 0 0 /
+            f 0644 0 0 780a /a
+            > instance locked 1
+            none
+            > leases
+            0
+            ",
     },
-    Calls {
+    Story {
         shows: "a locked cache is had by one worker at a time",
         definition: &[LOCKED_A, LOCKED_B, MERGES_0_1, RESULT_2],
         locals: &[],
         workers: 2,
-        answers: &[
-            (
-                Call::Begin(0, 0),
-                "0 at 0, 0 done\ninstance 0\nd 0755 0 0 /\n",
-            ),
-            (Call::Begin(1, 1), "135 k"),
-            (Call::Worker(1), "idle"),
-            (Call::Leases, "1"),
-            (Call::Do(&[Event::Step(0)]), ""),
-            (Call::Begin(1, 1), "135 k"),
-            (Call::Do(&[Event::Settle(0)]), ""),
-            (Call::Leases, "0"),
-            (
-                Call::Begin(1, 1),
-                "1 at 1, 0 done\ninstance 0\nd 0755 0 0 /\nf 0644 0 0 780a /a\n",
-            ),
-            (Call::Do(&[Event::Step(1), Event::Settle(1)]), ""),
-            (Call::Instance(K_LOCKED, 0), HAS_BOTH),
-            (Call::Instance(K_LOCKED, 1), "none"),
-        ],
+        told: "
+            > job 0 0
+            0 at 0, 0 done
+            instance 0
+            d 0755 0 0 /
+            > job 1 1
+            135 k
+            > worker 1
+            idle
+            > leases
+            1
+            > step 0
+            > job 1 1
+            135 k
+            > settle 0
+            > leases
+            0
+            > job 1 1
+            1 at 1, 0 done
+            instance 0
+            d 0755 0 0 /
+            f 0644 0 0 780a /a
+            > step 1
+            > settle 1
+            > instance locked 0
+            d 0755 0 0 /
+            f 0644 0 0 780a /a
+            f 0644 0 0 790a /b
+            > instance locked 1
+            none
+            ",
     },
-    Calls {
+    Story {
         shows: "the first claim of a locked cache takes its seed",
         definition: &[
             MAKES_A,
@@ -201,113 +212,126 @@ const LOCKED: &[Calls] = &[
         ],
         locals: &[],
         workers: 2,
-        answers: &[
-            (
-                Call::Do(&[Event::Claim(0, 0), Event::Step(0), Event::Settle(0)]),
-                "",
-            ),
-            (Call::Instance(K_SEEDED, 0), "none"),
-            (
-                Call::Begin(0, 1),
-                "0 at 1, 0 done\ninstance 0\nd 0755 0 0 /\nf 0644 0 0 6869 /a\n",
-            ),
-            (Call::Instance(K_SEEDED, 0), SEED),
-            (Call::Do(&[Event::Step(0), Event::Settle(0)]), ""),
-            (
-                Call::Begin(1, 2),
-                "1 at 2, 0 done\ninstance 0\nd 0755 0 0 /\n",
-            ),
-            (Call::Do(&[Event::Step(1)]), ""),
-            (Call::Instance(K_SEEDED, 0), HAS_B),
-            (Call::Instance(K_LOCKED, 0), "none"),
-        ],
+        told: "
+            > claim 0 0
+            > step 0
+            > settle 0
+            > instance seeded 0
+            none
+            > job 0 1
+            0 at 1, 0 done
+            instance 0
+            d 0755 0 0 /
+            f 0644 0 0 6869 /a
+            > instance seeded 0
+            d 0755 0 0 /
+            f 0644 0 0 6869 /a
+            > step 0
+            > settle 0
+            > job 1 2
+            1 at 2, 0 done
+            instance 0
+            d 0755 0 0 /
+            > step 1
+            > instance seeded 0
+            d 0755 0 0 /
+            f 0644 0 0 790a /b
+            > instance locked 0
+            none
+            ",
     },
 ];
 
-const NOT_LOCKED: &[Calls] = &[
-    Calls {
+const NOT_LOCKED: &[Story] = &[
+    Story {
         shows: "workers have instances of a private cache of their own",
         definition: TWO_PRIVATE,
         locals: &[],
         workers: 2,
-        answers: &[
-            (
-                Call::Begin(0, 0),
-                "0 at 0, 0 done\ninstance 0\nd 0755 0 0 /\n",
-            ),
-            (
-                Call::Begin(1, 1),
-                "1 at 1, 0 done\ninstance 1\nd 0755 0 0 /\n",
-            ),
-            (Call::Leases, "2"),
-            (Call::Do(&[Event::Step(1)]), ""),
-            (Call::Instance(K_PRIVATE, 0), NOTHING),
-            (
-                Call::Do(&[Event::Step(0), Event::Settle(0), Event::Settle(1)]),
-                "",
-            ),
-            (Call::Instance(K_PRIVATE, 0), HAS_A),
-            (Call::Instance(K_PRIVATE, 1), HAS_B),
-            (Call::Instance(K_PRIVATE, 2), "none"),
-        ],
+        told: "
+            > job 0 0
+            0 at 0, 0 done
+            instance 0
+            d 0755 0 0 /
+            > job 1 1
+            1 at 1, 0 done
+            instance 1
+            d 0755 0 0 /
+            > leases
+            2
+            > step 1
+            > instance private 0
+            d 0755 0 0 /
+            > step 0
+            > settle 0
+            > settle 1
+            > instance private 0
+            d 0755 0 0 /
+            f 0644 0 0 780a /a
+            > instance private 1
+            d 0755 0 0 /
+            f 0644 0 0 790a /b
+            > instance private 2
+            none
+            ",
     },
-    Calls {
+    Story {
         shows: "a private instance that is free is taken again",
         definition: TWO_PRIVATE,
         locals: &[],
         workers: 2,
-        answers: &[
-            (
-                Call::Begin(1, 0),
-                "1 at 0, 0 done\ninstance 0\nd 0755 0 0 /\n",
-            ),
-            (Call::Do(&[Event::Step(1), Event::Settle(1)]), ""),
-            (
-                Call::Begin(0, 1),
-                "0 at 1, 0 done\ninstance 0\nd 0755 0 0 /\nf 0644 0 0 780a /a\n",
-            ),
-            (Call::Do(&[Event::Step(0)]), ""),
-            (Call::Instance(K_PRIVATE, 0), HAS_BOTH),
-            (Call::Instance(K_PRIVATE, 1), "none"),
-        ],
+        told: "
+            > job 1 0
+            1 at 0, 0 done
+            instance 0
+            d 0755 0 0 /
+            > step 1
+            > settle 1
+            > job 0 1
+            0 at 1, 0 done
+            instance 0
+            d 0755 0 0 /
+            f 0644 0 0 780a /a
+            > step 0
+            > instance private 0
+            d 0755 0 0 /
+            f 0644 0 0 780a /a
+            f 0644 0 0 790a /b
+            > instance private 1
+            none
+            ",
     },
-    Calls {
+    Story {
         shows: "commands on a shared cache see what others wrote before",
         definition: &[SHARED_A_B, SHARED_C_D, MERGES_0_1, RESULT_2],
         locals: &[],
         workers: 2,
-        answers: &[
-            (
-                Call::Begin(0, 0),
-                "0 at 0, 0 done\ninstance 0\nd 0755 0 0 /\n",
-            ),
-            (
-                Call::Begin(1, 1),
-                "1 at 1, 0 done\ninstance 0\nd 0755 0 0 /\n",
-            ),
-            (Call::Do(&[Event::Step(0)]), ""),
-            (
-                Call::Instance(K_SHARED, 0),
-                "d 0755 0 0 /\nf 0644 0 0 610a /l\n",
-            ),
-            (
-                Call::Do(&[
-                    Event::Step(1),
-                    Event::Step(1),
-                    Event::Step(0),
-                    Event::Settle(1),
-                    Event::Settle(0),
-                ]),
-                "",
-            ),
-            (
-                Call::Instance(K_SHARED, 0),
-                "d 0755 0 0 /\nf 0644 0 0 610a630a640a620a /l\n",
-            ),
-            (Call::Instance(K_SHARED, 1), "none"),
-        ],
+        told: "
+            > job 0 0
+            0 at 0, 0 done
+            instance 0
+            d 0755 0 0 /
+            > job 1 1
+            1 at 1, 0 done
+            instance 0
+            d 0755 0 0 /
+            > step 0
+            > instance shared 0
+            d 0755 0 0 /
+            f 0644 0 0 610a /l
+            > step 1
+            > step 1
+            > step 0
+            > settle 1
+            > settle 0
+            > instance shared 0
+            d 0755 0 0 /
+            f 0644 0 0 610a630a640a620a /l
+            > instance shared 1
+            none
+            ",
     },
-    Calls {
+    Story {
         shows: "each new instance of a private cache begins with its seed",
         definition: &[
             MAKES_A,
@@ -318,55 +342,66 @@ const NOT_LOCKED: &[Calls] = &[
         ],
         locals: &[],
         workers: 2,
-        answers: &[
-            (
-                Call::Do(&[Event::Claim(0, 0), Event::Step(0), Event::Settle(0)]),
-                "",
-            ),
-            (
-                Call::Begin(0, 1),
-                "0 at 1, 0 done\ninstance 0\nd 0755 0 0 /\nf 0644 0 0 6869 /a\n",
-            ),
-            (Call::Do(&[Event::Step(0)]), ""),
-            (
-                Call::Begin(1, 2),
-                "1 at 2, 0 done\ninstance 1\nd 0755 0 0 /\nf 0644 0 0 6869 /a\n",
-            ),
-        ],
+        told: "
+            > claim 0 0
+            > step 0
+            > settle 0
+            > job 0 1
+            0 at 1, 0 done
+            instance 0
+            d 0755 0 0 /
+            f 0644 0 0 6869 /a
+            > step 0
+            > job 1 2
+            1 at 2, 0 done
+            instance 1
+            d 0755 0 0 /
+            f 0644 0 0 6869 /a
+            ",
     },
-    Calls {
+    Story {
         shows: "one ID in two ways is two caches",
         definition: &[IN_TWO_WAYS, RESULT_0],
         locals: &[],
         workers: 2,
-        answers: &[
-            (
-                Call::Begin(0, 0),
-                "0 at 0, 0 done\ninstance 0\nd 0755 0 0 /\ninstance 0\nd 0755 0 0 /\n",
-            ),
-            (Call::Leases, "1"),
-            (
-                Call::Do(&[Event::Step(0), Event::Step(0), Event::Settle(0)]),
-                "",
-            ),
-            (Call::Instance(K_LOCKED, 0), HAS_A),
-            (Call::Instance(K_SHARED, 0), HAS_B),
-            (Call::Instance(K_PRIVATE, 0), "none"),
-        ],
+        told: "
+            > job 0 0
+            0 at 0, 0 done
+            instance 0
+            d 0755 0 0 /
+            instance 0
+            d 0755 0 0 /
+            > leases
+            1
+            > step 0
+            > step 0
+            > settle 0
+            > instance locked 0
+            d 0755 0 0 /
+            f 0644 0 0 780a /a
+            > instance shared 0
+            d 0755 0 0 /
+            f 0644 0 0 790a /b
+            > instance private 0
+            none
+            ",
     },
 ];
 
 #[test]
 fn a_worker_is_told_by_its_vertex_and_its_steps(rt: HostRuntime) {
-    assert_eq!(rt; first_wrong(rt.alloc(), WORKERS), WORKERS.len());
+    let rows = WORKERS;
+    are_all_told(&rt, first_wrong(&rt, rt.alloc(), rows), rows.len());
 }
 
 #[test]
 fn a_locked_key_has_one_instance(rt: HostRuntime) {
-    assert_eq!(rt; first_wrong(rt.alloc(), LOCKED), LOCKED.len());
+    let rows = LOCKED;
+    are_all_told(&rt, first_wrong(&rt, rt.alloc(), rows), rows.len());
 }
 
 #[test]
 fn private_keys_have_many_instances_and_shared_ones_one(rt: HostRuntime) {
-    assert_eq!(rt; first_wrong(rt.alloc(), NOT_LOCKED), NOT_LOCKED.len());
+    let rows = NOT_LOCKED;
+    are_all_told(&rt, first_wrong(&rt, rt.alloc(), rows), rows.len());
 }

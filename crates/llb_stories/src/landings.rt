@@ -1,9 +1,10 @@
 //! Work of jobs away from the board: its outcome, gates that stop it, and where an outcome lands.
 
 use super::cached::{LOCKED_A_FAILS_EARLY, LOCKED_TRUE, SHARED_A_B, SHARED_C_D};
-use super::calls::{are_done, is_done, landed, worked};
+use super::calls::{are_done, landed, worked};
 use super::definitions::{MAKES_B, MAKES_XA, MAKES_Z, MERGES_0_1, RESULT_2};
 use super::runs::TWO_FILES;
+use super::sessions::are_all_told;
 use super::written::{Definition, board_of};
 use llb_board::{Board, Event, Gate, Outcome, Status, Stopped};
 use std::alloc::Global;
@@ -85,7 +86,8 @@ fn first_other_count(alloc: Global, rows: &[(Definition, (u32, bool))]) -> usize
 
 #[test]
 fn an_outcome_counts_what_was_left_up_to_a_fault(rt: HostRuntime) {
-    assert_eq!(rt; first_other_count(rt.alloc(), COUNTS), COUNTS.len());
+    let rows = COUNTS;
+    are_all_told(&rt, first_other_count(rt.alloc(), rows), rows.len());
 }
 
 #[test]
@@ -97,25 +99,19 @@ fn a_gate_stops_whom_it_does_not_let_work(rt: HostRuntime) {
 
 // What an outcome of vertex 0 is worked out on by worker 0, the board that it is brought to, what was done there, who brings it, and the
 // fault, or 0 where it lands.
-type Landing = (Definition, Definition, &'static [Event], u32, u32);
+type Landing = (Definition, Definition, &'static str, u32, u32);
 
-const CLAIMED: &[Event] = &[Event::Claim(0, 0)];
+const CLAIMED: &str = "claim 0 0";
 
 const LANDINGS: &[Landing] = &[
     // An outcome is brought by a worker that runs.
     (TWO_FILES, TWO_FILES, CLAIMED, 0, 0),
     (TWO_FILES, TWO_FILES, CLAIMED, 1, 136),
     (TWO_FILES, TWO_FILES, CLAIMED, 5, 131),
-    (TWO_FILES, TWO_FILES, &[], 0, 136),
+    (TWO_FILES, TWO_FILES, "", 0, 136),
     // It lands only where its worker has just that to do: not over another graph, nor once a step was done.
     (OTHER_FILES, TWO_FILES, CLAIMED, 0, 139),
-    (
-        TWO_FILES,
-        TWO_FILES,
-        &[Event::Claim(0, 0), Event::Step(0)],
-        0,
-        139,
-    ),
+    (TWO_FILES, TWO_FILES, "claim 0 0\nstep 0", 0, 139),
     // A vertex with a shared cache can't land.
     (ON_A_SHARED_CACHE, ON_A_SHARED_CACHE, CLAIMED, 0, 140),
 ];
@@ -155,7 +151,8 @@ fn first_wrong(alloc: Global, rows: &[Landing]) -> usize {
 
 #[test]
 fn an_outcome_lands_where_its_worker_has_just_that_to_do(rt: HostRuntime) {
-    assert_eq!(rt; first_wrong(rt.alloc(), LANDINGS), LANDINGS.len());
+    let rows = LANDINGS;
+    are_all_told(&rt, first_wrong(rt.alloc(), rows), rows.len());
 }
 
 // Whether the outcome of a board lands on it as the steps that are left and the settle.
@@ -171,9 +168,9 @@ fn is_a_block(board: &mut Board, outcome: Outcome) -> [bool; 3] {
 
 // Whether an outcome doesn't land once a step was done of the job that it is of, and its worker can still settle.
 fn is_late(board: &mut Board, outcome: Outcome) -> [bool; 3] {
-    let stepped = is_done(board, Event::Step(0));
+    let stepped = are_done(board, "step 0");
     let refused = landed(board, 0, outcome) == 139;
-    let settled = is_done(board, Event::Settle(0));
+    let settled = are_done(board, "settle 0");
     [stepped && settled, refused, board.events().len() == 3]
 }
 

@@ -5,14 +5,16 @@ use super::calls::{are_done, opened};
 use super::definitions::{MERGES_0_1, RESULT_2};
 use super::executions::{MERGES, OLD_AND_F};
 use super::faults::prints;
-use super::instances::{HAS_A, K_LOCKED, K_SHARED};
+use super::instances::{K_LOCKED, K_SHARED};
 use super::runs::D_ON_SECOND;
-use super::told::{Call, answered};
+use super::sessions::are_all_told;
+use super::told::is_answered;
 use super::written::{CacheRow, Definition, Local, board_of, graph_from, locals_of, needs_of};
-use llb_board::{Board, Event, OpenFault};
+use llb_board::{Board, OpenFault};
 use llb_cache::{Caches, Many};
 use llb_loader::Locals;
 use std::alloc::Global;
+use std::process::Abort;
 
 // Numbers of workers, and how many vertices the graph has that comes back, where the number is refused.
 const WORKERS: &[(u32, Option<usize>)] = &[
@@ -59,7 +61,8 @@ fn first_wrong(alloc: Global, rows: &[(u32, Option<usize>)]) -> usize {
 
 #[test]
 fn a_number_of_workers_other_than_1_to_64_gives_the_graph_back(rt: HostRuntime) {
-    assert_eq!(rt; first_wrong(rt.alloc(), WORKERS), WORKERS.len());
+    let rows = WORKERS;
+    are_all_told(&rt, first_wrong(rt.alloc(), rows), rows.len());
 }
 
 const P: Local = ("p", "d 0755 0 0 /\n");
@@ -95,7 +98,8 @@ fn first_other_name(alloc: Global, rows: &[(&[Local], &str)]) -> usize {
 
 #[test]
 fn the_least_source_without_a_tree_is_named_first(rt: HostRuntime) {
-    assert_eq!(rt; first_other_name(rt.alloc(), MISSING), MISSING.len());
+    let rows = MISSING;
+    are_all_told(&rt, first_other_name(rt.alloc(), rows), rows.len());
 }
 
 // How many vertices the graph has that a board gives back, and whether its local tree `q` comes too.
@@ -113,7 +117,7 @@ fn parts(alloc: Global) -> Option<(usize, bool)> {
 fn recorded(alloc: Global) -> Option<usize> {
     match board_of(alloc, D_ON_SECOND, &[], 1) {
         Some(mut board) => {
-            let done = are_done(&mut board, &[Event::Claim(0, 0)]);
+            let done = are_done(&mut board, "claim 0 0");
             match board.events().copy() {
                 Ok(record) if done => Some(record.len()),
                 _ => None,
@@ -130,7 +134,7 @@ fn a_board_gives_back_what_it_was_opened_with_and_its_record_is_copied(rt: HostR
 }
 
 // The caches of a board that is left after some events.
-fn left(alloc: Global, definition: Definition, events: &[Event]) -> Option<Caches> {
+fn left(alloc: Global, definition: Definition, events: &str) -> Option<Caches> {
     match board_of(alloc, definition, &[], 2) {
         Some(mut board) => {
             let done = are_done(&mut board, events);
@@ -167,9 +171,9 @@ fn are_those(alloc: Global, caches: &Caches, rows: &[CacheRow]) -> Option<bool> 
 }
 
 fn are_in_order(alloc: Global, rows: &[CacheRow]) -> Option<bool> {
-    let claims = [Event::Claim(0, 1), Event::Claim(1, 0)];
+    let claims = "claim 0 1\nclaim 1 0";
     let definition: Definition = &[LOCKED_TRUE, SHARED_TRUE, MERGES_0_1, RESULT_2];
-    match left(alloc, definition, &claims) {
+    match left(alloc, definition, claims) {
         Some(caches) => are_those(alloc, &caches, rows),
         None => None,
     }
@@ -182,16 +186,22 @@ fn keys_stand_in_the_order_of_the_first_claims(rt: HostRuntime) {
 }
 
 // What is answered on a board with the caches of one that was left in the middle.
-const BEHIND: &[(Call, &str)] = &[
-    (Call::Worker(0), "idle"),
-    (Call::Leases, "0"),
-    (Call::Instance(K_LOCKED, 0), HAS_A),
-    (
-        Call::Begin(1, 1),
-        "1 at 1, 0 done\ninstance 0\nd 0755 0 0 /\nf 0644 0 0 780a /a\n",
-    ),
-    (Call::Begin(0, 0), "135 k"),
-];
+const BEHIND: &str = "
+    > worker 0
+    idle
+    > leases
+    0
+    > instance locked 0
+    d 0755 0 0 /
+    f 0644 0 0 780a /a
+    > job 1 1
+    1 at 1, 0 done
+    instance 0
+    d 0755 0 0 /
+    f 0644 0 0 780a /a
+    > job 0 0
+    135 k
+    ";
 
 fn opened_with(
     alloc: Global,
@@ -209,25 +219,26 @@ fn opened_with(
     }
 }
 
-// How many of the calls are answered so on another board with the caches of one that is left after some events.
-fn answered_behind(alloc: Global, definition: Definition, events: &[Event]) -> Option<usize> {
+// Whether that is answered on another board with the caches of one that is left after some events.
+fn is_answered_behind(
+    rt: &impl Abort,
+    alloc: Global,
+    definition: Definition,
+    events: &str,
+) -> bool {
     match left(alloc, definition, events) {
         Some(caches) => match opened_with(alloc, definition, caches, 2) {
-            Ok(mut board) => Some(answered(alloc, &mut board, BEHIND)),
-            Err(_) => None,
+            Ok(mut board) => is_answered(rt, alloc, &mut board, BEHIND),
+            Err(_) => false,
         },
-        None => None,
+        None => false,
     }
 }
 
 #[test]
 fn a_board_that_is_left_in_the_middle_gives_its_caches_to_the_next(rt: HostRuntime) {
     let definition: Definition = &[LOCKED_A_AND_TRUE, LOCKED_B, MERGES_0_1, RESULT_2];
-    let events = [Event::Claim(0, 0), Event::Step(0)];
-    assert_eq!(rt;
-        answered_behind(rt.alloc(), definition, &events),
-        Some(BEHIND.len())
-    );
+    assert!(rt; is_answered_behind(&rt, rt.alloc(), definition, "claim 0 0\nstep 0"));
 }
 
 // Whether these caches come back with a refused number of workers.
@@ -255,8 +266,8 @@ fn copy_comes_back(alloc: Global, definition: Definition, caches: &Caches) -> Op
 
 fn caches_come_back(alloc: Global) -> Option<bool> {
     let definition: Definition = &[PRIVATE_A, PRIVATE_B, MERGES_0_1, RESULT_2];
-    let events = [Event::Claim(0, 0), Event::Step(0)];
-    match left(alloc, definition, &events) {
+    let events = "claim 0 0\nstep 0";
+    match left(alloc, definition, events) {
         Some(caches) => copy_comes_back(alloc, definition, &caches),
         None => None,
     }

@@ -1,20 +1,46 @@
-//! A ready queue with room for two numbers, on one thread: what it answers, and what its faults print.
+//! A ready queue with room for one number or two, on one thread: what it answers, and what its faults print.
 
-use llb_ready::{Full, ReadyFault, ReadyQueue};
+ghost use Rattle.llb_ready.specs.Hands.{SamePart};
+ghost use Rattle.llb_ready.specs.Passes.{IsReadyPassOf, hand_of};
+
+use llb_ready::{Full, ReadyFault, ReadyPass, ReadyQueue};
+use std::sync::Wait;
+
+// What a put and a take answer. Of what they promise a story needs that the pass stays one of the queue, and of the same part.
+fn put<R: Wait>(rt: &R, queue: &ReadyQueue, pass: &mut ReadyPass, v: u32) -> Result<(), Full>
+    requires { IsReadyPassOf queue.now pass.old }
+    ensures pass { IsReadyPassOf queue.now pass.new }
+    ensures part { SamePart (hand_of pass.old) (hand_of pass.new) }
+{
+    queue.put(rt, pass, v)
+}
+
+fn take<R: Wait>(rt: &R, queue: &ReadyQueue, pass: &mut ReadyPass) -> Option<u32>
+    requires { IsReadyPassOf queue.now pass.old }
+    ensures pass { IsReadyPassOf queue.now pass.new }
+    ensures part { SamePart (hand_of pass.old) (hand_of pass.new) }
+{
+    queue.take(rt, pass)
+}
 
 #[test]
 fn a_queue_of_two_gives_back_a_third_number_and_is_then_emptied_in_order(rt: HostRuntime) {
     match ReadyQueue::new(rt.alloc(), 2) {
         Err(_) => panic!(rt; "no queue"),
-        Ok((queue, pass)) => {
-            let mut pass = pass;
-            assert_eq!(rt; queue.put(&rt, &mut pass, 7), Ok(()));
-            assert_eq!(rt; queue.put(&rt, &mut pass, 8), Ok(()));
-            assert_eq!(rt; queue.put(&rt, &mut pass, 9), Err(Full(9)));
-            assert_eq!(rt; queue.take(&rt, &mut pass), Some(7));
-            assert_eq!(rt; queue.take(&rt, &mut pass), Some(8));
-            assert_eq!(rt; queue.take(&rt, &mut pass), None);
+        Ok((queue, mut pass)) => {
+            let puts = [
+                put(&rt, &queue, &mut pass, 7),
+                put(&rt, &queue, &mut pass, 8),
+                put(&rt, &queue, &mut pass, 9),
+            ];
+            let takes = [
+                take(&rt, &queue, &mut pass),
+                take(&rt, &queue, &mut pass),
+                take(&rt, &queue, &mut pass),
+            ];
             queue.close(pass);
+            assert!(rt; puts == [Ok(()), Ok(()), Err(Full(9))]);
+            assert!(rt; takes == [Some(7), Some(8), None]);
         }
     }
 }
@@ -25,12 +51,18 @@ fn two_halves_put_and_take_and_come_together_again(rt: HostRuntime) {
         Err(_) => panic!(rt; "no queue"),
         Ok((queue, pass)) => {
             let (mut first, mut second) = queue.split(pass);
-            assert_eq!(rt; queue.put(&rt, &mut first, 5), Ok(()));
-            assert_eq!(rt; queue.put(&rt, &mut second, 6), Err(Full(6)));
-            assert_eq!(rt; queue.take(&rt, &mut second), Some(5));
-            assert_eq!(rt; queue.take(&rt, &mut first), None);
+            let puts = [
+                put(&rt, &queue, &mut first, 5),
+                put(&rt, &queue, &mut second, 6),
+            ];
+            let takes = [
+                take(&rt, &queue, &mut second),
+                take(&rt, &queue, &mut first),
+            ];
             let whole = queue.join(first, second);
             queue.close(whole);
+            assert!(rt; puts == [Ok(()), Err(Full(6))]);
+            assert!(rt; takes == [Some(5), None]);
         }
     }
 }

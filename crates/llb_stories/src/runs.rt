@@ -3,7 +3,7 @@
 use super::definitions::{
     D_ON_0, D_ON_1_OF_0_1, MAKES_A, MAKES_B, MAKES_XA, MERGES_0_1, RESULT_0, RESULT_1, RESULT_2,
 };
-use super::sessions::{Story, first_wrong};
+use super::sessions::{Story, are_all_told, first_wrong};
 use super::written::Definition;
 
 pub const ONE_FILE: Definition = &[MAKES_A, RESULT_0];
@@ -363,15 +363,18 @@ const FAILED: &[Story] = &[
 
 #[test]
 fn events_are_done_or_refused_by_their_first_cause(rt: HostRuntime) {
-    assert_eq!(rt; first_wrong(rt.alloc(), REFUSED), REFUSED.len());
+    let rows = REFUSED;
+    are_all_told(&rt, first_wrong(rt.alloc(), rows), rows.len());
 }
 
 #[test]
 fn runs_go_to_their_ends_and_back(rt: HostRuntime) {
-    assert_eq!(rt; first_wrong(rt.alloc(), DONE), DONE.len());
+    let rows = DONE;
+    are_all_told(&rt, first_wrong(rt.alloc(), rows), rows.len());
 }
 
 #[test]
 fn a_failure_stops_what_stands_on_it(rt: HostRuntime) {
-    assert_eq!(rt; first_wrong(rt.alloc(), FAILED), FAILED.len());
+    let rows = FAILED;
+    are_all_told(&rt, first_wrong(rt.alloc(), rows), rows.len());
 }

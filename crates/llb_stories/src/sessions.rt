@@ -5,6 +5,7 @@ use super::written::{Definition, Local, board_of};
 use llb_session::converse;
 use llb_stepper::Stepper;
 use std::alloc::{AllocError, Global};
+use std::process::Abort;
 
 pub const LIMIT: usize = 1 << 20;
 
@@ -28,7 +29,7 @@ fn push_line(text: &mut String, line: &str) -> Result<(), AllocError> {
 }
 
 // The lines of a transcript, without what stands before and after each.
-fn wanted(alloc: Global, told: &str) -> Result<String, AllocError> {
+pub fn wanted(alloc: Global, told: &str) -> Result<String, AllocError> {
     let mut text = String::new(alloc);
     for line in told.lines() {
         push_line(&mut text, line.trim())?;
@@ -75,4 +76,9 @@ pub fn first_wrong(alloc: Global, stories: &[Story]) -> usize {
         }
     }
     stories.len()
+}
+
+// Ends the test where the first row of a table that is told otherwise is not past its end.
+pub fn are_all_told(rt: &impl Abort, first_wrong: usize, rows: usize) {
+    assert_eq!(rt; first_wrong, rows);
 }

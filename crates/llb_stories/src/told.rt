@@ -1,142 +1,164 @@
-//! What a session doesn't say of a board: where its workers are, and which instances of caches there are. A story of calls is a list of them
-//! with what each is answered.
+//! What a session doesn't say of a board: where its workers are, and which instances of caches there are. A story of calls is a transcript as
+//! that of a session is: a line with `> ` first is a call, and the lines after it are what it answers. The calls are a session's events, of
+//! which nothing is told where they are done; `job W V`, a claim that is told by its job and by the instances of caches that it takes;
+//! `worker W`; `instance WAY I`, the tree of an instance of the cache `k` that is shared in that way; and `leases`.
 
-use super::calls::are_done;
-use super::written::{CacheRow, Definition, Local, board_of, key_of};
+use super::calls::{event_in, is_event_done};
+use super::instances::{K_LOCKED, K_PRIVATE, K_SEEDED, K_SHARED};
+use super::sessions::{Story, wanted};
+use super::written::{CacheRow, board_of, key_of};
 use llb_board::laws::headline;
 use llb_board::{At, Board, Event, Job};
 use llb_tree::Tree;
 use llb_treetext::print_tree;
 use llb_wire::Over;
-use std::alloc::{AllocError, Global};
+use std::alloc::Global;
+use std::process::Abort;
 
-#[derive(Clone, Copy)]
-pub enum Call {
-    // Events, of which nothing is told where all are done.
-    Do(&'static [Event]),
-    // A claim, told by its job and the instances of caches that it takes.
-    Begin(u32, u32),
-    Worker(u32),
-    Instance(CacheRow, u32),
-    Leases,
+fn say(rt: &impl Abort, text: &mut String, more: &str) {
+    text.push_str(more).expect(rt, "memory");
 }
 
-#[derive(Clone, Copy)]
-pub struct Calls {
-    pub shows: &'static str,
-    pub definition: Definition,
-    pub locals: &'static [Local],
-    pub workers: u32,
-    pub answers: &'static [(Call, &'static str)],
+fn say_number(rt: &impl Abort, text: &mut String, number: u32) {
+    write!(text, "{number}\n").expect(rt, "memory");
 }
 
-fn push_done(text: &mut String, board: &mut Board, events: &[Event]) -> Result<(), AllocError> {
-    text.push_str(if are_done(board, events) {
-        ""
-    } else {
-        "refused"
-    })
+fn number(word: &str) -> u32 {
+    match word.parse::<u32>() {
+        Ok(number) => number,
+        Err(_) => u32::MAX,
+    }
 }
 
-fn push_worker(text: &mut String, at: Option<At>) -> Result<(), AllocError> {
+fn say_done(rt: &impl Abort, text: &mut String, board: &mut Board, event: Event) {
+    if !is_event_done(board, event) {
+        say(rt, text, "refused\n");
+    }
+}
+
+fn say_runs(rt: &impl Abort, text: &mut String, v: u32, done: u32, finished: bool) {
+    write!(text, "runs {v}, {done} done, {finished}\n").expect(rt, "memory");
+}
+
+fn say_worker(rt: &impl Abort, text: &mut String, at: Option<At>) {
     match at {
-        None => text.push_str("none"),
-        Some(At::Idle) => text.push_str("idle"),
-        Some(At::Runs(v, done, finished)) => write!(text, "runs {v}, {done} done, {finished}"),
+        None => say(rt, text, "none\n"),
+        Some(At::Idle) => say(rt, text, "idle\n"),
+        Some(At::Runs(v, done, finished)) => say_runs(rt, text, v, done, finished),
     }
 }
 
-fn push_tree(text: &mut String, tree: &Tree) -> Result<(), AllocError> {
-    let alloc = *text.allocator();
-    let mut bytes: Vec<u8> = Vec::new(alloc);
-    let mut out = Over::new(&mut bytes);
-    if print_tree(alloc, tree, &mut out).is_err() {
-        return Err(AllocError);
-    }
-    text.push_str(str::from_utf8(bytes.as_slice()).unwrap_or("no text"))
+fn bytes_of(rt: &impl Abort, alloc: Global, tree: &Tree) -> Vec<u8> {
+    let mut bytes = Vec::new(alloc);
+    print_tree(alloc, tree, &mut Over::new(&mut bytes)).expect(rt, "memory");
+    bytes
+}
+
+fn say_tree(rt: &impl Abort, text: &mut String, tree: &Tree) {
+    let bytes = bytes_of(rt, *text.allocator(), tree);
+    say(
+        rt,
+        text,
+        str::from_utf8(bytes.as_slice()).unwrap_or("no text"),
+    );
 }
 
 // The numbers of instances, each with its tree.
-fn push_instances(text: &mut String, instances: &[u32], trees: &[Tree]) -> Result<(), AllocError> {
+fn say_instances(rt: &impl Abort, text: &mut String, instances: &[u32], trees: &[Tree]) {
     for (number, tree) in instances.iter().zip(trees) {
-        write!(text, "instance {number}\n")?;
-        push_tree(text, tree)?;
+        say(rt, text, "instance ");
+        say_number(rt, text, *number);
+        say_tree(rt, text, tree);
     }
-    Ok(())
 }
 
-fn push_job(text: &mut String, job: &Job) -> Result<(), AllocError> {
+fn say_job(rt: &impl Abort, text: &mut String, job: &Job) {
     let (worker, vertex, done) = (job.worker(), job.vertex(), job.done());
-    write!(text, "{worker} at {vertex}, {done} done\n")?;
-    push_instances(text, job.instances(), job.trees())
+    write!(text, "{worker} at {vertex}, {done} done\n").expect(rt, "memory");
+    say_instances(rt, text, job.instances(), job.trees());
 }
 
-fn push_begun(text: &mut String, board: &mut Board, w: u32, v: u32) -> Result<(), AllocError> {
+fn say_begun(rt: &impl Abort, text: &mut String, board: &mut Board, w: u32, v: u32) {
     match board.claim(w, v) {
-        Ok(job) => push_job(text, &job),
-        Err(fault) => write!(text, "{fault}"),
+        Ok(job) => say_job(rt, text, &job),
+        Err(fault) => write!(text, "{fault}\n").expect(rt, "memory"),
+    }
+}
+
+fn cache_of(way: &str) -> CacheRow {
+    match way {
+        "shared" => K_SHARED,
+        "private" => K_PRIVATE,
+        "seeded" => K_SEEDED,
+        _ => K_LOCKED,
     }
 }
 
 // The text of the tree that an instance of a cache has.
-fn push_instance(
-    text: &mut String,
-    board: &Board,
-    cache: CacheRow,
-    number: u32,
-) -> Result<(), AllocError> {
-    let Ok(key) = key_of(*text.allocator(), &cache) else {
-        return Err(AllocError);
-    };
+fn say_instance(rt: &impl Abort, text: &mut String, board: &Board, way: &str, number: u32) {
+    let key = key_of(*text.allocator(), &cache_of(way)).expect(rt, "memory");
     match board.caches().instance(&key, number) {
-        Some(tree) => push_tree(text, tree),
-        None => text.push_str("none"),
+        Some(tree) => say_tree(rt, text, tree),
+        None => say(rt, text, "none\n"),
     }
 }
 
-fn push_answer(text: &mut String, board: &mut Board, call: Call) -> Result<(), AllocError> {
+fn say_answer(rt: &impl Abort, text: &mut String, board: &mut Board, call: &str) {
+    let (name, rest) = call.split_once(' ').unwrap_or((call, ""));
+    let (one, other) = rest.split_once(' ').unwrap_or((rest, ""));
+    match name {
+        "job" => say_begun(rt, text, board, number(one), number(other)),
+        "worker" => say_worker(rt, text, board.worker(number(one))),
+        "instance" => say_instance(rt, text, board, one, number(other)),
+        _ => say_number(rt, text, board.caches().leases()),
+    }
+}
+
+fn law(board: &Board) {
     headline(board);
-    match call {
-        Call::Do(events) => push_done(text, board, events),
-        Call::Begin(w, v) => push_begun(text, board, w, v),
-        Call::Worker(w) => push_worker(text, board.worker(w)),
-        Call::Instance(cache, number) => push_instance(text, board, cache, number),
-        Call::Leases => {
-            let leases = board.caches().leases();
-            write!(text, "{leases}")
+}
+
+// A call as it stands in a transcript, and what it answers; nothing of a line that is no call.
+fn say_line(rt: &impl Abort, text: &mut String, board: &mut Board, line: &str) {
+    if let Some(call) = line.strip_prefix("> ") {
+        say(rt, text, line);
+        say(rt, text, "\n");
+        law(board);
+        match event_in(call) {
+            Some(event) => say_done(rt, text, board, event),
+            None => say_answer(rt, text, board, call),
         }
     }
 }
 
-fn is_answered(alloc: Global, board: &mut Board, call: Call, wanted: &str) -> bool {
+fn transcript(rt: &impl Abort, alloc: Global, board: &mut Board, told: &str) -> String {
     let mut text = String::new(alloc);
-    match push_answer(&mut text, board, call) {
-        Ok(()) => text.as_str() == wanted,
+    for line in told.lines() {
+        say_line(rt, &mut text, board, line.trim());
+    }
+    text
+}
+
+// Whether the calls of a transcript answer on a board what stands after them.
+pub fn is_answered(rt: &impl Abort, alloc: Global, board: &mut Board, told: &str) -> bool {
+    let text = transcript(rt, alloc, board, told);
+    match wanted(alloc, told) {
+        Ok(wanted) => text.as_str() == wanted.as_str(),
         Err(_) => false,
     }
 }
 
-// How many calls have their answers on a board, up to the first that has another one.
-pub fn answered(alloc: Global, board: &mut Board, answers: &[(Call, &str)]) -> usize {
-    for (at, (call, wanted)) in answers.iter().enumerate() {
-        if !is_answered(alloc, board, *call, wanted) {
-            return at;
-        }
-    }
-    answers.len()
-}
-
-fn holds(alloc: Global, calls: &Calls) -> bool {
-    match board_of(alloc, calls.definition, calls.locals, calls.workers) {
-        Some(mut board) => answered(alloc, &mut board, calls.answers) == calls.answers.len(),
+fn holds(rt: &impl Abort, alloc: Global, story: &Story) -> bool {
+    match board_of(alloc, story.definition, story.locals, story.workers) {
+        Some(mut board) => is_answered(rt, alloc, &mut board, story.told),
         None => false,
     }
 }
 
-// The number of the first story of calls that are answered otherwise; past the end where there is none.
-pub fn first_wrong(alloc: Global, stories: &[Calls]) -> usize {
-    for (at, calls) in stories.iter().enumerate() {
-        if !holds(alloc, calls) {
+// The number of the first story whose calls are answered otherwise; past the end where there is none.
+pub fn first_wrong(rt: &impl Abort, alloc: Global, stories: &[Story]) -> usize {
+    for (at, story) in stories.iter().enumerate() {
+        if !holds(rt, alloc, story) {
             return at;
         }
     }

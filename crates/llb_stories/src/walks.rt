@@ -3,14 +3,15 @@
 ghost use Rattle.std.specs.Prelude.{◌≡◌};
 
 use super::caches::WRITES_AND_FAILS;
-use super::calls::{are_done, are_same, breaks_at, copy_of, goes_back, is_done, replayed};
-use super::instances::{HAS_A, K_LOCKED};
+use super::calls::{are_done, are_same, breaks_at, copy_of, goes_back, is_event_done, replayed};
 use super::runs::{FAILS_FIRST, IN_A_ROW, TWO_FILES};
-use super::told::{Call, answered};
+use super::sessions::are_all_told;
+use super::told::is_answered;
 use super::written::{Definition, board_of};
 use llb_board::{At, Board, Event, Status};
 use llb_stepper::{Break, Stepper, Stop};
 use std::alloc::Global;
+use std::process::Abort;
 
 // Walks the chosen events, at most that many, and takes them back: whether the board was complete in between.
 fn there_and_back(board: &mut Board, most: u32) -> bool
@@ -35,50 +36,53 @@ fn there_and_back(board: &mut Board, most: u32) -> bool
 fn finish(board: &mut Board) -> bool {
     for _i in 0..50 {
         if let Some(event) = board.chosen() {
-            let _ = is_done(board, event);
+            let _ = is_event_done(board, event);
         }
     }
     board.is_complete()
 }
 
 // Definitions, and what is then answered on the complete board.
-const WALKED: &[(Definition, &[(Call, &str)])] = &[
-    (FAILS_FIRST, &[(Call::Leases, "0")]),
-    (IN_A_ROW, &[(Call::Worker(0), "idle")]),
+const WALKED: &[(Definition, &str)] = &[
+    (FAILS_FIRST, "> leases\n0"),
+    (IN_A_ROW, "> worker 0\nidle"),
     (
         WRITES_AND_FAILS,
-        &[
-            (Call::Instance(K_LOCKED, 0), HAS_A),
-            (Call::Instance(K_LOCKED, 1), "none"),
-            (Call::Leases, "0"),
-        ],
+        "
+        > instance locked 0
+        d 0755 0 0 /
+        f 0644 0 0 780a /a
+        > instance locked 1
+        none
+        > leases
+        0
+        ",
     ),
 ];
 
 // Whether a run that is walked and taken back leaves a board as its copy, and both go on to the same end, where this is answered.
-fn goes_and_comes(alloc: Global, board: &mut Board, ended: &[(Call, &str)]) -> [bool; 4] {
+fn goes_and_comes(rt: &impl Abort, alloc: Global, board: &mut Board, ended: &str) -> [bool; 4] {
     match copy_of(board) {
         Some(mut fresh) => {
             let complete = there_and_back(board, 50);
             let back = are_same(board, &fresh);
             let both = finish(board) && finish(&mut fresh) && are_same(board, &fresh);
-            let told = answered(alloc, board, ended) == ended.len();
-            [complete, back, both, told]
+            [complete, back, both, is_answered(rt, alloc, board, ended)]
         }
         None => [false; 4],
     }
 }
 
-fn is_walked(alloc: Global, definition: Definition, ended: &[(Call, &str)]) -> bool {
+fn is_walked(rt: &impl Abort, alloc: Global, definition: Definition, ended: &str) -> bool {
     match board_of(alloc, definition, &[], 2) {
-        Some(mut board) => goes_and_comes(alloc, &mut board, ended) == [true; 4],
+        Some(mut board) => goes_and_comes(rt, alloc, &mut board, ended) == [true; 4],
         None => false,
     }
 }
 
-fn first_wrong(alloc: Global, rows: &[(Definition, &[(Call, &str)])]) -> usize {
+fn first_wrong(rt: &impl Abort, alloc: Global, rows: &[(Definition, &str)]) -> usize {
     for (at, (definition, ended)) in rows.iter().enumerate() {
-        if !is_walked(alloc, definition, ended) {
+        if !is_walked(rt, alloc, definition, ended) {
             return at;
         }
     }
@@ -87,7 +91,8 @@ fn first_wrong(alloc: Global, rows: &[(Definition, &[(Call, &str)])]) -> usize {
 
 #[test]
 fn a_run_that_is_walked_is_taken_back(rt: HostRuntime) {
-    assert_eq!(rt; first_wrong(rt.alloc(), WALKED), WALKED.len());
+    let rows = WALKED;
+    are_all_told(&rt, first_wrong(&rt, rt.alloc(), rows), rows.len());
 }
 
 // What the walk of an event that is refused prints.
@@ -104,7 +109,7 @@ fn is_refused(alloc: Global, board: &mut Board, event: Event, wanted: &str) -> b
 fn refused_behind_a_step(alloc: Global) -> Option<bool> {
     match board_of(alloc, IN_A_ROW, &[], 2) {
         Some(mut board) => {
-            let done = are_done(&mut board, &[Event::Claim(0, 0), Event::Step(0)]);
+            let done = are_done(&mut board, "claim 0 0\nstep 0");
             Some(done && is_refused(alloc, &mut board, Event::Claim(0, 1), "132"))
         }
         None => None,

@@ -1,6 +1,5 @@
 //! Boards over what is written: definitions by the texts of their entries, local trees by their texts, and keys of caches by rows.
 
-use super::definitions;
 use llb_asm::assemble;
 use llb_board::Board;
 use llb_cache::{Caches, Key, Mode, Need, Seed};
@@ -10,15 +9,6 @@ use llb_tree::{Tree, TreeFault};
 use llb_treetext::read_tree;
 use llb_wire::{Memory, Text};
 use std::alloc::{AllocError, Global};
-
-// Two files and both of them, as the rows A, B and D of a graph, and the row that names D.
-pub const MAKES_A: &str = definitions::MAKES_A;
-
-pub const MAKES_B: &str = definitions::MAKES_B;
-
-pub const A_AND_B: &str = definitions::MERGES_0_1;
-
-pub const NAMES_D: &str = definitions::RESULT_2;
 
 // A local tree: its name, and its text.
 pub type Local = (&'static str, &'static str);
@@ -42,27 +32,11 @@ fn text_of(alloc: Global, entries: &[&str]) -> Result<String, AllocError> {
     Ok(text)
 }
 
-// The text of rows, each of which has a name before its entry: their places count.
-fn text_of_rows(alloc: Global, given: &[(&str, &str)]) -> Result<String, AllocError> {
-    let mut text = String::new(alloc);
-    for (_, entry) in given {
-        push_entry(&mut text, entry)?;
-    }
-    Ok(text)
-}
-
 // The graph of the definition that a text is assembled to.
 fn graph_in(alloc: Global, text: &str) -> Option<Graph> {
     let entries = assemble(alloc, text.as_bytes()).ok()?;
     let definition = write_definition(alloc, &entries).ok()?;
     load(alloc, definition.as_slice()).ok()
-}
-
-pub fn graph_of(alloc: Global, given: &[(&str, &str)]) -> Option<Graph> {
-    match text_of_rows(alloc, given) {
-        Ok(text) => graph_in(alloc, text.as_str()),
-        Err(_) => None,
-    }
 }
 
 pub fn graph_from(alloc: Global, entries: &[&str]) -> Option<Graph> {

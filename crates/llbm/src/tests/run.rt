@@ -197,7 +197,8 @@ fn first_wrong(alloc: Global, rows: &[Row]) -> Result<usize, Fail> {
 
 #[test]
 fn definitions_are_run_or_refused(rt: HostRuntime) -> Result<(), Fail> {
-    assert_eq!(rt; first_wrong(rt.alloc(), RUNS)?, RUNS.len());
+    let rows = RUNS;
+    assert_eq!(rt; first_wrong(rt.alloc(), rows)?, rows.len());
     Ok(())
 }
 
