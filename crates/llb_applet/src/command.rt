@@ -24,7 +24,6 @@ pub enum Kind {
 }
 
 /// A call of an applet with its words. Paths are words as yet: they are read when the command runs.
-#[derive(Drop)]
 pub enum Command {
     /// `true`.
     True,
@@ -52,6 +51,30 @@ pub enum Command {
     Envfile { out: Text },
     /// `sha256 P OUT`.
     Sha256 { path: Text, out: Text },
+}
+
+// Written out, so that what owns one drops it by this one function.
+impl Drop for Command {
+    fn drop(self) {
+        match self {
+            Command::True => {}
+            Command::False => {}
+            Command::Mkdir {
+                parents: _,
+                path: _,
+            } => {}
+            Command::Rm { path: _ } => {}
+            Command::Write { path: _, word: _ } => {}
+            Command::Append { path: _, word: _ } => {}
+            Command::Cp { from: _, to: _ } => {}
+            Command::Concat { out: _, parts: _ } => {}
+            Command::Chmod { mode: _, path: _ } => {}
+            Command::Test { kind: _, path: _ } => {}
+            Command::Listing { path: _, out: _ } => {}
+            Command::Envfile { out: _ } => {}
+            Command::Sha256 { path: _, out: _ } => {}
+        }
+    }
 }
 
 // Copies of two texts.

@@ -8,10 +8,16 @@ use llb_tree::Path;
 use llb_wire::{Many, Same, Text};
 
 /// Where commands run: paths are read from `cwd`, and `env` is what `envfile` writes.
-#[derive(Drop)]
 pub struct Setting {
     pub cwd: Path,
     pub env: Many<Text>,
+}
+
+// Written out, so that what owns one drops it by this one function.
+impl Drop for Setting {
+    fn drop(self) {
+        let Setting { cwd: _, env: _ } = self;
+    }
 }
 
 impl Setting {

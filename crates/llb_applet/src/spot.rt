@@ -15,11 +15,21 @@ use llb_wire::Text;
 use std::alloc::Global;
 
 /// A place in a mount's tree; that many names of it are the mount's selector.
-#[derive(Drop)]
 pub struct Spot {
     pub mount: u32,
     pub base: usize,
     pub place: Path,
+}
+
+// Written out, so that what owns one drops it by this one function.
+impl Drop for Spot {
+    fn drop(self) {
+        let Spot {
+            mount: _,
+            base: _,
+            place: _,
+        } = self;
+    }
 }
 
 /// The path that a word is, read from the cwd.

@@ -34,13 +34,23 @@ pub(crate) fn record_length(number: u32, size: usize) -> usize
 }
 
 /// The entries that are whole, in order. Contracts see the list of their bytes.
-#[derive(Drop)]
 pub struct Earlier {
     entries: Vec<Bytes>,
     /// The texts of their digests.
     labels: Vec<Text>,
     /// How many bytes a definition of them has.
     size: usize,
+}
+
+// Written out, so that what owns one drops it by this one function.
+impl Drop for Earlier {
+    fn drop(self) {
+        let Earlier {
+            entries: _,
+            labels: _,
+            size: _,
+        } = self;
+    }
 }
 
 impl Model for Earlier {
@@ -104,6 +114,11 @@ impl Earlier {
     pub(crate) fn into_entries(self) -> Vec<Bytes>
         ensures { result.items ≡ self }
     {
-        self.entries
+        let Earlier {
+            entries,
+            labels: _,
+            size: _,
+        } = self;
+        entries
     }
 }

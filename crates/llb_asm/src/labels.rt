@@ -31,11 +31,17 @@ fn learn(first: &mut IndexMap<String, u64>, texts: &[Text], text: &Text) -> Resu
 }
 
 /// The labels of the entries before. Contracts see the texts of their digests, in order.
-#[derive(Drop)]
 pub struct Labels {
     texts: Vec<Text>,
     /// The first entry with each text.
     first: IndexMap<String, u64>,
+}
+
+// Written out, so that what owns one drops it by this one function.
+impl Drop for Labels {
+    fn drop(self) {
+        let Labels { texts: _, first: _ } = self;
+    }
 }
 
 impl Model for Labels {

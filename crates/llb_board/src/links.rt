@@ -14,11 +14,21 @@ use std::sync::Arc;
 
 /// Of each vertex, those that have an edge to it, which copies share, and how many vertices that are not done it has edges to. There
 /// is room for a list of all vertices. Contracts see both as lists.
-#[derive(Drop)]
 pub(crate) struct Links {
     users: Arc<Vec<Vec<u32>>>,
     counts: Vec<u32>,
     reached: Vec<u32>,
+}
+
+// Written out, so that what owns one drops it by this one function.
+impl Drop for Links {
+    fn drop(self) {
+        let Links {
+            users: _,
+            counts: _,
+            reached: _,
+        } = self;
+    }
 }
 
 impl Model for Links {

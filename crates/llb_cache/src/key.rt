@@ -21,18 +21,39 @@ pub enum Mode {
 }
 
 /// An output that a new instance begins with: the digest text of an entry, and the output's index.
-#[derive(Debug, Drop)]
+#[derive(Debug)]
 pub struct Seed {
     pub digest: Text,
     pub index: u32,
 }
 
+// Written out, so that what owns one drops it by this one function.
+impl Drop for Seed {
+    fn drop(self) {
+        let Seed {
+            digest: _,
+            index: _,
+        } = self;
+    }
+}
+
 /// What a cache is known by. A new instance of a key without a seed begins empty.
-#[derive(Debug, Drop)]
+#[derive(Debug)]
 pub struct Key {
     pub id: Text,
     pub seed: Option<Seed>,
     pub mode: Mode,
+}
+
+// Written out, so that what owns one drops it by this one function.
+impl Drop for Key {
+    fn drop(self) {
+        let Key {
+            id: _,
+            seed: _,
+            mode: _,
+        } = self;
+    }
 }
 
 pub(crate) fn same_mode(mode: Mode, other: Mode) -> bool

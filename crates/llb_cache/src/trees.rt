@@ -10,9 +10,15 @@ use std::alloc::Global;
 use std::marker::Model;
 
 // The trees of a key's instances, by number.
-#[derive(Drop)]
 pub(crate) struct Trees {
     items: Vec<Tree>,
+}
+
+// Written out, so that what owns one drops it by this one function.
+impl Drop for Trees {
+    fn drop(self) {
+        let Trees { items: _ } = self;
+    }
 }
 
 impl Model for Trees {

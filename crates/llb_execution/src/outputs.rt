@@ -69,7 +69,11 @@ fn place_shown(mut outputs: Vec<Tree>, mut mounts: Vec<Shown>, given: &[Mount]) 
     ensures { result.items ≡ map (λ i. tree_for i (mount_outputs given.now) mounts.items) (range_with_len 0 (length outputs.items)) }
 {
     while let Some(shown) = mounts.pop() {
-        place(&mut outputs, mount_output(given, mounts.len()), shown.tree);
+        place(
+            &mut outputs,
+            mount_output(given, mounts.len()),
+            shown.into_tree(),
+        );
     }
     outputs
 }

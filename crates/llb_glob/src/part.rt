@@ -14,9 +14,15 @@ use std::alloc::Global;
 use std::marker::Model;
 
 /// A part of a pattern. Contracts see the list of its items.
-#[derive(Drop)]
 pub struct Part {
     items: Vec<Item>,
+}
+
+// Written out, so that what owns one drops it by this one function.
+impl Drop for Part {
+    fn drop(self) {
+        let Part { items: _ } = self;
+    }
 }
 
 impl Model for Part {

@@ -14,9 +14,15 @@ use std::alloc::Global;
 use std::marker::Model;
 
 /// A pattern: at most 128 parts, from the root down. Contracts see the list of its parts, each as the list of its items.
-#[derive(Drop)]
 pub struct Pattern {
     parts: Vec<Part>,
+}
+
+// Written out, so that what owns one drops it by this one function.
+impl Drop for Pattern {
+    fn drop(self) {
+        let Pattern { parts: _ } = self;
+    }
 }
 
 impl Model for Pattern {

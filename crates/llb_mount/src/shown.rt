@@ -9,12 +9,23 @@ use llb_wire::Same;
 
 /// A tree that is shown at a dest: what is below the dest is looked up in the tree below the selector, which need not be
 /// there. `View::set_tree` refuses a read-only mount.
-#[derive(Drop)]
 pub struct Shown {
     pub dest: Path,
     pub selector: Path,
     pub readonly: bool,
     pub tree: Tree,
+}
+
+// Written out, so that what owns one drops it by this one function.
+impl Drop for Shown {
+    fn drop(self) {
+        let Shown {
+            dest: _,
+            selector: _,
+            readonly: _,
+            tree: _,
+        } = self;
+    }
 }
 
 impl Shown {
@@ -32,6 +43,19 @@ impl Shown {
             readonly,
             tree,
         })
+    }
+
+    /// Gives the tree back.
+    pub fn into_tree(self) -> Tree
+        ensures { result ≡ self.tree }
+    {
+        let Shown {
+            dest: _,
+            selector: _,
+            readonly: _,
+            tree,
+        } = self;
+        tree
     }
 }
 

@@ -17,7 +17,6 @@ use llb_wire::{Boxed, Bytes, Many, Memory, Text};
 use std::alloc::Global;
 
 /// `FileActionMkFile`: `body` is the message's `data`.
-#[derive(Drop)]
 pub struct MkFile {
     pub path: Text,
     pub mode: i32,
@@ -25,6 +24,20 @@ pub struct MkFile {
     pub owner: Option<Boxed<ChownOpt>>,
     pub timestamp: i64,
     pub extra: Bytes,
+}
+
+// Written out, so that what owns one drops it by this one function.
+impl Drop for MkFile {
+    fn drop(self) {
+        let MkFile {
+            path: _,
+            mode: _,
+            body: _,
+            owner: _,
+            timestamp: _,
+            extra: _,
+        } = self;
+    }
 }
 
 impl Message for MkFile {
@@ -72,7 +85,6 @@ impl Message for MkFile {
 }
 
 /// `FileActionMkDir`.
-#[derive(Drop)]
 pub struct MkDir {
     pub path: Text,
     pub mode: i32,
@@ -80,6 +92,20 @@ pub struct MkDir {
     pub owner: Option<Boxed<ChownOpt>>,
     pub timestamp: i64,
     pub extra: Bytes,
+}
+
+// Written out, so that what owns one drops it by this one function.
+impl Drop for MkDir {
+    fn drop(self) {
+        let MkDir {
+            path: _,
+            mode: _,
+            make_parents: _,
+            owner: _,
+            timestamp: _,
+            extra: _,
+        } = self;
+    }
 }
 
 impl Message for MkDir {
@@ -126,7 +152,6 @@ impl Message for MkDir {
 }
 
 /// `FileActionCopy`.
-#[derive(Drop)]
 pub struct CopyFile {
     pub src: Text,
     pub dest: Text,
@@ -143,6 +168,28 @@ pub struct CopyFile {
     pub include_patterns: Many<Text>,
     pub exclude_patterns: Many<Text>,
     pub extra: Bytes,
+}
+
+// Written out, so that what owns one drops it by this one function.
+impl Drop for CopyFile {
+    fn drop(self) {
+        let CopyFile {
+            src: _,
+            dest: _,
+            owner: _,
+            mode: _,
+            follow_symlink: _,
+            dir_copy_contents: _,
+            attempt_unpack_docker_compatibility: _,
+            create_dest_path: _,
+            allow_wildcard: _,
+            allow_empty_wildcard: _,
+            timestamp: _,
+            include_patterns: _,
+            exclude_patterns: _,
+            extra: _,
+        } = self;
+    }
 }
 
 // A copy from its records, but for the owner.
@@ -224,12 +271,23 @@ impl Message for CopyFile {
 }
 
 /// `FileActionRm`.
-#[derive(Drop)]
 pub struct Rm {
     pub path: Text,
     pub allow_not_found: bool,
     pub allow_wildcard: bool,
     pub extra: Bytes,
+}
+
+// Written out, so that what owns one drops it by this one function.
+impl Drop for Rm {
+    fn drop(self) {
+        let Rm {
+            path: _,
+            allow_not_found: _,
+            allow_wildcard: _,
+            extra: _,
+        } = self;
+    }
 }
 
 impl Message for Rm {

@@ -18,9 +18,15 @@ use std::alloc::Global;
 use std::marker::Model;
 
 /// The entries of a definition, in order. Contracts see the list of their bytes.
-#[derive(Drop)]
 pub struct Entries {
     entries: Vec<Bytes>,
+}
+
+// Written out, so that what owns one drops it by this one function.
+impl Drop for Entries {
+    fn drop(self) {
+        let Entries { entries: _ } = self;
+    }
 }
 
 impl Model for Entries {
@@ -55,7 +61,8 @@ impl Entries {
     pub fn into_vec(self) -> Vec<Bytes>
         ensures { result.items ≡ self }
     {
-        self.entries
+        let Entries { entries } = self;
+        entries
     }
 }
 

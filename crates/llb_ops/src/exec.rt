@@ -15,7 +15,6 @@ use llb_wire::{Bytes, Many, Memory, Text};
 use std::alloc::Global;
 
 /// Commands that run with mounts.
-#[derive(Drop)]
 pub struct ExecOp {
     pub meta: Option<Meta>,
     pub mounts: Many<Mount>,
@@ -26,8 +25,21 @@ pub struct ExecOp {
     pub extra: Bytes,
 }
 
+// Written out, so that what owns one drops it by this one function.
+impl Drop for ExecOp {
+    fn drop(self) {
+        let ExecOp {
+            meta: _,
+            mounts: _,
+            network: _,
+            security: _,
+            secretenv: _,
+            extra: _,
+        } = self;
+    }
+}
+
 /// What is run, and where.
-#[derive(Drop)]
 pub struct Meta {
     pub args: Many<Text>,
     pub env: Many<Text>,
@@ -36,8 +48,20 @@ pub struct Meta {
     pub extra: Bytes,
 }
 
+// Written out, so that what owns one drops it by this one function.
+impl Drop for Meta {
+    fn drop(self) {
+        let Meta {
+            args: _,
+            env: _,
+            cwd: _,
+            user: _,
+            extra: _,
+        } = self;
+    }
+}
+
 /// A tree under a path.
-#[derive(Drop)]
 pub struct Mount {
     pub input: i64,
     pub selector: Text,
@@ -52,20 +76,53 @@ pub struct Mount {
     pub extra: Bytes,
 }
 
+// Written out, so that what owns one drops it by this one function.
+impl Drop for Mount {
+    fn drop(self) {
+        let Mount {
+            input: _,
+            selector: _,
+            dest: _,
+            output: _,
+            readonly: _,
+            mount_type: _,
+            tmpfs_opt: _,
+            cache_opt: _,
+            extra: _,
+        } = self;
+    }
+}
+
 /// Of a tmpfs mount: its size in bytes.
-#[derive(Drop)]
 pub struct TmpfsOpt {
     pub size: i64,
     pub extra: Bytes,
 }
 
+// Written out, so that what owns one drops it by this one function.
+impl Drop for TmpfsOpt {
+    fn drop(self) {
+        let TmpfsOpt { size: _, extra: _ } = self;
+    }
+}
+
 /// Of a cache mount.
-#[derive(Drop)]
 pub struct CacheOpt {
     pub id: Text,
     /// 0 shared, 1 private, 2 locked.
     pub sharing: i32,
     pub extra: Bytes,
+}
+
+// Written out, so that what owns one drops it by this one function.
+impl Drop for CacheOpt {
+    fn drop(self) {
+        let CacheOpt {
+            id: _,
+            sharing: _,
+            extra: _,
+        } = self;
+    }
 }
 
 impl Message for ExecOp {

@@ -15,20 +15,34 @@ use std::marker::Model;
 use std::sync::Arc;
 
 /// Actions on trees, done in their order.
-#[derive(Drop)]
 pub struct FileOp {
     pub actions: Actions,
     pub extra: Bytes,
 }
 
+// Written out, so that what owns one drops it by this one function.
+impl Drop for FileOp {
+    fn drop(self) {
+        let FileOp {
+            actions: _,
+            extra: _,
+        } = self;
+    }
+}
+
 /// The actions of a file op, which its copies share. Contracts see the list of them.
-#[derive(Drop)]
 pub struct Actions {
     shared: Arc<Vec<Action>>,
 }
 
+// Written out, so that what owns one drops it by this one function.
+impl Drop for Actions {
+    fn drop(self) {
+        let Actions { shared: _ } = self;
+    }
+}
+
 /// `FileAction`: one action, its inputs, and the output that its result is, -1 for none.
-#[derive(Drop)]
 pub struct Action {
     pub input: i64,
     pub secondary_input: i64,
@@ -36,6 +50,19 @@ pub struct Action {
     /// The member that is set, if any.
     pub kind: Option<ActionKind>,
     pub extra: Bytes,
+}
+
+// Written out, so that what owns one drops it by this one function.
+impl Drop for Action {
+    fn drop(self) {
+        let Action {
+            input: _,
+            secondary_input: _,
+            output: _,
+            kind: _,
+            extra: _,
+        } = self;
+    }
 }
 
 /// What an action does.

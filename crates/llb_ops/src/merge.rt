@@ -9,17 +9,32 @@ use llb_wire::{Bytes, Many, Memory};
 use std::alloc::Global;
 
 /// Trees that are laid one over the other, in their order.
-#[derive(Drop)]
 pub struct MergeOp {
     pub inputs: Many<MergeInput>,
     pub extra: Bytes,
 }
 
+// Written out, so that what owns one drops it by this one function.
+impl Drop for MergeOp {
+    fn drop(self) {
+        let MergeOp {
+            inputs: _,
+            extra: _,
+        } = self;
+    }
+}
+
 /// One tree: an input of the op, or -1 for the empty tree.
-#[derive(Drop)]
 pub struct MergeInput {
     pub input: i64,
     pub extra: Bytes,
+}
+
+// Written out, so that what owns one drops it by this one function.
+impl Drop for MergeInput {
+    fn drop(self) {
+        let MergeInput { input: _, extra: _ } = self;
+    }
 }
 
 impl Message for MergeOp {

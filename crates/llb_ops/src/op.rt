@@ -53,11 +53,21 @@ pub enum Kind {
 }
 
 /// An output of another op: the digest of that op's bytes, and which of its outputs.
-#[derive(Drop)]
 pub struct Input {
     pub digest: Text,
     pub index: i64,
     pub extra: Bytes,
+}
+
+// Written out, so that what owns one drops it by this one function.
+impl Drop for Input {
+    fn drop(self) {
+        let Input {
+            digest: _,
+            index: _,
+            extra: _,
+        } = self;
+    }
 }
 
 impl Message for Input {

@@ -9,11 +9,21 @@ use llb_wire::{Bytes, Memory};
 use std::alloc::Global;
 
 /// The owner that made or copied entries get.
-#[derive(Drop)]
 pub struct ChownOpt {
     pub user: Option<UserOpt>,
     pub group: Option<UserOpt>,
     pub extra: Bytes,
+}
+
+// Written out, so that what owns one drops it by this one function.
+impl Drop for ChownOpt {
+    fn drop(self) {
+        let ChownOpt {
+            user: _,
+            group: _,
+            extra: _,
+        } = self;
+    }
 }
 
 impl Message for ChownOpt {
@@ -50,10 +60,16 @@ impl Message for ChownOpt {
 }
 
 /// A user or a group.
-#[derive(Drop)]
 pub struct UserOpt {
     pub user: Option<User>,
     pub extra: Bytes,
+}
+
+// Written out, so that what owns one drops it by this one function.
+impl Drop for UserOpt {
+    fn drop(self) {
+        let UserOpt { user: _, extra: _ } = self;
+    }
 }
 
 const USERS: [u32; 2] = [1, 2];

@@ -15,25 +15,47 @@ use std::alloc::Global;
 use std::marker::Model;
 
 /// A tree from outside, named by its identifier.
-#[derive(Drop)]
 pub struct SourceOp {
     pub identifier: Text,
     pub attrs: Attributes,
     pub extra: Bytes,
 }
 
+// Written out, so that what owns one drops it by this one function.
+impl Drop for SourceOp {
+    fn drop(self) {
+        let SourceOp {
+            identifier: _,
+            attrs: _,
+            extra: _,
+        } = self;
+    }
+}
+
 /// The attributes of a source by their keys: the last entry for a key, at the place of the first. Contracts see the list
 /// of keys and attributes.
-#[derive(Drop)]
 pub struct Attributes {
     held: IndexMap<Text, Attribute>,
 }
 
+// Written out, so that what owns one drops it by this one function.
+impl Drop for Attributes {
+    fn drop(self) {
+        let Attributes { held: _ } = self;
+    }
+}
+
 /// What stands after a key.
-#[derive(Drop)]
 pub struct Attribute {
     pub value: Text,
     pub extra: Bytes,
+}
+
+// Written out, so that what owns one drops it by this one function.
+impl Drop for Attribute {
+    fn drop(self) {
+        let Attribute { value: _, extra: _ } = self;
+    }
 }
 
 /// An entry of the map of attributes, which is a message with key 1 and value 2.

@@ -36,9 +36,15 @@ impl Outcome {
 }
 
 /// The outcomes of vertices, by number. Contracts see the list of them, in the words of the machine's definitions.
-#[derive(Drop)]
 pub struct Outcomes {
     items: Vec<Outcome>,
+}
+
+// Written out, so that what owns one drops it by this one function.
+impl Drop for Outcomes {
+    fn drop(self) {
+        let Outcomes { items: _ } = self;
+    }
 }
 
 impl Model for Outcomes {

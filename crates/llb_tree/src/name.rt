@@ -12,9 +12,16 @@ use std::cmp::Ordering;
 use std::marker::Model;
 
 /// A name: 1 to 255 bytes of UTF-8 without `/`, none below 0x20 and none 0x7F, and neither `.` nor `..`.
-#[derive(Clone, Drop)]
+#[derive(Clone)]
 pub struct Name {
     text: String,
+}
+
+// Written out, so that what owns one drops it by this one function.
+impl Drop for Name {
+    fn drop(self) {
+        let Name { text: _ } = self;
+    }
 }
 
 impl Model for Name {

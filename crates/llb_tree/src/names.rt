@@ -6,9 +6,15 @@ use crate::name::Name;
 use std::marker::Model;
 
 /// Names in the order of their bytes, as a directory has them. Contracts see the list of them.
-#[derive(Drop)]
 pub struct Names {
     names: Vec<Name>,
+}
+
+// Written out, so that what owns one drops it by this one function.
+impl Drop for Names {
+    fn drop(self) {
+        let Names { names: _ } = self;
+    }
 }
 
 impl Model for Names {

@@ -14,9 +14,16 @@ use std::cmp::Ordering;
 use std::marker::Model;
 
 /// A path: at most 128 names, from the root down. The root has none.
-#[derive(Clone, Drop)]
+#[derive(Clone)]
 pub struct Path {
     names: Vec<Name>,
+}
+
+// Written out, so that what owns one drops it by this one function.
+impl Drop for Path {
+    fn drop(self) {
+        let Path { names: _ } = self;
+    }
 }
 
 impl Model for Path {

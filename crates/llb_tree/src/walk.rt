@@ -17,11 +17,21 @@ use crate::tree::Tree;
 use std::marker::Model;
 
 /// A walk over the entries of a tree in path order. Contracts see the entries that are left.
-#[derive(Drop)]
 pub struct Walk<'a> {
     present: Option<&'a Node>,
     path: Path,
     levels: Vec<&'a [Child]>,
+}
+
+// Written out, so that what owns one drops it by this one function.
+impl<'a> Drop for Walk<'a> {
+    fn drop(self) {
+        let Walk {
+            present: _,
+            path: _,
+            levels: _,
+        } = self;
+    }
 }
 
 impl<'a> Model for Walk<'a> {

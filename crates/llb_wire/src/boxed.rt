@@ -8,9 +8,15 @@ use std::alloc::Global;
 use std::marker::Model;
 
 /// A value in a place of its own: an enum whose large variants are boxed takes the room of its small ones.
-#[derive(Drop)]
 pub struct Boxed<T> {
     place: Box<T>,
+}
+
+// Written out, so that what owns one drops it by this one function.
+impl<T: Drop> Drop for Boxed<T> {
+    fn drop(self) {
+        let Boxed { place: _ } = self;
+    }
 }
 
 impl<T> Model for Boxed<T> {
@@ -40,7 +46,8 @@ impl<T> Boxed<T> {
     pub fn into_inner(self) -> T
         ensures { result ≡ self }
     {
-        Box::into_inner(self.place)
+        let Boxed { place } = self;
+        Box::into_inner(place)
     }
 }
 

@@ -9,9 +9,16 @@ use std::alloc::Global;
 use std::marker::Model;
 
 /// A byte string that owns its memory. Contracts see the list of its bytes.
-#[derive(Clone, Debug, Drop)]
+#[derive(Clone, Debug)]
 pub struct Bytes {
     content: Vec<u8>,
+}
+
+// Written out, so that what owns one drops it by this one function.
+impl Drop for Bytes {
+    fn drop(self) {
+        let Bytes { content: _ } = self;
+    }
 }
 
 impl Model for Bytes {
@@ -59,7 +66,8 @@ impl Bytes {
     pub fn into_vec(self) -> Vec<u8>
         ensures { result.items ≡ self }
     {
-        self.content
+        let Bytes { content } = self;
+        content
     }
 
     /// An equal second owner.

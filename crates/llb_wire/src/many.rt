@@ -7,9 +7,16 @@ use std::alloc::Global;
 use std::marker::Model;
 
 /// A list that owns its items. Contracts see the list of their values.
-#[derive(Debug, Drop)]
+#[derive(Debug)]
 pub struct Many<T> {
     items: Vec<T>,
+}
+
+// Written out, so that what owns one drops it by this one function.
+impl<T: Drop> Drop for Many<T> {
+    fn drop(self) {
+        let Many { items: _ } = self;
+    }
 }
 
 impl<T> Model for Many<T> {
@@ -55,7 +62,8 @@ impl<T> Many<T> {
     pub fn into_vec(self) -> Vec<T>
         ensures { result.items ≡ self }
     {
-        self.items
+        let Many { items } = self;
+        items
     }
 }
 

@@ -12,9 +12,16 @@ use std::hash::{Hash, Hasher};
 use std::marker::Model;
 
 /// A text in UTF-8 that owns its memory. Contracts see the list of its bytes.
-#[derive(Debug, Drop)]
+#[derive(Debug)]
 pub struct Text {
     content: String,
+}
+
+// Written out, so that what owns one drops it by this one function.
+impl Drop for Text {
+    fn drop(self) {
+        let Text { content: _ } = self;
+    }
 }
 
 impl Model for Text {
@@ -53,7 +60,8 @@ impl Text {
     pub fn into_string(self) -> String
         ensures { string_bytes result ≡ self }
     {
-        self.content
+        let Text { content } = self;
+        content
     }
 
     /// An equal second owner.

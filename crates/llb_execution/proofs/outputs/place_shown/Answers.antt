@@ -20,7 +20,8 @@ loop-shown-preserved c =
     let here = rw front at c.loop-shown.invariant in
     let k : c.len.result ≡ length rest = search rules in
     let next : c.place.new.outputs.items ≡ placed_by (slice_get given (length (trees_of rest))) c.in-Some.shown.tree c.loop-shown.outputs.items
-    = c.place.ensures ∙ ap (λ o. placed_by o c.in-Some.shown.tree c.loop-shown.outputs.items)
+    = c.place.ensures ∙ ap (λ t. placed_by c.mount_output.result t c.loop-shown.outputs.items) c.into_tree.ensures
+    ∙ ap (λ o. placed_by o c.in-Some.shown.tree c.loop-shown.outputs.items)
     (c.mount_output.ensures ∙ ap (slice_get given) (k ∙ sym (length-map rest (λ (m : Shown). m.tree)))) in
     rw next (placed_next given (trees_of c.args.mounts.items) (length c.args.outputs.items) (trees_of rest) c.in-Some.shown.tree
     c.loop-shown.outputs.items here)

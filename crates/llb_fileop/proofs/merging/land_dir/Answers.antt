@@ -16,11 +16,11 @@ returns-then-not-is_dir c = λ _.
     elim c.if-not-is_there.branch [
       | then-not-is_there+in_ok-copy_from w ↦
           let none = none_there (finite.get c.args.tree.now c.args.goal.now) (sym c.is_there.ensures.there ∙ w.if-not-is_there.true) in
-          let there : put_some (laid given None (finite.get c.args.source.now [])) c.args.tree.now c.args.goal.now ≡ Ok w.copy_from-then-not-is_there.new.tree
+          let there : put_some (laid given None (finite.get c.args.source.now [])) c.args.tree.now c.args.goal.now ≡ Ok w.copy_from.new.tree
           = ap (λ p. put_some (laid given None (finite.get c.args.source.now p)) c.args.tree.now c.args.goal.now) (sym w.root.ensures)
           ∙ w.in_ok-copy_from.ensures in
           let made = dir_is_made given c.args.source.now c.args.tree.now c.args.goal.now c.requires.short c.requires.dir
-          w.copy_from-then-not-is_there.new.tree none there in
+          w.copy_from.new.tree none there in
           absurd (true≢false (sym made ∙ ap (λ t. is_dir (finite.get t c.args.goal.now)) (sym w.tree-is) ∙ not_dir))
       | else-not-is_there w ↦
           let there : is_some (finite.get c.args.tree.now c.args.goal.now) ≡ true = sym c.is_there.ensures.there ∙ w.if-not-is_there.false in
@@ -35,11 +35,11 @@ returns c =
     let lands : land given es c.if-not-is_there.tree ≡ land_at given es c.args.goal.now c.args.tree.now = elim c.if-not-is_there.branch [
       | then-not-is_there+in_ok-copy_from w ↦
           let none = none_there (finite.get c.args.tree.now c.args.goal.now) (sym c.is_there.ensures.there ∙ w.if-not-is_there.true) in
-          let there : put_some (laid given None (finite.get c.args.source.now [])) c.args.tree.now c.args.goal.now ≡ Ok w.copy_from-then-not-is_there.new.tree
+          let there : put_some (laid given None (finite.get c.args.source.now [])) c.args.tree.now c.args.goal.now ≡ Ok w.copy_from.new.tree
           = ap (λ p. put_some (laid given None (finite.get c.args.source.now p)) c.args.tree.now c.args.goal.now) (sym w.root.ensures)
           ∙ w.in_ok-copy_from.ensures in
           ap (land given es) w.tree-is
-          ∙ dir_made given c.args.source.now c.args.tree.now c.args.goal.now c.requires.short c.requires.dir w.copy_from-then-not-is_there.new.tree none there
+          ∙ dir_made given c.args.source.now c.args.tree.now c.args.goal.now c.requires.short c.requires.dir w.copy_from.new.tree none there
       | else-not-is_there w ↦
           let there : is_some (finite.get c.args.tree.now c.args.goal.now) ≡ true = sym c.is_there.ensures.there ∙ w.if-not-is_there.false in
           ap (land given es) w.tree-is
