@@ -1,163 +1,193 @@
 //! `asm` and `dis`: texts and the definitions of their entries, refusals, and devices that fail.
 
-use super::devices::{Narrow, Ran, Slow};
-use crate::assembling::asm_over;
-use crate::disassembling::dis_over;
-use std::alloc::Global;
-use std::io::{Read, Write};
-use std::test::Fail;
+use super::told::is_told;
 
-#[derive(Clone, Copy, PartialEq, Eq)]
-enum Way {
-    Assemble,
-    Disassemble,
-}
-
-// The status with which an input goes through, one way or the other.
-fn through<R: Read, W: Write>(
-    alloc: Global,
-    way: Way,
-    input: &mut R,
-    out: &mut W,
-    err: &mut Vec<u8>,
-) -> u8 {
-    match way {
-        Way::Assemble => asm_over(alloc, input, out, err),
-        Way::Disassemble => dis_over(alloc, input, out, err),
+/// Texts by their names.
+pub const TEXTS: &str = "
+== MERGE: A merge of nothing.
+op {
+  merge {
+    inputs {
+      input -1
     }
+  }
+  extra 520e0a05616d64363412056c696e75785a00
 }
-
-fn answers(alloc: Global, way: Way, input: &[u8], status: u8, out: &[u8], err: &str) -> bool {
-    let mut bytes = input;
-    let mut told = Vec::new(alloc);
-    let mut faults = Vec::new(alloc);
-    let ended = through(alloc, way, &mut bytes, &mut told, &mut faults);
-    ended == status && told.as_slice() == out && faults.as_slice() == err.as_bytes()
+== MERGE_WITH_A_COMMENT: The same, otherwise laid out.
+# a merge of nothing
+op {
+\tmerge {
+\tinputs {
+\tinput -1
+\t}
+\t}
+\textra 520e0a05616d64363412056c696e75785a00
 }
-
-// Whether a text is assembled to a definition, given in hexadecimal digits, which is written as another text.
-fn stands_for(
-    alloc: Global,
-    text: &str,
-    definition: &str,
-    written: &str,
-) -> Result<bool, hex::FromHexError> {
-    let bytes = hex::decode(alloc, definition)?;
-    let assembled = answers(alloc, Way::Assemble, text.as_bytes(), 0, &bytes, "");
-    let told = answers(alloc, Way::Disassemble, &bytes, 0, written.as_bytes(), "");
-    Ok(assembled && told)
+== RAW: An entry by its bytes.
+raw b20000
+== INPUT: The index of an input is written where it is not 0.
+op {
+  inputs {
+    digest \"a\"
+    index 0
+  }
 }
+== ABC: An entry of three letters.
+raw 616263
+== NONE: No entry.
+== UNCLOSED
+op {
+== OWN_LABEL
+op {
+inputs {
+digest %0
+}
+}
+== ODD_DIGITS
+raw 0
+== TWICE
+op {
+extra 5a00
+extra 5a00
+}
+== NO_FIELD
+op {
+nosuch 1
+}
+== NO_BRACE
+raw -
+op
+";
 
-const MERGE: &str =
-    "op {\n  merge {\n    inputs {\n      input -1\n    }\n  }\n  extra 520e0a05616d64363412056c696e75785a00\n}\n";
+const WRITTEN: &str = "
+    > asm < @MERGE
+    0a21320d0a0b08ffffffffffffffffff01520e0a05616d64363412056c696e75785a00
+    > asm < @MERGE_WITH_A_COMMENT
+    0a21320d0a0b08ffffffffffffffffff01520e0a05616d64363412056c696e75785a00
+    > dis < =0a21320d0a0b08ffffffffffffffffff01520e0a05616d64363412056c696e75785a00
+    op {
+      merge {
+        inputs {
+          input -1
+        }
+      }
+      extra 520e0a05616d64363412056c696e75785a00
+    }
 
-const MERGE_WITH_A_COMMENT: &str =
-    "# a merge of nothing\nop {\n\tmerge {\n\tinputs {\n\tinput -1\n\t}\n\t}\n\textra 520e0a05616d64363412056c696e75785a00\n}\n";
+    > asm < @RAW
+    0a03b20000
+    > dis < =0a03b20000
+    raw b20000
 
-const MERGE_DEFINITION: &str =
-    "0a21320d0a0b08ffffffffffffffffff01520e0a05616d64363412056c696e75785a00";
+    > asm < @INPUT
+    0a050a030a0161
+    > dis < =0a050a030a0161
+    op {
+      inputs {
+        digest \"a\"
+      }
+    }
+
+    # No entry is an empty definition.
+    > asm < @NONE
+    -
+    > dis < =-
+    ";
 
 #[test]
-fn texts_and_definitions_stand_for_each_other(rt: HostRuntime) -> Result<(), Fail> {
-    let rows = [
-        (MERGE, MERGE_DEFINITION, MERGE),
-        (MERGE_WITH_A_COMMENT, MERGE_DEFINITION, MERGE),
-        ("raw b20000", "0a03b20000", "raw b20000\n"),
-        (
-            "op {\n  inputs {\n    digest \"a\"\n    index 0\n  }\n}\n",
-            "0a050a030a0161",
-            "op {\n  inputs {\n    digest \"a\"\n  }\n}\n",
-        ),
-        ("", "", ""),
-    ];
-    for (text, definition, written) in rows {
-        assert!(rt;
-            stands_for(rt.alloc(), text, definition, written)?,
-            "{text}"
-        );
-    }
-    Ok(())
+fn texts_and_definitions_stand_for_each_other(rt: HostRuntime) {
+    is_told(&rt, rt.alloc(), WRITTEN);
 }
+
+const REFUSED: &str = "
+    > asm < @UNCLOSED
+    -
+    ! fault 161 1 Unclosed
+    status 2
+    > asm < @OWN_LABEL
+    -
+    ! fault 162 3
+    status 2
+    > asm < @ODD_DIGITS
+    -
+    ! fault 161 1 BadValue
+    status 2
+    > asm < @TWICE
+    -
+    ! fault 161 3 Order
+    status 2
+    > asm < @NO_FIELD
+    -
+    ! fault 161 2 UnknownField
+    status 2
+    > asm < @NO_BRACE
+    -
+    ! fault 161 2 Syntax
+    status 2
+    > dis < =0a
+    ! fault 1
+    status 2
+    > dis < =0800
+    ! fault 11
+    status 2
+    ";
 
 #[test]
 fn the_first_refused_line_or_record_is_told(rt: HostRuntime) {
-    let rows: [(Way, &[u8], &str); 8] = [
-        (Way::Assemble, b"op {", "fault 161 1 Unclosed\n"),
-        (
-            Way::Assemble,
-            b"op {\ninputs {\ndigest %0\n}\n}\n",
-            "fault 162 3\n",
-        ),
-        (Way::Assemble, b"raw 0", "fault 161 1 BadValue\n"),
-        (
-            Way::Assemble,
-            b"op {\nextra 5a00\nextra 5a00\n}\n",
-            "fault 161 3 Order\n",
-        ),
-        (
-            Way::Assemble,
-            b"op {\nnosuch 1\n}\n",
-            "fault 161 2 UnknownField\n",
-        ),
-        (Way::Assemble, b"raw -\nop\n", "fault 161 2 Syntax\n"),
-        (Way::Disassemble, b"\x0a", "fault 1\n"),
-        (Way::Disassemble, b"\x08\x00", "fault 11\n"),
-    ];
-    for (way, input, line) in rows {
-        assert!(rt; answers(rt.alloc(), way, input, 2, b"", line), "{line}");
-    }
+    is_told(&rt, rt.alloc(), REFUSED);
 }
+
+const DEVICES: &str = "
+    # A reader that fails gives nothing.
+    > [0 reads] asm < @NONE
+    -
+    ! fault 181
+    status 3
+    > [0 reads] dis < =-
+    ! fault 181
+    status 3
+
+    # A writer that fails gets a prefix.
+    > [0 writes] asm < @ABC
+    -
+    ! fault 182
+    status 3
+    > [1 writes] asm < @ABC
+    0a
+    ! fault 182
+    status 3
+    > [4 writes] asm < @ABC
+    0a036162
+    ! fault 182
+    status 3
+    > [5 writes] asm < @ABC
+    0a03616263
+    > [5 writes, 1 end] asm < @ABC
+    0a03616263
+    ! fault 182
+    status 3
+    > [0 writes] dis < =0a03616263
+    ! fault 164
+    status 3
+    > [1 writes] dis < =0a03616263
+    r
+    (and no end of line)
+    ! fault 164
+    status 3
+    > [10 writes] dis < =0a03616263
+    raw 616263
+    (and no end of line)
+    ! fault 164
+    status 3
+    > [11 writes] dis < =0a03616263
+    raw 616263
+    > [11 writes, 1 end] dis < =0a03616263
+    raw 616263
+    ! fault 164
+    status 3
+    ";
 
 #[test]
-fn a_reader_that_fails_gives_nothing(rt: HostRuntime) {
-    for way in [Way::Assemble, Way::Disassemble] {
-        let mut input = Slow {
-            bytes: b"",
-            room: 0,
-        };
-        let mut out = Vec::new(rt.alloc());
-        let mut err = Vec::new(rt.alloc());
-        let status = through(rt.alloc(), way, &mut input, &mut out, &mut err);
-        let ran = Ran { status, out, err };
-        assert!(rt; ran.is(3, "", "fault 181\n"));
-    }
-}
-
-// What comes of an input over a writer that takes that many bytes.
-fn narrowly(alloc: Global, way: Way, input: &[u8], room: usize, flushes: bool) -> Ran {
-    let mut bytes = input;
-    let mut out = Narrow::new(alloc, room);
-    out.flushes = flushes;
-    let mut err = Vec::new(alloc);
-    let status = through(alloc, way, &mut bytes, &mut out, &mut err);
-    let Narrow { held, .. } = out;
-    Ran {
-        status,
-        out: held,
-        err,
-    }
-}
-
-#[test]
-fn a_writer_that_fails_gets_a_prefix(rt: HostRuntime) {
-    let rows: [(Way, &[u8], &str, &str); 2] = [
-        (Way::Assemble, b"raw 616263\n", "\x0a\x03abc", "fault 182\n"),
-        (
-            Way::Disassemble,
-            b"\x0a\x03abc",
-            "raw 616263\n",
-            "fault 164\n",
-        ),
-    ];
-    for (way, input, whole, line) in rows {
-        for room in [0, 1, whole.len() - 1] {
-            let ran = narrowly(rt.alloc(), way, input, room, true);
-            assert!(rt;
-                ran.status == 3 && ran.out.len() == room && ran.err.as_slice() == line.as_bytes()
-            );
-            assert!(rt; whole.as_bytes().starts_with(&ran.out));
-        }
-        assert!(rt; narrowly(rt.alloc(), way, input, whole.len(), true).is(0, whole, ""));
-        assert!(rt; narrowly(rt.alloc(), way, input, whole.len(), false).is(3, whole, line));
-    }
+fn devices_that_fail_end_an_assembly(rt: HostRuntime) {
+    is_told(&rt, rt.alloc(), DEVICES);
 }

@@ -1,24 +1,9 @@
-//! Definitions by their entries, each in the assembler's text: `%0` is the first entry of the definition that it stands in.
+//! Entries of definitions by their names, each in the assembler's text: `%0` is the first entry of the definition that it stands in. After
+//! `==` stand an entry's name and what it is.
 
-use llb_asm::assemble;
-use llb_ops::write_definition;
-use llb_wire::Bytes;
-use std::alloc::Global;
-use std::test::Fail;
-
-/// The bytes of the definition that has these entries.
-pub fn bytes_of(alloc: Global, entries: &[&str]) -> Result<Bytes, Fail> {
-    let mut text = String::new(alloc);
-    for entry in entries {
-        text.push_str(entry)?;
-        text.push_str("\n")?;
-    }
-    let entries = assemble(alloc, text.as_bytes())?;
-    Ok(write_definition(alloc, &entries)?)
-}
-
-// A file `/a` with the content `hi` on nothing.
-pub const MAKES_A: &str = r#"op {
+pub const ENTRIES: &str = r#"
+== MAKES_A: A file `/a` with the content `hi` on nothing.
+op {
   file {
     actions {
       input -1
@@ -31,10 +16,9 @@ pub const MAKES_A: &str = r#"op {
       }
     }
   }
-}"#;
-
-// A file `/b` on nothing.
-pub const MAKES_B: &str = r#"op {
+}
+== MAKES_B: A file `/b` on nothing.
+op {
   file {
     actions {
       input -1
@@ -47,10 +31,9 @@ pub const MAKES_B: &str = r#"op {
       }
     }
   }
-}"#;
-
-// A file `/x/a`, whose directory is missing.
-pub const MAKES_XA: &str = r#"op {
+}
+== MAKES_XA: A file `/x/a`, whose directory is missing.
+op {
   file {
     actions {
       input -1
@@ -63,10 +46,9 @@ pub const MAKES_XA: &str = r#"op {
       }
     }
   }
-}"#;
-
-// A directory `/d` on what the first entry gives.
-pub const D_ON_0: &str = r#"op {
+}
+== D_ON_0: A directory `/d` on what the first entry gives.
+op {
   inputs {
     digest %0
   }
@@ -80,10 +62,9 @@ pub const D_ON_0: &str = r#"op {
       }
     }
   }
-}"#;
-
-// A directory `/d` on what the second entry gives; the first is an input, too.
-pub const D_ON_1: &str = r#"op {
+}
+== D_ON_1: A directory `/d` on what the second entry gives; the first is an input, too.
+op {
   inputs {
     digest %0
   }
@@ -101,10 +82,9 @@ pub const D_ON_1: &str = r#"op {
       }
     }
   }
-}"#;
-
-// A directory `/d` on what the entry of the file `/a` gives, which may stand after it.
-pub const D_ON_A: &str = r#"op {
+}
+== D_ON_A: A directory `/d` on what the entry of the file `/a` gives, which may stand after it.
+op {
   inputs {
     digest "sha256:e00d65597895790f7dc26dbf724a411bd83c8e15881ab3eea18ea75095782dab"
   }
@@ -118,10 +98,9 @@ pub const D_ON_A: &str = r#"op {
       }
     }
   }
-}"#;
-
-// A file on an input that the op does not have.
-pub const ON_NO_INPUT: &str = r#"op {
+}
+== ON_NO_INPUT: A file on an input that the op does not have.
+op {
   file {
     actions {
       secondaryInput -1
@@ -133,16 +112,14 @@ pub const ON_NO_INPUT: &str = r#"op {
       }
     }
   }
-}"#;
-
-// A file op without actions.
-pub const NO_ACTIONS: &str = r#"op {
+}
+== NO_ACTIONS: A file op without actions.
+op {
   file {
   }
-}"#;
-
-// A directory `/p` with a file `/p/q`, another file `/p`, and a directory `/p` with a file `/p/r`.
-pub const P_WITH_Q: &str = r#"op {
+}
+== P_WITH_Q: A directory `/p` with a file `/p/q`.
+op {
   file {
     actions {
       input -1
@@ -162,9 +139,9 @@ pub const P_WITH_Q: &str = r#"op {
       }
     }
   }
-}"#;
-
-pub const FILE_P: &str = r#"op {
+}
+== FILE_P: A file `/p`.
+op {
   file {
     actions {
       input -1
@@ -176,9 +153,9 @@ pub const FILE_P: &str = r#"op {
       }
     }
   }
-}"#;
-
-pub const P_WITH_R: &str = r#"op {
+}
+== P_WITH_R: A directory `/p` with a file `/p/r`.
+op {
   file {
     actions {
       input -1
@@ -198,10 +175,9 @@ pub const P_WITH_R: &str = r#"op {
       }
     }
   }
-}"#;
-
-// The first three entries, laid over each other.
-pub const LAYERS: &str = r#"op {
+}
+== LAYERS: The first three entries, laid over each other.
+op {
   inputs {
     digest %0
   }
@@ -221,10 +197,9 @@ pub const LAYERS: &str = r#"op {
       input 2
     }
   }
-}"#;
-
-// A file `/a`, and a directory `/e` on it: two outputs.
-pub const TWO_OUTPUTS: &str = r#"op {
+}
+== TWO_OUTPUTS: A file `/a`, and a directory `/e` on it: two outputs.
+op {
   file {
     actions {
       input -1
@@ -246,10 +221,9 @@ pub const TWO_OUTPUTS: &str = r#"op {
       }
     }
   }
-}"#;
-
-// The second output of the first entry and then the first one, of which the second is changed.
-pub const TAKES_BOTH: &str = r#"op {
+}
+== TAKES_BOTH: The second output of the first entry and then the first one, of which the second is changed.
+op {
   inputs {
     digest %0
     index 1
@@ -277,42 +251,39 @@ pub const TAKES_BOTH: &str = r#"op {
       }
     }
   }
-}"#;
-
-// Local sources.
-pub const SOURCE_P: &str = r#"op {
+}
+== SOURCE_P: The local source `p`.
+op {
   source {
     identifier "local://p"
   }
-}"#;
-
-pub const SOURCE_Q: &str = r#"op {
+}
+== SOURCE_Q: The local source `q`.
+op {
   source {
     identifier "local://q"
   }
-}"#;
-
-pub const SOURCE_X: &str = r#"op {
+}
+== SOURCE_X: The local source `x`.
+op {
   source {
     identifier "local://x"
   }
-}"#;
-
-pub const SOURCE_Y: &str = r#"op {
+}
+== SOURCE_Y: The local source `y`.
+op {
   source {
     identifier "local://y"
   }
-}"#;
-
-// A source of another kind.
-pub const IMAGE: &str = r#"op {
+}
+== IMAGE: A source of another kind.
+op {
   source {
     identifier "docker-image://a"
   }
-}"#;
-
-// On the first entry: a directory `/d`, in it a copy of the file `/f` of the second, and `/old` goes.
-pub const CHANGES_0_BY_1: &str = r#"op {
+}
+== CHANGES_0_BY_1: On the first entry: a directory `/d`, in it a copy of the file `/f` of the second, and `/old` goes.
+op {
   inputs {
     digest %0
   }
@@ -346,77 +317,71 @@ pub const CHANGES_0_BY_1: &str = r#"op {
       }
     }
   }
-}"#;
-
-// A diff op.
-pub const DIFF: &str = r#"op {
+}
+== DIFF: A diff op.
+op {
   diff -
-}"#;
-
-// An entry without inputs and without a kind.
-pub const EMPTY: &str = r#"op {
-}"#;
-
-// Bytes whose first field has the number 0.
-pub const FIELD_ZERO: &str = "raw 00";
-
-// The terminal: the result is the first output of the entry of that number.
-pub const RESULT_0: &str = r#"op {
+}
+== EMPTY: An entry without inputs and without a kind.
+op {
+}
+== FIELD_ZERO: Bytes whose first field has the number 0.
+raw 00
+== RESULT_0: The terminal: the result is the first output of the first entry.
+op {
   inputs {
     digest %0
   }
-}"#;
-
-pub const RESULT_1: &str = r#"op {
+}
+== RESULT_1: The same of the second entry.
+op {
   inputs {
     digest %1
   }
-}"#;
-
-pub const RESULT_2: &str = r#"op {
+}
+== RESULT_2: The same of the third entry.
+op {
   inputs {
     digest %2
   }
-}"#;
-
-pub const RESULT_3: &str = r#"op {
+}
+== RESULT_3: The same of the fourth entry.
+op {
   inputs {
     digest %3
   }
-}"#;
-
-// The second output of the third entry.
-pub const RESULT_2_1: &str = r#"op {
+}
+== RESULT_2_1: The second output of the third entry.
+op {
   inputs {
     digest %2
     index 1
   }
-}"#;
-
-// Outputs that the first entry does not have.
-pub const RESULT_0_BELOW: &str = r#"op {
+}
+== RESULT_0_BELOW: An output before the first of the first entry.
+op {
   inputs {
     digest %0
     index -1
   }
-}"#;
-
-pub const RESULT_0_1: &str = r#"op {
+}
+== RESULT_0_1: The second output of the first entry.
+op {
   inputs {
     digest %0
     index 1
   }
-}"#;
-
-// A result by a digest that is spelled: that of the file `/a`, and one that no entry has.
-pub const RESULT_A: &str = r#"op {
+}
+== RESULT_A: A result by a digest that is spelled: that of the file `/a`.
+op {
   inputs {
     digest "sha256:e00d65597895790f7dc26dbf724a411bd83c8e15881ab3eea18ea75095782dab"
   }
-}"#;
-
-pub const RESULT_OF_NONE: &str = r#"op {
+}
+== RESULT_OF_NONE: A result by the digest of no entry.
+op {
   inputs {
     digest "sha256:82a4cba29467162cf4971751e8a434a03124f5b17fd5d545f7e32b927cc8db1e"
   }
-}"#;
+}
+"#;

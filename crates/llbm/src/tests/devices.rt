@@ -60,6 +60,11 @@ impl Narrow {
             flushes: true,
         }
     }
+
+    /// What was written.
+    pub fn into_held(self) -> Vec<u8> {
+        self.held
+    }
 }
 
 impl Write for Narrow {

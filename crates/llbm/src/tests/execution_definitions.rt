@@ -1,7 +1,8 @@
-//! Entries of executions, each in the assembler's text.
+//! Entries of executions by their names, written as the others.
 
-// An exec on the first two entries with three mounts, of which two give an output.
-pub const COPIES: &str = r#"op {
+pub const EXECUTIONS: &str = r#"
+== COPIES: An exec on the first two entries with three mounts, of which two give an output.
+op {
   inputs {
     digest %0
   }
@@ -30,10 +31,9 @@ pub const COPIES: &str = r#"op {
       output 1
     }
   }
-}"#;
-
-// Execs on nothing: of `false`, and of words that are no script.
-pub const FALSE: &str = r#"op {
+}
+== FALSE: An exec on nothing of `false`.
+op {
   exec {
     meta {
       args "false"
@@ -44,9 +44,9 @@ pub const FALSE: &str = r#"op {
       dest "/"
     }
   }
-}"#;
-
-pub const NO_APPLET: &str = r#"op {
+}
+== NO_APPLET: An exec on nothing of a word that is no applet.
+op {
   exec {
     meta {
       args "nope"
@@ -57,9 +57,9 @@ pub const NO_APPLET: &str = r#"op {
       dest "/"
     }
   }
-}"#;
-
-pub const WRONG_WORDS: &str = r#"op {
+}
+== WRONG_WORDS: An exec of a script whose second command lacks its word.
+op {
   exec {
     meta {
       args "/bin/sh"
@@ -72,9 +72,9 @@ pub const WRONG_WORDS: &str = r#"op {
       dest "/"
     }
   }
-}"#;
-
-pub const BAD_BYTE: &str = r#"op {
+}
+== BAD_BYTE: An exec of a script with a byte that scripts do not have.
+op {
   exec {
     meta {
       args "/bin/sh"
@@ -87,10 +87,9 @@ pub const BAD_BYTE: &str = r#"op {
       dest "/"
     }
   }
-}"#;
-
-// An exec that writes to a cache of locked mode and then fails.
-pub const WRITES_AND_FAILS: &str = r#"op {
+}
+== WRITES_AND_FAILS: An exec that writes to a cache of locked mode and then fails.
+op {
   exec {
     meta {
       args "/bin/sh"
@@ -113,10 +112,9 @@ pub const WRITES_AND_FAILS: &str = r#"op {
       }
     }
   }
-}"#;
-
-// An exec that writes to a shared cache, and one on its output that copies from the same cache.
-pub const WRITES: &str = r#"op {
+}
+== WRITES: An exec that writes to a shared cache.
+op {
   exec {
     meta {
       args "/bin/sh"
@@ -138,9 +136,9 @@ pub const WRITES: &str = r#"op {
       }
     }
   }
-}"#;
-
-pub const COPIES_FROM_CACHE: &str = r#"op {
+}
+== COPIES_FROM_CACHE: An exec on the first entry that copies from the same cache.
+op {
   inputs {
     digest %0
   }
@@ -164,4 +162,5 @@ pub const COPIES_FROM_CACHE: &str = r#"op {
       }
     }
   }
-}"#;
+}
+"#;

@@ -1,235 +1,274 @@
-//! The words of the command line.
+//! The words of the command line, as transcripts: after `> ` stand the words, of which `''` is an empty one, and in the next line what they
+//! say: the command, the workers, the file if there is one, and of each local source the name and the file.
 
-use super::devices::Narrow;
+use super::devices::{Narrow, Ran};
 use crate::command_line::command_of;
-use crate::words::{Command, Local, WordsFault, words_refusal};
+use crate::words::{Command, Line, Local, WordsFault, words_refusal};
 use std::alloc::Global;
-use std::fmt::Write;
-use std::test::Fail;
+use std::process::Abort;
 
 #[test]
-fn no_words_are_the_command_run(rt: HostRuntime) -> Result<(), Fail> {
+fn no_words_are_the_command_run(rt: HostRuntime) {
     let none: [&str; 0] = [];
     let line = command_of(rt.alloc(), none.as_slice()).expect(&rt, "no words");
     assert_eq!(rt; line.command, Command::Run);
     assert!(rt; line.workers == 1 && line.file.is_none() && line.locals.is_empty());
-    Ok(())
 }
 
-// The command of one word, which has one worker, no file and no local source.
-fn command_alone(alloc: Global, word: &str) -> Option<Command> {
-    let words = [word];
-    match command_of(alloc, words.as_slice()) {
-        Ok(line) if line.workers == 1 && line.file.is_none() && line.locals.is_empty() => {
-            Some(line.command)
-        }
-        _ => None,
+fn say_line(rt: &impl Abort, text: &mut String, line: &Line<'_>) {
+    write!(text, "{:?} {}", line.command, line.workers).expect(rt, "memory");
+    if let Some(file) = line.file {
+        write!(text, " <{file}>").expect(rt, "memory");
+    }
+    for Local { name, file } in line.locals.as_slice() {
+        write!(text, " ({name})({file})").expect(rt, "memory");
     }
 }
+
+fn say_fault(rt: &impl Abort, text: &mut String, fault: &WordsFault<'_>) {
+    match fault {
+        WordsFault::Words(None) => text.push_str("183").expect(rt, "memory"),
+        WordsFault::Words(Some(word)) => write!(text, "183 ({word})").expect(rt, "memory"),
+        WordsFault::Memory => text.push_str("184").expect(rt, "memory"),
+    }
+}
+
+fn said(rt: &impl Abort, alloc: Global, words: &str) -> String {
+    let mut given = Vec::new(alloc);
+    for word in words.split(' ') {
+        given
+            .push(if word == "''" { "" } else { word })
+            .expect(rt, "memory");
+    }
+    let mut text = String::new(alloc);
+    match command_of(alloc, given.as_slice()) {
+        Ok(line) => say_line(rt, &mut text, &line),
+        Err(fault) => say_fault(rt, &mut text, &fault),
+    }
+    text
+}
+
+fn say_so(rt: &impl Abort, alloc: Global, told: &str) {
+    let mut lines = told.lines();
+    for _ in 0..told.len() {
+        let Some(line) = lines.next() else {
+            return;
+        };
+        if let Some(words) = line.trim().strip_prefix("> ") {
+            assert_eq!(rt;
+                said(rt, alloc, words).as_str(),
+                lines.next().unwrap_or("").trim()
+            );
+        }
+    }
+}
+
+const COMMANDS: &str = "
+    > run
+    Run 1
+    > show
+    Show 1
+    > asm
+    Assemble 1
+    > dis
+    Disassemble 1
+    ";
 
 #[test]
 fn commands_are_told_by_their_words(rt: HostRuntime) {
-    let rows = [
-        ("run", Command::Run),
-        ("show", Command::Show),
-        ("asm", Command::Assemble),
-        ("dis", Command::Disassemble),
-    ];
-    for (word, command) in rows {
-        assert!(rt; command_alone(rt.alloc(), word) == Some(command), "{word}");
-    }
+    say_so(&rt, rt.alloc(), COMMANDS);
 }
 
-// The names and the files that the words give to the command `run`, in one line.
-fn local_sources(alloc: Global, words: &[&str]) -> Result<String, Fail> {
-    let mut text = String::new(alloc);
-    let line = match command_of(alloc, words) {
-        Ok(line) => line,
-        Err(fault) => {
-            write!(text, "fault {fault}")?;
-            return Ok(text);
-        }
-    };
-    for Local { name, file } in line.locals.as_slice() {
-        write!(text, "({name})({file})")?;
-    }
-    Ok(text)
+const RUN: &str = "
+    > run
+    Run 1
+    > run a=b c=d=e x=
+    Run 1 (a)(b) (c)(d=e) (x)()
+    > run a=1 b=2 a=3
+    Run 1 (a)(1) (b)(2) (a)(3)
+    > run = =f
+    Run 1 ()() ()(f)
+    > run -- -x=--help
+    Run 1 (-x)(--help)
+    > run nosuch
+    183 (nosuch)
+    > run a=b one two
+    183 (one)
+    > run show
+    183 (show)
+    > run ''
+    183 ()
+    ";
+
+#[test]
+fn words_after_run_are_names_and_files(rt: HostRuntime) {
+    say_so(&rt, rt.alloc(), RUN);
+}
+
+const WORKERS: &str = "
+    > run
+    Run 1
+    > run a=b
+    Run 1 (a)(b)
+    > run --workers 2 a=b
+    Run 2 (a)(b)
+    > run a=b --workers=64
+    Run 64 (a)(b)
+    > run --workers 0
+    Run 0
+    > run --workers 4294967295
+    Run 4294967295
+    ";
+
+#[test]
+fn words_after_run_name_the_workers_or_there_is_one(rt: HostRuntime) {
+    say_so(&rt, rt.alloc(), WORKERS);
+}
+
+const STEP: &str = "
+    > step FILE
+    Step 2 <FILE>
+    > step FILE --workers 3 a=b c=d
+    Step 3 <FILE> (a)(b) (c)(d)
+    > step --workers 64 FILE
+    Step 64 <FILE>
+    > step FILE a=b --workers 3 c=d
+    Step 3 <FILE> (a)(b) (c)(d)
+    > step FILE a=b c=d=e --workers=1
+    Step 1 <FILE> (a)(b) (c)(d=e)
+    > step --workers 0 FILE a=
+    Step 0 <FILE> (a)()
+    > step --workers 4294967295 FILE
+    Step 4294967295 <FILE>
+    > step --workers +7 FILE
+    Step 7 <FILE>
+    > step FILE --workers=-0
+    Step 0 <FILE>
+    > step x=y
+    Step 2 <x=y>
+    > step x=y a=b
+    Step 2 <x=y> (a)(b)
+    > step run a=b
+    Step 2 <run> (a)(b)
+    > step help
+    Step 2 <help>
+    > step ''
+    Step 2 <>
+    > step - a=b
+    Step 2 <-> (a)(b)
+    > step -- --workers -x=3
+    Step 2 <--workers> (-x)(3)
+    > step FILE nosuch
+    183 (nosuch)
+    > step FILE a=b one two
+    183 (one)
+    > step FILE 3 --workers 4
+    183 (3)
+    ";
+
+#[test]
+fn words_after_step_are_a_file_workers_and_local_sources(rt: HostRuntime) {
+    say_so(&rt, rt.alloc(), STEP);
+}
+
+const NO_STEP: &str = "
+    > step
+    183
+    > step --workers 3
+    183
+    > step --workers FILE
+    183
+    > step FILE --workers
+    183
+    > step FILE --workers 3 --workers 3
+    183
+    > step --workers=3 FILE --workers 4
+    183
+    > step FILE --workers x
+    183
+    > step FILE --workers ''
+    183
+    > step FILE --workers=
+    183
+    > step FILE --workers 4294967296
+    183
+    > step FILE --workers=-1
+    183
+    > step FILE --workers -0
+    183
+    > step FILE --workers 1.5
+    183
+    > step FILE nosuch --workers x
+    183
+    > step FILE -x
+    183
+    > step --help
+    183
+    > --workers 3 step FILE
+    183
+    ";
+
+#[test]
+fn a_step_that_clap_refuses_names_no_word(rt: HostRuntime) {
+    say_so(&rt, rt.alloc(), NO_STEP);
+}
+
+const OTHERS: &str = "
+    > asm x
+    183
+    > dis a=b
+    183
+    > show x
+    183
+    > show a=b
+    183
+    > a=b
+    183
+    > Run
+    183
+    > x
+    183
+    > ''
+    183
+    > help
+    183
+    > --help
+    183
+    > show --workers 2
+    183
+    > run --workers
+    183
+    > Step FILE
+    183
+    > run -x
+    183
+    > run nosuch -x=y
+    183
+    ";
+
+#[test]
+fn any_other_words_are_refused_without_a_word(rt: HostRuntime) {
+    say_so(&rt, rt.alloc(), OTHERS);
+}
+
+const REFUSALS: &[(WordsFault<'static>, u8, &str)] = &[
+    (WordsFault::Words(None), 2, "fault 183\n"),
+    (WordsFault::Words(Some("x")), 2, "fault 183 x\n"),
+    (WordsFault::Memory, 3, "fault 184\n"),
+];
+
+// What is told on a writer that takes that many bytes.
+fn told(alloc: Global, fault: &WordsFault<'_>, room: usize) -> Ran {
+    let mut err = Narrow::new(alloc, room);
+    let status = words_refusal(fault, &mut err);
+    let (out, err) = (Vec::new(alloc), err.into_held());
+    Ran { status, out, err }
 }
 
 #[test]
-fn words_behind_run_are_names_and_files(rt: HostRuntime) -> Result<(), Fail> {
-    let rows: [(&[&str], &str); 9] = [
-        (&["run"], ""),
-        (&["run", "a=b", "c=d=e", "x="], "(a)(b)(c)(d=e)(x)()"),
-        (&["run", "a=1", "b=2", "a=3"], "(a)(1)(b)(2)(a)(3)"),
-        (&["run", "=", "=f"], "()()()(f)"),
-        (&["run", "--", "-x=--help"], "(-x)(--help)"),
-        (&["run", "nosuch"], "fault 183 nosuch"),
-        (&["run", "a=b", "one", "two"], "fault 183 one"),
-        (&["run", "show"], "fault 183 show"),
-        (&["run", ""], "fault 183 "),
-    ];
-    for (words, wanted) in rows {
-        let text = local_sources(rt.alloc(), words)?;
-        assert_eq!(rt; text.as_str(), wanted);
+fn refused_words_are_told_in_a_line(rt: HostRuntime) {
+    for (fault, status, line) in REFUSALS {
+        assert!(rt; told(rt.alloc(), fault, 100).is(*status, "", line));
+        assert!(rt; told(rt.alloc(), fault, 3).is(3, "", "fau"));
     }
-    Ok(())
-}
-
-#[test]
-fn words_behind_run_name_the_workers_or_there_is_one(rt: HostRuntime) -> Result<(), Fail> {
-    let rows: [(&[&str], u32); 6] = [
-        (&["run"], 1),
-        (&["run", "a=b"], 1),
-        (&["run", "--workers", "2", "a=b"], 2),
-        (&["run", "a=b", "--workers=64"], 64),
-        (&["run", "--workers", "0"], 0),
-        (&["run", "--workers", "4294967295"], 4294967295),
-    ];
-    for (words, workers) in rows {
-        let found = match command_of(rt.alloc(), words) {
-            Ok(line) => line.command == Command::Run && line.workers == workers,
-            Err(_) => false,
-        };
-        assert!(rt; found, "{words:?}");
-    }
-    Ok(())
-}
-
-// The workers, the file and the local sources that the words give to the command `step`, in one line.
-fn step_of(alloc: Global, words: &[&str]) -> Result<String, Fail> {
-    let mut text = String::new(alloc);
-    let line = match command_of(alloc, words) {
-        Ok(line) => line,
-        Err(fault) => {
-            write!(text, "fault {fault}")?;
-            return Ok(text);
-        }
-    };
-    if line.command != Command::Step {
-        write!(text, "another command")?;
-        return Ok(text);
-    }
-    let file = line.file.unwrap_or("no file");
-    write!(text, "{} {file}", line.workers)?;
-    for Local { name, file } in line.locals.as_slice() {
-        write!(text, " ({name})({file})")?;
-    }
-    Ok(text)
-}
-
-#[test]
-fn words_behind_step_are_a_file_workers_and_local_sources(rt: HostRuntime) -> Result<(), Fail> {
-    let rows: [(&[&str], &str); 19] = [
-        (&["step", "FILE"], "2 FILE"),
-        (
-            &["step", "FILE", "--workers", "3", "a=b", "c=d"],
-            "3 FILE (a)(b) (c)(d)",
-        ),
-        (&["step", "--workers", "64", "FILE"], "64 FILE"),
-        (
-            &["step", "FILE", "a=b", "--workers", "3", "c=d"],
-            "3 FILE (a)(b) (c)(d)",
-        ),
-        (
-            &["step", "FILE", "a=b", "c=d=e", "--workers=1"],
-            "1 FILE (a)(b) (c)(d=e)",
-        ),
-        (&["step", "--workers", "0", "FILE", "a="], "0 FILE (a)()"),
-        (
-            &["step", "--workers", "4294967295", "FILE"],
-            "4294967295 FILE",
-        ),
-        (&["step", "--workers", "+7", "FILE"], "7 FILE"),
-        (&["step", "FILE", "--workers=-0"], "0 FILE"),
-        (&["step", "x=y"], "2 x=y"),
-        (&["step", "x=y", "a=b"], "2 x=y (a)(b)"),
-        (&["step", "run", "a=b"], "2 run (a)(b)"),
-        (&["step", "help"], "2 help"),
-        (&["step", ""], "2 "),
-        (&["step", "-", "a=b"], "2 - (a)(b)"),
-        (&["step", "--", "--workers", "-x=3"], "2 --workers (-x)(3)"),
-        (&["step", "FILE", "nosuch"], "fault 183 nosuch"),
-        (&["step", "FILE", "a=b", "one", "two"], "fault 183 one"),
-        (&["step", "FILE", "3", "--workers", "4"], "fault 183 3"),
-    ];
-    for (words, wanted) in rows {
-        let text = step_of(rt.alloc(), words)?;
-        assert_eq!(rt; text.as_str(), wanted);
-    }
-    Ok(())
-}
-
-#[test]
-fn a_step_that_clap_refuses_names_no_word(rt: HostRuntime) -> Result<(), Fail> {
-    let rows: [&[&str]; 17] = [
-        &["step"],
-        &["step", "--workers", "3"],
-        &["step", "--workers", "FILE"],
-        &["step", "FILE", "--workers"],
-        &["step", "FILE", "--workers", "3", "--workers", "3"],
-        &["step", "--workers=3", "FILE", "--workers", "4"],
-        &["step", "FILE", "--workers", "x"],
-        &["step", "FILE", "--workers", ""],
-        &["step", "FILE", "--workers="],
-        &["step", "FILE", "--workers", "4294967296"],
-        &["step", "FILE", "--workers=-1"],
-        &["step", "FILE", "--workers", "-0"],
-        &["step", "FILE", "--workers", "1.5"],
-        &["step", "FILE", "nosuch", "--workers", "x"],
-        &["step", "FILE", "-x"],
-        &["step", "--help"],
-        &["--workers", "3", "step", "FILE"],
-    ];
-    for words in rows {
-        let text = step_of(rt.alloc(), words)?;
-        assert_eq!(rt; text.as_str(), "fault 183");
-    }
-    Ok(())
-}
-
-#[test]
-fn any_other_words_are_refused_without_a_word(rt: HostRuntime) -> Result<(), Fail> {
-    let rows: [&[&str]; 15] = [
-        &["asm", "x"],
-        &["dis", "a=b"],
-        &["show", "x"],
-        &["show", "a=b"],
-        &["a=b"],
-        &["Run"],
-        &["x"],
-        &[""],
-        &["help"],
-        &["--help"],
-        &["show", "--workers", "2"],
-        &["run", "--workers"],
-        &["Step", "FILE"],
-        &["run", "-x"],
-        &["run", "nosuch", "-x=y"],
-    ];
-    for words in rows {
-        let refused = match command_of(rt.alloc(), words) {
-            Err(WordsFault::Words(None)) => true,
-            _ => false,
-        };
-        assert!(rt; refused, "{words:?}");
-    }
-    Ok(())
-}
-
-#[test]
-fn refused_words_are_told_in_a_line(rt: HostRuntime) -> Result<(), Fail> {
-    let rows = [
-        (WordsFault::Words(None), 2, "fault 183\n"),
-        (WordsFault::Words(Some("x")), 2, "fault 183 x\n"),
-        (WordsFault::Memory, 3, "fault 184\n"),
-    ];
-    for (fault, status, line) in rows {
-        let mut err = Vec::new(rt.alloc());
-        assert_eq!(rt; words_refusal(&fault, &mut err), status);
-        assert_eq!(rt; err.as_slice(), line.as_bytes());
-        let mut full = Narrow::new(rt.alloc(), 3);
-        assert_eq!(rt; words_refusal(&fault, &mut full), 3);
-    }
-    Ok(())
 }

@@ -1,0 +1,300 @@
+//! The program as transcripts. A line with `> ` first is a call, and the lines after it are what the call writes, what it tells (`! ` first),
+//! and its status where that is not 0. One with `# ` first says what the next calls show. A call is the program's words; after ` < ` the
+//! names of the entries that it reads as a definition, or `=` and the bytes in hexadecimal, or `@` and the name of a text; after ` | ` the
+//! commands of a session, each ended by `;`. The file `FILE` is the definition, too. What `asm` writes is told in hexadecimal.
+//!
+//! In brackets before the words stands what bounds the devices: how many reads and writes of a byte each are done, how many bytes of the
+//! told line are taken (`told`), and whether the writer fails at its end (`1 end`).
+
+use super::assembling::TEXTS;
+use super::definitions::ENTRIES;
+use super::devices::{Narrow, Ran, Slow};
+use super::execution_definitions::EXECUTIONS;
+use crate::command_line::command_of;
+use crate::perform;
+use crate::sources::{Sources, locals_of, source_refusal};
+use crate::words::{Line, words_refusal};
+use llb_asm::assemble;
+use llb_loader::Locals;
+use llb_ops::write_definition;
+use llb_wire::{Bytes, push_hex, read_hex};
+use std::alloc::Global;
+use std::io;
+use std::io::ErrorKind;
+use std::process::Abort;
+use std::sync::Wait;
+use std::thread::Threads;
+
+const MANY: usize = 1 << 20;
+
+// The trees of local sources, and texts that are no trees, by the names of their files.
+const FILES: &str = "
+== P
+d 0755 0 0 /
+f 0600 1 1 - /old
+== Q
+d 0755 0 0 /
+f 0644 0 0 6869 /f
+== X
+d 0755 0 0 /
+== Y
+d 0755 0 0 /
+d 0755 0 0 /sub
+f 0644 0 0 6869 /sub/f
+== LATE
+d 0755 0 0 /
+d 0755 0 0 /
+== LOOSE
+d 0755 0 0 /
+f 0644 0 0 - /a/b
+== EMPTY
+";
+
+// The lines after the one with `== ` and the name.
+fn block<'a>(text: &'a str, wanted: &str) -> Option<&'a str> {
+    for block in text.split("== ") {
+        if let Some((head, lines)) = block.split_once('\n') {
+            let (name, _) = head.split_once(':').unwrap_or((head, ""));
+            if name == wanted {
+                return Some(lines);
+            }
+        }
+    }
+    None
+}
+
+// The files of a call: its definition, and the local sources.
+#[derive(Clone, Copy)]
+struct Shelf<'a> {
+    definition: &'a [u8],
+}
+
+impl<'a> Sources for Shelf<'a> {
+    ghost use Rattle.std.specs.Prelude.{None};
+
+    type Input = &'a [u8];
+
+    ghost bytes = { λ _ _. None };
+
+    fn open(&self, file: &str) -> io::Result<&'a [u8]> {
+        if file == "FILE" {
+            return Ok(self.definition);
+        }
+        match block(FILES, file) {
+            Some(text) => Ok(text.as_bytes()),
+            None => Err(ErrorKind::NotFound.into()),
+        }
+    }
+}
+
+// A call as its line has it.
+#[derive(Clone, Copy)]
+struct Call<'a> {
+    bounds: &'a str,
+    words: &'a str,
+    entries: &'a str,
+    commands: &'a str,
+}
+
+fn call_in(line: &str) -> Call<'_> {
+    let (bounds, rest) = match line.strip_prefix("[") {
+        Some(rest) => rest.split_once("] ").unwrap_or((rest, "")),
+        None => ("", line),
+    };
+    let (words, rest) = rest.split_once(" < ").unwrap_or((rest, ""));
+    let (entries, commands) = rest.split_once(" | ").unwrap_or((rest, ""));
+    Call {
+        bounds,
+        words,
+        entries,
+        commands,
+    }
+}
+
+// The number before a word in brackets.
+fn bound(bounds: &str, wanted: &str) -> Option<usize> {
+    for bound in bounds.split(", ") {
+        if let Some((number, name)) = bound.split_once(' ') {
+            if name == wanted {
+                return number.parse::<usize>().ok();
+            }
+        }
+    }
+    None
+}
+
+/// The definition of the entries with these names, or the bytes that are spelled.
+pub fn definition_of(rt: &impl Abort, alloc: Global, entries: &str) -> Bytes {
+    if let Some(digits) = entries.strip_prefix("=") {
+        return read_hex(alloc, digits)
+            .expect(rt, "memory")
+            .expect(rt, "digits");
+    }
+    if let Some(name) = entries.strip_prefix("@") {
+        let text = block(TEXTS, name).unwrap_or("");
+        return Bytes::from_slice(alloc, text.as_bytes()).expect(rt, "memory");
+    }
+    let mut text = String::new(alloc);
+    for name in entries.split(' ') {
+        let entry = block(ENTRIES, name).or(block(EXECUTIONS, name));
+        text.push_str(entry.unwrap_or("")).expect(rt, "memory");
+    }
+    let entries = assemble(alloc, text.as_bytes()).expect(rt, "entries");
+    write_definition(alloc, &entries).expect(rt, "memory")
+}
+
+fn lines_of(rt: &impl Abort, alloc: Global, commands: &str) -> String {
+    let mut text = String::new(alloc);
+    for command in commands.split(';') {
+        text.push_str(command.trim()).expect(rt, "memory");
+        text.push_str("\n").expect(rt, "memory");
+    }
+    text
+}
+
+// What `main` does once the words and the local sources are read.
+fn performed<R: Abort + Threads + Wait + Sync>(
+    rt: &R,
+    alloc: Global,
+    call: &Call<'_>,
+    shelf: &Shelf<'_>,
+    line: &Line<'_>,
+    locals: Locals,
+    out: &mut Narrow,
+    err: &mut Narrow,
+) -> u8 {
+    let commands = lines_of(rt, alloc, call.commands);
+    let bytes = if call.commands.is_empty() {
+        shelf.definition
+    } else {
+        commands.as_bytes()
+    };
+    let room = bound(call.bounds, "reads").unwrap_or(MANY);
+    let mut input = Slow { bytes, room };
+    perform(rt, alloc, shelf, line, locals, &mut input, out, err)
+}
+
+// The same once the words are read.
+fn done<R: Abort + Threads + Wait + Sync>(
+    rt: &R,
+    alloc: Global,
+    call: &Call<'_>,
+    line: &Line<'_>,
+    out: &mut Narrow,
+    err: &mut Narrow,
+) -> u8 {
+    let definition = definition_of(rt, alloc, call.entries);
+    let shelf = Shelf {
+        definition: definition.as_slice(),
+    };
+    match locals_of(alloc, &shelf, line.locals.as_slice()) {
+        Ok(locals) => performed(rt, alloc, call, &shelf, line, locals, out, err),
+        Err(fault) => source_refusal(&fault, err),
+    }
+}
+
+// The status of a call.
+fn ended<R: Abort + Threads + Wait + Sync>(
+    rt: &R,
+    alloc: Global,
+    call: &Call<'_>,
+    out: &mut Narrow,
+    err: &mut Narrow,
+) -> u8 {
+    let words: Vec<&str> = call.words.split(' ').collect(alloc).expect(rt, "memory");
+    match command_of(alloc, words.as_slice()) {
+        Ok(line) => done(rt, alloc, call, &line, out, err),
+        Err(fault) => words_refusal(&fault, err),
+    }
+}
+
+fn ran<R: Abort + Threads + Wait + Sync>(rt: &R, alloc: Global, call: &Call<'_>) -> Ran {
+    let mut out = Narrow::new(alloc, bound(call.bounds, "writes").unwrap_or(MANY));
+    out.flushes = bound(call.bounds, "end").is_none();
+    let mut err = Narrow::new(alloc, bound(call.bounds, "told").unwrap_or(MANY));
+    let status = ended(rt, alloc, call, &mut out, &mut err);
+    Ran {
+        status,
+        out: out.into_held(),
+        err: err.into_held(),
+    }
+}
+
+// What was written, and a line that says so where it has no end.
+fn say_bytes(rt: &impl Abort, text: &mut String, bytes: &[u8]) {
+    let written = str::from_utf8(bytes).unwrap_or("no text\n");
+    text.push_str(written).expect(rt, "memory");
+    if !written.is_empty() && !written.ends_with('\n') {
+        text.push_str("\n(and no end of line)\n")
+            .expect(rt, "memory");
+    }
+}
+
+fn say_digits(rt: &impl Abort, alloc: Global, text: &mut String, bytes: &[u8]) {
+    push_hex(alloc, text, bytes).expect(rt, "memory");
+    text.push_str("\n").expect(rt, "memory");
+}
+
+fn say_err(rt: &impl Abort, text: &mut String, err: &[u8]) {
+    if !err.is_empty() {
+        text.push_str("! ").expect(rt, "memory");
+        say_bytes(rt, text, err);
+    }
+}
+
+fn say_status(rt: &impl Abort, text: &mut String, status: u8) {
+    if status > 0 {
+        write!(text, "status {status}\n").expect(rt, "memory");
+    }
+}
+
+fn say_call<R: Abort + Threads + Wait + Sync>(
+    rt: &R,
+    alloc: Global,
+    text: &mut String,
+    call: &Call<'_>,
+) {
+    let ran = ran(rt, alloc, call);
+    if call.words == "asm" {
+        say_digits(rt, alloc, text, ran.out.as_slice());
+    } else {
+        say_bytes(rt, text, ran.out.as_slice());
+    }
+    say_err(rt, text, ran.err.as_slice());
+    say_status(rt, text, ran.status);
+}
+
+// A line of a transcript, and of a call what it leaves.
+fn say_line<R: Abort + Threads + Wait + Sync>(
+    rt: &R,
+    alloc: Global,
+    text: &mut String,
+    line: &str,
+) {
+    if let Some(call) = line.strip_prefix("> ") {
+        text.push_str(line).expect(rt, "memory");
+        text.push_str("\n").expect(rt, "memory");
+        say_call(rt, alloc, text, &call_in(call));
+    }
+}
+
+fn transcript<R: Abort + Threads + Wait + Sync>(rt: &R, alloc: Global, told: &str) -> String {
+    let mut text = String::new(alloc);
+    for line in told.lines() {
+        say_line(rt, alloc, &mut text, line.trim());
+    }
+    text
+}
+
+/// Ends the test at the first line of a transcript that is told otherwise. A transcript is moved in by four spaces.
+pub fn is_told<R: Abort + Threads + Wait + Sync>(rt: &R, alloc: Global, told: &str) {
+    let text = transcript(rt, alloc, told);
+    let mut lines = text.lines();
+    for line in told.lines() {
+        let line = line.strip_prefix("    ").unwrap_or(line);
+        if !line.is_empty() && !line.starts_with("# ") {
+            assert_eq!(rt; lines.next().unwrap_or("nothing").trim_end(), line);
+        }
+    }
+    assert!(rt; lines.next().is_none());
+}
