@@ -61,6 +61,8 @@ mod told;
 #[cfg(test)]
 mod tree;
 #[cfg(test)]
+mod trees;
+#[cfg(test)]
 mod treetext;
 #[cfg(test)]
 mod wire;

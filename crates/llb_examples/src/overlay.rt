@@ -1,6 +1,7 @@
 //! One tree laid over another in a way: told by the entries of what comes of it.
 
-use super::told::{Row, are_all_told, is_told, tree_of, tree_text};
+use super::told::{Row, are_all_told, tree_of};
+use super::trees::are_told;
 use llb_merge::{Memory, lay, lay_onto, lay_over};
 use llb_tree::{Tree, TreeFault, Way};
 use llb_wire::Same;
@@ -41,97 +42,137 @@ fn a_way_has_a_mode_of_at_most_4095(rt: HostRuntime) {
     }
 }
 
-// A mode, a user, a group, and whether directories that both have stay.
-type Given = (Option<u16>, Option<u32>, Option<u32>, bool);
+// The upper tree is made first, then the lower one.
+const LAID: &str = "
+    # Nothing is laid.
+    > new
+    > swap
+    > dir /a 700 1:1
+    > file /a/x 600 1:1 low
+    > overlay - - - -
+    > tree
+    d d/a(700 1:1) f/a/x(600 1:1)=low
 
-fn told(
-    alloc: Global,
-    given: Given,
-    lower: &[Row<'_>],
-    upper: &[Row<'_>],
-) -> Result<String, TreeFault> {
-    let (mode, uid, gid, keeps) = given;
-    let Some(way) = Way::new(mode, uid, gid, keeps) else {
-        return Ok(String::from_str(alloc, "no way")?);
-    };
-    let laid = tree_of(alloc, lower)?.overlaid(&way, &tree_of(alloc, upper)?)?;
-    tree_text(alloc, &laid)
-}
+    # Directories are one.
+    > new
+    > dir /a 755 2:2
+    > dir /a- 711 2:2
+    > swap
+    > dir /a 700 1:1
+    > file /a/x 600 1:1 low
+    > overlay - - - -
+    > tree
+    d d/a(755 2:2) f/a/x(600 1:1)=low d/a-(711 2:2)
 
-const PLAIN: Given = (None, None, None, false);
+    # A file hides what is below.
+    > new
+    > file /a 644 2:2 up
+    > swap
+    > dir /a 700 1:1
+    > file /a/x 600 1:1 low
+    > overlay - - - -
+    > tree
+    d f/a(644 2:2)=up
 
-const A_X: &[Row<'static>] = &[
-    ("/a", 0o700, 1, 1, None),
-    ("/a/x", 0o600, 1, 1, Some("low")),
-];
+    # A directory hides a file.
+    > new
+    > dir /a 755 2:2
+    > dir /a/x 711 2:2
+    > swap
+    > dir /a 700 1:1
+    > file /a/x 600 1:1 low
+    > overlay - - - -
+    > tree
+    d d/a(755 2:2) d/a/x(711 2:2)
 
-// How, on what and what is laid, and what comes of it.
-const LAID: &[(Given, &[Row<'static>], &[Row<'static>], &str)] = &[
-    // Files hide what is below, and directories are one.
-    (PLAIN, A_X, &[], " d d/a(700 1:1) f/a/x(600 1:1)=low"),
-    (
-        PLAIN,
-        A_X,
-        &[("/a", 0o755, 2, 2, None), ("/a-", 0o711, 2, 2, None)],
-        " d d/a(755 2:2) f/a/x(600 1:1)=low d/a-(711 2:2)",
-    ),
-    (
-        PLAIN,
-        A_X,
-        &[("/a", 0o644, 2, 2, Some("up"))],
-        " d f/a(644 2:2)=up",
-    ),
-    (
-        PLAIN,
-        A_X,
-        &[("/a", 0o755, 2, 2, None), ("/a/x", 0o711, 2, 2, None)],
-        " d d/a(755 2:2) d/a/x(711 2:2)",
-    ),
-    // A way keeps and gives.
-    (
-        PLAIN,
-        LOWER,
-        UPPER,
-        " d d/a(755 2:2) f/a/x(644 2:2)=up f/a/y(600 1:1)=low d/b(755 2:2) f/b/e(644 2:2)=up \
-        d/c(755 2:2) f/c/d(644 2:2)=up f/z(644 2:2)=up",
-    ),
-    (
-        (None, None, None, true),
-        LOWER,
-        UPPER,
-        " d(700 1:1) d/a(700 1:1) f/a/x(644 2:2)=up f/a/y(600 1:1)=low d/b(755 2:2) f/b/e(644 2:2)=up \
-        d/c(755 2:2) f/c/d(644 2:2)=up f/z(644 2:2)=up",
-    ),
-    (
-        (Some(0o4640), Some(9), None, false),
-        LOWER,
-        UPPER,
-        " d(4640 9:0) d/a(4640 9:2) f/a/x(4640 9:2)=up f/a/y(600 1:1)=low d/b(4640 9:2) f/b/e(4640 9:2)=up \
-        d/c(4640 9:2) f/c/d(4640 9:2)=up f/z(4640 9:2)=up",
-    ),
-    (
-        (None, None, Some(5), true),
-        LOWER,
-        UPPER,
-        " d(700 1:1) d/a(700 1:1) f/a/x(644 2:5)=up f/a/y(600 1:1)=low d/b(755 2:5) f/b/e(644 2:5)=up \
-        d/c(755 2:5) f/c/d(644 2:5)=up f/z(644 2:5)=up",
-    ),
-];
+    # The upper entry stands.
+    > new
+    > dir /a 755 2:2
+    > file /a/x 644 2:2 up
+    > dir /b 755 2:2
+    > file /b/e 644 2:2 up
+    > dir /c 755 2:2
+    > file /c/d 644 2:2 up
+    > file /z 644 2:2 up
+    > swap
+    > dir / 700 1:1
+    > dir /a 700 1:1
+    > file /a/x 600 1:1 low
+    > file /a/y 600 1:1 low
+    > file /c 600 1:1 low
+    > dir /z 700 1:1
+    > file /z/w 600 1:1 low
+    > overlay - - - -
+    > tree
+    d d/a(755 2:2) f/a/x(644 2:2)=up f/a/y(600 1:1)=low d/b(755 2:2) f/b/e(644 2:2)=up d/c(755 2:2) f/c/d(644 2:2)=up f/z(644 2:2)=up
 
-// The number of the first row that is answered otherwise; past the end where there is none.
-fn first_wrong(alloc: Global, rows: &[(Given, &[Row<'static>], &[Row<'static>], &str)]) -> usize {
-    for (at, (given, lower, upper, wanted)) in rows.iter().enumerate() {
-        if !is_told(alloc, told(alloc, *given, lower, upper), wanted) {
-            return at;
-        }
-    }
-    rows.len()
-}
+    # Directories that both have stay.
+    > new
+    > dir /a 755 2:2
+    > file /a/x 644 2:2 up
+    > dir /b 755 2:2
+    > file /b/e 644 2:2 up
+    > dir /c 755 2:2
+    > file /c/d 644 2:2 up
+    > file /z 644 2:2 up
+    > swap
+    > dir / 700 1:1
+    > dir /a 700 1:1
+    > file /a/x 600 1:1 low
+    > file /a/y 600 1:1 low
+    > file /c 600 1:1 low
+    > dir /z 700 1:1
+    > file /z/w 600 1:1 low
+    > overlay - - - keeps
+    > tree
+    d(700 1:1) d/a(700 1:1) f/a/x(644 2:2)=up f/a/y(600 1:1)=low d/b(755 2:2) f/b/e(644 2:2)=up d/c(755 2:2) f/c/d(644 2:2)=up f/z(644 2:2)=up
+
+    # A way gives a mode and a user.
+    > new
+    > dir /a 755 2:2
+    > file /a/x 644 2:2 up
+    > dir /b 755 2:2
+    > file /b/e 644 2:2 up
+    > dir /c 755 2:2
+    > file /c/d 644 2:2 up
+    > file /z 644 2:2 up
+    > swap
+    > dir / 700 1:1
+    > dir /a 700 1:1
+    > file /a/x 600 1:1 low
+    > file /a/y 600 1:1 low
+    > file /c 600 1:1 low
+    > dir /z 700 1:1
+    > file /z/w 600 1:1 low
+    > overlay 4640 9 - -
+    > tree
+    d(4640 9:0) d/a(4640 9:2) f/a/x(4640 9:2)=up f/a/y(600 1:1)=low d/b(4640 9:2) f/b/e(4640 9:2)=up d/c(4640 9:2) f/c/d(4640 9:2)=up f/z(4640 9:2)=up
+
+    # A way gives a group, and directories that both have stay.
+    > new
+    > dir /a 755 2:2
+    > file /a/x 644 2:2 up
+    > dir /b 755 2:2
+    > file /b/e 644 2:2 up
+    > dir /c 755 2:2
+    > file /c/d 644 2:2 up
+    > file /z 644 2:2 up
+    > swap
+    > dir / 700 1:1
+    > dir /a 700 1:1
+    > file /a/x 600 1:1 low
+    > file /a/y 600 1:1 low
+    > file /c 600 1:1 low
+    > dir /z 700 1:1
+    > file /z/w 600 1:1 low
+    > overlay - - 5 keeps
+    > tree
+    d(700 1:1) d/a(700 1:1) f/a/x(644 2:5)=up f/a/y(600 1:1)=low d/b(755 2:5) f/b/e(644 2:5)=up d/c(755 2:5) f/c/d(644 2:5)=up f/z(644 2:5)=up
+    ";
 
 #[test]
 fn files_hide_directories_are_one_and_a_way_keeps_and_gives(rt: HostRuntime) {
-    let rows = LAID;
-    are_all_told(&rt, first_wrong(rt.alloc(), rows), rows.len());
+    are_told(&rt, rt.alloc(), LAID);
 }
 
 // Whether a tree that was laid over another, and a copy of the lower one, are what they were.

@@ -1,7 +1,8 @@
 //! Trees that share what they have in common: an edit of one, done or refused, leaves the other as it was.
 
-use super::told::{Row, Step, are_all_told, is_told, push_tree, take_step, tree_of};
-use llb_tree::{Path, Tree, TreeFault};
+use super::told::{Row, tree_of};
+use super::trees::{are_told, edit};
+use llb_tree::TreeFault;
 use llb_wire::Same;
 use std::alloc::Global;
 
@@ -12,174 +13,172 @@ const SHARED: &[Row<'_>] = &[
     ("/a/c/d", 0o644, 0, 0, Some("y")),
 ];
 
-// What another tree is taken from the first by.
-#[derive(Clone, Copy)]
-enum Taking {
-    Copy,
-    // What is at or below the path.
-    Subtree(&'static str),
-    // The whole, at the path in an empty tree.
-    Graft(&'static str),
-}
+// Each story begins with the same tree, from which another one is taken.
+const TAKEN_IS_EDITED: &str = "
+    # A file of a copy is replaced and a directory goes.
+    > new
+    > dir /a 755 0:0
+    > file /a/b 644 0:0 x
+    > dir /a/c 755 0:0
+    > file /a/c/d 644 0:0 y
+    > copy
+    > swap
+    > file /a/b 600 0:0 new
+    > remove /a/c
+    > swap
+    > tree
+    d d/a f/a/b=x d/a/c f/a/c/d=y
+    > swap
+    > tree
+    d d/a f/a/b(600 0:0)=new
 
-fn grafted(alloc: Global, tree: &Tree, path: &str) -> Result<Tree, TreeFault> {
-    let mut other = Tree::empty(alloc)?;
-    other.graft(&Path::read(alloc, path)?, tree)?;
-    Ok(other)
-}
+    # What was grafted in a copy is edited there.
+    > new
+    > dir /a 755 0:0
+    > file /a/b 644 0:0 x
+    > dir /a/c 755 0:0
+    > file /a/c/d 644 0:0 y
+    > copy
+    > swap
+    > graft /a /z
+    > file /z/b 600 0:0 new
+    > remove /a/c
+    > swap
+    > tree
+    d d/a f/a/b=x d/a/c f/a/c/d=y
+    > swap
+    > tree
+    d d/a f/a/b=x d/z f/z/b(600 0:0)=new d/z/c f/z/c/d=y
 
-fn taken(alloc: Global, tree: &Tree, taking: Taking) -> Result<Tree, TreeFault> {
-    match taking {
-        Taking::Copy => tree.copy(),
-        Taking::Subtree(path) => tree.subtree(&Path::read(alloc, path)?),
-        Taking::Graft(path) => grafted(alloc, tree, path),
-    }
-}
+    # A subtree is edited.
+    > new
+    > dir /a 755 0:0
+    > file /a/b 644 0:0 x
+    > dir /a/c 755 0:0
+    > file /a/c/d 644 0:0 y
+    > subtree /a
+    > swap
+    > file /b 600 0:0 new
+    > remove /c/d
+    > dir / 700 3:3
+    > swap
+    > tree
+    d d/a f/a/b=x d/a/c f/a/c/d=y
+    > swap
+    > tree
+    d(700 3:3) f/b(600 0:0)=new d/c
 
-// A tree, and after a bar one that was taken from it, once each was edited.
-fn told(
-    alloc: Global,
-    taking: Taking,
-    edits: &[Step],
-    of_taken: &[Step],
-) -> Result<String, TreeFault> {
-    let mut text = String::new(alloc);
-    let mut tree = tree_of(alloc, SHARED)?;
-    let mut other = taken(alloc, &tree, taking)?;
-    take_all(alloc, &mut text, &mut tree, edits)?;
-    take_all(alloc, &mut text, &mut other, of_taken)?;
-    push_tree(&mut text, &tree)?;
-    text.push_str("|")?;
-    push_tree(&mut text, &other)?;
-    Ok(text)
-}
+    # What holds a graft of the whole is edited.
+    > new
+    > dir /a 755 0:0
+    > file /a/b 644 0:0 x
+    > dir /a/c 755 0:0
+    > file /a/c/d 644 0:0 y
+    > below /z
+    > swap
+    > file /z/a/c/d 600 0:0 new
+    > remove /z/a/b
+    > swap
+    > tree
+    d d/a f/a/b=x d/a/c f/a/c/d=y
+    > swap
+    > tree
+    d d/z d/z/a d/z/a/c f/z/a/c/d(600 0:0)=new
+    ";
 
-fn take_all(
-    alloc: Global,
-    text: &mut String,
-    tree: &mut Tree,
-    steps: &[Step],
-) -> Result<(), TreeFault> {
-    for step in steps {
-        take_step(alloc, text, tree, step)?;
-    }
-    Ok(())
-}
+const TREE_IS_EDITED: &str = "
+    # A directory of the tree goes, and its copy stays.
+    > new
+    > dir /a 755 0:0
+    > file /a/b 644 0:0 x
+    > dir /a/c 755 0:0
+    > file /a/c/d 644 0:0 y
+    > copy
+    > remove /a
+    > tree
+    d
+    > swap
+    > tree
+    d d/a f/a/b=x d/a/c f/a/c/d=y
 
-const NEW_B: Step = Step::Put(("/a/b", 0o600, 0, 0, Some("new")));
+    # Entries of the tree are replaced, and its copy stays.
+    > new
+    > dir /a 755 0:0
+    > file /a/b 644 0:0 x
+    > dir /a/c 755 0:0
+    > file /a/c/d 644 0:0 y
+    > copy
+    > file /a/b 600 7:8 new
+    > dir /a 0 7:8
+    > tree
+    d d/a(0 7:8) f/a/b(600 7:8)=new d/a/c f/a/c/d=y
+    > swap
+    > tree
+    d d/a f/a/b=x d/a/c f/a/c/d=y
 
-// What is taken, the edits of the tree, those of what was taken, and how both are told.
-type Case = (Taking, &'static [Step], &'static [Step], &'static str);
+    # The tree is edited, and its subtree stays.
+    > new
+    > dir /a 755 0:0
+    > file /a/b 644 0:0 x
+    > dir /a/c 755 0:0
+    > file /a/c/d 644 0:0 y
+    > subtree /a
+    > remove /a/c
+    > file /a/b 600 0:0 new
+    > tree
+    d d/a f/a/b(600 0:0)=new
+    > swap
+    > tree
+    d f/b=x d/c f/c/d=y
 
-const WHAT_WAS_TAKEN_IS_EDITED: &[Case] = &[
-    (
-        Taking::Copy,
-        &[],
-        &[NEW_B, Step::Remove("/a/c")],
-        " d d/a f/a/b=x d/a/c f/a/c/d=y| d d/a f/a/b(600 0:0)=new",
-    ),
-    (
-        Taking::Copy,
-        &[],
-        &[
-            Step::Graft("/a", "/z"),
-            Step::Put(("/z/b", 0o600, 0, 0, Some("new"))),
-            Step::Remove("/a/c"),
-        ],
-        " d d/a f/a/b=x d/a/c f/a/c/d=y| d d/a f/a/b=x d/z f/z/b(600 0:0)=new d/z/c f/z/c/d=y",
-    ),
-    (
-        Taking::Subtree("/a"),
-        &[],
-        &[
-            Step::Put(("/b", 0o600, 0, 0, Some("new"))),
-            Step::Remove("/c/d"),
-            Step::Put(("/", 0o700, 3, 3, None)),
-        ],
-        " d d/a f/a/b=x d/a/c f/a/c/d=y| d(700 3:3) f/b(600 0:0)=new d/c",
-    ),
-    (
-        Taking::Graft("/z"),
-        &[],
-        &[
-            Step::Put(("/z/a/c/d", 0o600, 0, 0, Some("new"))),
-            Step::Remove("/z/a/b"),
-        ],
-        " d d/a f/a/b=x d/a/c f/a/c/d=y| d d/z d/z/a d/z/a/c f/z/a/c/d(600 0:0)=new",
-    ),
-];
+    # The tree is edited, and what holds a graft of it stays.
+    > new
+    > dir /a 755 0:0
+    > file /a/b 644 0:0 x
+    > dir /a/c 755 0:0
+    > file /a/c/d 644 0:0 y
+    > below /z
+    > remove /a/c/d
+    > dir /a 700 0:0
+    > tree
+    d d/a(700 0:0) f/a/b=x d/a/c
+    > swap
+    > tree
+    d d/z d/z/a f/z/a/b=x d/z/a/c f/z/a/c/d=y
+    ";
 
-const THE_TREE_IS_EDITED: &[Case] = &[
-    (
-        Taking::Copy,
-        &[Step::Remove("/a")],
-        &[],
-        " d| d d/a f/a/b=x d/a/c f/a/c/d=y",
-    ),
-    (
-        Taking::Copy,
-        &[
-            Step::Put(("/a/b", 0o600, 7, 8, Some("new"))),
-            Step::Put(("/a", 0, 7, 8, None)),
-        ],
-        &[],
-        " d d/a(0 7:8) f/a/b(600 7:8)=new d/a/c f/a/c/d=y| d d/a f/a/b=x d/a/c f/a/c/d=y",
-    ),
-    (
-        Taking::Subtree("/a"),
-        &[Step::Remove("/a/c"), NEW_B],
-        &[],
-        " d d/a f/a/b(600 0:0)=new| d f/b=x d/c f/c/d=y",
-    ),
-    (
-        Taking::Graft("/z"),
-        &[Step::Remove("/a/c/d"), Step::Put(("/a", 0o700, 0, 0, None))],
-        &[],
-        " d d/a(700 0:0) f/a/b=x d/a/c| d d/z d/z/a f/z/a/b=x d/z/a/c f/z/a/c/d=y",
-    ),
-];
-
-// The number of the first row that is answered otherwise; past the end where there is none.
-fn first_wrong(alloc: Global, rows: &[Case]) -> usize {
-    for (at, (taking, edits, of_taken, wanted)) in rows.iter().enumerate() {
-        if !is_told(alloc, told(alloc, *taking, edits, of_taken), wanted) {
-            return at;
-        }
-    }
-    rows.len()
+#[test]
+fn what_was_taken_is_edited_and_the_tree_stays(rt: HostRuntime) {
+    are_told(&rt, rt.alloc(), TAKEN_IS_EDITED);
 }
 
 #[test]
-fn one_of_both_is_edited_and_the_other_stays(rt: HostRuntime) {
-    let rows = WHAT_WAS_TAKEN_IS_EDITED;
-    are_all_told(&rt, first_wrong(rt.alloc(), rows), rows.len());
-    let rows = THE_TREE_IS_EDITED;
-    are_all_told(&rt, first_wrong(rt.alloc(), rows), rows.len());
+fn the_tree_is_edited_and_what_was_taken_stays(rt: HostRuntime) {
+    are_told(&rt, rt.alloc(), TREE_IS_EDITED);
 }
 
 // Whether the tree's copy is the same, then an edit changes the tree that it is done on and leaves one that it is refused on, and
 // leaves the copy.
-fn is_whole(alloc: Global, one: &Step) -> Result<bool, TreeFault> {
-    let mut text = String::new(alloc);
+fn is_whole(alloc: Global, call: &str) -> Result<bool, TreeFault> {
     let fresh = tree_of(alloc, SHARED)?;
     let mut tree = tree_of(alloc, SHARED)?;
     let copied = tree.copy()?;
     let is_same = tree.same(&copied);
-    let kept = match take_step(alloc, &mut text, &mut tree, one) {
+    let kept = match edit(alloc, &mut tree, call) {
         Ok(()) => !tree.same(&copied),
         Err(fault) => fault == TreeFault::Memory && tree.same(&copied),
     };
     Ok(is_same && kept && copied.same(&fresh))
 }
 
-const EDITS: &[Step] = &[
-    NEW_B,
-    Step::Put(("/a/c/e", 0o644, 0, 0, Some("new"))),
-    Step::Put(("/a/c", 0o700, 0, 0, None)),
-    Step::Put(("/z", 0o700, 0, 0, None)),
-    Step::Remove("/a/c/d"),
-    Step::Remove("/a"),
-    Step::Graft("/a", "/a/c/e"),
+const EDITS: [&str; 7] = [
+    "file /a/b 600 0:0 new",
+    "file /a/c/e 644 0:0 new",
+    "dir /a/c 700 0:0",
+    "dir /z 700 0:0",
+    "remove /a/c/d",
+    "remove /a",
+    "graft /a /a/c/e",
 ];
 
 // Passes whichever allocation fails, as long as it is one: at most one story is then not told to its end.

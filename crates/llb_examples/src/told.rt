@@ -1,5 +1,5 @@
-//! Trees by their rows, the steps of a story of a tree, and how both are told in a line of text: of each entry a `d` or an `f` and
-//! its path, its mode and owner where they are not those of a new one, and the content of a file after `=`.
+//! Trees by their rows, and how they are told in a line of text: of each entry a `d` or an `f` and its path, its mode and owner where they
+//! are not those of a new one, and the content of a file after `=`.
 
 use llb_tree::{Bytes, Entry, Meta, Node, Path, Tree, TreeFault};
 use std::alloc::{AllocError, Global};
@@ -145,54 +145,18 @@ pub(crate) fn tree_text(alloc: Global, tree: &Tree) -> Result<String, TreeFault>
     Ok(text)
 }
 
-// A step of a story of a tree.
-#[derive(Clone, Copy)]
-pub(crate) enum Step {
-    Put(Row<'static>),
-    // What is at or below a path goes.
-    Remove(&'static str),
-    // What is at or below the first path is put at the second as well.
-    Graft(&'static str, &'static str),
-    // What stands at a path is told.
-    Look(&'static str),
-    // The names one below a path are told.
-    List(&'static str),
-}
-
-fn graft(alloc: Global, tree: &mut Tree, from: &str, to: &str) -> Result<(), TreeFault> {
-    let (from, to) = (Path::read(alloc, from)?, Path::read(alloc, to)?);
-    let taken = tree.subtree(&from)?;
-    tree.graft(&to, &taken)
-}
-
-fn push_looked(text: &mut String, tree: &Tree, path: &Path) -> Result<(), AllocError> {
+pub(crate) fn push_looked(text: &mut String, tree: &Tree, path: &Path) -> Result<(), AllocError> {
     match tree.get(path) {
         None => text.push_str("none"),
         Some(entry) => push_entry(text, path, &entry),
     }
 }
 
-fn push_list(text: &mut String, tree: &Tree, path: &Path) -> Result<(), TreeFault> {
+pub(crate) fn push_list(text: &mut String, tree: &Tree, path: &Path) -> Result<(), TreeFault> {
     let names = tree.list(path)?;
     for name in names.as_slice() {
         text.push_str(" ")?;
         text.push_str(name.as_str())?;
     }
     Ok(())
-}
-
-// Takes a step, and tells what was asked for.
-pub(crate) fn take_step(
-    alloc: Global,
-    text: &mut String,
-    tree: &mut Tree,
-    step: &Step,
-) -> Result<(), TreeFault> {
-    match step {
-        Step::Put(row) => put(alloc, tree, row),
-        Step::Graft(from, to) => graft(alloc, tree, from, to),
-        Step::Remove(path) => tree.remove(&Path::read(alloc, path)?),
-        Step::Look(path) => Ok(push_looked(text, tree, &Path::read(alloc, path)?)?),
-        Step::List(path) => push_list(text, tree, &Path::read(alloc, path)?),
-    }
 }

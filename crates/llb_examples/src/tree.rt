@@ -1,9 +1,7 @@
-//! Names, paths and trees. A story is told in a line of text: a `;` after each step, what was asked for or the step's fault before
-//! it, and then the entries.
+//! Names, paths and trees.
 
-use super::told::{
-    Row, Step, are_all_told, file, is_told, push_path, push_tree, take_step, tree_of,
-};
+use super::told::{Row, are_all_told, file, is_told, push_path, tree_of};
+use super::trees::are_told;
 use llb_tree::{Meta, Name, Path, Tree, TreeFault};
 use llb_wire::Same;
 use std::alloc::Global;
@@ -216,146 +214,125 @@ fn a_directory_is_told_from_a_file(rt: HostRuntime) {
     }
 }
 
-const A: Step = Step::Put(("/a", 0o700, 7, 8, None));
+const STORIES: &str = "
+    # An empty tree is its root alone.
+    > look /
+    d
+    > tree
+    d
 
-const A_B: Step = Step::Put(("/a/b", 0o644, 7, 8, Some("x")));
+    # A parent is made before its file.
+    > file /a/b 644 7:8 x
+    21
+    > dir /a 700 7:8
+    > file /a/b 644 7:8 x
+    > look /a
+    d/a(700 7:8)
+    > look /a/b
+    f/a/b(644 7:8)=x
+    > look /a/b/c
+    none
+    > tree
+    d d/a(700 7:8) f/a/b(644 7:8)=x
 
-const STORIES: &[(&str, &[Step], &str)] = &[
-    (
-        "an empty tree is its root alone",
-        &[Step::Look("/")],
-        " d; d",
-    ),
-    (
-        "a parent is made before its file",
-        &[
-            A_B,
-            A,
-            A_B,
-            Step::Look("/a"),
-            Step::Look("/a/b"),
-            Step::Look("/a/b/c"),
-        ],
-        "21;;; d/a(700 7:8); f/a/b(644 7:8)=x;none; d d/a(700 7:8) f/a/b(644 7:8)=x",
-    ),
-    (
-        "an edit in the way of another is refused",
-        &[
-            A,
-            A_B,
-            Step::Put(("/a", 0o600, 7, 8, Some("y"))),
-            Step::Put(("/a/b", 0o755, 7, 8, None)),
-            Step::Put(("/a/b/c", 0o600, 7, 8, Some("y"))),
-            Step::Put(("/", 0o600, 7, 8, Some("y"))),
-            Step::Look("/a/b/c"),
-        ],
-        ";;23;24;22;25;none; d d/a(700 7:8) f/a/b(644 7:8)=x",
-    ),
-    (
-        "a file is replaced and a directory takes the new mode",
-        &[
-            A,
-            A_B,
-            Step::Put(("/a/b", 0o600, 7, 8, Some("new"))),
-            Step::Put(("/a", 0, 7, 8, None)),
-            Step::Put(("/", 0o4755, 7, 8, None)),
-            Step::Look("/"),
-            Step::Look("/a"),
-            Step::Look("/a/b"),
-        ],
-        ";;;;; d(4755 7:8); d/a(0 7:8); f/a/b(600 7:8)=new; d(4755 7:8) d/a(0 7:8) f/a/b(600 7:8)=new",
-    ),
-    (
-        "entries stand in path order",
-        &[A, A_B, Step::Put(("/a-", 0o755, 7, 8, None))],
-        ";;; d d/a(700 7:8) f/a/b(644 7:8)=x d/a-(755 7:8)",
-    ),
-    (
-        "a tree is put elsewhere and goes",
-        &[
-            Step::Put(("/a/b", 0o644, 0, 0, Some(""))),
-            Step::Put(("/a", 0o755, 0, 0, None)),
-            Step::Put(("/a/b", 0o644, 0, 0, Some(""))),
-            Step::Put(("/a", 0o644, 0, 0, Some(""))),
-            Step::Put(("/a/b", 0o755, 0, 0, None)),
-            Step::Put(("/a/b/c", 0o644, 0, 0, Some(""))),
-            Step::Remove("/"),
-            Step::Graft("/a", "/z"),
-            Step::List("/z"),
-            Step::Remove("/a"),
-        ],
-        "21;;;23;24;22;25;; b;; d d/z f/z/b=",
-    ),
-    (
-        "what is not there is refused",
-        &[
-            Step::Put(("/a", 0o755, 0, 0, None)),
-            Step::Put(("/a/b", 0o644, 0, 0, Some(""))),
-            Step::Remove("/a/b/c"),
-            Step::List("/a/b"),
-            Step::List("/a/b/c"),
-            Step::List("/x"),
-            Step::Graft("/a/b", "/z"),
-            Step::Graft("/a", "/x/y"),
-            Step::Graft("/a", "/a/b/c"),
-            Step::List("/"),
-        ],
-        ";;21;22;21;21;22;21;22; a; d d/a f/a/b=",
-    ),
-    (
-        "a graft takes the place of what was below",
-        &[
-            Step::Put(("/a", 0o755, 0, 0, None)),
-            Step::Put(("/a/b", 0o644, 0, 0, Some(""))),
-            Step::Put(("/c", 0o755, 0, 0, None)),
-            Step::Put(("/c/d", 0o755, 0, 0, None)),
-            Step::Put(("/c/d/e", 0o644, 0, 0, Some(""))),
-            Step::Put(("/c-", 0o755, 0, 0, None)),
-            Step::List("/c"),
-            Step::Graft("/a", "/c"),
-            Step::Graft("/c", "/"),
-        ],
-        ";;;;;; d;;; d f/b=",
-    ),
-];
+    # An edit in the way of another is refused.
+    > file /a 600 7:8 y
+    23
+    > dir /a/b 755 7:8
+    24
+    > file /a/b/c 600 7:8 y
+    22
+    > file / 600 7:8 y
+    25
+    > look /a/b/c
+    none
+    > tree
+    d d/a(700 7:8) f/a/b(644 7:8)=x
 
-fn push_step(
-    alloc: Global,
-    text: &mut String,
-    tree: &mut Tree,
-    step: &Step,
-) -> Result<(), TreeFault> {
-    if let Err(fault) = take_step(alloc, text, tree, step) {
-        write!(text, "{fault}")?;
-    }
-    Ok(text.push_str(";")?)
-}
+    # A file is replaced and a directory takes the new mode.
+    > file /a/b 600 7:8 new
+    > dir /a 0 7:8
+    > dir / 4755 7:8
+    > look /
+    d(4755 7:8)
+    > look /a
+    d/a(0 7:8)
+    > look /a/b
+    f/a/b(600 7:8)=new
+    > tree
+    d(4755 7:8) d/a(0 7:8) f/a/b(600 7:8)=new
 
-fn told(alloc: Global, steps: &[Step]) -> Result<String, TreeFault> {
-    let mut text = String::new(alloc);
-    let mut tree = Tree::empty(alloc)?;
-    for step in steps {
-        push_step(alloc, &mut text, &mut tree, step)?;
-    }
-    tree.is_tree();
-    push_tree(&mut text, &tree)?;
-    Ok(text)
-}
+    # Entries stand in path order.
+    > new
+    > dir /a 700 7:8
+    > file /a/b 644 7:8 x
+    > dir /a- 755 7:8
+    > tree
+    d d/a(700 7:8) f/a/b(644 7:8)=x d/a-(755 7:8)
 
-// The number of the first row that is answered otherwise; past the end where there is none.
-fn first_wrong(alloc: Global, rows: &[(&str, &[Step], &str)]) -> usize {
-    for (at, (_, steps, wanted)) in rows.iter().enumerate() {
-        if !is_told(alloc, told(alloc, steps), wanted) {
-            return at;
-        }
-    }
-    rows.len()
-}
+    # A tree is put elsewhere and goes.
+    > new
+    > file /a/b 644 0:0
+    21
+    > dir /a 755 0:0
+    > file /a/b 644 0:0
+    > file /a 644 0:0
+    23
+    > dir /a/b 755 0:0
+    24
+    > file /a/b/c 644 0:0
+    22
+    > remove /
+    25
+    > graft /a /z
+    > list /z
+    b
+    > remove /a
+    > tree
+    d d/z f/z/b=
+
+    # What is not there is refused.
+    > new
+    > dir /a 755 0:0
+    > file /a/b 644 0:0
+    > remove /a/b/c
+    21
+    > list /a/b
+    22
+    > list /a/b/c
+    21
+    > list /x
+    21
+    > graft /a/b /z
+    22
+    > graft /a /x/y
+    21
+    > graft /a /a/b/c
+    22
+    > list /
+    a
+    > tree
+    d d/a f/a/b=
+
+    # A graft takes the place of what was below.
+    > new
+    > dir /a 755 0:0
+    > file /a/b 644 0:0
+    > dir /c 755 0:0
+    > dir /c/d 755 0:0
+    > file /c/d/e 644 0:0
+    > dir /c- 755 0:0
+    > list /c
+    d
+    > graft /a /c
+    > graft /c /
+    > tree
+    d f/b=
+    ";
 
 #[test]
-fn a_tree_is_changed_step_by_step(rt: HostRuntime) {
-    let rows = STORIES;
-    are_all_told(&rt, first_wrong(rt.alloc(), rows), rows.len());
+fn a_tree_is_changed_call_by_call(rt: HostRuntime) {
+    are_told(&rt, rt.alloc(), STORIES);
 }
 
 // What a graft at a path of this many names answers, for a tree with one name.

@@ -9,6 +9,7 @@ use super::sessions::are_all_told;
 use super::written::{Definition, board_of};
 use llb_board::Board;
 use std::alloc::Global;
+use std::process::Abort;
 
 // A board: what it was opened on, for that many workers, and the events that were done on it, a line each.
 type Side = (Definition, u32, &'static str);
@@ -38,33 +39,20 @@ const PAIRS: &[(Side, Side, bool)] = &[
     ),
 ];
 
-// Whether two boards are the same once the events of both were done; none where one is refused.
-fn compared(one: &mut Board, events: &str, other: &mut Board, others: &str) -> Option<bool> {
-    if are_done(one, events) && are_done(other, others) {
-        Some(calls::are_same(one, other))
-    } else {
-        None
-    }
+fn board_at(rt: &impl Abort, alloc: Global, side: &Side) -> Board {
+    let mut board = board_of(rt, alloc, side.0, &[], side.1);
+    assert!(rt; are_done(&mut board, side.2));
+    board
 }
 
-fn is_same_as(alloc: Global, board: &mut Board, events: &str, other: &Side) -> Option<bool> {
-    match board_of(alloc, other.0, &[], other.1) {
-        Some(mut second) => compared(board, events, &mut second, other.2),
-        None => None,
-    }
-}
-
-fn are_same(alloc: Global, one: &Side, other: &Side) -> Option<bool> {
-    match board_of(alloc, one.0, &[], one.1) {
-        Some(mut board) => is_same_as(alloc, &mut board, one.2, other),
-        None => None,
-    }
+fn are_same(rt: &impl Abort, alloc: Global, one: &Side, other: &Side) -> bool {
+    calls::are_same(&board_at(rt, alloc, one), &board_at(rt, alloc, other))
 }
 
 // The number of the first pair of which something else holds; past the end where there is none.
-fn first_wrong(alloc: Global, pairs: &[(Side, Side, bool)]) -> usize {
+fn first_wrong(rt: &impl Abort, alloc: Global, pairs: &[(Side, Side, bool)]) -> usize {
     for (at, (one, other, wanted)) in pairs.iter().enumerate() {
-        if are_same(alloc, one, other) != Some(*wanted) {
+        if are_same(rt, alloc, one, other) != *wanted {
             return at;
         }
     }
@@ -74,7 +62,7 @@ fn first_wrong(alloc: Global, pairs: &[(Side, Side, bool)]) -> usize {
 #[test]
 fn boards_are_the_same_by_all_that_they_hold(rt: HostRuntime) {
     let rows = PAIRS;
-    are_all_told(&rt, first_wrong(rt.alloc(), rows), rows.len());
+    are_all_told(&rt, first_wrong(&rt, rt.alloc(), rows), rows.len());
 }
 
 // Boards, and events that are then done on them and not on their copies.
@@ -87,42 +75,22 @@ const COPIED: &[(Side, &str)] = &[
 
 // Whether a copy is the board, then whether it still is once some events were done on the board alone, and whether it is then as a board
 // on which they were not done.
-fn copied(board: &mut Board, untouched: &Board, events: &str) -> [bool; 3] {
-    match copy_of(board) {
-        Some(copy) => {
-            let before = calls::are_same(board, &copy);
-            let done = are_done(board, events);
-            [
-                before,
-                done && calls::are_same(board, &copy),
-                done && calls::are_same(&copy, untouched),
-            ]
-        }
-        None => [false; 3],
-    }
+fn copied(rt: &impl Abort, alloc: Global, side: &Side, events: &str) -> [bool; 3] {
+    let mut board = board_at(rt, alloc, side);
+    let copy = copy_of(&board).expect(rt, "memory");
+    let before = calls::are_same(&board, &copy);
+    assert!(rt; are_done(&mut board, events));
+    let untouched = board_at(rt, alloc, side);
+    [
+        before,
+        calls::are_same(&board, &copy),
+        calls::are_same(&copy, &untouched),
+    ]
 }
 
-fn copied_beside(alloc: Global, board: &mut Board, side: &Side, events: &str) -> Option<[bool; 3]> {
-    match board_of(alloc, side.0, &[], side.1) {
-        Some(mut untouched) => {
-            let begun = are_done(board, side.2) && are_done(&mut untouched, side.2);
-            let told = copied(board, &untouched, events);
-            if begun { Some(told) } else { None }
-        }
-        None => None,
-    }
-}
-
-fn copied_from(alloc: Global, side: &Side, events: &str) -> Option<[bool; 3]> {
-    match board_of(alloc, side.0, &[], side.1) {
-        Some(mut board) => copied_beside(alloc, &mut board, side, events),
-        None => None,
-    }
-}
-
-fn first_other_copy(alloc: Global, rows: &[(Side, &str)]) -> usize {
+fn first_other_copy(rt: &impl Abort, alloc: Global, rows: &[(Side, &str)]) -> usize {
     for (at, (side, events)) in rows.iter().enumerate() {
-        if copied_from(alloc, side, events) != Some([true, false, true]) {
+        if copied(rt, alloc, side, events) != [true, false, true] {
             return at;
         }
     }
@@ -132,5 +100,5 @@ fn first_other_copy(alloc: Global, rows: &[(Side, &str)]) -> usize {
 #[test]
 fn a_copy_stays_where_the_board_was(rt: HostRuntime) {
     let rows = COPIED;
-    are_all_told(&rt, first_other_copy(rt.alloc(), rows), rows.len());
+    are_all_told(&rt, first_other_copy(&rt, rt.alloc(), rows), rows.len());
 }

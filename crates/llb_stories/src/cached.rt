@@ -72,59 +72,59 @@ macro_rules! locked_on_0 {
     };
 }
 
-pub const LOCKED_TRUE: &str = locked!("true");
+pub(crate) const LOCKED_TRUE: &str = locked!("true");
 
-pub const LOCKED_A: &str = locked!("write /c/a x");
+pub(crate) const LOCKED_A: &str = locked!("write /c/a x");
 
-pub const LOCKED_B: &str = locked!("write /c/b y");
+pub(crate) const LOCKED_B: &str = locked!("write /c/b y");
 
-pub const LOCKED_A_AND_TRUE: &str = locked!("write /c/a x && true");
+pub(crate) const LOCKED_A_AND_TRUE: &str = locked!("write /c/a x && true");
 
-pub const LOCKED_A_FAILS: &str = locked!("write /c/a x && false");
+pub(crate) const LOCKED_A_FAILS: &str = locked!("write /c/a x && false");
 
-pub const LOCKED_A_FAILS_EARLY: &str = locked!("write /c/a x && false && true");
+pub(crate) const LOCKED_A_FAILS_EARLY: &str = locked!("write /c/a x && false && true");
 
 // What a listing tells is a file of the output, so that it is seen what is in the cache then.
-pub const LOCKED_A_SEEN: &str = locked!("write /c/a x && listing /c /seen");
+pub(crate) const LOCKED_A_SEEN: &str = locked!("write /c/a x && listing /c /seen");
 
-pub const LOCKED_B_SEEN: &str = locked!("write /c/b y && listing /c /seen");
+pub(crate) const LOCKED_B_SEEN: &str = locked!("write /c/b y && listing /c /seen");
 
-pub const PRIVATE_A: &str = private!("write /c/a x");
+pub(crate) const PRIVATE_A: &str = private!("write /c/a x");
 
-pub const PRIVATE_B: &str = private!("write /c/b y");
+pub(crate) const PRIVATE_B: &str = private!("write /c/b y");
 
-pub const PRIVATE_A_SEEN: &str = private!("write /c/a x && listing /c /seen");
+pub(crate) const PRIVATE_A_SEEN: &str = private!("write /c/a x && listing /c /seen");
 
-pub const PRIVATE_B_SEEN: &str = private!("write /c/b y && listing /c /seen");
+pub(crate) const PRIVATE_B_SEEN: &str = private!("write /c/b y && listing /c /seen");
 
-pub const SHARED_TRUE: &str = shared!("true");
+pub(crate) const SHARED_TRUE: &str = shared!("true");
 
-pub const SHARED_A_B: &str = shared!("append /c/l a && append /c/l b");
+pub(crate) const SHARED_A_B: &str = shared!("append /c/l a && append /c/l b");
 
-pub const SHARED_C_D: &str = shared!("append /c/l c && append /c/l d");
+pub(crate) const SHARED_C_D: &str = shared!("append /c/l c && append /c/l d");
 
-pub const SHARED_A_B_SEEN: &str = shared!("append /c/l a && append /c/l b && cp /c/l /seen");
+pub(crate) const SHARED_A_B_SEEN: &str = shared!("append /c/l a && append /c/l b && cp /c/l /seen");
 
-pub const SHARED_C_D_SEEN: &str = shared!("append /c/l c && append /c/l d && cp /c/l /seen");
+pub(crate) const SHARED_C_D_SEEN: &str = shared!("append /c/l c && append /c/l d && cp /c/l /seen");
 
-pub const LOCKED_SEED_GOES: &str = locked_on_0!("rm /c/a");
+pub(crate) const LOCKED_SEED_GOES: &str = locked_on_0!("rm /c/a");
 
-pub const LOCKED_SEED_B: &str = locked_on_0!("write /c/b y");
+pub(crate) const LOCKED_SEED_B: &str = locked_on_0!("write /c/b y");
 
-pub const LOCKED_SEED_SEEN_GOES: &str = locked_on_0!("listing /c /seen && rm /c/a");
+pub(crate) const LOCKED_SEED_SEEN_GOES: &str = locked_on_0!("listing /c /seen && rm /c/a");
 
-pub const LOCKED_SEED_B_SEEN: &str = locked_on_0!("write /c/b y && listing /c /seen");
+pub(crate) const LOCKED_SEED_B_SEEN: &str = locked_on_0!("write /c/b y && listing /c /seen");
 
-pub const PRIVATE_SEED_GOES: &str = private_on_0!("rm /c/a");
+pub(crate) const PRIVATE_SEED_GOES: &str = private_on_0!("rm /c/a");
 
-pub const PRIVATE_SEED_B: &str = private_on_0!("write /c/b y");
+pub(crate) const PRIVATE_SEED_B: &str = private_on_0!("write /c/b y");
 
-pub const PRIVATE_SEED_SEEN_GOES: &str = private_on_0!("listing /c /seen && rm /c/a");
+pub(crate) const PRIVATE_SEED_SEEN_GOES: &str = private_on_0!("listing /c /seen && rm /c/a");
 
-pub const PRIVATE_SEED_SEEN_B: &str = private_on_0!("listing /c /seen && write /c/b y");
+pub(crate) const PRIVATE_SEED_SEEN_B: &str = private_on_0!("listing /c /seen && write /c/b y");
 
 // One ID in two ways: locked at `/c`, and shared at `/e`.
-pub const IN_TWO_WAYS: &str = r#"op {
+pub(crate) const IN_TWO_WAYS: &str = r#"op {
     exec {
         meta {
             args "/bin/sh"
@@ -159,7 +159,7 @@ pub const IN_TWO_WAYS: &str = r#"op {
 }"#;
 
 // The same, with a listing of each.
-pub const IN_TWO_WAYS_SEEN: &str = r#"op {
+pub(crate) const IN_TWO_WAYS_SEEN: &str = r#"op {
     exec {
         meta {
             args "/bin/sh"

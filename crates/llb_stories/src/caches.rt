@@ -9,7 +9,7 @@ use super::definitions::{MAKES_A, MERGES_0_1, MERGES_1_2, RESULT_0, RESULT_2, RE
 use super::sessions::{Story, are_all_told, first_wrong};
 use super::written::Definition;
 
-pub const WRITES_AND_FAILS: Definition = &[LOCKED_A_FAILS, RESULT_0];
+pub(crate) const WRITES_AND_FAILS: Definition = &[LOCKED_A_FAILS, RESULT_0];
 
 const TWO_PRIVATE: Definition = &[PRIVATE_A_SEEN, PRIVATE_B_SEEN, MERGES_0_1, RESULT_2];
 
@@ -329,11 +329,11 @@ const NOT_LOCKED: &[Story] = &[
 #[test]
 fn a_locked_cache_is_had_by_one_at_a_time(rt: HostRuntime) {
     let rows = LOCKED;
-    are_all_told(&rt, first_wrong(rt.alloc(), rows), rows.len());
+    are_all_told(&rt, first_wrong(&rt, rt.alloc(), rows), rows.len());
 }
 
 #[test]
 fn private_and_shared_caches_are_had_by_many(rt: HostRuntime) {
     let rows = NOT_LOCKED;
-    are_all_told(&rt, first_wrong(rt.alloc(), rows), rows.len());
+    are_all_told(&rt, first_wrong(&rt, rt.alloc(), rows), rows.len());
 }

@@ -71,49 +71,31 @@ const A_FILE: &str =
 
 const TREE: &str = "d 0755 0 0 /\nf 0644 0 0 6869 /a\n";
 
-fn are_kinds_told(alloc: Global, text: &str) -> bool {
-    match assembled(alloc, text.as_bytes()) {
-        Some(definition) => match kinds_in(alloc, definition.as_slice()) {
-            Ok(kinds) => kinds.as_str() == "file\n",
-            Err(_) => false,
-        },
-        None => false,
-    }
-}
-
-fn told(alloc: Global) -> Option<Vec<u8>> {
-    let tree = read_tree(alloc, TREE.as_bytes()).ok()?;
-    let name = Text::from_str(alloc, "p").ok()?;
-    let graph = graph_from(alloc, &DEFINITION)?;
-    result_text(alloc, graph, name, tree)
-}
-
-fn is_told(alloc: Global) -> bool {
-    match told(alloc) {
-        Some(text) => text.as_slice() == TREE.as_bytes(),
-        None => false,
-    }
-}
-
-fn is_driven(alloc: Global) -> bool {
-    match board_of(alloc, &DEFINITION, &[("p", TREE)], 1) {
-        Some(mut board) => by_hand(&mut board, 0) == Some(Settled::Done(0)),
-        None => false,
-    }
-}
-
-fn is_looked_at(alloc: Global) -> bool {
-    match board_of(alloc, &DEFINITION, &[("p", TREE)], 1) {
-        Some(board) => looked_at(&mut Stepper::new(alloc, board)) == Some(2),
-        None => false,
-    }
+#[test]
+fn kinds_are_told_of_an_assembled_text(rt: HostRuntime) {
+    let definition = assembled(rt.alloc(), A_FILE.as_bytes()).expect(&rt, "a definition");
+    let kinds = kinds_in(rt.alloc(), definition.as_slice()).expect(&rt, "a graph");
+    assert_eq!(rt; kinds.as_str(), "file\n");
 }
 
 #[test]
-fn callers_do_what_they_say(rt: HostRuntime) {
-    let alloc = rt.alloc();
-    assert!(rt; are_kinds_told(alloc, A_FILE));
-    assert!(rt; is_told(alloc));
-    assert!(rt; is_driven(alloc));
-    assert!(rt; is_looked_at(alloc));
+fn the_text_of_a_result_is_that_of_the_local_tree(rt: HostRuntime) {
+    let tree = read_tree(rt.alloc(), TREE.as_bytes()).expect(&rt, "a tree");
+    let name = Text::from_str(rt.alloc(), "p").expect(&rt, "memory");
+    let graph = graph_from(&rt, rt.alloc(), &DEFINITION);
+    let text = result_text(rt.alloc(), graph, name, tree).expect(&rt, "a result");
+    assert!(rt; text.as_slice() == TREE.as_bytes());
+}
+
+#[test]
+fn a_board_is_driven_by_hand(rt: HostRuntime) {
+    let mut board = board_of(&rt, rt.alloc(), &DEFINITION, &[("p", TREE)], 1);
+    assert!(rt; by_hand(&mut board, 0) == Some(Settled::Done(0)));
+}
+
+#[test]
+fn a_run_is_looked_at_and_taken_back(rt: HostRuntime) {
+    let board = board_of(&rt, rt.alloc(), &DEFINITION, &[("p", TREE)], 1);
+    let mut stepper = Stepper::new(rt.alloc(), board);
+    assert!(rt; looked_at(&mut stepper) == Some(2));
 }

@@ -8,23 +8,23 @@ use llb_session::{Request, request_in};
 use llb_stepper::{Break, Stepper, Stop};
 use llb_wire::Same;
 use std::alloc::Global;
+use std::process::Abort;
 
-// None where a lease of the caches is out.
-pub fn opened(
+// No lease of the caches may be out.
+pub(crate) fn opened(
+    rt: &impl Abort,
     alloc: Global,
     graph: Graph,
     locals: Locals,
     caches: Caches,
     workers: u32,
-) -> Option<Result<Board, OpenFault>> {
-    if caches.leases() > 0 {
-        return None;
-    }
-    Some(Board::open(alloc, graph, locals, caches, workers))
+) -> Result<Board, OpenFault> {
+    assert!(rt; caches.leases() == 0);
+    Board::open(alloc, graph, locals, caches, workers)
 }
 
 // The event that a line of a session asks for.
-pub fn event_in(line: &str) -> Option<Event> {
+pub(crate) fn event_in(line: &str) -> Option<Event> {
     match request_in(line.as_bytes()) {
         Some(Request::Event(event)) => Some(event),
         _ => None,
@@ -43,7 +43,7 @@ fn is_settled(board: &mut Board, w: u32) -> bool {
     board.settle(w).is_ok()
 }
 
-pub fn is_event_done(board: &mut Board, event: Event) -> bool {
+pub(crate) fn is_event_done(board: &mut Board, event: Event) -> bool {
     match event {
         Event::Claim(w, v) => is_claimed(board, w, v),
         Event::Step(w) => is_stepped(board, w),
@@ -59,7 +59,7 @@ fn is_done(board: &mut Board, line: &str) -> bool {
 }
 
 // Whether events are done, each written in a line as in a session.
-pub fn are_done(board: &mut Board, events: &str) -> bool {
+pub(crate) fn are_done(board: &mut Board, events: &str) -> bool {
     for line in events.lines() {
         if !is_done(board, line) {
             return false;
@@ -68,16 +68,16 @@ pub fn are_done(board: &mut Board, events: &str) -> bool {
     true
 }
 
-pub fn are_same(one: &Board, other: &Board) -> bool {
+pub(crate) fn are_same(one: &Board, other: &Board) -> bool {
     one.same(other)
 }
 
-pub fn copy_of(board: &Board) -> Option<Board> {
+pub(crate) fn copy_of(board: &Board) -> Option<Board> {
     board.copy().ok()
 }
 
 // What worker w works out of a vertex behind a gate, or the number of the fault.
-pub fn worked<G: Gate>(
+pub(crate) fn worked<G: Gate>(
     alloc: Global,
     board: &mut Board,
     w: u32,
@@ -95,7 +95,7 @@ pub fn worked<G: Gate>(
 }
 
 // By which fault an outcome does not land; 0 where it does.
-pub fn landed(board: &mut Board, w: u32, outcome: Outcome) -> u32 {
+pub(crate) fn landed(board: &mut Board, w: u32, outcome: Outcome) -> u32 {
     match board.land(w, outcome) {
         Ok(_) => 0,
         Err(LandFault::NoWorker(_)) => 131,
@@ -105,14 +105,14 @@ pub fn landed(board: &mut Board, w: u32, outcome: Outcome) -> u32 {
     }
 }
 
-pub fn breaks_at(stepper: &mut Stepper, stop: Break) -> bool {
+pub(crate) fn breaks_at(stepper: &mut Stepper, stop: Break) -> bool {
     stepper.break_at(stop).is_ok()
 }
 
-pub fn replayed(stepper: &mut Stepper, events: &[Event]) -> Option<Stop> {
+pub(crate) fn replayed(stepper: &mut Stepper, events: &[Event]) -> Option<Stop> {
     stepper.replay(events).ok()
 }
 
-pub fn goes_back(stepper: &mut Stepper) -> bool {
+pub(crate) fn goes_back(stepper: &mut Stepper) -> bool {
     stepper.back().is_ok()
 }

@@ -10,6 +10,7 @@ use std::alloc::Global;
 use std::cell::Cell;
 use std::io;
 use std::io::{ErrorKind, Read, Write};
+use std::process::Abort;
 
 // What is said to a stepper on one file by one worker, and all that it prints.
 const CONVERSATIONS: &[(&str, &str)] = &[
@@ -36,24 +37,29 @@ const CONVERSATIONS: &[(&str, &str)] = &[
     ),
 ];
 
-fn on_one_file(alloc: Global) -> Option<Stepper> {
-    match board_of(alloc, ONE_FILE, &[], 1) {
-        Some(board) => Some(Stepper::new(alloc, board)),
-        None => None,
-    }
+fn on_one_file(rt: &impl Abort, alloc: Global) -> Stepper {
+    Stepper::new(alloc, board_of(rt, alloc, ONE_FILE, &[], 1))
 }
 
-// How a conversation within bounds ends, where it prints this.
-fn ended_on(
+// How a conversation on one file ends within bounds, where it prints this.
+fn ended(
+    rt: &impl Abort,
     alloc: Global,
-    stepper: &mut Stepper,
     commands: &str,
     bounds: (usize, u64),
     wanted: &str,
 ) -> Option<Result<(), SessionFault>> {
+    let mut stepper = on_one_file(rt, alloc);
     let mut lines = commands.as_bytes();
     let mut out: Vec<u8> = Vec::new(alloc);
-    let end = converse(alloc, stepper, &mut lines, &mut out, bounds.0, bounds.1);
+    let end = converse(
+        alloc,
+        &mut stepper,
+        &mut lines,
+        &mut out,
+        bounds.0,
+        bounds.1,
+    );
     if out.as_slice() == wanted.as_bytes() {
         Some(end)
     } else {
@@ -61,24 +67,13 @@ fn ended_on(
     }
 }
 
-// The same on one file.
-fn ended(
-    alloc: Global,
-    commands: &str,
-    limit: usize,
-    reads: u64,
-    wanted: &str,
-) -> Option<Result<(), SessionFault>> {
-    match on_one_file(alloc) {
-        Some(mut stepper) => ended_on(alloc, &mut stepper, commands, (limit, reads), wanted),
-        None => None,
-    }
-}
-
 // The number of the first conversation that prints something else; past the end where there is none.
-fn first_wrong(alloc: Global, rows: &[(&str, &str)]) -> usize {
+fn first_wrong(rt: &impl Abort, alloc: Global, rows: &[(&str, &str)]) -> usize {
     for (at, (commands, wanted)) in rows.iter().enumerate() {
-        if !matches!(ended(alloc, commands, LIMIT, READS, wanted), Some(Ok(()))) {
+        if !matches!(
+            ended(rt, alloc, commands, (LIMIT, READS), wanted),
+            Some(Ok(()))
+        ) {
             return at;
         }
     }
@@ -88,7 +83,7 @@ fn first_wrong(alloc: Global, rows: &[(&str, &str)]) -> usize {
 #[test]
 fn lines_are_answered_up_to_the_end(rt: HostRuntime) {
     let rows = CONVERSATIONS;
-    are_all_told(&rt, first_wrong(rt.alloc(), rows), rows.len());
+    are_all_told(&rt, first_wrong(&rt, rt.alloc(), rows), rows.len());
 }
 
 const TWICE: &str = "next\nnext\n";
@@ -112,9 +107,9 @@ fn number_of(end: Option<Result<(), SessionFault>>) -> Option<u32> {
 }
 
 // The number of the first row of bounds that a session ends otherwise within.
-fn first_other_end(alloc: Global, rows: &[(usize, u64, &str, u32)]) -> usize {
+fn first_other_end(rt: &impl Abort, alloc: Global, rows: &[(usize, u64, &str, u32)]) -> usize {
     for (at, (limit, reads, wanted, number)) in rows.iter().enumerate() {
-        if number_of(ended(alloc, TWICE, *limit, *reads, wanted)) != Some(*number) {
+        if number_of(ended(rt, alloc, TWICE, (*limit, *reads), wanted)) != Some(*number) {
             return at;
         }
     }
@@ -124,7 +119,7 @@ fn first_other_end(alloc: Global, rows: &[(usize, u64, &str, u32)]) -> usize {
 #[test]
 fn lines_within_the_bounds_are_answered(rt: HostRuntime) {
     let rows = BOUNDS;
-    are_all_told(&rt, first_other_end(rt.alloc(), rows), rows.len());
+    are_all_told(&rt, first_other_end(&rt, rt.alloc(), rows), rows.len());
 }
 
 // A reader that gives a byte a read, and those of a line only once the lines before it are answered.
@@ -188,15 +183,10 @@ fn is_conversation(alloc: Global, stepper: &mut Stepper, commands: &str, wanted:
     end.is_ok() && out.text.as_slice() == wanted.as_bytes()
 }
 
-fn is_held(alloc: Global, commands: &str, wanted: &str) -> bool {
-    match on_one_file(alloc) {
-        Some(mut stepper) => is_conversation(alloc, &mut stepper, commands, wanted),
-        None => false,
-    }
-}
-
 #[test]
 fn each_line_is_answered_before_the_next_is_waited_for(rt: HostRuntime) {
     let wanted = "1 claim 0 0 -> file 1\n2 step 0 -> acted 0\nback 1\n";
-    assert!(rt; is_held(rt.alloc(), "next\nbreak fail\nnext\nback\n", wanted));
+    let mut stepper = on_one_file(&rt, rt.alloc());
+    let commands = "next\nbreak fail\nnext\nback\n";
+    assert!(rt; is_conversation(rt.alloc(), &mut stepper, commands, wanted));
 }

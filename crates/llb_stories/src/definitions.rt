@@ -2,7 +2,7 @@
 //! `%0` for the first, so each stands at the places that its name or its comment tells.
 
 // A file `/a` with the content `hi` on nothing.
-pub const MAKES_A: &str = r#"op {
+pub(crate) const MAKES_A: &str = r#"op {
     file {
         actions {
             input -1
@@ -16,7 +16,7 @@ pub const MAKES_A: &str = r#"op {
 }"#;
 
 // A file `/b` with the content `ho` on nothing.
-pub const MAKES_B: &str = r#"op {
+pub(crate) const MAKES_B: &str = r#"op {
     file {
         actions {
             input -1
@@ -30,7 +30,7 @@ pub const MAKES_B: &str = r#"op {
 }"#;
 
 // A file `/z` with the content `hi` on nothing.
-pub const MAKES_Z: &str = r#"op {
+pub(crate) const MAKES_Z: &str = r#"op {
     file {
         actions {
             input -1
@@ -44,7 +44,7 @@ pub const MAKES_Z: &str = r#"op {
 }"#;
 
 // A file `/x/a`, whose directory is missing.
-pub const MAKES_XA: &str = r#"op {
+pub(crate) const MAKES_XA: &str = r#"op {
     file {
         actions {
             input -1
@@ -58,7 +58,7 @@ pub const MAKES_XA: &str = r#"op {
 }"#;
 
 // What the second entry gives, laid over what the first does.
-pub const MERGES_0_1: &str = r#"op {
+pub(crate) const MERGES_0_1: &str = r#"op {
     inputs {
         digest %0
     }
@@ -75,7 +75,7 @@ pub const MERGES_0_1: &str = r#"op {
 }"#;
 
 // The same of the third and the second entry.
-pub const MERGES_1_2: &str = r#"op {
+pub(crate) const MERGES_1_2: &str = r#"op {
     inputs {
         digest %1
     }
@@ -92,7 +92,7 @@ pub const MERGES_1_2: &str = r#"op {
 }"#;
 
 // The first entry, then the second, then the empty tree, laid over each other.
-pub const MERGES_0_1_EMPTY: &str = r#"op {
+pub(crate) const MERGES_0_1_EMPTY: &str = r#"op {
     inputs {
         digest %0
     }
@@ -112,7 +112,7 @@ pub const MERGES_0_1_EMPTY: &str = r#"op {
 }"#;
 
 // A directory `/d` on what the first entry gives.
-pub const D_ON_0: &str = r#"op {
+pub(crate) const D_ON_0: &str = r#"op {
     inputs {
         digest %0
     }
@@ -127,7 +127,7 @@ pub const D_ON_0: &str = r#"op {
 }"#;
 
 // A directory `/d` on what the second entry gives; the first is an input that is not looked at.
-pub const D_ON_1_OF_0_1: &str = r#"op {
+pub(crate) const D_ON_1_OF_0_1: &str = r#"op {
     inputs {
         digest %0
     }
@@ -146,23 +146,24 @@ pub const D_ON_1_OF_0_1: &str = r#"op {
 }"#;
 
 // The result is what the entry of that number gives.
-pub const RESULT_0: &str = "op {\n    inputs {\n        digest %0\n    }\n}";
+pub(crate) const RESULT_0: &str = "op {\n    inputs {\n        digest %0\n    }\n}";
 
-pub const RESULT_1: &str = "op {\n    inputs {\n        digest %1\n    }\n}";
+pub(crate) const RESULT_1: &str = "op {\n    inputs {\n        digest %1\n    }\n}";
 
-pub const RESULT_2: &str = "op {\n    inputs {\n        digest %2\n    }\n}";
+pub(crate) const RESULT_2: &str = "op {\n    inputs {\n        digest %2\n    }\n}";
 
-pub const RESULT_3: &str = "op {\n    inputs {\n        digest %3\n    }\n}";
+pub(crate) const RESULT_3: &str = "op {\n    inputs {\n        digest %3\n    }\n}";
 
 // The local sources `p`, `q` and `source`.
-pub const SOURCE_P: &str = "op {\n    source {\n        identifier \"local://p\"\n    }\n}";
+pub(crate) const SOURCE_P: &str = "op {\n    source {\n        identifier \"local://p\"\n    }\n}";
 
-pub const SOURCE_Q: &str = "op {\n    source {\n        identifier \"local://q\"\n    }\n}";
+pub(crate) const SOURCE_Q: &str = "op {\n    source {\n        identifier \"local://q\"\n    }\n}";
 
-pub const SOURCE: &str = "op {\n    source {\n        identifier \"local://source\"\n    }\n}";
+pub(crate) const SOURCE: &str =
+    "op {\n    source {\n        identifier \"local://source\"\n    }\n}";
 
 // On the first entry: a directory `/d`, in it a copy of the file `/f` of the second, and `/old` goes.
-pub const CHANGES_0_BY_1: &str = r#"op {
+pub(crate) const CHANGES_0_BY_1: &str = r#"op {
     inputs {
         digest %0
     }
@@ -198,7 +199,7 @@ pub const CHANGES_0_BY_1: &str = r#"op {
 
 // Three commands on the first entry at `/`, a tmpfs at `/t`, and what is at `/sub` of the second at `/t/in`: outputs are the first mount
 // and the last.
-pub const COPIES_BY_A_TMPFS: &str = r#"op {
+pub(crate) const COPIES_BY_A_TMPFS: &str = r#"op {
     inputs {
         digest %0
     }
@@ -230,7 +231,7 @@ pub const COPIES_BY_A_TMPFS: &str = r#"op {
 }"#;
 
 // A command on the empty tree at `/`, which is output 0, and on the second entry at `/in`, which is output 1 and read-only.
-pub const OUTPUTS_TURNED: &str = r#"op {
+pub(crate) const OUTPUTS_TURNED: &str = r#"op {
     inputs {
         digest %0
     }
@@ -258,7 +259,7 @@ pub const OUTPUTS_TURNED: &str = r#"op {
 }"#;
 
 // A command on the first entry that is done, one that ends with status 1, and one after it; the second entry is not looked at.
-pub const FAILS_AT_1: &str = r#"op {
+pub(crate) const FAILS_AT_1: &str = r#"op {
     inputs {
         digest %0
     }
@@ -280,7 +281,7 @@ pub const FAILS_AT_1: &str = r#"op {
 
 // ---- the graph of `examples/execution.text`, after the source
 
-pub const MAKES_OUT: &str = r#"op {
+pub(crate) const MAKES_OUT: &str = r#"op {
     file {
         actions {
             input -1
@@ -294,7 +295,7 @@ pub const MAKES_OUT: &str = r#"op {
 }"#;
 
 // Seven commands in `/out` of the second entry, with the texts of the source at `/src` and a tmpfs at `/tmp`.
-pub const WORKS_IN_OUT: &str = concat!(
+pub(crate) const WORKS_IN_OUT: &str = concat!(
     r#"op {
     inputs {
         digest %1

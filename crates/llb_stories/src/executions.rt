@@ -8,13 +8,13 @@ use super::sessions::{Story, are_all_told, first_wrong};
 use super::written::{Definition, Local};
 
 // The local tree `p` has a file `/old`, and `q` a file `/f`.
-pub const OLD_AND_F: &[Local] = &[
+pub(crate) const OLD_AND_F: &[Local] = &[
     ("p", "d 0755 0 0 /\nf 0644 0 0 6869 /old\n"),
     ("q", "d 0755 0 0 /\nf 0644 0 0 6869 /f\n"),
 ];
 
 // `p` is empty, and `q` has a directory `/sub` with a file `/sub/f`.
-pub const EMPTY_AND_SUB: &[Local] = &[
+pub(crate) const EMPTY_AND_SUB: &[Local] = &[
     ("p", "d 0755 0 0 /\n"),
     (
         "q",
@@ -22,11 +22,11 @@ pub const EMPTY_AND_SUB: &[Local] = &[
     ),
 ];
 
-pub const MERGES: Definition = &[SOURCE_P, SOURCE_Q, MERGES_0_1_EMPTY, RESULT_2];
+pub(crate) const MERGES: Definition = &[SOURCE_P, SOURCE_Q, MERGES_0_1_EMPTY, RESULT_2];
 
-pub const COPIES: Definition = &[SOURCE_P, SOURCE_Q, COPIES_BY_A_TMPFS, RESULT_2];
+pub(crate) const COPIES: Definition = &[SOURCE_P, SOURCE_Q, COPIES_BY_A_TMPFS, RESULT_2];
 
-pub const FAILS: Definition = &[SOURCE_P, SOURCE_Q, FAILS_AT_1, RESULT_2];
+pub(crate) const FAILS: Definition = &[SOURCE_P, SOURCE_Q, FAILS_AT_1, RESULT_2];
 
 const LOCALS_ARE_READ: &[Story] = &[
     Story {
@@ -280,11 +280,11 @@ const COMMANDS_ARE_RUN: &[Story] = &[
 #[test]
 fn sources_merges_and_file_operations_go_step_by_step(rt: HostRuntime) {
     let rows = LOCALS_ARE_READ;
-    are_all_told(&rt, first_wrong(rt.alloc(), rows), rows.len());
+    are_all_told(&rt, first_wrong(&rt, rt.alloc(), rows), rows.len());
 }
 
 #[test]
 fn executions_run_a_command_a_step(rt: HostRuntime) {
     let rows = COMMANDS_ARE_RUN;
-    are_all_told(&rt, first_wrong(rt.alloc(), rows), rows.len());
+    are_all_told(&rt, first_wrong(&rt, rt.alloc(), rows), rows.len());
 }

@@ -8,8 +8,9 @@ use llb_board::{Board, Event, Gate, Stopped};
 use llb_stepper::{Break, Stepper, Stop};
 use llb_wire::Same;
 use llb_work::{RunEnd, run_alone, run_workers};
-use std::alloc::{AllocError, Global};
+use std::alloc::Global;
 use std::fmt::Write;
+use std::process::Abort;
 use std::sync::Wait;
 use std::sync::atomic::{AtomicU64, Ordering};
 use std::thread;
@@ -55,54 +56,36 @@ impl Gate for Gather {
     }
 }
 
-// Entries that make the files `/00`, `/01` and so on.
-fn push_files(text: &mut String, count: u32) -> Result<(), AllocError> {
+// That many entries that make the files `/00`, `/01` and so on.
+fn push_files(rt: &impl Abort, text: &mut String, count: u32) {
     for i in 0..count {
-        write!(
+        let entry = write!(
             text,
             "op {{\nfile {{\nactions {{\ninput -1\nmkfile {{\npath \"/{i:02}\"\nmode 420\n}}\n}}\n}}\n}}\n"
-        )?;
+        );
+        entry.expect(rt, "memory");
     }
-    Ok(())
 }
 
-fn push_digests(text: &mut String, count: u32) -> Result<(), AllocError> {
+fn push_digests(rt: &impl Abort, text: &mut String, count: u32) {
     for i in 0..count {
-        write!(text, "inputs {{\ndigest %{i}\n}}\n")?;
+        write!(text, "inputs {{\ndigest %{i}\n}}\n").expect(rt, "memory");
     }
-    Ok(())
 }
 
-fn push_layers(text: &mut String, count: u32) -> Result<(), AllocError> {
-    text.push_str("merge {\ninputs {\n}\n")?;
-    for i in 1..count {
-        write!(text, "inputs {{\ninput {i}\n}}\n")?;
+fn push_layers(rt: &impl Abort, text: &mut String, count: u32) {
+    for i in 0..count {
+        write!(text, "inputs {{\ninput {i}\n}}\n").expect(rt, "memory");
     }
-    text.push_str("}\n")
 }
 
 // The merge of that many entries, which is the result.
-fn push_merge(text: &mut String, count: u32) -> Result<(), AllocError> {
-    text.push_str("op {\n")?;
-    push_digests(text, count)?;
-    push_layers(text, count)?;
-    write!(text, "}}\nop {{\ninputs {{\ndigest %{count}\n}}\n}}\n")?;
-    Ok(())
-}
-
-// So many entries that make a file each, and their merge.
-fn files_and_their_merge(alloc: Global, count: u32) -> Result<String, AllocError> {
-    let mut text = String::new(alloc);
-    push_files(&mut text, count)?;
-    push_merge(&mut text, count)?;
-    Ok(text)
-}
-
-fn merged(alloc: Global, count: u32, workers: u32) -> Option<Board> {
-    match files_and_their_merge(alloc, count) {
-        Ok(text) => board_from(alloc, text.as_str(), workers),
-        Err(_) => None,
-    }
+fn push_merge(rt: &impl Abort, text: &mut String, count: u32) {
+    text.push_str("op {\n").expect(rt, "memory");
+    push_digests(rt, text, count);
+    text.push_str("merge {\n").expect(rt, "memory");
+    push_layers(rt, text, count);
+    write!(text, "}}\n}}\nop {{\ninputs {{\ndigest %{count}\n}}\n}}\n").expect(rt, "memory");
 }
 
 // How many events were made in all, and by the worker that made the fewest of the first ones; none where there is a fault, or something is
@@ -126,11 +109,12 @@ fn sixty_four_workers_are_at_work_together(rt: HostRuntime) {
         count: 64,
         arrived: AtomicU64::new(0),
     };
-    let made = match merged(rt.alloc(), 64, 64) {
-        Some(board) => counts(&run_workers(&rt, rt.alloc(), board, &gate), 64),
-        None => None,
-    };
-    assert!(rt; matches!(made, Some((258, 3..))));
+    let mut text = String::new(rt.alloc());
+    push_files(&rt, &mut text, 64);
+    push_merge(&rt, &mut text, 64);
+    let board = board_from(&rt, rt.alloc(), text.as_str(), 64);
+    let end = run_workers(&rt, rt.alloc(), board, &gate);
+    assert!(rt; matches!(counts(&end, 64), Some((258, 3..))));
 }
 
 const TWO_AND_THEIR_MERGE: [&str; 4] = [MAKES_A, MAKES_B, MERGES_0_1, RESULT_2];
@@ -145,11 +129,8 @@ fn have_users(board: &Board) -> bool {
 
 #[test]
 fn users_are_those_that_have_an_edge_to_a_vertex(rt: HostRuntime) {
-    let users = match board_of(rt.alloc(), &TWO_AND_THEIR_MERGE, &[], 2) {
-        Some(board) => have_users(&board),
-        None => false,
-    };
-    assert!(rt; users);
+    let board = board_of(&rt, rt.alloc(), &TWO_AND_THEIR_MERGE, &[], 2);
+    assert!(rt; have_users(&board));
 }
 
 // Whether two boards have one tree as the result.
@@ -161,13 +142,13 @@ fn have_one_tree(one: &Board, other: &Board) -> bool {
 }
 
 // How many events a run of that many workers has, where its result is that of the board given.
-fn made_by<R: Threads + Wait + Sync>(
+fn made_by<R: Abort + Threads + Wait + Sync>(
     rt: &R,
     alloc: Global,
     wanted: &Board,
     workers: u32,
 ) -> Option<u64> {
-    let board = board_of(alloc, &TWO_AND_THEIR_MERGE, &[], workers)?;
+    let board = board_of(rt, alloc, &TWO_AND_THEIR_MERGE, &[], workers);
     let end = run_workers(rt, alloc, board, &Open);
     match counts(&end, 64) {
         Some((all, _)) if have_one_tree(&end.board, wanted) => Some(all),
@@ -175,23 +156,13 @@ fn made_by<R: Threads + Wait + Sync>(
     }
 }
 
-// The first of these numbers of workers that leaves another tree, or has another number of events than ten.
-fn first_apart<R: Threads + Wait + Sync>(rt: &R, alloc: Global, wanted: &Board) -> Option<u32> {
-    for workers in [1, 2, 3, 64] {
-        if made_by(rt, alloc, wanted, workers) != Some(10) {
-            return Some(workers);
-        }
-    }
-    None
-}
-
 #[test]
 fn any_number_of_workers_leaves_one_tree(rt: HostRuntime) {
-    let apart = match board_of(rt.alloc(), &TWO_AND_THEIR_MERGE, &[], 1) {
-        Some(board) => first_apart(&rt, rt.alloc(), &run_alone(board).board),
-        None => Some(0),
-    };
-    assert_eq!(rt; apart, None);
+    let alone = run_alone(board_of(&rt, rt.alloc(), &TWO_AND_THEIR_MERGE, &[], 1));
+    for workers in [1, 2, 3, 64] {
+        let made = made_by(&rt, rt.alloc(), &alone.board, workers);
+        assert!(rt; made == Some(10), "{workers} workers");
+    }
 }
 
 // Where the record of threads stops at the claim of the merge, and how many events are left after two steps back: one of the files is made
@@ -207,25 +178,17 @@ fn walked(stepper: &mut Stepper, events: &[Event]) -> Option<(Stop, usize)> {
     }
 }
 
-// The same of what threads have left, in a new stepper.
-fn walked_again(alloc: Global, left: &Board) -> Option<(Stop, usize)> {
-    match board_of(alloc, &TWO_AND_THEIR_MERGE, &[], 2) {
-        Some(board) => walked(&mut Stepper::new(alloc, board), left.events().as_slice()),
-        None => None,
-    }
-}
-
 #[test]
 fn a_record_of_threads_is_walked(rt: HostRuntime) {
     let alloc = rt.alloc();
-    let walk = match board_of(alloc, &TWO_AND_THEIR_MERGE, &[], 2) {
-        Some(board) => walked_again(alloc, &run_workers(&rt, alloc, board, &Open).board),
-        None => None,
-    };
+    let board = board_of(&rt, alloc, &TWO_AND_THEIR_MERGE, &[], 2);
+    let left = run_workers(&rt, alloc, board, &Open).board;
+    let board = board_of(&rt, alloc, &TWO_AND_THEIR_MERGE, &[], 2);
     let stop = Stop {
         events: 7,
         at_break: true,
     };
+    let walk = walked(&mut Stepper::new(alloc, board), left.events().as_slice());
     assert!(rt; walk == Some((stop, 5)));
 }
 
@@ -234,43 +197,22 @@ const ON_CACHES: [&str; 6] = [
 ];
 
 // Executions on a cache that is shared in each of the three ways, two of each, and the merge of what they give.
-fn on_caches(alloc: Global) -> Result<String, AllocError> {
+fn on_caches(rt: &impl Abort, alloc: Global) -> Board {
     let mut text = String::new(alloc);
     for entry in ON_CACHES {
-        text.push_str(entry)?;
-        text.push_str("\n")?;
+        text.push_str(entry).expect(rt, "memory");
+        text.push_str("\n").expect(rt, "memory");
     }
-    push_merge(&mut text, 6)?;
-    Ok(text)
-}
-
-fn on_caches_by(alloc: Global, workers: u32) -> Option<Board> {
-    match on_caches(alloc) {
-        Ok(text) => board_from(alloc, text.as_str(), workers),
-        Err(_) => None,
-    }
-}
-
-fn is_replayed(stepper: &mut Stepper, left: &Board) -> bool {
-    replayed(stepper, left.events().as_slice()).is_some() && are_same(stepper.board(), left)
-}
-
-// Whether the record that threads have left is replayed on a new board to what they left.
-fn is_left(alloc: Global, end: &RunEnd) -> bool {
-    match on_caches_by(alloc, 64) {
-        Some(board) => {
-            end.fault.is_none() && is_replayed(&mut Stepper::new(alloc, board), &end.board)
-        }
-        None => false,
-    }
+    push_merge(rt, &mut text, 6);
+    board_from(rt, alloc, text.as_str(), 64)
 }
 
 #[test]
 fn a_record_of_threads_on_caches_is_replayed(rt: HostRuntime) {
     let alloc = rt.alloc();
-    let left = match on_caches_by(alloc, 64) {
-        Some(board) => is_left(alloc, &run_workers(&rt, alloc, board, &Open)),
-        None => false,
-    };
-    assert!(rt; left);
+    let end = run_workers(&rt, alloc, on_caches(&rt, alloc), &Open);
+    assert!(rt; end.fault.is_none());
+    let mut stepper = Stepper::new(alloc, on_caches(&rt, alloc));
+    let stop = replayed(&mut stepper, end.board.events().as_slice());
+    assert!(rt; stop.is_some() && are_same(stepper.board(), &end.board));
 }

@@ -10,7 +10,7 @@ use llb_wire::Text;
 use std::alloc::Global;
 use std::fmt::Display;
 
-pub fn prints<T: Display>(alloc: Global, fault: &T, wanted: &str) -> bool {
+pub(crate) fn prints<T: Display>(alloc: Global, fault: &T, wanted: &str) -> bool {
     match fault.to_string(alloc) {
         Ok(text) => text.as_str() == wanted,
         Err(_) => false,
@@ -64,27 +64,27 @@ const SETTLES: &[(SettleFault, &str)] = &[
 ];
 
 #[test]
-fn faults_of_calls_on_a_board(rt: HostRuntime) {
-    let alloc = rt.alloc();
+fn faults_of_claims(rt: HostRuntime) {
     let rows = CLAIMS;
-    are_all_told(&rt, first_other_claim(alloc, rows), rows.len());
-    let rows = STEPS;
-    are_all_told(&rt, first_wrong(alloc, rows), rows.len());
-    let rows = SETTLES;
-    are_all_told(&rt, first_wrong(alloc, rows), rows.len());
+    are_all_told(&rt, first_other_claim(rt.alloc(), rows), rows.len());
 }
 
-// Whether a locked key of that ID that is held prints so.
-fn is_held_printed(alloc: Global, id: &'static str, wanted: &str) -> bool {
-    match key_of(alloc, &(id, Mode::Locked, None)) {
-        Ok(key) => prints(alloc, &ClaimFault::Held(key), wanted),
-        Err(_) => false,
-    }
+#[test]
+fn faults_of_steps(rt: HostRuntime) {
+    let rows = STEPS;
+    are_all_told(&rt, first_wrong(rt.alloc(), rows), rows.len());
+}
+
+#[test]
+fn faults_of_settles(rt: HostRuntime) {
+    let rows = SETTLES;
+    are_all_told(&rt, first_wrong(rt.alloc(), rows), rows.len());
 }
 
 #[test]
 fn a_locked_cache_that_is_held(rt: HostRuntime) {
-    assert!(rt; is_held_printed(rt.alloc(), "go-mod", "135 go-mod"));
+    let key = key_of(&rt, rt.alloc(), &("go-mod", Mode::Locked, None));
+    assert!(rt; prints(rt.alloc(), &ClaimFault::Held(key), "135 go-mod"));
 }
 
 fn workers_fault(alloc: Global, graph: Graph) -> OpenFault {
@@ -99,31 +99,21 @@ fn missing_fault(alloc: Global, name: Text, graph: Graph) -> OpenFault {
     OpenFault::MissingLocal(name, graph, Locals::new(alloc), Caches::new(alloc))
 }
 
-fn prints_workers(alloc: Global) -> bool {
-    match graph_from(alloc, IN_A_ROW) {
-        Some(graph) => prints(alloc, &workers_fault(alloc, graph), "122"),
-        None => false,
-    }
-}
-
-fn prints_memory(alloc: Global) -> bool {
-    match graph_from(alloc, IN_A_ROW) {
-        Some(graph) => prints(alloc, &memory_fault(alloc, graph), "123"),
-        None => false,
-    }
-}
-
-fn prints_missing(alloc: Global, name: &str, wanted: &str) -> bool {
-    match (Text::from_str(alloc, name), graph_from(alloc, IN_A_ROW)) {
-        (Ok(name), Some(graph)) => prints(alloc, &missing_fault(alloc, name, graph), wanted),
-        _ => false,
-    }
+#[test]
+fn a_refused_number_of_workers_prints_122(rt: HostRuntime) {
+    let fault = workers_fault(rt.alloc(), graph_from(&rt, rt.alloc(), IN_A_ROW));
+    assert!(rt; prints(rt.alloc(), &fault, "122"));
 }
 
 #[test]
-fn a_refused_opening_prints_its_number(rt: HostRuntime) {
-    let alloc = rt.alloc();
-    assert!(rt; prints_workers(alloc));
-    assert!(rt; prints_memory(alloc));
-    assert!(rt; prints_missing(alloc, "src", "121 src"));
+fn an_opening_out_of_memory_prints_123(rt: HostRuntime) {
+    let fault = memory_fault(rt.alloc(), graph_from(&rt, rt.alloc(), IN_A_ROW));
+    assert!(rt; prints(rt.alloc(), &fault, "123"));
+}
+
+#[test]
+fn a_missing_local_tree_prints_121_and_its_name(rt: HostRuntime) {
+    let name = Text::from_str(rt.alloc(), "src").expect(&rt, "memory");
+    let fault = missing_fault(rt.alloc(), name, graph_from(&rt, rt.alloc(), IN_A_ROW));
+    assert!(rt; prints(rt.alloc(), &fault, "121 src"));
 }

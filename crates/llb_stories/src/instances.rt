@@ -13,13 +13,13 @@ use super::told::first_wrong;
 use super::written::{CacheRow, Definition};
 use llb_cache::Mode;
 
-pub const K_SHARED: CacheRow = ("k", Mode::Shared, None);
+pub(crate) const K_SHARED: CacheRow = ("k", Mode::Shared, None);
 
-pub const K_PRIVATE: CacheRow = ("k", Mode::Private, None);
+pub(crate) const K_PRIVATE: CacheRow = ("k", Mode::Private, None);
 
-pub const K_LOCKED: CacheRow = ("k", Mode::Locked, None);
+pub(crate) const K_LOCKED: CacheRow = ("k", Mode::Locked, None);
 
-pub const K_SEEDED: CacheRow = ("k", Mode::Locked, Some(0));
+pub(crate) const K_SEEDED: CacheRow = ("k", Mode::Locked, Some(0));
 
 const TWO_PRIVATE: Definition = &[PRIVATE_A, PRIVATE_B, MERGES_0_1, RESULT_2];
 

@@ -8,6 +8,7 @@ use super::sessions::are_all_told;
 use super::written::{Definition, board_of};
 use llb_board::{Board, Event, Gate, Outcome, Status, Stopped};
 use std::alloc::Global;
+use std::process::Abort;
 
 // Lets all work begin.
 struct Passes;
@@ -43,26 +44,27 @@ const ON_A_SHARED_CACHE: Definition = &[SHARED_A_B, SHARED_C_D, MERGES_0_1, RESU
 
 const SECOND_COMMAND_FAILS: Definition = &[LOCKED_A_FAILS_EARLY, LOCKED_TRUE, MERGES_0_1, RESULT_2];
 
+// What worker w works out of vertex 0, or the number of the fault.
 fn outcome_from<G: Gate>(
+    rt: &impl Abort,
     alloc: Global,
     definition: Definition,
     w: u32,
     gate: &G,
 ) -> Result<Outcome, u32> {
-    match board_of(alloc, definition, &[], 2) {
-        Some(mut board) => worked(alloc, &mut board, w, 0, gate),
-        None => Err(0),
-    }
+    let mut board = board_of(rt, alloc, definition, &[], 2);
+    worked(alloc, &mut board, w, 0, gate)
 }
 
 // How many micro-steps were done, and whether the last has failed; or the number of the fault.
 fn counted<G: Gate>(
+    rt: &impl Abort,
     alloc: Global,
     definition: Definition,
     w: u32,
     gate: &G,
 ) -> Result<(u32, bool), u32> {
-    match outcome_from(alloc, definition, w, gate) {
+    match outcome_from(rt, alloc, definition, w, gate) {
         Ok(outcome) => Ok((outcome.count(), outcome.fault().is_some())),
         Err(fault) => Err(fault),
     }
@@ -75,9 +77,9 @@ const COUNTS: &[(Definition, (u32, bool))] = &[
     (SECOND_COMMAND_FAILS, (2, true)),
 ];
 
-fn first_other_count(alloc: Global, rows: &[(Definition, (u32, bool))]) -> usize {
+fn first_other_count(rt: &impl Abort, alloc: Global, rows: &[(Definition, (u32, bool))]) -> usize {
     for (at, (definition, wanted)) in rows.iter().enumerate() {
-        if counted(alloc, definition, 0, &Passes) != Ok(*wanted) {
+        if counted(rt, alloc, definition, 0, &Passes) != Ok(*wanted) {
             return at;
         }
     }
@@ -87,14 +89,14 @@ fn first_other_count(alloc: Global, rows: &[(Definition, (u32, bool))]) -> usize
 #[test]
 fn an_outcome_counts_what_was_left_up_to_a_fault(rt: HostRuntime) {
     let rows = COUNTS;
-    are_all_told(&rt, first_other_count(rt.alloc(), rows), rows.len());
+    are_all_told(&rt, first_other_count(&rt, rt.alloc(), rows), rows.len());
 }
 
 #[test]
 fn a_gate_stops_whom_it_does_not_let_work(rt: HostRuntime) {
     let alloc = rt.alloc();
-    assert!(rt; counted(alloc, TWO_FILES, 0, &Stops) == Err(143));
-    assert!(rt; counted(alloc, TWO_FILES, 1, &Stops) == Ok((1, false)));
+    assert!(rt; counted(&rt, alloc, TWO_FILES, 0, &Stops) == Err(143));
+    assert!(rt; counted(&rt, alloc, TWO_FILES, 1, &Stops) == Ok((1, false)));
 }
 
 // What an outcome of vertex 0 is worked out on by worker 0, the board that it is brought to, what was done there, who brings it, and the
@@ -116,33 +118,16 @@ const LANDINGS: &[Landing] = &[
     (ON_A_SHARED_CACHE, ON_A_SHARED_CACHE, CLAIMED, 0, 140),
 ];
 
-// What a row's outcome is answered on a board.
-fn brought_to(alloc: Global, row: &Landing, board: &mut Board) -> Option<u32> {
-    match outcome_from(alloc, row.0, 0, &Passes) {
-        Ok(outcome) => Some(landed(board, row.3, outcome)),
-        Err(_) => None,
-    }
+fn brought(rt: &impl Abort, alloc: Global, row: &Landing) -> u32 {
+    let outcome = outcome_from(rt, alloc, row.0, 0, &Passes);
+    let mut board = board_of(rt, alloc, row.1, &[], 2);
+    assert!(rt; are_done(&mut board, row.2));
+    landed(&mut board, row.3, outcome.ok().expect(rt, "an outcome"))
 }
 
-// The same after the row's events.
-fn brought_behind(alloc: Global, row: &Landing, board: &mut Board) -> Option<u32> {
-    if are_done(board, row.2) {
-        brought_to(alloc, row, board)
-    } else {
-        None
-    }
-}
-
-fn brought(alloc: Global, row: &Landing) -> Option<u32> {
-    match board_of(alloc, row.1, &[], 2) {
-        Some(mut board) => brought_behind(alloc, row, &mut board),
-        None => None,
-    }
-}
-
-fn first_wrong(alloc: Global, rows: &[Landing]) -> usize {
+fn first_wrong(rt: &impl Abort, alloc: Global, rows: &[Landing]) -> usize {
     for (at, row) in rows.iter().enumerate() {
-        if brought(alloc, row) != Some(row.4) {
+        if brought(rt, alloc, row) != row.4 {
             return at;
         }
     }
@@ -152,7 +137,7 @@ fn first_wrong(alloc: Global, rows: &[Landing]) -> usize {
 #[test]
 fn an_outcome_lands_where_its_worker_has_just_that_to_do(rt: HostRuntime) {
     let rows = LANDINGS;
-    are_all_told(&rt, first_wrong(rt.alloc(), rows), rows.len());
+    are_all_told(&rt, first_wrong(&rt, rt.alloc(), rows), rows.len());
 }
 
 // Whether the outcome of a board lands on it as the steps that are left and the settle.
@@ -174,27 +159,18 @@ fn is_late(board: &mut Board, outcome: Outcome) -> [bool; 3] {
     [stepped && settled, refused, board.events().len() == 3]
 }
 
-// What is told of a board's own outcome of vertex 0, which is brought at once or late.
-fn own_on(alloc: Global, board: &mut Board, late: bool) -> Option<[bool; 3]> {
-    match worked(alloc, board, 0, 0, &Passes) {
-        Ok(outcome) => Some(if late {
-            is_late(board, outcome)
-        } else {
-            is_a_block(board, outcome)
-        }),
-        Err(_) => None,
-    }
-}
-
-fn own(alloc: Global, late: bool) -> Option<[bool; 3]> {
-    match board_of(alloc, TWO_FILES, &[], 2) {
-        Some(mut board) => own_on(alloc, &mut board, late),
-        None => None,
-    }
+#[test]
+fn a_landing_is_the_steps_that_are_left_and_the_settle(rt: HostRuntime) {
+    let mut board = board_of(&rt, rt.alloc(), TWO_FILES, &[], 2);
+    let outcome = worked(rt.alloc(), &mut board, 0, 0, &Passes);
+    let outcome = outcome.ok().expect(&rt, "an outcome");
+    assert!(rt; is_a_block(&mut board, outcome) == [true; 3]);
 }
 
 #[test]
-fn a_landing_is_the_steps_that_are_left_and_the_settle(rt: HostRuntime) {
-    assert!(rt; own(rt.alloc(), false) == Some([true; 3]));
-    assert!(rt; own(rt.alloc(), true) == Some([true; 3]));
+fn an_outcome_does_not_land_once_a_step_was_done(rt: HostRuntime) {
+    let mut board = board_of(&rt, rt.alloc(), TWO_FILES, &[], 2);
+    let outcome = worked(rt.alloc(), &mut board, 0, 0, &Passes);
+    let outcome = outcome.ok().expect(&rt, "an outcome");
+    assert!(rt; is_late(&mut board, outcome) == [true; 3]);
 }

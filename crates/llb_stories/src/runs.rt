@@ -6,15 +6,15 @@ use super::definitions::{
 use super::sessions::{Story, are_all_told, first_wrong};
 use super::written::Definition;
 
-pub const ONE_FILE: Definition = &[MAKES_A, RESULT_0];
+pub(crate) const ONE_FILE: Definition = &[MAKES_A, RESULT_0];
 
-pub const IN_A_ROW: Definition = &[MAKES_A, D_ON_0, RESULT_1];
+pub(crate) const IN_A_ROW: Definition = &[MAKES_A, D_ON_0, RESULT_1];
 
-pub const FAILS_FIRST: Definition = &[MAKES_XA, D_ON_0, RESULT_1];
+pub(crate) const FAILS_FIRST: Definition = &[MAKES_XA, D_ON_0, RESULT_1];
 
-pub const TWO_FILES: Definition = &[MAKES_A, MAKES_B, MERGES_0_1, RESULT_2];
+pub(crate) const TWO_FILES: Definition = &[MAKES_A, MAKES_B, MERGES_0_1, RESULT_2];
 
-pub const D_ON_SECOND: Definition = &[MAKES_A, MAKES_B, D_ON_1_OF_0_1, RESULT_2];
+pub(crate) const D_ON_SECOND: Definition = &[MAKES_A, MAKES_B, D_ON_1_OF_0_1, RESULT_2];
 
 const REFUSED: &[Story] = &[
     Story {
@@ -364,17 +364,17 @@ const FAILED: &[Story] = &[
 #[test]
 fn events_are_done_or_refused_by_their_first_cause(rt: HostRuntime) {
     let rows = REFUSED;
-    are_all_told(&rt, first_wrong(rt.alloc(), rows), rows.len());
+    are_all_told(&rt, first_wrong(&rt, rt.alloc(), rows), rows.len());
 }
 
 #[test]
 fn runs_go_to_their_ends_and_back(rt: HostRuntime) {
     let rows = DONE;
-    are_all_told(&rt, first_wrong(rt.alloc(), rows), rows.len());
+    are_all_told(&rt, first_wrong(&rt, rt.alloc(), rows), rows.len());
 }
 
 #[test]
 fn a_failure_stops_what_stands_on_it(rt: HostRuntime) {
     let rows = FAILED;
-    are_all_told(&rt, first_wrong(rt.alloc(), rows), rows.len());
+    are_all_told(&rt, first_wrong(&rt, rt.alloc(), rows), rows.len());
 }

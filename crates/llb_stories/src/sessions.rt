@@ -4,15 +4,15 @@
 use super::written::{Definition, Local, board_of};
 use llb_session::converse;
 use llb_stepper::Stepper;
-use std::alloc::{AllocError, Global};
+use std::alloc::Global;
 use std::process::Abort;
 
-pub const LIMIT: usize = 1 << 20;
+pub(crate) const LIMIT: usize = 1 << 20;
 
-pub const READS: u64 = 1 << 20;
+pub(crate) const READS: u64 = 1 << 20;
 
 #[derive(Clone, Copy)]
-pub struct Story {
+pub(crate) struct Story {
     pub shows: &'static str,
     pub definition: Definition,
     pub locals: &'static [Local],
@@ -20,58 +20,47 @@ pub struct Story {
     pub told: &'static str,
 }
 
-fn push_line(text: &mut String, line: &str) -> Result<(), AllocError> {
-    if line.is_empty() {
-        return Ok(());
-    }
-    text.push_str(line)?;
-    text.push_str("\n")
-}
-
 // The lines of a transcript, without what stands before and after each.
-pub fn wanted(alloc: Global, told: &str) -> Result<String, AllocError> {
+pub(crate) fn wanted(rt: &impl Abort, alloc: Global, told: &str) -> String {
     let mut text = String::new(alloc);
     for line in told.lines() {
-        push_line(&mut text, line.trim())?;
+        let line = line.trim();
+        if !line.is_empty() {
+            text.push_str(line).expect(rt, "memory");
+            text.push_str("\n").expect(rt, "memory");
+        }
     }
-    Ok(text)
+    text
 }
 
 // A command as it stands in a transcript, and what it prints; nothing of a line that is no command.
-fn say(alloc: Global, stepper: &mut Stepper, line: &str, out: &mut Vec<u8>) -> Option<()> {
-    let mut command = line.strip_prefix("> ")?.as_bytes();
-    out.extend_from_slice(line.as_bytes()).ok()?;
-    out.push(b'\n').ok()?;
-    converse(alloc, stepper, &mut command, out, LIMIT, READS).ok()
+fn say(rt: &impl Abort, alloc: Global, stepper: &mut Stepper, line: &str, out: &mut Vec<u8>) {
+    if let Some(command) = line.strip_prefix("> ") {
+        out.extend_from_slice(line.as_bytes()).expect(rt, "memory");
+        out.push(b'\n').expect(rt, "memory");
+        let mut command = command.as_bytes();
+        converse(alloc, stepper, &mut command, out, LIMIT, READS).expect(rt, "an answer");
+    }
 }
 
-// The transcript of the same commands.
-fn transcript(alloc: Global, stepper: &mut Stepper, told: &str) -> Vec<u8> {
+// Whether the commands of a transcript print what stands after them.
+pub(crate) fn is_told(rt: &impl Abort, alloc: Global, stepper: &mut Stepper, told: &str) -> bool {
     let mut out = Vec::new(alloc);
     for line in told.lines() {
-        let _ = say(alloc, stepper, line.trim(), &mut out);
+        say(rt, alloc, stepper, line.trim(), &mut out);
     }
-    out
+    out.as_slice() == wanted(rt, alloc, told).as_bytes()
 }
 
-pub fn is_told(alloc: Global, stepper: &mut Stepper, told: &str) -> bool {
-    match wanted(alloc, told) {
-        Ok(wanted) => transcript(alloc, stepper, told).as_slice() == wanted.as_bytes(),
-        Err(_) => false,
-    }
-}
-
-fn holds(alloc: Global, story: &Story) -> bool {
-    match board_of(alloc, story.definition, story.locals, story.workers) {
-        Some(board) => is_told(alloc, &mut Stepper::new(alloc, board), story.told),
-        None => false,
-    }
+fn holds(rt: &impl Abort, alloc: Global, story: &Story) -> bool {
+    let board = board_of(rt, alloc, story.definition, story.locals, story.workers);
+    is_told(rt, alloc, &mut Stepper::new(alloc, board), story.told)
 }
 
 // The number of the first story that is told otherwise than it goes; past the end where there is none.
-pub fn first_wrong(alloc: Global, stories: &[Story]) -> usize {
+pub(crate) fn first_wrong(rt: &impl Abort, alloc: Global, stories: &[Story]) -> usize {
     for (at, story) in stories.iter().enumerate() {
-        if !holds(alloc, story) {
+        if !holds(rt, alloc, story) {
             return at;
         }
     }
@@ -79,6 +68,6 @@ pub fn first_wrong(alloc: Global, stories: &[Story]) -> usize {
 }
 
 // Ends the test where the first row of a table that is told otherwise is not past its end.
-pub fn are_all_told(rt: &impl Abort, first_wrong: usize, rows: usize) {
+pub(crate) fn are_all_told(rt: &impl Abort, first_wrong: usize, rows: usize) {
     assert_eq!(rt; first_wrong, rows);
 }

@@ -96,7 +96,7 @@ fn cache_of(way: &str) -> CacheRow {
 
 // The text of the tree that an instance of a cache has.
 fn say_instance(rt: &impl Abort, text: &mut String, board: &Board, way: &str, number: u32) {
-    let key = key_of(*text.allocator(), &cache_of(way)).expect(rt, "memory");
+    let key = key_of(rt, *text.allocator(), &cache_of(way));
     match board.caches().instance(&key, number) {
         Some(tree) => say_tree(rt, text, tree),
         None => say(rt, text, "none\n"),
@@ -140,23 +140,18 @@ fn transcript(rt: &impl Abort, alloc: Global, board: &mut Board, told: &str) -> 
 }
 
 // Whether the calls of a transcript answer on a board what stands after them.
-pub fn is_answered(rt: &impl Abort, alloc: Global, board: &mut Board, told: &str) -> bool {
+pub(crate) fn is_answered(rt: &impl Abort, alloc: Global, board: &mut Board, told: &str) -> bool {
     let text = transcript(rt, alloc, board, told);
-    match wanted(alloc, told) {
-        Ok(wanted) => text.as_str() == wanted.as_str(),
-        Err(_) => false,
-    }
+    text.as_str() == wanted(rt, alloc, told).as_str()
 }
 
 fn holds(rt: &impl Abort, alloc: Global, story: &Story) -> bool {
-    match board_of(alloc, story.definition, story.locals, story.workers) {
-        Some(mut board) => is_answered(rt, alloc, &mut board, story.told),
-        None => false,
-    }
+    let mut board = board_of(rt, alloc, story.definition, story.locals, story.workers);
+    is_answered(rt, alloc, &mut board, story.told)
 }
 
 // The number of the first story whose calls are answered otherwise; past the end where there is none.
-pub fn first_wrong(rt: &impl Abort, alloc: Global, stories: &[Story]) -> usize {
+pub(crate) fn first_wrong(rt: &impl Abort, alloc: Global, stories: &[Story]) -> usize {
     for (at, story) in stories.iter().enumerate() {
         if !holds(rt, alloc, story) {
             return at;

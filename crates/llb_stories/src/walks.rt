@@ -61,28 +61,23 @@ const WALKED: &[(Definition, &str)] = &[
 ];
 
 // Whether a run that is walked and taken back leaves a board as its copy, and both go on to the same end, where this is answered.
-fn goes_and_comes(rt: &impl Abort, alloc: Global, board: &mut Board, ended: &str) -> [bool; 4] {
-    match copy_of(board) {
-        Some(mut fresh) => {
-            let complete = there_and_back(board, 50);
-            let back = are_same(board, &fresh);
-            let both = finish(board) && finish(&mut fresh) && are_same(board, &fresh);
-            [complete, back, both, is_answered(rt, alloc, board, ended)]
-        }
-        None => [false; 4],
-    }
-}
-
-fn is_walked(rt: &impl Abort, alloc: Global, definition: Definition, ended: &str) -> bool {
-    match board_of(alloc, definition, &[], 2) {
-        Some(mut board) => goes_and_comes(rt, alloc, &mut board, ended) == [true; 4],
-        None => false,
-    }
+fn is_walked(rt: &impl Abort, alloc: Global, definition: Definition, ended: &str) -> [bool; 4] {
+    let mut board = board_of(rt, alloc, definition, &[], 2);
+    let mut fresh = copy_of(&board).expect(rt, "memory");
+    let complete = there_and_back(&mut board, 50);
+    let back = are_same(&board, &fresh);
+    let both = finish(&mut board) && finish(&mut fresh) && are_same(&board, &fresh);
+    [
+        complete,
+        back,
+        both,
+        is_answered(rt, alloc, &mut board, ended),
+    ]
 }
 
 fn first_wrong(rt: &impl Abort, alloc: Global, rows: &[(Definition, &str)]) -> usize {
     for (at, (definition, ended)) in rows.iter().enumerate() {
-        if !is_walked(rt, alloc, definition, ended) {
+        if is_walked(rt, alloc, definition, ended) != [true; 4] {
             return at;
         }
     }
@@ -106,19 +101,11 @@ fn is_refused(alloc: Global, board: &mut Board, event: Event, wanted: &str) -> b
     }
 }
 
-fn refused_behind_a_step(alloc: Global) -> Option<bool> {
-    match board_of(alloc, IN_A_ROW, &[], 2) {
-        Some(mut board) => {
-            let done = are_done(&mut board, "claim 0 0\nstep 0");
-            Some(done && is_refused(alloc, &mut board, Event::Claim(0, 1), "132"))
-        }
-        None => None,
-    }
-}
-
 #[test]
 fn a_walk_is_refused_as_the_event_is(rt: HostRuntime) {
-    assert!(rt; refused_behind_a_step(rt.alloc()) == Some(true));
+    let mut board = board_of(&rt, rt.alloc(), IN_A_ROW, &[], 2);
+    assert!(rt; are_done(&mut board, "claim 0 0\nstep 0"));
+    assert!(rt; is_refused(rt.alloc(), &mut board, Event::Claim(0, 1), "132"));
 }
 
 // The record of two workers on two files and both of them.
@@ -155,14 +142,8 @@ fn is_replayed(stepper: &mut Stepper) -> [bool; 3] {
     [broken, stopped, back && is_two_before(stepper.board())]
 }
 
-fn walked(alloc: Global) -> Option<[bool; 3]> {
-    match board_of(alloc, TWO_FILES, &[], 2) {
-        Some(board) => Some(is_replayed(&mut Stepper::new(alloc, board))),
-        None => None,
-    }
-}
-
 #[test]
 fn a_record_is_replayed_up_to_a_breakpoint(rt: HostRuntime) {
-    assert!(rt; walked(rt.alloc()) == Some([true; 3]));
+    let board = board_of(&rt, rt.alloc(), TWO_FILES, &[], 2);
+    assert!(rt; is_replayed(&mut Stepper::new(rt.alloc(), board)) == [true; 3]);
 }

@@ -6,6 +6,7 @@ use super::written::board_of;
 use llb_board::Event;
 use llb_stepper::Stepper;
 use std::alloc::Global;
+use std::process::Abort;
 
 // All events that two workers may have on three vertices.
 const EVENTS: [Event; 10] = [
@@ -38,7 +39,7 @@ const END: &str = "
     ";
 
 // How many runs lead on from here to an end, and how many of the ends tell what they should. No run is longer than that many events.
-fn ends(alloc: Global, stepper: &mut Stepper, most: u32) -> [u32; 2] {
+fn ends(rt: &impl Abort, alloc: Global, stepper: &mut Stepper, most: u32) -> [u32; 2] {
     let mut all = 0u32;
     let mut right = 0u32;
     let mut goes_on = false;
@@ -47,7 +48,7 @@ fn ends(alloc: Global, stepper: &mut Stepper, most: u32) -> [u32; 2] {
     }
     for event in EVENTS {
         if stepper.do_event(event).is_ok() {
-            let behind = ends(alloc, stepper, most - 1);
+            let behind = ends(rt, alloc, stepper, most - 1);
             let _ = stepper.back();
             all = all.saturating_add(behind[0]);
             right = right.saturating_add(behind[1]);
@@ -57,18 +58,13 @@ fn ends(alloc: Global, stepper: &mut Stepper, most: u32) -> [u32; 2] {
     if goes_on {
         return [all, right];
     }
-    [1, u32::from(is_told(alloc, stepper, END))]
-}
-
-fn ends_of_two(alloc: Global) -> Option<[u32; 2]> {
-    match board_of(alloc, TWO_FILES, &[], 2) {
-        Some(board) => Some(ends(alloc, &mut Stepper::new(alloc, board), 20)),
-        None => None,
-    }
+    [1, u32::from(is_told(rt, alloc, stepper, END))]
 }
 
 // Two vertices by one worker: 2 workers and 2 orders; by two workers: 2 ways and 20 interleavings; then either worker merges.
 #[test]
 fn all_88_interleavings_of_two_workers_end_in_the_same_trees(rt: HostRuntime) {
-    assert_eq!(rt; ends_of_two(rt.alloc()), Some([88, 88]));
+    let board = board_of(&rt, rt.alloc(), TWO_FILES, &[], 2);
+    let mut stepper = Stepper::new(rt.alloc(), board);
+    assert_eq!(rt; ends(&rt, rt.alloc(), &mut stepper, 20), [88, 88]);
 }

@@ -5,117 +5,108 @@ use llb_board::Board;
 use llb_cache::{Caches, Key, Mode, Need, Seed};
 use llb_loader::{Graph, Locals, load};
 use llb_ops::write_definition;
-use llb_tree::{Tree, TreeFault};
+use llb_tree::Tree;
 use llb_treetext::read_tree;
-use llb_wire::{Memory, Text};
-use std::alloc::{AllocError, Global};
+use llb_wire::Text;
+use std::alloc::Global;
+use std::process::Abort;
 
 // A local tree: its name, and its text.
-pub type Local = (&'static str, &'static str);
+pub(crate) type Local = (&'static str, &'static str);
 
 // A definition by its entries, one after the other.
-pub type Definition = &'static [&'static str];
+pub(crate) type Definition = &'static [&'static str];
 
 // A key: its ID, its mode, and the output of the first entry that is its seed, or none.
-pub type CacheRow = (&'static str, Mode, Option<u32>);
+pub(crate) type CacheRow = (&'static str, Mode, Option<u32>);
 
-fn push_entry(text: &mut String, entry: &str) -> Result<(), AllocError> {
-    text.push_str(entry)?;
-    text.push_str("\n")
-}
-
-fn text_of(alloc: Global, entries: &[&str]) -> Result<String, AllocError> {
+fn text_of(rt: &impl Abort, alloc: Global, entries: &[&str]) -> String {
     let mut text = String::new(alloc);
     for entry in entries {
-        push_entry(&mut text, entry)?;
+        text.push_str(entry).expect(rt, "memory");
+        text.push_str("\n").expect(rt, "memory");
     }
-    Ok(text)
+    text
 }
 
 // The graph of the definition that a text is assembled to.
-fn graph_in(alloc: Global, text: &str) -> Option<Graph> {
-    let entries = assemble(alloc, text.as_bytes()).ok()?;
-    let definition = write_definition(alloc, &entries).ok()?;
-    load(alloc, definition.as_slice()).ok()
+fn graph_in(rt: &impl Abort, alloc: Global, text: &str) -> Graph {
+    let entries = assemble(alloc, text.as_bytes()).expect(rt, "entries");
+    let definition = write_definition(alloc, &entries).expect(rt, "memory");
+    load(alloc, definition.as_slice()).expect(rt, "a graph")
 }
 
-pub fn graph_from(alloc: Global, entries: &[&str]) -> Option<Graph> {
-    match text_of(alloc, entries) {
-        Ok(text) => graph_in(alloc, text.as_str()),
-        Err(_) => None,
-    }
+pub(crate) fn graph_from(rt: &impl Abort, alloc: Global, entries: &[&str]) -> Graph {
+    graph_in(rt, alloc, text_of(rt, alloc, entries).as_str())
+}
+
+fn board_on(rt: &impl Abort, alloc: Global, graph: Graph, locals: Locals, workers: u32) -> Board {
+    let board = Board::open(alloc, graph, locals, Caches::new(alloc), workers);
+    board.ok().expect(rt, "a board")
 }
 
 // A board over the definition that a text is assembled to, without local trees.
-pub fn board_from(alloc: Global, text: &str, workers: u32) -> Option<Board> {
-    let graph = graph_in(alloc, text)?;
-    Board::open(
+pub(crate) fn board_from(rt: &impl Abort, alloc: Global, text: &str, workers: u32) -> Board {
+    board_on(
+        rt,
         alloc,
-        graph,
+        graph_in(rt, alloc, text),
         Locals::new(alloc),
-        Caches::new(alloc),
         workers,
     )
-    .ok()
 }
 
-// Adds a local tree; one whose text is refused is missing.
-fn give(alloc: Global, locals: &mut Locals, local: &Local) -> Option<()> {
-    let tree = read_tree(alloc, local.1.as_bytes()).ok()?;
-    let name = Text::from_str(alloc, local.0).ok()?;
-    locals.add(name, tree).ok()
+fn tree_of(rt: &impl Abort, alloc: Global, text: &str) -> Tree {
+    read_tree(alloc, text.as_bytes()).expect(rt, "a tree")
 }
 
-pub fn locals_of(alloc: Global, given: &[Local]) -> Locals {
+pub(crate) fn locals_of(rt: &impl Abort, alloc: Global, given: &[Local]) -> Locals {
     let mut locals = Locals::new(alloc);
-    for local in given {
-        let _ = give(alloc, &mut locals, local);
+    for (name, text) in given {
+        let name = Text::from_str(alloc, name).expect(rt, "memory");
+        locals
+            .add(name, tree_of(rt, alloc, text))
+            .expect(rt, "memory");
     }
     locals
 }
 
-pub fn board_of(
+pub(crate) fn board_of(
+    rt: &impl Abort,
     alloc: Global,
     definition: &[&str],
     given: &[Local],
     workers: u32,
-) -> Option<Board> {
-    match graph_from(alloc, definition) {
-        Some(graph) => {
-            let locals = locals_of(alloc, given);
-            Board::open(alloc, graph, locals, Caches::new(alloc), workers).ok()
-        }
-        None => None,
-    }
+) -> Board {
+    let graph = graph_from(rt, alloc, definition);
+    board_on(rt, alloc, graph, locals_of(rt, alloc, given), workers)
 }
 
 // The digest of the entry that makes `/a`, which is the first where a cache begins with an output.
 const DIGEST_OF_A: &str = "sha256:17d299b0a332287e9d0f57a4a7f23e97dbf1203cd154f7157e30471c769cda1b";
 
-fn seed_of(alloc: Global, index: Option<u32>) -> Result<Option<Seed>, Memory> {
-    match index {
-        Some(index) => {
-            let digest = Text::from_str(alloc, DIGEST_OF_A)?;
-            Ok(Some(Seed { digest, index }))
-        }
-        None => Ok(None),
-    }
+fn seed_of(rt: &impl Abort, alloc: Global, index: u32) -> Seed {
+    let digest = Text::from_str(alloc, DIGEST_OF_A).expect(rt, "memory");
+    Seed { digest, index }
 }
 
-pub fn key_of(alloc: Global, row: &CacheRow) -> Result<Key, Memory> {
+pub(crate) fn key_of(rt: &impl Abort, alloc: Global, row: &CacheRow) -> Key {
     let (id, mode, index) = *row;
-    let id = Text::from_str(alloc, id)?;
-    let seed = seed_of(alloc, index)?;
-    Ok(Key { id, seed, mode })
+    let id = Text::from_str(alloc, id).expect(rt, "memory");
+    let seed = match index {
+        Some(index) => Some(seed_of(rt, alloc, index)),
+        None => None,
+    };
+    Key { id, seed, mode }
 }
 
 // A need of each key, with the empty tree for a new instance.
-pub fn needs_of(alloc: Global, rows: &[CacheRow]) -> Result<Vec<Need>, TreeFault> {
+pub(crate) fn needs_of(rt: &impl Abort, alloc: Global, rows: &[CacheRow]) -> Vec<Need> {
     let mut needs = Vec::new(alloc);
     for row in rows {
-        let key = key_of(alloc, row)?;
-        let tree = Tree::empty(alloc)?;
-        needs.push(Need { key, tree })?;
+        let key = key_of(rt, alloc, row);
+        let tree = Tree::empty(alloc).expect(rt, "memory");
+        needs.push(Need { key, tree }).expect(rt, "memory");
     }
-    Ok(needs)
+    needs
 }

@@ -1,0 +1,170 @@
+//! Calls on trees as transcripts. A line with `> ` first is a call, and the line after it is what it answers, or its fault; one with `# `
+//! first says what the next calls show. There are two trees, this one and the other, both empty at first and after `new`.
+//!
+//! `dir PATH MODE OWNER` and `file PATH MODE OWNER CONTENT` put an entry; `remove PATH` removes what is at or below a path; `graft PATH GOAL`
+//! puts what is at or below the path at the goal as well; `overlay MODE USER GROUP KEEPS` lays the other tree over this one. `look PATH`,
+//! `list PATH` and `tree` tell of this one. `copy` and `subtree PATH` make the other tree of this one, `below PATH` makes it an empty tree
+//! with this one at the path, and `swap` exchanges the two.
+
+use super::told::{push_list, push_looked, push_tree};
+use llb_tree::{Bytes, Meta, Path, Tree, TreeFault, Way};
+use std::alloc::Global;
+use std::mem;
+use std::process::Abort;
+
+#[derive(Drop)]
+struct Trees {
+    this: Tree,
+    other: Tree,
+}
+
+fn word_and_rest(words: &str) -> (&str, &str) {
+    words.split_once(' ').unwrap_or((words, ""))
+}
+
+fn octal(word: &str) -> Option<u16> {
+    u16::from_str_radix(word, 8).ok()
+}
+
+// The mode and the owner in words; those of a new directory where they are none.
+fn meta(mode: &str, owner: &str) -> Meta {
+    let (user, group) = owner.split_once(':').unwrap_or(("", ""));
+    match (octal(mode), user.parse::<u32>(), group.parse::<u32>()) {
+        (Some(mode), Ok(user), Ok(group)) => {
+            Meta::new(mode, user, group).unwrap_or(Meta::new_dir())
+        }
+        _ => Meta::new_dir(),
+    }
+}
+
+fn put(alloc: Global, tree: &mut Tree, name: &str, words: &str) -> Result<(), TreeFault> {
+    let (path, rest) = word_and_rest(words);
+    let (mode, rest) = word_and_rest(rest);
+    let (owner, content) = word_and_rest(rest);
+    let path = Path::read(alloc, path)?;
+    let meta = meta(mode, owner);
+    if name == "dir" {
+        return tree.put_dir(&path, meta);
+    }
+    let content = Bytes::from_slice(alloc, content.as_bytes())?;
+    tree.put_file(&path, meta, content)
+}
+
+fn graft(alloc: Global, tree: &mut Tree, from: &str, to: &str) -> Result<(), TreeFault> {
+    let (from, to) = (Path::read(alloc, from)?, Path::read(alloc, to)?);
+    let taken = tree.subtree(&from)?;
+    tree.graft(&to, &taken)
+}
+
+// Does an edit of one tree.
+pub(crate) fn edit(alloc: Global, tree: &mut Tree, call: &str) -> Result<(), TreeFault> {
+    let (name, words) = word_and_rest(call);
+    match name {
+        "remove" => tree.remove(&Path::read(alloc, words)?),
+        "graft" => {
+            let (from, to) = word_and_rest(words);
+            graft(alloc, tree, from, to)
+        }
+        _ => put(alloc, tree, name, words),
+    }
+}
+
+// The tree that another one is made to.
+fn taken(alloc: Global, tree: &Tree, name: &str, path: &str) -> Result<Tree, TreeFault> {
+    let path = Path::read(alloc, path)?;
+    if name == "subtree" {
+        return tree.subtree(&path);
+    }
+    if name == "copy" {
+        return tree.copy();
+    }
+    let mut other = Tree::empty(alloc)?;
+    other.graft(&path, tree)?;
+    Ok(other)
+}
+
+fn overlay(trees: &mut Trees, words: &str) -> Result<(), TreeFault> {
+    let (mode, rest) = word_and_rest(words);
+    let (user, rest) = word_and_rest(rest);
+    let (group, keeps) = word_and_rest(rest);
+    let (user, group) = (user.parse::<u32>().ok(), group.parse::<u32>().ok());
+    if let Some(way) = Way::new(octal(mode), user, group, keeps == "keeps") {
+        trees.this = trees.this.copy()?.overlaid(&way, &trees.other)?;
+    }
+    Ok(())
+}
+
+fn change(alloc: Global, trees: &mut Trees, name: &str, call: &str) -> Result<(), TreeFault> {
+    let (_, words) = word_and_rest(call);
+    match name {
+        "new" => {
+            trees.this = Tree::empty(alloc)?;
+            trees.other = Tree::empty(alloc)?;
+        }
+        "swap" => mem::swap(&mut trees.this, &mut trees.other),
+        "overlay" => overlay(trees, words)?,
+        "copy" | "subtree" | "below" => trees.other = taken(alloc, &trees.this, name, words)?,
+        _ => edit(alloc, &mut trees.this, call)?,
+    }
+    Ok(())
+}
+
+// What is told of a tree.
+fn tell(alloc: Global, text: &mut String, tree: &Tree, call: &str) -> Result<(), TreeFault> {
+    let (name, path) = word_and_rest(call);
+    let path = Path::read(alloc, path)?;
+    tree.is_tree();
+    match name {
+        "look" => push_looked(text, tree, &path)?,
+        "list" => push_list(text, tree, &path)?,
+        _ => push_tree(text, tree)?,
+    }
+    Ok(text.push_str("\n")?)
+}
+
+fn answer(
+    alloc: Global,
+    text: &mut String,
+    trees: &mut Trees,
+    call: &str,
+) -> Result<(), TreeFault> {
+    let (name, _) = word_and_rest(call);
+    match name {
+        "look" | "list" | "tree" => tell(alloc, text, &trees.this, call),
+        _ => change(alloc, trees, name, call),
+    }
+}
+
+// A call and what it answers; nothing of a line that is no call.
+fn say_line(rt: &impl Abort, alloc: Global, text: &mut String, trees: &mut Trees, line: &str) {
+    if let Some(call) = line.strip_prefix("> ") {
+        write!(text, "{line}\n").expect(rt, "memory");
+        if let Err(fault) = answer(alloc, text, trees, call) {
+            write!(text, "{fault}\n").expect(rt, "memory");
+        }
+    }
+}
+
+fn transcript(rt: &impl Abort, alloc: Global, told: &str) -> String {
+    let mut text = String::new(alloc);
+    let this = Tree::empty(alloc).expect(rt, "memory");
+    let other = Tree::empty(alloc).expect(rt, "memory");
+    let mut trees = Trees { this, other };
+    for line in told.lines() {
+        say_line(rt, alloc, &mut text, &mut trees, line.trim());
+    }
+    text
+}
+
+// Ends the test at the first line of a transcript that is told otherwise.
+pub(crate) fn are_told(rt: &impl Abort, alloc: Global, told: &str) {
+    let text = transcript(rt, alloc, told);
+    let mut lines = text.lines();
+    for line in told.lines() {
+        let line = line.trim();
+        if !line.is_empty() && !line.starts_with("# ") {
+            assert_eq!(rt; lines.next().unwrap_or("nothing").trim(), line);
+        }
+    }
+    assert!(rt; lines.next().is_none());
+}
