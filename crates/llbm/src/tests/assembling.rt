@@ -3,7 +3,7 @@
 use super::told::is_told;
 
 /// Texts by their names.
-pub const TEXTS: &str = "
+pub(crate) const TEXTS: &str = "
 == MERGE: A merge of nothing.
 op {
   merge {

@@ -1,7 +1,7 @@
 //! Entries of definitions by their names, each in the assembler's text: `%0` is the first entry of the definition that it stands in. After
 //! `==` stand an entry's name and what it is.
 
-pub const ENTRIES: &str = r#"
+pub(crate) const ENTRIES: &str = r#"
 == MAKES_A: A file `/a` with the content `hi` on nothing.
 op {
   file {

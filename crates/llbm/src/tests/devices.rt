@@ -6,7 +6,7 @@ use std::io::{ErrorKind, Read, Write};
 
 /// What a run answered.
 #[derive(Drop)]
-pub struct Ran {
+pub(crate) struct Ran {
     pub status: u8,
     pub out: Vec<u8>,
     pub err: Vec<u8>,
@@ -14,7 +14,7 @@ pub struct Ran {
 
 impl Ran {
     /// Whether that is the answer.
-    pub fn is(&self, status: u8, out: &str, err: &str) -> bool {
+    pub(crate) fn is(&self, status: u8, out: &str, err: &str) -> bool {
         let texts = self.out.as_slice() == out.as_bytes() && self.err.as_slice() == err.as_bytes();
         self.status == status && texts
     }
@@ -22,7 +22,7 @@ impl Ran {
 
 /// A reader that gives one byte a read, and fails after that many.
 #[derive(Drop)]
-pub struct Slow<'a> {
+pub(crate) struct Slow<'a> {
     pub bytes: &'a [u8],
     pub room: usize,
 }
@@ -46,14 +46,14 @@ impl<'a> Read for Slow<'a> {
 
 /// A writer that takes one byte a write, and fails after that many. It may fail at its end, too.
 #[derive(Drop)]
-pub struct Narrow {
+pub(crate) struct Narrow {
     pub room: usize,
     pub held: Vec<u8>,
     pub flushes: bool,
 }
 
 impl Narrow {
-    pub fn new(alloc: Global, room: usize) -> Narrow {
+    pub(crate) fn new(alloc: Global, room: usize) -> Narrow {
         Narrow {
             room,
             held: Vec::new(alloc),
@@ -62,7 +62,7 @@ impl Narrow {
     }
 
     /// What was written.
-    pub fn into_held(self) -> Vec<u8> {
+    pub(crate) fn into_held(self) -> Vec<u8> {
         self.held
     }
 }

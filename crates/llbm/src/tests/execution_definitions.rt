@@ -1,6 +1,6 @@
 //! Entries of executions by their names, written as the others.
 
-pub const EXECUTIONS: &str = r#"
+pub(crate) const EXECUTIONS: &str = r#"
 == COPIES: An exec on the first two entries with three mounts, of which two give an output.
 op {
   inputs {

@@ -124,7 +124,7 @@ fn bound(bounds: &str, wanted: &str) -> Option<usize> {
 }
 
 /// The definition of the entries with these names, or the bytes that are spelled.
-pub fn definition_of(rt: &impl Abort, alloc: Global, entries: &str) -> Bytes {
+pub(crate) fn definition_of(rt: &impl Abort, alloc: Global, entries: &str) -> Bytes {
     if let Some(digits) = entries.strip_prefix("=") {
         return read_hex(alloc, digits)
             .expect(rt, "memory")
@@ -287,7 +287,7 @@ fn transcript<R: Abort + Threads + Wait + Sync>(rt: &R, alloc: Global, told: &st
 }
 
 /// Ends the test at the first line of a transcript that is told otherwise. A transcript is moved in by four spaces.
-pub fn is_told<R: Abort + Threads + Wait + Sync>(rt: &R, alloc: Global, told: &str) {
+pub(crate) fn is_told<R: Abort + Threads + Wait + Sync>(rt: &R, alloc: Global, told: &str) {
     let text = transcript(rt, alloc, told);
     let mut lines = text.lines();
     for line in told.lines() {
