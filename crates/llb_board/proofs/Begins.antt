@@ -18,7 +18,7 @@ use Rattle.llb_execution.specs.Parts.{work_with, mounts_in, shown_in}
 use Rattle.llb_board.specs.Room.{Supplies, supplies_for}
 use Rattle.llb_board.specs.Rules.{or_not_ready, Begun, begun}
 use Rattle.llb_board.specs.Begun.{Outfitted, outfit_of}
-use Rattle.llb_board.specs.declared.fault.ClaimFault.{ClaimFault}
+use Rattle.llb_events.specs.declared.fault.ClaimFault.{ClaimFault}
 use Rattle.llb_board.proofs.Lists.{length_map}
 use Rattle.llb_board.proofs.Needed.{mounts_on, shown_on, keys_taken}
 use Rattle.llb_board.proofs.Wanting.{needs_apart, needs_within}

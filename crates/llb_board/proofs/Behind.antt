@@ -20,13 +20,15 @@ use Rattle.llb_model.proofs.Outcomes.{each_below, inputs_there}
 use Rattle.llb_model.proofs.Ready.{ready_by_inputs}
 use Rattle.llb_model.proofs.Stopped.{stopped_is, stopped_cases, stopped_there, stopped_length, any_stopped, done_count}
 use Rattle.llb_board.specs.Board.{Seen, Replays}
-use Rattle.llb_board.specs.Links.{leads, users_from, users_of, users_at, waits_for, open_inputs, AreLowered, AreRaised, AreBelow, Linked, IsLinked, done_in}
-use Rattle.llb_board.specs.Links.{has_inputs, TellsInputs, is_marked, IsClosed, Spreads}
+use Rattle.llb_links.specs.Links.{leads, users_from, users_of, users_at, waits_for, open_inputs, AreLowered, AreRaised, AreBelow, Linked, IsLinked}
+use Rattle.llb_board.specs.OpenInputs.{done_in}
+use Rattle.llb_links.specs.Links.{has_inputs, is_marked, IsClosed, Spreads}
+use Rattle.llb_board.specs.OpenInputs.{TellsInputs}
 use Rattle.llb_board.specs.Views.{status_of}
 use Rattle.llb_board.specs.declared.stand.Stand.{Stand}
 use Rattle.llb_board.specs.declared.stand.Stand.TheVariants as stand
 use Rattle.llb_board.proofs.Lists.{map_set, get_map}
-use Rattle.llb_board.proofs.Linked.{count_few, users_low, linked_same, linked_lowered, linked_raised, counted_done}
+use Rattle.llb_links.specs.Laws.{count_few, users_low, linked_same, linked_lowered, linked_raised, counted_done}
 use Rattle.llb_board.proofs.Sound.{consistent}
 
 -- ---- a test of how vertices end

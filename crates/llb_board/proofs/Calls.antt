@@ -34,11 +34,11 @@ use Rattle.llb_board.specs.Rules.{faulted, claim_fault, claim_of, step_fault, cl
 use Rattle.llb_board.specs.Rules.{worked_in, worked_by, left_at}
 use Rattle.llb_board.specs.Views.{at_of, state_of}
 use Rattle.llb_board.specs.declared.stand.Desk.{Desk}
-use Rattle.llb_board.specs.declared.fault.ClaimFault.{ClaimFault}
-use Rattle.llb_board.specs.declared.fault.ClaimFault.TheVariants as claim
-use Rattle.llb_board.specs.declared.fault.StepFault.{StepFault}
-use Rattle.llb_board.specs.declared.fault.SettleFault.{SettleFault}
-use Rattle.llb_board.specs.declared.fault.SettleFault.TheVariants.{NotFinished}
+use Rattle.llb_events.specs.declared.fault.ClaimFault.{ClaimFault}
+use Rattle.llb_events.specs.declared.fault.ClaimFault.TheVariants as claim
+use Rattle.llb_events.specs.declared.fault.StepFault.{StepFault}
+use Rattle.llb_events.specs.declared.fault.SettleFault.{SettleFault}
+use Rattle.llb_events.specs.declared.fault.SettleFault.TheVariants.{NotFinished}
 use Rattle.llb_board.proofs.Wanting.{shut_first}
 use Rattle.llb_board.proofs.Written.{written_made}
 

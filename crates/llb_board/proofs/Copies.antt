@@ -9,7 +9,8 @@ use Rattle.llb_model.specs.Room.{most_events}
 use Rattle.llb_model.specs.State.{At, stopped}
 use Rattle.llb_model.specs.Table.{Event}
 use Rattle.llb_board.specs.Board.{Seen, Replays, opening_with}
-use Rattle.llb_board.specs.Links.{Linked, IsLinked, done_in}
+use Rattle.llb_links.specs.Links.{Linked, IsLinked}
+use Rattle.llb_board.specs.OpenInputs.{done_in}
 use Rattle.llb_board.specs.Room.{AreOver, IsTracked, seen, ready_made, needed}
 use Rattle.llb_board.specs.Views.{status_of, at_of, leased_by}
 use Rattle.llb_board.specs.declared.stand.Stand.{Stand}

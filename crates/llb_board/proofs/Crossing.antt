@@ -26,8 +26,8 @@ use Rattle.llb_board.specs.contracts.stand.Desk as desk
 use Rattle.llb_board.specs.contracts.stand.Execution as execution
 use Rattle.llb_board.specs.contracts.stand.Stand as stand
 use Rattle.llb_board.specs.contracts.events.Events as events
-use Rattle.llb_board.specs.contracts.links.Links as links
-use Rattle.llb_board.proofs.links.Links.TheSendSync as links_crosses
+use Rattle.llb_links.specs.contracts.links.Links as links
+use Rattle.llb_links.proofs.links.Links.TheSendSync as links_crosses
 use Rattle.llb_board.specs.contracts.board.Board as board
 use Rattle.llb_board.specs.contracts.board.Board.TheInside as inside
 

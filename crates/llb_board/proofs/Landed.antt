@@ -35,8 +35,8 @@ use Rattle.llb_board.specs.Landing.{job_now, IsBegun, IsRunOf, CanLand, IsThroug
 use Rattle.llb_board.specs.Room.{Supplies, supplies_of, supplies_for, needs_at}
 use Rattle.llb_board.specs.Rules.{settle_fault, settle_of, GivesSettle}
 use Rattle.llb_board.specs.Views.{at_of, leased_by, execution_of, settle_reply}
-use Rattle.llb_board.specs.declared.event.Settled.{Settled}
-use Rattle.llb_board.specs.declared.fault.SettleFault.{SettleFault}
+use Rattle.llb_events.specs.declared.event.Settled.{Settled}
+use Rattle.llb_events.specs.declared.fault.SettleFault.{SettleFault}
 use Rattle.llb_board.specs.declared.stand.Desk.{Desk}
 use Rattle.llb_board.specs.declared.stand.Desk.TheVariants as desk
 use Rattle.llb_board.specs.declared.stand.Execution as running

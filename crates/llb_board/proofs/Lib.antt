@@ -5,8 +5,6 @@ pub mod Inputs
 pub mod Marked
 pub mod Counted
 pub mod Steps
-pub mod Spread
-pub mod Linked
 pub mod Behind
 pub mod Choices
 pub mod Wanting

@@ -22,8 +22,8 @@ use Rattle.llb_execution.specs.Parts.{work_with}
 use Rattle.llb_board.specs.Caches.{written, places_at, leased_places}
 use Rattle.llb_board.specs.Rules.{step_memory, GivesStep, Written, worked_by, written_by, worked_in}
 use Rattle.llb_board.specs.Views.{at_of, leased_by, execution_of}
-use Rattle.llb_board.specs.declared.event.Stepped.{Stepped}
-use Rattle.llb_board.specs.declared.fault.StepFault.{StepFault}
+use Rattle.llb_events.specs.declared.event.Stepped.{Stepped}
+use Rattle.llb_events.specs.declared.fault.StepFault.{StepFault}
 use Rattle.llb_board.specs.declared.stand.Desk.{Desk}
 use Rattle.llb_board.specs.declared.stand.Desk.TheVariants as desk
 use Rattle.llb_board.specs.declared.stand.Execution as own

@@ -6,7 +6,7 @@ use Rattle.llb_tree.specs.Tree.{TreeMap}
 use Rattle.llb_model.specs.Program.{MicroStep, step_on}
 use Rattle.llb_model.specs.State.{Execution, next_step}
 use Rattle.llb_execution.specs.Parts.{work_with}
-use Rattle.llb_board.specs.declared.fault.StepFault.TheVariants.{NothingLeft}
+use Rattle.llb_events.specs.declared.fault.StepFault.TheVariants.{NothingLeft}
 use Rattle.llb_board.specs.Rules.{worked, worked_by, worked_to}
 
 past_none : {A : Type 0} (xs : List A) (k : ℕ) → length xs ≤ k → slice_get xs k ≡ None

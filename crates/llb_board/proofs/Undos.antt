@@ -11,7 +11,8 @@ use Rattle.llb_model.specs.State.{Running, Idle, Runs, is_failed, ending_of, sto
 use Rattle.llb_model.specs.Table.{Event}
 use Rattle.llb_board.specs.Board.{Seen}
 use Rattle.llb_board.specs.Caches.{IsOutIf, given_back}
-use Rattle.llb_board.specs.Links.{Linked, IsLinked, done_in}
+use Rattle.llb_links.specs.Links.{Linked, IsLinked}
+use Rattle.llb_board.specs.OpenInputs.{done_in}
 use Rattle.llb_board.specs.Room.{AreOver, IsTracked, ready_made, needed}
 use Rattle.llb_board.specs.Undo.{Back, Unclaim, Unstep, Resume, Displaced, left_in, caches_in, front, statuses_before, workers_before, HasNoPlaces, CanUndo}
 use Rattle.llb_board.specs.Undoing.{desk_before, leases_before, caches_before, HasPlaceFor}

@@ -24,12 +24,12 @@ use Rattle.llb_board.specs.Rules.{claim_fault, step_fault, settle_fault}
 use Rattle.llb_board.specs.Undo.{told_as, walk_of, Back, Unclaim, Unstep, Resume, Before, Displaced, left_in}
 use Rattle.llb_board.specs.Undo.{statuses_before, with_view_back, step_before, workers_before, rows_before, store_before, undone}
 use Rattle.llb_board.specs.Undo.{StandsBehind, HasNoPlaces, FitsLeases, CanUndo, KeepsWhere, MarksClaim, MarksStep, MarksSettle, Marks}
-use Rattle.llb_board.specs.declared.fault.WalkFault.{WalkFault}
-use Rattle.llb_board.specs.declared.fault.WalkFault.TheVariants as walk
+use Rattle.llb_events.specs.declared.fault.WalkFault.{WalkFault}
+use Rattle.llb_events.specs.declared.fault.WalkFault.TheVariants as walk
 use Rattle.llb_board.specs.Views.{execution_of, at_of}
 use Rattle.llb_board.specs.Walking.{KeepsIf}
-use Rattle.llb_board.specs.declared.fault.SettleFault.TheVariants as no_settle
-use Rattle.llb_board.specs.declared.fault.StepFault.TheVariants as no_step
+use Rattle.llb_events.specs.declared.fault.SettleFault.TheVariants as no_settle
+use Rattle.llb_events.specs.declared.fault.StepFault.TheVariants as no_step
 use Rattle.llb_board.specs.declared.stand.Desk.{Desk}
 use Rattle.llb_board.specs.declared.stand.Desk.TheVariants as desk
 use Rattle.llb_board.specs.declared.stand.Execution as own

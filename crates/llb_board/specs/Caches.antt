@@ -17,8 +17,8 @@ use Rattle.llb_model.specs.Kept.{store_of}
 use Rattle.llb_model.specs.Leases.{asked}
 use Rattle.llb_model.specs.State.{first_trees}
 use Rattle.llb_board.specs.declared.needs.Wanted.{Wanted}
-use Rattle.llb_board.specs.declared.fault.ClaimFault.{ClaimFault}
-use Rattle.llb_board.specs.declared.fault.ClaimFault.TheVariants as claim
+use Rattle.llb_events.specs.declared.fault.ClaimFault.{ClaimFault}
+use Rattle.llb_events.specs.declared.fault.ClaimFault.TheVariants as claim
 
 -- ---- what a claim takes
 

@@ -18,7 +18,8 @@ use Rattle.llb_model.specs.Table.{Event}
 use Rattle.llb_model.specs.Room.{most_events}
 use Rattle.llb_board.specs.Board.{Seen, Replays, opening_with}
 use Rattle.llb_execution.specs.Parts.{kind_setting, mounts_in, shown_in}
-use Rattle.llb_board.specs.Links.{Linked, IsLinked, done_in}
+use Rattle.llb_links.specs.Links.{Linked, IsLinked}
+use Rattle.llb_board.specs.OpenInputs.{done_in}
 use Rattle.llb_board.specs.Views.{state_of, leased_by}
 use Rattle.llb_board.specs.declared.stand.Stand.{Stand}
 use Rattle.llb_board.specs.declared.stand.Desk.{Desk}

@@ -23,12 +23,12 @@ use Rattle.llb_execution.specs.Parts.{work_with}
 use Rattle.llb_board.specs.Caches.{places_taken}
 use Rattle.llb_board.specs.declared.fault.OpenFault.{OpenFault}
 use Rattle.llb_board.specs.declared.fault.OpenFault.TheVariants as opening
-use Rattle.llb_board.specs.declared.fault.ClaimFault.{ClaimFault}
-use Rattle.llb_board.specs.declared.fault.ClaimFault.TheVariants as claim
-use Rattle.llb_board.specs.declared.fault.StepFault.{StepFault}
-use Rattle.llb_board.specs.declared.fault.StepFault.TheVariants as step
-use Rattle.llb_board.specs.declared.fault.SettleFault.{SettleFault}
-use Rattle.llb_board.specs.declared.fault.SettleFault.TheVariants as settle
+use Rattle.llb_events.specs.declared.fault.ClaimFault.{ClaimFault}
+use Rattle.llb_events.specs.declared.fault.ClaimFault.TheVariants as claim
+use Rattle.llb_events.specs.declared.fault.StepFault.{StepFault}
+use Rattle.llb_events.specs.declared.fault.StepFault.TheVariants as step
+use Rattle.llb_events.specs.declared.fault.SettleFault.{SettleFault}
+use Rattle.llb_events.specs.declared.fault.SettleFault.TheVariants as settle
 
 -- ---- what opening answers
 

@@ -13,10 +13,10 @@ use Rattle.llb_board.specs.Board.{Seen, Replays}
 use Rattle.llb_board.specs.Room.{Supplies, supplies_for, supplies_of, mounts_at, needs_at}
 use Rattle.llb_board.specs.Rules.{claim_of, step_of, settle_of}
 use Rattle.llb_board.specs.Views.{execution_of}
-use Rattle.llb_board.specs.declared.event.Stepped.TheVariants as stepped
-use Rattle.llb_board.specs.declared.event.Settled.TheVariants as settled
-use Rattle.llb_board.specs.declared.fault.WalkFault.{WalkFault}
-use Rattle.llb_board.specs.declared.fault.WalkFault.TheVariants as walk
+use Rattle.llb_events.specs.declared.event.Stepped.TheVariants as stepped
+use Rattle.llb_events.specs.declared.event.Settled.TheVariants as settled
+use Rattle.llb_events.specs.declared.fault.WalkFault.{WalkFault}
+use Rattle.llb_events.specs.declared.fault.WalkFault.TheVariants as walk
 use Rattle.llb_board.specs.declared.stand.Execution as own
 use Rattle.llb_board.specs.declared.undo.Back as undo
 use Rattle.llb_board.specs.declared.undo.Back.TheVariants as back

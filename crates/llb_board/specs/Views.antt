@@ -7,16 +7,16 @@ use Rattle.llb_model.specs.Outcome.{Done, Failed}
 use Rattle.llb_model.specs.declared.fault.VertexFault.{VertexFault}
 use Rattle.llb_model.specs.State as model
 use Rattle.llb_model.specs.Table as table
-use Rattle.llb_board.specs.declared.event.Event.{Event}
-use Rattle.llb_board.specs.declared.event.Event.TheVariants as event
-use Rattle.llb_board.specs.declared.event.Stepped.{Stepped}
-use Rattle.llb_board.specs.declared.event.Stepped.TheVariants.{Read, Acted, Merged, Ran, Fault}
-use Rattle.llb_board.specs.declared.event.Settled.{Settled}
-use Rattle.llb_board.specs.declared.event.Settled.TheVariants as settled
-use Rattle.llb_board.specs.declared.event.Status.{Status}
-use Rattle.llb_board.specs.declared.event.Status.TheVariants as seen
-use Rattle.llb_board.specs.declared.event.At.{At}
-use Rattle.llb_board.specs.declared.event.At.TheVariants as at
+use Rattle.llb_events.specs.declared.event.Event.{Event}
+use Rattle.llb_events.specs.declared.event.Event.TheVariants as event
+use Rattle.llb_events.specs.declared.event.Stepped.{Stepped}
+use Rattle.llb_events.specs.declared.event.Stepped.TheVariants.{Read, Acted, Merged, Ran, Fault}
+use Rattle.llb_events.specs.declared.event.Settled.{Settled}
+use Rattle.llb_events.specs.declared.event.Settled.TheVariants as settled
+use Rattle.llb_events.specs.declared.event.Status.{Status}
+use Rattle.llb_events.specs.declared.event.Status.TheVariants as seen
+use Rattle.llb_events.specs.declared.event.At.{At}
+use Rattle.llb_events.specs.declared.event.At.TheVariants as at
 use Rattle.llb_board.specs.declared.stand.Stand.{Stand}
 use Rattle.llb_board.specs.declared.stand.Stand.TheVariants as stand
 use Rattle.llb_board.specs.declared.stand.Desk.{Desk}

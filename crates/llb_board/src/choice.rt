@@ -4,16 +4,16 @@
 ghost use Rattle.std.specs.Prelude.{◌≡◌, ◌<◌, ◌≤◌, ℕ, map, length, option_map, slice_get, false, unwrap_or, ◌||◌, ◌&&◌, []};
 ghost use Rattle.llb_model.specs.State.{stopped, is_waiting, is_blocked, is_ready};
 ghost use Rattle.llb_model.specs.Run.{next_of, next_claim, is_settled, is_complete};
-ghost use Rattle.llb_board.specs.Links.{TellsInputs};
+ghost use Rattle.llb_board.specs.OpenInputs.{TellsInputs};
 ghost use Rattle.llb_board.specs.Room.{AreOver};
 ghost use Rattle.llb_board.specs.Views.{at_of, event_of, state_of, status_of};
 
 use crate::build::Build;
-use crate::event::Event;
-use crate::links::Links;
 use crate::ready::{is_marked, is_ready, stand_at};
 use crate::stand::{Desk, Stand};
 use crate::step::is_finished;
+use llb_events::Event;
+use llb_links::Links;
 
 /// The next event of the lowest running worker.
 pub(crate) fn next_event(build: &Build, desks: &[Desk]) -> Option<Event>

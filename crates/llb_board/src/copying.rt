@@ -6,10 +6,10 @@ ghost use Rattle.llb_board.specs.Undo.{left_in};
 ghost use Rattle.llb_board.specs.Views.{at_of, leased_by};
 
 use crate::board::Board;
-use crate::fault::Memory;
 use crate::fresh::room;
 use crate::stand::{Desk, Execution, Stand};
 use llb_cache::{Lease, Place};
+use llb_events::Memory;
 use llb_tree::Tree;
 use llb_wire::Many;
 use std::alloc::Global;

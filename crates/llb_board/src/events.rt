@@ -4,8 +4,7 @@ ghost use Rattle.std.specs.Prelude.{◌≡◌, ◌==◌, ◌≤◌, ◌<◌, ◌
 ghost use Rattle.llb_board.specs.Undo.{front};
 ghost use Rattle.llb_board.specs.Views.{event_of};
 
-use crate::event::Event;
-use crate::fault::Memory;
+use llb_events::{Event, Memory};
 use std::alloc::{AllocError, Global};
 use std::marker::Model;
 

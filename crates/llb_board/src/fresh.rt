@@ -3,16 +3,16 @@
 
 ghost use Rattle.std.specs.Prelude.{◌≡◌, ◌≤◌, [], length, replicate, false, IfOk};
 ghost use Rattle.llb_model.specs.Room.{most_events};
-ghost use Rattle.llb_board.specs.Links.{IsLinked};
+ghost use Rattle.llb_links.specs.Links.{IsLinked};
 ghost use Rattle.llb_board.specs.declared.stand.Desk.TheVariants as desk;
 ghost use Rattle.llb_board.specs.declared.stand.Stand.TheVariants as stand;
 
 use crate::build::Build;
 use crate::events::Events;
-use crate::fault::Memory;
-use crate::links::Links;
 use crate::stand::{Desk, Stand};
 use llb_cache::Caches;
+use llb_events::Memory;
+use llb_links::Links;
 use std::alloc::{AllocError, Global};
 
 /// The parts of a board on which nothing has happened.

@@ -11,9 +11,9 @@ ghost use Rattle.llb_board.specs.Caches.{tree_of, leased_places, IsOutIf, given_
 ghost use Rattle.llb_board.specs.Views.{at_of, leased_by};
 ghost use Rattle.llb_board.specs.Rules.{step_memory};
 
-use crate::fault::StepFault;
 use crate::stand::Desk;
 use llb_cache::{Caches, Lease, LeaseFault, Need, Place};
+use llb_events::StepFault;
 use llb_tree::Tree;
 use llb_wire::Many;
 use std::alloc::Global;

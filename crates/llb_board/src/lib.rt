@@ -7,35 +7,31 @@ mod build;
 mod choice;
 mod copying;
 mod ending;
-mod event;
 mod events;
 mod fault;
 mod fresh;
-mod gate;
 mod instances;
 mod job;
 mod landing;
 pub mod laws;
-mod links;
 mod micro_step;
 mod needs;
 mod outcome;
 mod ready;
 mod same;
-mod spreading;
 mod stand;
 mod step;
 mod undo;
 mod walk;
 
 pub use board::Board;
-pub use event::{At, Event, Settled, Status, Stepped};
 pub use events::Events;
-pub use fault::{
-    ClaimFault, LandFault, Memory, OpenFault, SettleFault, StepFault, WalkFault, WorkFault,
-};
-pub use gate::{Gate, Stopped};
+pub use fault::{LandFault, OpenFault};
 pub use job::Job;
+pub use llb_events::{
+    At, ClaimFault, Event, Gate, Memory, SettleFault, Settled, Status, StepFault, Stepped, Stopped,
+    WalkFault, WorkFault,
+};
 pub use llb_execution::{Program, View};
 pub use llb_wire::{Bytes, Text};
 pub use outcome::{Outcome, work};

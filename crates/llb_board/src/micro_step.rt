@@ -9,9 +9,8 @@ ghost use Rattle.llb_board.specs.Room.{supplies_of, supplies_for};
 ghost use Rattle.llb_board.specs.Rules.{step_memory, GivesStep, worked};
 ghost use Rattle.llb_board.specs.Views.{execution_of, fault_or, step_reply};
 
-use crate::event::Stepped;
-use crate::fault::StepFault;
 use crate::stand::Execution;
+use llb_events::{StepFault, Stepped};
 use llb_execution::{MicroStep, step_of};
 use llb_loader::Vertex;
 use llb_model::VertexFault;

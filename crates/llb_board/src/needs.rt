@@ -13,8 +13,8 @@ ghost use Rattle.llb_board.specs.Caches.{need_of, shut_key, unless_shut, places_
 ghost use Rattle.llb_cache.specs.Key.{seed_by};
 ghost use Rattle.llb_board.specs.Rules.{GivesClaim, claim_memory, claim_may_want};
 
-use crate::fault::ClaimFault;
 use llb_cache::{Caches, Key, KeyRef, Mode, Need, Place};
+use llb_events::ClaimFault;
 use llb_execution::{input_tree, mounts_of};
 use llb_loader::{Vertex, cache_in};
 use llb_ops::Mount;

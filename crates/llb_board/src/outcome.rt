@@ -2,12 +2,11 @@
 
 ghost use Rattle.std.specs.Prelude.{◌≡◌, IfOk, IsTrue, Err};
 ghost use Rattle.llb_board.specs.Jobs.{IsOutcome};
-ghost use Rattle.llb_board.specs.declared.fault.WorkFault.TheVariants as work;
+ghost use Rattle.llb_events.specs.declared.fault.WorkFault.TheVariants as work;
 
 use crate::copying::copied_trees;
-use crate::fault::{Memory, WorkFault};
-use crate::gate::Gate;
 use crate::job::Job;
+use llb_events::{Gate, Memory, WorkFault};
 use llb_execution::{Further, View, do_further};
 use llb_model::VertexFault;
 use llb_tree::Tree;

@@ -6,14 +6,14 @@ ghost use Rattle.std.specs.List.{list_any};
 ghost use Rattle.llb_model.specs.ByNumber.{by_number};
 ghost use Rattle.llb_model.specs.Outcome.{inputs_from, output_in};
 ghost use Rattle.llb_model.specs.State.{ending_at, is_failed, is_waiting, next_stopped};
-ghost use Rattle.llb_board.specs.Links.{has_inputs};
+ghost use Rattle.llb_links.specs.Links.{has_inputs};
 ghost use Rattle.llb_board.specs.Views.{status_of};
 ghost use Rattle.llb_board.specs.Rules.{GivesClaim, or_not_ready};
 ghost use Rattle.llb_loader.specs.declared.graph.Edge as edge;
 
-use crate::fault::ClaimFault;
-use crate::links::Links;
 use crate::stand::Stand;
+use llb_events::ClaimFault;
+use llb_links::Links;
 use llb_loader::{Edge, Vertex};
 use llb_tree::Tree;
 use llb_wire::Many;

@@ -5,8 +5,8 @@ ghost use Rattle.std.specs.Prelude.{◌≡◌, ◌↔◌, IsTrue, map};
 ghost use Rattle.llb_board.specs.Views.{status_of, execution_of, at_of, event_of};
 
 use crate::board::Board;
-use crate::event::Event;
 use crate::stand::{Desk, Execution, Stand};
+use llb_events::Event;
 use llb_wire::{Same, all_same};
 
 impl Board {

@@ -10,11 +10,10 @@ ghost use Rattle.llb_model.specs.Table.{Step, Settle};
 use crate::board::Board;
 use crate::build::Build;
 use crate::copying::{copied, copied_leases};
-use crate::event::{Event, Settled, Stepped};
-use crate::fault::{Memory, SettleFault, StepFault, WalkFault};
 use crate::needs::shows_cache;
 use crate::stand::Desk;
 use crate::undo::{Back, Before, Undo};
+use llb_events::{Event, Memory, SettleFault, Settled, StepFault, Stepped, WalkFault};
 
 /// What an event answers.
 #[derive(Clone, Copy, Debug, PartialEq, Eq)]

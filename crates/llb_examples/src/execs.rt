@@ -1,288 +1,142 @@
-//! Executions in graphs: what they give, and by which feature or rule others are refused. They are told as graphs are.
+//! Executions in graphs: what they give, and by which feature or rule others are refused.
 
-use super::graphs::{MAKES_A, linked, said_of};
-use super::told::{are_all_told, is_told};
-use llb_loader::LoadFault;
-use std::alloc::{AllocError, Global};
+use super::stage::are_told;
 
-// A mount: its input, the line of its selector if there is one, its dest, and the lines after that. Texts are as the assembler
-// takes them.
-pub(crate) type Shown<'a> = (i64, &'a str, &'a str, &'a str);
+const CASES: &str = r#"
+    # An exec is refused by its feature; a feature comes before a rule.
+    > op TRUE | -1 / | -1 /s SECRET | }
+    88 0 SecretMount
+    > op TRUE | -1 / | -1 /s SSH | }
+    88 0 SshMount
+    > op TRUE | -1 / | secretenv - | }
+    88 0 SecretEnv
+    > op TRUE | -1 /s SECRET | }
+    88 0 SecretMount
+    > op TRUE | -1 /c BARE_GIVES | -1 /s SSH | secretenv - | }
+    88 0 SshMount
 
-// Words, the lines of the meta after them, mounts, the lines after those, and what is said of it all.
-type Case = (
-    &'static [&'static str],
-    &'static str,
-    &'static [Shown<'static>],
-    &'static str,
-    &'static str,
-);
+    # An empty cwd is the root.
+    > op TRUE | -1 / | }
+    A runs 1 1 1, 0.0
+    > op exec { | meta { | args "true" | cwd "" | } | -1 / | }
+    A runs 1 1 1, 0.0
+    > op exec { | meta { | args "true" | cwd "a" | } | -1 / | }
+    A runs 1 1 1, 0.0
+    > op exec { | meta { | args "true" | cwd "\x01" | } | -1 / | }
+    89 0 BadPath
 
-fn push_mount(text: &mut String, mount: &Shown<'_>) -> Result<(), AllocError> {
-    let (input, selector, dest, rest) = *mount;
-    write!(
-        text,
-        "mounts {{\ninput {input}\n{selector}dest \"{dest}\"\n{rest}}}\n"
-    )
-}
-
-// What stands in the op of an execution.
-pub(crate) fn exec_text(
-    alloc: Global,
-    words: &[&str],
-    meta: &str,
-    mounts: &[Shown<'_>],
-    rest: &str,
-) -> Result<String, AllocError> {
-    let mut text = String::from_str(alloc, "exec {\nmeta {\n")?;
-    for word in words {
-        write!(text, "args \"{word}\"\n")?;
-    }
-    write!(text, "{meta}}}\n")?;
-    for mount in mounts {
-        push_mount(&mut text, mount)?;
-    }
-    write!(text, "{rest}}}\n")?;
-    Ok(text)
-}
-
-fn said_of_case(alloc: Global, case: &Case) -> Result<String, LoadFault> {
-    let (words, meta, mounts, rest, _) = *case;
-    let inside = exec_text(alloc, words, meta, mounts, rest)?;
-    said_of(alloc, inside.as_str())
-}
-
-// What is said of some words on some mounts.
-pub(crate) fn said_of_words(
-    alloc: Global,
-    words: &[&str],
-    mounts: &[Shown<'_>],
-) -> Result<String, LoadFault> {
-    let inside = exec_text(alloc, words, "", mounts, "")?;
-    said_of(alloc, inside.as_str())
-}
-
-// A mount of the empty tree at the root; an exec that runs `true` on it gives its output 0.
-pub(crate) const ROOT: Shown<'static> = (-1, "", "/", "");
-
-pub(crate) const RUNS_TRUE: &str = "A runs 1 1 1, 0.0";
-
-pub(crate) const TRUE: &[&str] = &["true"];
-
-const NO_SUCH: &[&str] = &["nosuch"];
-
-const CASES: &[Case] = &[
-    // An exec is refused by its feature; a feature comes before a rule.
-    (
-        TRUE,
-        "",
-        &[ROOT, (-1, "", "/s", "mountType 1\n")],
-        "",
-        "88 0 SecretMount",
-    ),
-    (
-        TRUE,
-        "",
-        &[ROOT, (-1, "", "/s", "mountType 2\n")],
-        "",
-        "88 0 SshMount",
-    ),
-    (TRUE, "", &[ROOT], "secretenv -\n", "88 0 SecretEnv"),
-    (
-        TRUE,
-        "",
-        &[(-1, "", "/s", "mountType 1\n")],
-        "",
-        "88 0 SecretMount",
-    ),
-    (
-        TRUE,
-        "",
-        &[
-            (-1, "", "/c", "mountType 3\n"),
-            (-1, "", "/s", "mountType 2\n"),
-        ],
-        "secretenv -\n",
-        "88 0 SshMount",
-    ),
-    // An empty cwd is the root.
-    (TRUE, "", &[ROOT], "", RUNS_TRUE),
-    (TRUE, "cwd \"\"\n", &[ROOT], "", RUNS_TRUE),
-    (TRUE, "cwd \"a\"\n", &[ROOT], "", RUNS_TRUE),
-    (TRUE, "cwd \"\\x01\"\n", &[ROOT], "", "89 0 BadPath"),
-    // That there are words comes first, and that they are a script last.
-    (&[], "cwd \"\\x01\"\n", &[], "", "89 0 NoArgs"),
-    (NO_SUCH, "", &[], "", "89 0 NoMounts"),
-    (
-        NO_SUCH,
-        "",
-        &[ROOT, (-1, "", "/a", "")],
-        "",
-        "89 0 MountOutput",
-    ),
-    (NO_SUCH, "", &[ROOT], "", "89 0 Script 71 nosuch"),
-];
-
-// The number of the first row that is answered otherwise; past the end where there is none.
-fn first_other_case(alloc: Global, rows: &[Case]) -> usize {
-    for (at, case) in rows.iter().enumerate() {
-        if !is_told(alloc, said_of_case(alloc, case), case.4) {
-            return at;
-        }
-    }
-    rows.len()
-}
+    # That there are words comes first, and that they are a script last.
+    > op exec { | meta { | cwd "\x01" | } | }
+    89 0 NoArgs
+    > op NO_SUCH | }
+    89 0 NoMounts
+    > op NO_SUCH | -1 / | -1 /a | }
+    89 0 MountOutput
+    > op NO_SUCH | -1 / | }
+    89 0 Script 71 nosuch
+    "#;
 
 #[test]
 fn an_exec_is_taken_or_refused_by_its_feature_or_its_rule(rt: HostRuntime) {
-    let rows = CASES;
-    are_all_told(&rt, first_other_case(rt.alloc(), rows), rows.len());
+    are_told(&rt, rt.alloc(), CASES);
 }
 
 // The mounts of `true`.
-const MOUNTS: &[(&[Shown<'static>], &str)] = &[
-    (&[ROOT], RUNS_TRUE),
-    (&[], "89 0 NoMounts"),
-    (&[(-1, "", "/a", ""), (-1, "", "\\x01", "")], "89 0 NoRoot"),
-    // The root is known by its path.
-    (&[(-1, "", "//", "")], RUNS_TRUE),
-    (&[(-1, "", "/.", "")], RUNS_TRUE),
-    (&[(-1, "", "/a/..", "")], RUNS_TRUE),
-    (&[(-1, "", "", "")], RUNS_TRUE),
-    (
-        &[ROOT, (-1, "", "/\\x01", ""), (-1, "", "/", "")],
-        "89 0 BadPath",
-    ),
-    (&[(-1, "selector \"\\x01\"\n", "/", "")], "89 0 BadPath"),
-    (&[(-1, "selector \"a/b\"\n", "/", "")], RUNS_TRUE),
-    (
-        &[
-            ROOT,
-            (-1, "", "/a", "output -1\n"),
-            (-1, "", "//a/.", "mountType 5\n"),
-        ],
-        "89 0 SameDest",
-    ),
-    (&[(0, "", "/", "mountType 5\n")], "89 0 MountKind"),
-    (&[(-1, "", "/", "mountType -1\n")], "89 0 MountKind"),
-    (&[(0, "", "/", ""), (-1, "", "/a", "")], "89 0 MountInput"),
-    // What a tmpfs would show is not looked at; an output it has not.
-    (
-        &[ROOT, (-1, "", "/t", "output -1\nmountType 4\n")],
-        RUNS_TRUE,
-    ),
-    (
-        &[
-            (-1, "", "/", "output -1\n"),
-            (-1, "", "/t", "mountType 4\n"),
-        ],
-        "89 0 MountOutput",
-    ),
-    // Outputs are numbered from 0, each once.
-    (&[ROOT, (-1, "", "/a", "output -1\n")], RUNS_TRUE),
-    (
-        &[(-1, "", "/", "output 1\n"), (-1, "", "/a", "")],
-        "A runs 1 1 2, 0.0",
-    ),
-    (&[ROOT, (-1, "", "/a", "")], "89 0 MountOutput"),
-    (&[ROOT, (-1, "", "/a", "output 2\n")], "89 0 MountOutput"),
-    (&[(-1, "", "/", "output -2\n")], "89 0 MountOutput"),
-];
+const MOUNTS: &str = r#"
+    # One is at the root.
+    > op TRUE | -1 / | }
+    A runs 1 1 1, 0.0
+    > op TRUE | }
+    89 0 NoMounts
+    > op TRUE | -1 /a | -1 \x01 | }
+    89 0 NoRoot
 
-// The number of the first row that is answered otherwise; past the end where there is none.
-fn first_other_mounts(alloc: Global, rows: &[(&[Shown<'static>], &str)]) -> usize {
-    for (at, (mounts, wanted)) in rows.iter().enumerate() {
-        if !is_told(alloc, said_of_words(alloc, TRUE, mounts), wanted) {
-            return at;
-        }
-    }
-    rows.len()
-}
+    # The root is known by its path.
+    > op TRUE | -1 // | }
+    A runs 1 1 1, 0.0
+    > op TRUE | -1 /. | }
+    A runs 1 1 1, 0.0
+    > op TRUE | -1 /a/.. | }
+    A runs 1 1 1, 0.0
+    > op TRUE | NO_DEST | }
+    A runs 1 1 1, 0.0
+
+    # Paths, dests, types and inputs.
+    > op TRUE | -1 / | -1 /\x01 | -1 / | }
+    89 0 BadPath
+    > op TRUE | SELECTS_BAD | }
+    89 0 BadPath
+    > op TRUE | SELECTS_AB | }
+    A runs 1 1 1, 0.0
+    > op TRUE | -1 / | -1 /a NO_OUTPUT | -1 //a/. TYPE_5 | }
+    89 0 SameDest
+    > op TRUE | 0 / TYPE_5 | }
+    89 0 MountKind
+    > op TRUE | -1 / TYPE_BELOW | }
+    89 0 MountKind
+    > op TRUE | 0 / | -1 /a | }
+    89 0 MountInput
+
+    # What a tmpfs would show is not looked at; an output it has not.
+    > op TRUE | -1 / | -1 /t NO_OUTPUT TMPFS | }
+    A runs 1 1 1, 0.0
+    > op TRUE | -1 / NO_OUTPUT | -1 /t TMPFS | }
+    89 0 MountOutput
+
+    # Outputs are numbered from 0, each once.
+    > op TRUE | -1 / | -1 /a NO_OUTPUT | }
+    A runs 1 1 1, 0.0
+    > op TRUE | -1 / OUTPUT_1 | -1 /a | }
+    A runs 1 1 2, 0.0
+    > op TRUE | -1 / | -1 /a | }
+    89 0 MountOutput
+    > op TRUE | -1 / | -1 /a OUTPUT_2 | }
+    89 0 MountOutput
+    > op TRUE | -1 / OUTPUT_BELOW | }
+    89 0 MountOutput
+    "#;
 
 #[test]
 fn the_mounts_of_an_exec_are_judged_in_order(rt: HostRuntime) {
-    let rows = MOUNTS;
-    are_all_told(&rt, first_other_mounts(rt.alloc(), rows), rows.len());
+    are_told(&rt, rt.alloc(), MOUNTS);
 }
 
 // Words at the root.
-const WORDS: &[(&[&str], &str)] = &[
-    (TRUE, RUNS_TRUE),
-    (&["mkdir", "-p", "a"], RUNS_TRUE),
-    (
-        &["/bin/sh", "-c", "true && mkdir a && true"],
-        "A runs 3 3 1, 0.0",
-    ),
-    (
-        &["/bin/sh", "-c", "true && nosuch"],
-        "89 0 Script 71 nosuch",
-    ),
-    (
-        &["/bin/sh", "-c", "nosuch && mkdir"],
-        "89 0 Script 71 nosuch",
-    ),
-    (&["/bin/sh", "-c", "true && mkdir"], "89 0 Script 72 1"),
-    (&["mkdir"], "89 0 Script 72 0"),
-    (&["/bin/sh", "-c", ""], "89 0 Script 73 0"),
-    (&["/bin/sh", "-c", "true; true"], "89 0 Script 73 4"),
-];
-
-// The number of the first row that is answered otherwise; past the end where there is none.
-fn first_other_words(alloc: Global, rows: &[(&[&str], &str)]) -> usize {
-    for (at, (words, wanted)) in rows.iter().enumerate() {
-        if !is_told(alloc, said_of_words(alloc, words, &[ROOT]), wanted) {
-            return at;
-        }
-    }
-    rows.len()
-}
+const WORDS: &str = r#"
+    > op TRUE | -1 / | }
+    A runs 1 1 1, 0.0
+    > op exec { | meta { | args "mkdir" | args "-p" | args "a" | } | -1 / | }
+    A runs 1 1 1, 0.0
+    > op exec { | meta { | args "/bin/sh" | args "-c" | args "true && mkdir a && true" | } | -1 / | }
+    A runs 3 3 1, 0.0
+    > op exec { | meta { | args "/bin/sh" | args "-c" | args "true && nosuch" | } | -1 / | }
+    89 0 Script 71 nosuch
+    > op exec { | meta { | args "/bin/sh" | args "-c" | args "nosuch && mkdir" | } | -1 / | }
+    89 0 Script 71 nosuch
+    > op exec { | meta { | args "/bin/sh" | args "-c" | args "true && mkdir" | } | -1 / | }
+    89 0 Script 72 1
+    > op exec { | meta { | args "mkdir" | } | -1 / | }
+    89 0 Script 72 0
+    > op exec { | meta { | args "/bin/sh" | args "-c" | args "" | } | -1 / | }
+    89 0 Script 73 0
+    > op exec { | meta { | args "/bin/sh" | args "-c" | args "true; true" | } | -1 / | }
+    89 0 Script 73 4
+    "#;
 
 #[test]
 fn the_words_of_an_exec_are_a_script(rt: HostRuntime) {
-    let rows = WORDS;
-    are_all_told(&rt, first_other_words(rt.alloc(), rows), rows.len());
+    are_told(&rt, rt.alloc(), WORDS);
 }
 
-const NAMES_INDEX_ONE_OF_B: &str = r#"op {
-    inputs {
-        digest "B"
-        index 1
-    }
-}"#;
-
-// What is said of a script on a made tree that shows an input at the root, and an empty tree whose output is the result.
-fn said_of_outputs(alloc: Global, root: i64) -> Result<String, LoadFault> {
-    let mounts = [
-        (root, "", "/", ""),
-        (-1, "", "/out", "output 1\n"),
-        (-1, "", "/tmp", "output -1\nmountType 4\n"),
-    ];
-    let words = ["/bin/sh", "-c", "true && mkdir /out/a"];
-    let inside = exec_text(alloc, &words, "", &mounts, "")?;
-    let op = format!(in alloc; "op {{\ninputs {{\ndigest \"A\"\n}}\n{inside}}}")?;
-    let given = [
-        ("A", MAKES_A),
-        ("B", op.as_str()),
-        ("T", NAMES_INDEX_ONE_OF_B),
-    ];
-    linked(alloc, &given)
-}
-
-// The inputs at the root, and what is said of both outputs.
-const OUTPUTS: &[(i64, &str)] = &[(0, "A 1 1,B runs 2 2 2 0.0, 1.1"), (5, "89 1 MountInput")];
-
-// The number of the first row that is answered otherwise; past the end where there is none.
-fn first_other_output(alloc: Global, rows: &[(i64, &str)]) -> usize {
-    for (at, (root, wanted)) in rows.iter().enumerate() {
-        if !is_told(alloc, said_of_outputs(alloc, *root), wanted) {
-            return at;
-        }
-    }
-    rows.len()
-}
+// A script on a made tree that shows an input at the root, and an empty tree whose output is the result.
+const OUTPUTS: &str = r#"
+    > link A = MAKES_A; B = INPUT_A | MAKES_OUT_A | 0 / | -1 /out OUTPUT_1 | -1 /tmp NO_OUTPUT TMPFS | }; T = NAMES_INDEX_ONE_OF_B
+    A 1 1,B runs 2 2 2 0.0, 1.1
+    > link A = MAKES_A; B = INPUT_A | MAKES_OUT_A | 5 / | -1 /out OUTPUT_1 | -1 /tmp NO_OUTPUT TMPFS | }; T = NAMES_INDEX_ONE_OF_B
+    89 1 MountInput
+    "#;
 
 #[test]
 fn an_exec_gives_what_its_mounts_hold(rt: HostRuntime) {
-    let rows = OUTPUTS;
-    are_all_told(&rt, first_other_output(rt.alloc(), rows), rows.len());
+    are_told(&rt, rt.alloc(), OUTPUTS);
 }

@@ -3,9 +3,9 @@
 #![tactic(auto)]
 
 #[cfg(test)]
-mod applet;
+mod acts;
 #[cfg(test)]
-mod applet_views;
+mod applet;
 #[cfg(test)]
 mod asm;
 #[cfg(test)]
@@ -13,7 +13,7 @@ mod cache;
 #[cfg(test)]
 mod cache_mounts;
 #[cfg(test)]
-mod deeds;
+mod entries;
 #[cfg(test)]
 mod execs;
 #[cfg(test)]
@@ -55,7 +55,7 @@ mod scripts;
 #[cfg(test)]
 mod sharing;
 #[cfg(test)]
-mod spelled;
+mod stage;
 #[cfg(test)]
 mod told;
 #[cfg(test)]
@@ -64,5 +64,7 @@ mod tree;
 mod trees;
 #[cfg(test)]
 mod treetext;
+#[cfg(test)]
+mod views;
 #[cfg(test)]
 mod wire;

@@ -1,11 +1,113 @@
-//! One tree laid over another. A tree is a table of its paths, and what is laid is told by its entries.
+//! One tree laid over another.
 
-use super::told::{Row, are_all_told, is_told, tree_of, tree_text};
-use llb_merge::{
-    Memory, at_each_path, lay, over_itself, over_the_empty_tree, under_the_empty_tree,
-};
-use llb_tree::{Tree, TreeFault};
+use super::acts::over;
+use super::stage::are_told;
+use super::told::{Row, is_told, tree_of, tree_text};
+use llb_merge::Memory;
+use llb_tree::Tree;
 use std::alloc::Global;
+use std::process::Abort;
+
+const FOLDS: &str = "
+    # A file hides what was below its path for good.
+    > new
+    > dir /p
+    > file /p/q 644 0:0 1
+    > lay
+    > swap
+    > tree
+    d d/p f/p/q=1
+
+    > new
+    > dir /p
+    > file /p/q 644 0:0 1
+    > lay
+    > file /p 644 0:0 2
+    > lay
+    > swap
+    > tree
+    d f/p=2
+
+    > new
+    > dir /p
+    > file /p/q 644 0:0 1
+    > lay
+    > file /p 644 0:0 2
+    > lay
+    > dir /p
+    > file /p/r 644 0:0 3
+    > lay
+    > swap
+    > tree
+    d d/p f/p/r=3
+
+    > new
+    > dir /p
+    > file /p/q 644 0:0 1
+    > lay
+    > dir /p
+    > file /p/r 644 0:0 3
+    > lay
+    > swap
+    > tree
+    d d/p f/p/q=1 f/p/r=3
+
+    # The upper entry stands, and neighbours of both stay.
+    > new
+    > dir / 700 0:0
+    > dir /a 700 0:0
+    > file /a/x 600 0:0 low
+    > file /a/y 600 0:0 low
+    > file /c 600 0:0 low
+    > dir /z 700 0:0
+    > lay
+    > dir /a
+    > file /a/x 644 0:0 up
+    > dir /b
+    > dir /c
+    > file /c/d 644 0:0 up
+    > lay
+    > swap
+    > tree
+    d d/a f/a/x=up f/a/y(600 0:0)=low d/b d/c f/c/d=up d/z(700 0:0)
+
+    > new
+    > dir / 700 0:0
+    > dir /a 700 0:0
+    > file /a/x 600 0:0 low
+    > file /a/y 600 0:0 low
+    > file /c 600 0:0 low
+    > dir /z 700 0:0
+    > lay
+    > dir / 700 0:0
+    > dir /a 700 0:0
+    > file /a/x 600 0:0 low
+    > file /a/y 600 0:0 low
+    > file /c 600 0:0 low
+    > dir /z 700 0:0
+    > lay
+    > swap
+    > tree
+    d(700 0:0) d/a(700 0:0) f/a/x(600 0:0)=low f/a/y(600 0:0)=low f/c(600 0:0)=low d/z(700 0:0)
+
+    > new
+    > dir / 700 0:0
+    > dir /a 700 0:0
+    > file /a/x 600 0:0 low
+    > file /a/y 600 0:0 low
+    > file /c 600 0:0 low
+    > dir /z 700 0:0
+    > lay
+    > lay
+    > swap
+    > tree
+    d d/a(700 0:0) f/a/x(600 0:0)=low f/a/y(600 0:0)=low f/c(600 0:0)=low d/z(700 0:0)
+    ";
+
+#[test]
+fn a_file_hides_what_was_below_and_the_upper_entry_stands(rt: HostRuntime) {
+    are_told(&rt, rt.alloc(), FOLDS);
+}
 
 const Q: &[Row<'static>] = &[("/p", 0o755, 0, 0, None), ("/p/q", 0o644, 0, 0, Some("1"))];
 
@@ -13,101 +115,32 @@ const FILE: &[Row<'static>] = &[("/p", 0o644, 0, 0, Some("2"))];
 
 const R: &[Row<'static>] = &[("/p", 0o755, 0, 0, None), ("/p/r", 0o644, 0, 0, Some("3"))];
 
-const LOWER: &[Row<'static>] = &[
-    ("/", 0o700, 0, 0, None),
-    ("/a", 0o700, 0, 0, None),
-    ("/a/x", 0o600, 0, 0, Some("low")),
-    ("/a/y", 0o600, 0, 0, Some("low")),
-    ("/c", 0o600, 0, 0, Some("low")),
-    ("/z", 0o700, 0, 0, None),
-];
-
-const UPPER: &[Row<'static>] = &[
-    ("/a", 0o755, 0, 0, None),
-    ("/a/x", 0o644, 0, 0, Some("up")),
-    ("/b", 0o755, 0, 0, None),
-    ("/c", 0o755, 0, 0, None),
-    ("/c/d", 0o644, 0, 0, Some("up")),
-];
-
-fn over(alloc: Global, lower: &Tree, upper: &Tree) -> Result<Tree, TreeFault> {
-    at_each_path(lower, upper);
-    match lay(alloc, lower, upper) {
-        Ok(laid) => Ok(laid),
-        Err(Memory) => Err(TreeFault::Memory),
-    }
-}
-
-// The trees one over another, from the empty tree up.
-fn fold(alloc: Global, trees: &[&[Row<'_>]]) -> Result<Tree, TreeFault> {
-    let mut laid = Tree::empty(alloc)?;
-    for rows in trees {
-        laid = over(alloc, &laid, &tree_of(alloc, rows)?)?;
-    }
-    Ok(laid)
-}
-
-fn told(alloc: Global, tree: &Tree) -> Result<String, TreeFault> {
-    over_itself(tree);
-    over_the_empty_tree(tree);
-    under_the_empty_tree(tree);
-    tree_text(alloc, tree)
-}
-
-fn folded(alloc: Global, trees: &[&[Row<'_>]]) -> Result<String, TreeFault> {
-    told(alloc, &fold(alloc, trees)?)
-}
-
-// Trees, and what they are one over another.
-const FOLDS: &[(&[&[Row<'static>]], &str)] = &[
-    // A file hides what was below its path for good.
-    (&[Q], " d d/p f/p/q=1"),
-    (&[Q, FILE], " d f/p=2"),
-    (&[Q, FILE, R], " d d/p f/p/r=3"),
-    (&[Q, R], " d d/p f/p/q=1 f/p/r=3"),
-    // The upper entry stands, and neighbours of both stay.
-    (
-        &[LOWER, UPPER],
-        " d d/a f/a/x=up f/a/y(600 0:0)=low d/b d/c f/c/d=up d/z(700 0:0)",
-    ),
-    (
-        &[LOWER, LOWER],
-        " d(700 0:0) d/a(700 0:0) f/a/x(600 0:0)=low f/a/y(600 0:0)=low f/c(600 0:0)=low d/z(700 0:0)",
-    ),
-    (
-        &[LOWER, &[]],
-        " d d/a(700 0:0) f/a/x(600 0:0)=low f/a/y(600 0:0)=low f/c(600 0:0)=low d/z(700 0:0)",
-    ),
-];
-
-// The number of the first row that is answered otherwise; past the end where there is none.
-fn first_wrong(alloc: Global, rows: &[(&[&[Row<'static>]], &str)]) -> usize {
-    for (at, (trees, wanted)) in rows.iter().enumerate() {
-        if !is_told(alloc, folded(alloc, trees), wanted) {
-            return at;
-        }
-    }
-    rows.len()
-}
-
-#[test]
-fn a_file_hides_what_was_below_and_the_upper_entry_stands(rt: HostRuntime) {
-    let rows = FOLDS;
-    are_all_told(&rt, first_wrong(rt.alloc(), rows), rows.len());
+// The trees of rows one over the other.
+fn over_rows(rt: &impl Abort, alloc: Global, lower: &Tree, rows: &[Row<'_>]) -> Tree {
+    let upper = tree_of(alloc, rows).expect(rt, "memory");
+    over(rt, alloc, lower, &upper)
 }
 
 // The second tree with the third over it, over the first.
-fn upper_two_first(alloc: Global) -> Result<String, TreeFault> {
-    let both = over(alloc, &tree_of(alloc, FILE)?, &tree_of(alloc, R)?)?;
-    told(alloc, &over(alloc, &tree_of(alloc, Q)?, &both)?)
+fn upper_two_first(rt: &impl Abort, alloc: Global) -> Tree {
+    let second = tree_of(alloc, FILE).expect(rt, "memory");
+    let both = over_rows(rt, alloc, &second, R);
+    let first = tree_of(alloc, Q).expect(rt, "memory");
+    over(rt, alloc, &first, &both)
+}
+
+fn lower_two_first(rt: &impl Abort, alloc: Global) -> Tree {
+    let first = tree_of(alloc, Q).expect(rt, "memory");
+    over_rows(rt, alloc, &over_rows(rt, alloc, &first, FILE), R)
 }
 
 #[test]
 fn which_two_of_three_are_laid_first_makes_a_difference(rt: HostRuntime) {
     let alloc = rt.alloc();
-    let lower_two_first = folded(alloc, &[Q, FILE, R]);
-    assert!(rt; is_told(alloc, lower_two_first, " d d/p f/p/r=3"));
-    assert!(rt; is_told(alloc, upper_two_first(alloc), " d d/p f/p/q=1 f/p/r=3"));
+    let told = tree_text(alloc, &lower_two_first(&rt, alloc));
+    assert!(rt; is_told(alloc, told, " d d/p f/p/r=3"));
+    let told = tree_text(alloc, &upper_two_first(&rt, alloc));
+    assert!(rt; is_told(alloc, told, " d d/p f/p/q=1 f/p/r=3"));
 }
 
 #[test]

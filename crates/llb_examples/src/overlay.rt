@@ -1,7 +1,7 @@
 //! One tree laid over another in a way: told by the entries of what comes of it.
 
+use super::stage::are_told;
 use super::told::{Row, are_all_told, tree_of};
-use super::trees::are_told;
 use llb_merge::{Memory, lay, lay_onto, lay_over};
 use llb_tree::{Tree, TreeFault, Way};
 use llb_wire::Same;

@@ -1,7 +1,8 @@
-//! The texts of the ops of the graphs that `plain` tries.
+//! The entries of the examples of plain outcomes, each after a line with its name and what it is.
 
-// A file `/x/a` on nothing.
-pub(crate) const MAKES_XA: &str = r#"op {
+pub(crate) const PLAIN_ENTRIES: &str = r#"
+== MAKES_XA: a file `/x/a` on nothing
+op {
     file {
         actions {
             input -1
@@ -12,10 +13,9 @@ pub(crate) const MAKES_XA: &str = r#"op {
             }
         }
     }
-}"#;
-
-// A directory `/d` on what A is.
-pub(crate) const D_ON_A: &str = r#"op {
+}
+== D_ON_A: a directory `/d` on what A is
+op {
     inputs {
         digest "A"
     }
@@ -27,10 +27,9 @@ pub(crate) const D_ON_A: &str = r#"op {
             }
         }
     }
-}"#;
-
-// A directory `/p`, and in it a file `/p/q` with the content `1`.
-pub(crate) const MAKES_PQ: &str = r#"op {
+}
+== MAKES_PQ: a directory `/p`, and in it a file `/p/q` with the content `1`
+op {
     file {
         actions {
             input -1
@@ -48,10 +47,9 @@ pub(crate) const MAKES_PQ: &str = r#"op {
             }
         }
     }
-}"#;
-
-// A file `/p` with the content `2`.
-pub(crate) const MAKES_P: &str = r#"op {
+}
+== MAKES_P: a file `/p` with the content `2`
+op {
     file {
         actions {
             input -1
@@ -62,10 +60,9 @@ pub(crate) const MAKES_P: &str = r#"op {
             }
         }
     }
-}"#;
-
-// A directory `/p`, and in it a file `/p/r` with the content `3`.
-pub(crate) const MAKES_PR: &str = r#"op {
+}
+== MAKES_PR: a directory `/p`, and in it a file `/p/r` with the content `3`
+op {
     file {
         actions {
             input -1
@@ -83,10 +80,9 @@ pub(crate) const MAKES_PR: &str = r#"op {
             }
         }
     }
-}"#;
-
-// A, B and C laid over one another.
-pub(crate) const A_B_C: &str = r#"op {
+}
+== A_B_C: A, B and C laid over one another
+op {
     inputs {
         digest "A"
     }
@@ -106,14 +102,21 @@ pub(crate) const A_B_C: &str = r#"op {
             input 2
         }
     }
-}"#;
-
-pub(crate) const SOURCE_P: &str = "op {\nsource {\nidentifier \"local://p\"\n}\n}";
-
-pub(crate) const SOURCE_Q: &str = "op {\nsource {\nidentifier \"local://q\"\n}\n}";
-
-// P, then Q.
-pub(crate) const P_Q: &str = r#"op {
+}
+== SOURCE_P: the local tree p
+op {
+    source {
+        identifier "local://p"
+    }
+}
+== SOURCE_Q: the local tree q
+op {
+    source {
+        identifier "local://q"
+    }
+}
+== P_Q: P, then Q
+op {
     inputs {
         digest "P"
     }
@@ -127,10 +130,9 @@ pub(crate) const P_Q: &str = r#"op {
             input 1
         }
     }
-}"#;
-
-// On P at `/`, which is output 0, a tmpfs at `/t`, and `/sub` of Q at `/t/in`, which is output 1.
-pub(crate) const THREE_MOUNTS: &str = r#"op {
+}
+== THREE_MOUNTS: On P at `/`, which is output 0, a tmpfs at `/t`, and `/sub` of Q at `/t/in`, which is output 1
+op {
     inputs {
         digest "P"
     }
@@ -160,10 +162,9 @@ pub(crate) const THREE_MOUNTS: &str = r#"op {
             output 1
         }
     }
-}"#;
-
-// On P at `/`, which is output 1, and Q at `/in`, which is output 0, in `/in/sub` with `A=1`.
-pub(crate) const TURNED_OUTPUTS: &str = r#"op {
+}
+== TURNED_OUTPUTS: On P at `/`, which is output 1, and Q at `/in`, which is output 0, in `/in/sub` with `A=1`
+op {
     inputs {
         digest "P"
     }
@@ -187,9 +188,9 @@ pub(crate) const TURNED_OUTPUTS: &str = r#"op {
             dest "/in"
         }
     }
-}"#;
-
-pub(crate) const REMOVES_NONE: &str = r#"op {
+}
+== REMOVES_NONE: on P at `/`, a removal of what is not there
+op {
     inputs {
         digest "P"
     }
@@ -204,10 +205,9 @@ pub(crate) const REMOVES_NONE: &str = r#"op {
             dest "/"
         }
     }
-}"#;
-
-// On P at `/`, with a shared cache at `/c`: `true`.
-pub(crate) const SHOWS_CACHE: &str = r#"op {
+}
+== SHOWS_CACHE: On P at `/`, with a shared cache at `/c`: `true`
+op {
     inputs {
         digest "P"
     }
@@ -229,10 +229,9 @@ pub(crate) const SHOWS_CACHE: &str = r#"op {
             }
         }
     }
-}"#;
-
-// The same on C, with Q as an input that it doesn't show.
-pub(crate) const SHOWS_CACHE_AGAIN: &str = r#"op {
+}
+== SHOWS_CACHE_AGAIN: the same on C, with Q as an input that it doesn't show
+op {
     inputs {
         digest "C"
     }
@@ -257,10 +256,9 @@ pub(crate) const SHOWS_CACHE_AGAIN: &str = r#"op {
             }
         }
     }
-}"#;
-
-// On the empty tree at `/`, with a locked cache at `/c`.
-pub(crate) const FAILS_ON_CACHE: &str = r#"op {
+}
+== FAILS_ON_CACHE: on the empty tree at `/`, with a locked cache at `/c`
+op {
     exec {
         meta {
             args "/bin/sh"
@@ -282,7 +280,11 @@ pub(crate) const FAILS_ON_CACHE: &str = r#"op {
             }
         }
     }
-}"#;
-
-// The result is what D is.
-pub(crate) const NAMES_D: &str = "op {\ninputs {\ndigest \"D\"\n}\n}";
+}
+== NAMES_D: a terminal on D
+op {
+    inputs {
+        digest "D"
+    }
+}
+"#;

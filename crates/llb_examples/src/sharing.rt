@@ -1,7 +1,8 @@
 //! Trees that share what they have in common: an edit of one, done or refused, leaves the other as it was.
 
+use super::stage::are_told;
 use super::told::{Row, tree_of};
-use super::trees::{are_told, edit};
+use super::trees::edit;
 use llb_tree::TreeFault;
 use llb_wire::Same;
 use std::alloc::Global;

@@ -61,6 +61,19 @@ pub(crate) fn are_all_told(rt: &impl Abort, first_wrong: usize, rows: usize) {
     assert_eq!(rt; first_wrong, rows);
 }
 
+// The lines after the one with `== ` and the name; what stands there after `: ` is told to the reader.
+pub(crate) fn block<'a>(text: &'a str, wanted: &str) -> Option<&'a str> {
+    for block in text.split("== ") {
+        if let Some((head, lines)) = block.split_once('\n') {
+            let (name, _) = head.split_once(": ").unwrap_or((head, ""));
+            if name == wanted {
+                return Some(lines);
+            }
+        }
+    }
+    None
+}
+
 // A path by its names.
 pub(crate) fn push_path(text: &mut String, path: &Path) -> Result<(), AllocError> {
     for name in path.names() {
@@ -85,11 +98,22 @@ fn push_meta(text: &mut String, meta: Meta, new: u16) -> Result<(), AllocError> 
     write!(text, "({mode:o} {uid}:{gid})")
 }
 
+// A content in one line: an end of line is told as `\n`.
+fn push_content(text: &mut String, content: &str) -> Result<(), AllocError> {
+    for (at, line) in content.split('\n').enumerate() {
+        if at > 0 {
+            text.push_str("\\n")?;
+        }
+        text.push_str(line)?;
+    }
+    Ok(())
+}
+
 // What stands after the path of a file.
 fn push_file(text: &mut String, meta: Meta, content: &[u8]) -> Result<(), AllocError> {
     push_meta(text, meta, 0o644)?;
     text.push_str("=")?;
-    text.push_str(str::from_utf8(content).unwrap_or("not UTF-8"))
+    push_content(text, str::from_utf8(content).unwrap_or("not UTF-8"))
 }
 
 // What stands after the path of an entry.

@@ -1,7 +1,7 @@
 //! Names, paths and trees.
 
+use super::stage::are_told;
 use super::told::{Row, are_all_told, file, is_told, push_path, tree_of};
-use super::trees::are_told;
 use llb_tree::{Meta, Name, Path, Tree, TreeFault};
 use llb_wire::Same;
 use std::alloc::Global;

@@ -1,24 +1,22 @@
-//! Calls on trees as transcripts. A line with `> ` first is a call, and the line after it is what it answers, or its fault; one with `# `
-//! first says what the next calls show. There are two trees, this one and the other, both empty at first and after `new`.
+//! Calls on trees, as transcripts have them (`stage`). There are two trees, this one and the other, both empty at first.
 //!
 //! `dir PATH MODE OWNER` and `file PATH MODE OWNER CONTENT` put an entry; `remove PATH` removes what is at or below a path; `graft PATH GOAL`
 //! puts what is at or below the path at the goal as well; `overlay MODE USER GROUP KEEPS` lays the other tree over this one. `look PATH`,
 //! `list PATH` and `tree` tell of this one. `copy` and `subtree PATH` make the other tree of this one, `below PATH` makes it an empty tree
-//! with this one at the path, and `swap` exchanges the two.
+//! with this one at the path, and `swap` exchanges the two. In a content `\n` is an end of line.
 
 use super::told::{push_list, push_looked, push_tree};
 use llb_tree::{Bytes, Meta, Path, Tree, TreeFault, Way};
-use std::alloc::Global;
+use std::alloc::{AllocError, Global};
 use std::mem;
-use std::process::Abort;
 
 #[derive(Drop)]
-struct Trees {
-    this: Tree,
-    other: Tree,
+pub(crate) struct Trees {
+    pub this: Tree,
+    pub other: Tree,
 }
 
-fn word_and_rest(words: &str) -> (&str, &str) {
+pub(crate) fn word_and_rest(words: &str) -> (&str, &str) {
     words.split_once(' ').unwrap_or((words, ""))
 }
 
@@ -37,6 +35,18 @@ fn meta(mode: &str, owner: &str) -> Meta {
     }
 }
 
+// A content with its ends of lines.
+fn content_of(alloc: Global, text: &str) -> Result<String, AllocError> {
+    let mut content = String::new(alloc);
+    for (at, line) in text.split("\\n").enumerate() {
+        if at > 0 {
+            content.push_str("\n")?;
+        }
+        content.push_str(line)?;
+    }
+    Ok(content)
+}
+
 fn put(alloc: Global, tree: &mut Tree, name: &str, words: &str) -> Result<(), TreeFault> {
     let (path, rest) = word_and_rest(words);
     let (mode, rest) = word_and_rest(rest);
@@ -46,6 +56,7 @@ fn put(alloc: Global, tree: &mut Tree, name: &str, words: &str) -> Result<(), Tr
     if name == "dir" {
         return tree.put_dir(&path, meta);
     }
+    let content = content_of(alloc, content)?;
     let content = Bytes::from_slice(alloc, content.as_bytes())?;
     tree.put_file(&path, meta, content)
 }
@@ -97,10 +108,6 @@ fn overlay(trees: &mut Trees, words: &str) -> Result<(), TreeFault> {
 fn change(alloc: Global, trees: &mut Trees, name: &str, call: &str) -> Result<(), TreeFault> {
     let (_, words) = word_and_rest(call);
     match name {
-        "new" => {
-            trees.this = Tree::empty(alloc)?;
-            trees.other = Tree::empty(alloc)?;
-        }
         "swap" => mem::swap(&mut trees.this, &mut trees.other),
         "overlay" => overlay(trees, words)?,
         "copy" | "subtree" | "below" => trees.other = taken(alloc, &trees.this, name, words)?,
@@ -122,7 +129,8 @@ fn tell(alloc: Global, text: &mut String, tree: &Tree, call: &str) -> Result<(),
     Ok(text.push_str("\n")?)
 }
 
-fn answer(
+// What a call answers, or its fault.
+pub(crate) fn answer(
     alloc: Global,
     text: &mut String,
     trees: &mut Trees,
@@ -133,38 +141,4 @@ fn answer(
         "look" | "list" | "tree" => tell(alloc, text, &trees.this, call),
         _ => change(alloc, trees, name, call),
     }
-}
-
-// A call and what it answers; nothing of a line that is no call.
-fn say_line(rt: &impl Abort, alloc: Global, text: &mut String, trees: &mut Trees, line: &str) {
-    if let Some(call) = line.strip_prefix("> ") {
-        write!(text, "{line}\n").expect(rt, "memory");
-        if let Err(fault) = answer(alloc, text, trees, call) {
-            write!(text, "{fault}\n").expect(rt, "memory");
-        }
-    }
-}
-
-fn transcript(rt: &impl Abort, alloc: Global, told: &str) -> String {
-    let mut text = String::new(alloc);
-    let this = Tree::empty(alloc).expect(rt, "memory");
-    let other = Tree::empty(alloc).expect(rt, "memory");
-    let mut trees = Trees { this, other };
-    for line in told.lines() {
-        say_line(rt, alloc, &mut text, &mut trees, line.trim());
-    }
-    text
-}
-
-// Ends the test at the first line of a transcript that is told otherwise.
-pub(crate) fn are_told(rt: &impl Abort, alloc: Global, told: &str) {
-    let text = transcript(rt, alloc, told);
-    let mut lines = text.lines();
-    for line in told.lines() {
-        let line = line.trim();
-        if !line.is_empty() && !line.starts_with("# ") {
-            assert_eq!(rt; lines.next().unwrap_or("nothing").trim(), line);
-        }
-    }
-    assert!(rt; lines.next().is_none());
 }

@@ -5,7 +5,7 @@ use Rattle.std.specs.Global.{Global}
 use Rattle.llb_wire.specs.declared.sink.Failed.{Failed}
 use Rattle.llb_model.specs.Run.{chosen}
 use Rattle.llb_board.specs.Views.{event_of}
-use Rattle.llb_board.specs.declared.event.Event as own
+use Rattle.llb_events.specs.declared.event.Event as own
 use Rattle.llb_stepper.specs.Rules.{ChosenIsDone, stepper_memory}
 use Rattle.llb_stepper.specs.declared.fault.StepperFault.{StepperFault}
 use Rattle.llb_stepper.specs.Stepping.{Stepping}

@@ -3,7 +3,7 @@ use Rattle.std.specs.Prelude.{ℕ, ◌^◌, ◌==◌, nat_lt, Bool, if◌then◌
 use Rattle.std.specs.List.{position_or_len, before_first, after_first}
 use Rattle.std.specs.Str.{is_utf8}
 use Rattle.llb_asm.specs.Values.{is_text, magnitude, then_in, below}
-use Rattle.llb_board.specs.declared.event.Event.TheVariants.{Claim, Step, Settle}
+use Rattle.llb_events.specs.declared.event.Event.TheVariants.{Claim, Step, Settle}
 use Rattle.llb_stepper.specs.declared.stop.Break.TheVariants.{Claims, Settles, Fails}
 use Rattle.llb_session.specs.declared.request.Request.{Request}
 use Rattle.llb_session.specs.declared.request.Request.TheVariants as ask

@@ -6,8 +6,8 @@ use Rattle.llb_treetext.specs.TreeText.{tree_text}
 use Rattle.llb_model.specs.Failure.{failure_text}
 use Rattle.llb_board.specs.Board.{Seen}
 use Rattle.llb_board.specs.Views.{look_at}
-use Rattle.llb_board.specs.declared.event.Status.{Status}
-use Rattle.llb_board.specs.declared.event.Status.TheVariants.{Waiting, Ready, Blocked, Running, Done, Failed}
+use Rattle.llb_events.specs.declared.event.Status.{Status}
+use Rattle.llb_events.specs.declared.event.Status.TheVariants.{Waiting, Ready, Blocked, Running, Done, Failed}
 use Rattle.llb_stepper.specs.declared.fault.StepperFault.{StepperFault}
 use Rattle.llb_stepper.specs.Faults.{stepper_text}
 use Rattle.llb_stepper.specs.Records.{record_text, record_at}

@@ -12,8 +12,8 @@ use Rattle.llb_model.specs.Table.{claim_grant, step_grant, settle_grant, table}
 use Rattle.llb_board.specs.Board.{Seen, ChosenIsGranted, after_event, recorded}
 use Rattle.llb_board.specs.Rules.{claim_fault, step_fault, settle_fault}
 use Rattle.llb_board.specs.Undo.{told, told_as, undone, walk_of, CanUndo}
-use Rattle.llb_board.specs.declared.fault.WalkFault.{WalkFault}
-use Rattle.llb_board.specs.declared.fault.WalkFault.TheVariants as walk
+use Rattle.llb_events.specs.declared.fault.WalkFault.{WalkFault}
+use Rattle.llb_events.specs.declared.fault.WalkFault.TheVariants as walk
 use Rattle.llb_board.specs.declared.walk.Reply as short
 use Rattle.llb_board.specs.declared.walk.Walked.{Walked}
 use Rattle.llb_stepper.specs.declared.stop.Break.{Break}

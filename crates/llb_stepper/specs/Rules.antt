@@ -7,7 +7,7 @@ use Rattle.llb_model.specs.Run.{chosen}
 use Rattle.llb_board.specs.Board.{Seen}
 use Rattle.llb_board.specs.Undo.{walk_of, walk_memory}
 use Rattle.llb_board.specs.declared.walk.Reply as short
-use Rattle.llb_board.specs.declared.fault.WalkFault.{WalkFault}
+use Rattle.llb_events.specs.declared.fault.WalkFault.{WalkFault}
 use Rattle.llb_stepper.specs.declared.fault.StepperFault.{StepperFault}
 use Rattle.llb_stepper.specs.declared.fault.StepperFault.TheVariants as fault
 use Rattle.llb_stepper.specs.Stepping.{Stepping, GoesBack, answered, onward, meets, meets_at, run_on}

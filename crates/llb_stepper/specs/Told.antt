@@ -6,11 +6,11 @@ use Rattle.llb_model.specs.Table.{Event}
 use Rattle.llb_model.specs.Table as table
 use Rattle.llb_board.specs.Undo.{told}
 use Rattle.llb_board.specs.Views.{event_of}
-use Rattle.llb_board.specs.declared.event.Event as own
-use Rattle.llb_board.specs.declared.event.Stepped.{Stepped}
-use Rattle.llb_board.specs.declared.event.Stepped.TheVariants.{Read, Acted, Merged, Ran, Fault}
-use Rattle.llb_board.specs.declared.event.Settled.{Settled}
-use Rattle.llb_board.specs.declared.event.Settled.TheVariants as settled
+use Rattle.llb_events.specs.declared.event.Event as own
+use Rattle.llb_events.specs.declared.event.Stepped.{Stepped}
+use Rattle.llb_events.specs.declared.event.Stepped.TheVariants.{Read, Acted, Merged, Ran, Fault}
+use Rattle.llb_events.specs.declared.event.Settled.{Settled}
+use Rattle.llb_events.specs.declared.event.Settled.TheVariants as settled
 use Rattle.llb_board.specs.declared.walk.Reply.{Reply}
 use Rattle.llb_board.specs.declared.walk.Reply.TheVariants as reply
 use Rattle.llb_stepper.specs.declared.stop.Break.{Break}

@@ -1,18 +1,16 @@
 //! Boards that are the same by value, boards that differ in one thing, and copies.
 
-use super::cached::LOCKED_A_FAILS;
 use super::calls;
 use super::calls::{are_done, copy_of};
-use super::definitions::{MAKES_B, MAKES_Z, MERGES_0_1, RESULT_0, RESULT_2};
 use super::runs::{IN_A_ROW, TWO_FILES};
 use super::sessions::are_all_told;
-use super::written::{Definition, board_of};
+use super::written::board_of;
 use llb_board::Board;
 use std::alloc::Global;
 use std::process::Abort;
 
 // A board: what it was opened on, for that many workers, and the events that were done on it, a line each.
-type Side = (Definition, u32, &'static str);
+type Side = (&'static str, u32, &'static str);
 
 const OPENED: Side = (TWO_FILES, 2, "");
 
@@ -34,13 +32,13 @@ const PAIRS: &[(Side, Side, bool)] = &[
     (OPENED, (TWO_FILES, 3, ""), false),
     (
         OPENED,
-        (&[MAKES_Z, MAKES_B, MERGES_0_1, RESULT_2], 2, ""),
+        ("MAKES_Z; MAKES_B; MERGES_0_1; RESULT_2", 2, ""),
         false,
     ),
 ];
 
 fn board_at(rt: &impl Abort, alloc: Global, side: &Side) -> Board {
-    let mut board = board_of(rt, alloc, side.0, &[], side.1);
+    let mut board = board_of(rt, alloc, side.0, "", side.1);
     assert!(rt; are_done(&mut board, side.2));
     board
 }
@@ -70,7 +68,10 @@ const COPIED: &[(Side, &str)] = &[
     (OPENED, "claim 0 0"),
     (CLAIMED, "step 0"),
     ((IN_A_ROW, 2, ""), "claim 0 0\nstep 0"),
-    ((&[LOCKED_A_FAILS, RESULT_0], 2, "claim 0 0"), "step 0"),
+    (
+        ("locked: write /c/a x && false; RESULT_0", 2, "claim 0 0"),
+        "step 0",
+    ),
 ];
 
 // Whether a copy is the board, then whether it still is once some events were done on the board alone, and whether it is then as a board

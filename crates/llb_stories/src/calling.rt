@@ -1,6 +1,5 @@
 //! The callers that docs/CALLING.md shows.
 
-use super::definitions::{RESULT_0, SOURCE_P};
 use super::written::{board_of, graph_from};
 use llb_asm::assemble;
 use llb_board::{Board, Settled};
@@ -64,12 +63,14 @@ fn assembled(alloc: Global, text: &[u8]) -> Option<Bytes> {
     write_definition(alloc, &entries).ok()
 }
 
-const DEFINITION: [&str; 2] = [SOURCE_P, RESULT_0];
+const DEFINITION: &str = "SOURCE_P; RESULT_0";
 
 const A_FILE: &str =
     "op {\nfile {\nactions {\ninput -1\nmkfile {\npath \"/a\"\n}\n}\n}\n}\nop {\ninputs {\ndigest %0\n}\n}\n";
 
 const TREE: &str = "d 0755 0 0 /\nf 0644 0 0 6869 /a\n";
+
+const LOCAL: &str = "== p\nd 0755 0 0 /\nf 0644 0 0 6869 /a\n";
 
 #[test]
 fn kinds_are_told_of_an_assembled_text(rt: HostRuntime) {
@@ -82,20 +83,20 @@ fn kinds_are_told_of_an_assembled_text(rt: HostRuntime) {
 fn the_text_of_a_result_is_that_of_the_local_tree(rt: HostRuntime) {
     let tree = read_tree(rt.alloc(), TREE.as_bytes()).expect(&rt, "a tree");
     let name = Text::from_str(rt.alloc(), "p").expect(&rt, "memory");
-    let graph = graph_from(&rt, rt.alloc(), &DEFINITION);
+    let graph = graph_from(&rt, rt.alloc(), DEFINITION);
     let text = result_text(rt.alloc(), graph, name, tree).expect(&rt, "a result");
     assert!(rt; text.as_slice() == TREE.as_bytes());
 }
 
 #[test]
 fn a_board_is_driven_by_hand(rt: HostRuntime) {
-    let mut board = board_of(&rt, rt.alloc(), &DEFINITION, &[("p", TREE)], 1);
+    let mut board = board_of(&rt, rt.alloc(), DEFINITION, LOCAL, 1);
     assert!(rt; by_hand(&mut board, 0) == Some(Settled::Done(0)));
 }
 
 #[test]
 fn a_run_is_looked_at_and_taken_back(rt: HostRuntime) {
-    let board = board_of(&rt, rt.alloc(), &DEFINITION, &[("p", TREE)], 1);
+    let board = board_of(&rt, rt.alloc(), DEFINITION, LOCAL, 1);
     let mut stepper = Stepper::new(rt.alloc(), board);
     assert!(rt; looked_at(&mut stepper) == Some(2));
 }

@@ -38,7 +38,7 @@ const CONVERSATIONS: &[(&str, &str)] = &[
 ];
 
 fn on_one_file(rt: &impl Abort, alloc: Global) -> Stepper {
-    Stepper::new(alloc, board_of(rt, alloc, ONE_FILE, &[], 1))
+    Stepper::new(alloc, board_of(rt, alloc, ONE_FILE, "", 1))
 }
 
 // How a conversation on one file ends within bounds, where it prints this.

@@ -90,7 +90,7 @@ fn told(end: &RunEnd, gate: &Meet) -> Option<(u64, u64, u32)> {
 #[test]
 fn two_workers_are_at_work_together(rt: HostRuntime) {
     let gate = Meet::new();
-    let board = board_of(&rt, rt.alloc(), TWO_FILES, &[], 2);
+    let board = board_of(&rt, rt.alloc(), TWO_FILES, "", 2);
     let end = run_workers(&rt, rt.alloc(), board, &gate);
     assert!(rt; told(&end, &gate) == Some((3, 7, 3)));
 }
@@ -104,7 +104,7 @@ fn is_stopped(end: &RunEnd) -> bool {
 
 #[test]
 fn a_worker_alone_waits_for_nobody_and_is_stopped(rt: HostRuntime) {
-    let board = board_of(&rt, rt.alloc(), TWO_FILES, &[], 1);
+    let board = board_of(&rt, rt.alloc(), TWO_FILES, "", 1);
     let end = run_workers(&rt, rt.alloc(), board, &Meet::new());
     assert!(rt; is_stopped(&end));
 }

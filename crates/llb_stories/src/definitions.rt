@@ -1,8 +1,10 @@
-//! The entries of the definitions that the stories are about, in the assembler's text. An entry is named by its place in its definition,
-//! `%0` for the first, so each stands at the places that its name or its comment tells.
+//! The entries of the definitions that the stories are about, in the assembler's text, each after a line with its name and what it is. An
+//! entry is named by its place in its definition, `%0` for the first, so each stands at the places that its name or its line tells.
 
-// A file `/a` with the content `hi` on nothing.
-pub(crate) const MAKES_A: &str = r#"op {
+pub(crate) const ENTRIES: &str = concat!(
+    r#"
+== MAKES_A: a file `/a` with the content `hi` on nothing
+op {
     file {
         actions {
             input -1
@@ -13,10 +15,9 @@ pub(crate) const MAKES_A: &str = r#"op {
             }
         }
     }
-}"#;
-
-// A file `/b` with the content `ho` on nothing.
-pub(crate) const MAKES_B: &str = r#"op {
+}
+== MAKES_B: a file `/b` with the content `ho` on nothing
+op {
     file {
         actions {
             input -1
@@ -27,10 +28,9 @@ pub(crate) const MAKES_B: &str = r#"op {
             }
         }
     }
-}"#;
-
-// A file `/z` with the content `hi` on nothing.
-pub(crate) const MAKES_Z: &str = r#"op {
+}
+== MAKES_Z: a file `/z` with the content `hi` on nothing
+op {
     file {
         actions {
             input -1
@@ -41,10 +41,9 @@ pub(crate) const MAKES_Z: &str = r#"op {
             }
         }
     }
-}"#;
-
-// A file `/x/a`, whose directory is missing.
-pub(crate) const MAKES_XA: &str = r#"op {
+}
+== MAKES_XA: a file `/x/a`, whose directory is missing
+op {
     file {
         actions {
             input -1
@@ -55,10 +54,9 @@ pub(crate) const MAKES_XA: &str = r#"op {
             }
         }
     }
-}"#;
-
-// What the second entry gives, laid over what the first does.
-pub(crate) const MERGES_0_1: &str = r#"op {
+}
+== MERGES_0_1: what the second entry gives, laid over what the first does
+op {
     inputs {
         digest %0
     }
@@ -72,10 +70,9 @@ pub(crate) const MERGES_0_1: &str = r#"op {
             input 1
         }
     }
-}"#;
-
-// The same of the third and the second entry.
-pub(crate) const MERGES_1_2: &str = r#"op {
+}
+== MERGES_1_2: the same of the third and the second entry
+op {
     inputs {
         digest %1
     }
@@ -89,10 +86,9 @@ pub(crate) const MERGES_1_2: &str = r#"op {
             input 1
         }
     }
-}"#;
-
-// The first entry, then the second, then the empty tree, laid over each other.
-pub(crate) const MERGES_0_1_EMPTY: &str = r#"op {
+}
+== MERGES_0_1_EMPTY: the first entry, then the second, then the empty tree, laid over each other
+op {
     inputs {
         digest %0
     }
@@ -109,10 +105,9 @@ pub(crate) const MERGES_0_1_EMPTY: &str = r#"op {
             input -1
         }
     }
-}"#;
-
-// A directory `/d` on what the first entry gives.
-pub(crate) const D_ON_0: &str = r#"op {
+}
+== D_ON_0: a directory `/d` on what the first entry gives
+op {
     inputs {
         digest %0
     }
@@ -124,10 +119,9 @@ pub(crate) const D_ON_0: &str = r#"op {
             }
         }
     }
-}"#;
-
-// A directory `/d` on what the second entry gives; the first is an input that is not looked at.
-pub(crate) const D_ON_1_OF_0_1: &str = r#"op {
+}
+== D_ON_1_OF_0_1: a directory `/d` on what the second entry gives; the first is an input that is not looked at
+op {
     inputs {
         digest %0
     }
@@ -143,27 +137,51 @@ pub(crate) const D_ON_1_OF_0_1: &str = r#"op {
             }
         }
     }
-}"#;
-
-// The result is what the entry of that number gives.
-pub(crate) const RESULT_0: &str = "op {\n    inputs {\n        digest %0\n    }\n}";
-
-pub(crate) const RESULT_1: &str = "op {\n    inputs {\n        digest %1\n    }\n}";
-
-pub(crate) const RESULT_2: &str = "op {\n    inputs {\n        digest %2\n    }\n}";
-
-pub(crate) const RESULT_3: &str = "op {\n    inputs {\n        digest %3\n    }\n}";
-
-// The local sources `p`, `q` and `source`.
-pub(crate) const SOURCE_P: &str = "op {\n    source {\n        identifier \"local://p\"\n    }\n}";
-
-pub(crate) const SOURCE_Q: &str = "op {\n    source {\n        identifier \"local://q\"\n    }\n}";
-
-pub(crate) const SOURCE: &str =
-    "op {\n    source {\n        identifier \"local://source\"\n    }\n}";
-
-// On the first entry: a directory `/d`, in it a copy of the file `/f` of the second, and `/old` goes.
-pub(crate) const CHANGES_0_BY_1: &str = r#"op {
+}
+== RESULT_0: the result is what the first entry gives
+op {
+    inputs {
+        digest %0
+    }
+}
+== RESULT_1: what the second gives
+op {
+    inputs {
+        digest %1
+    }
+}
+== RESULT_2: what the third gives
+op {
+    inputs {
+        digest %2
+    }
+}
+== RESULT_3: what the fourth gives
+op {
+    inputs {
+        digest %3
+    }
+}
+== SOURCE_P: the local source `p`
+op {
+    source {
+        identifier "local://p"
+    }
+}
+== SOURCE_Q: the local source `q`
+op {
+    source {
+        identifier "local://q"
+    }
+}
+== SOURCE: the local source `source`
+op {
+    source {
+        identifier "local://source"
+    }
+}
+== CHANGES_0_BY_1: on the first entry: a directory `/d`, in it a copy of the file `/f` of the second, and `/old` goes
+op {
     inputs {
         digest %0
     }
@@ -195,11 +213,9 @@ pub(crate) const CHANGES_0_BY_1: &str = r#"op {
             }
         }
     }
-}"#;
-
-// Three commands on the first entry at `/`, a tmpfs at `/t`, and what is at `/sub` of the second at `/t/in`: outputs are the first mount
-// and the last.
-pub(crate) const COPIES_BY_A_TMPFS: &str = r#"op {
+}
+== COPIES_BY_A_TMPFS: three commands on the first entry at `/`, a tmpfs at `/t`, and `/sub` of the second at `/t/in`; outputs are the first mount and the last
+op {
     inputs {
         digest %0
     }
@@ -228,10 +244,9 @@ pub(crate) const COPIES_BY_A_TMPFS: &str = r#"op {
             output 1
         }
     }
-}"#;
-
-// A command on the empty tree at `/`, which is output 0, and on the second entry at `/in`, which is output 1 and read-only.
-pub(crate) const OUTPUTS_TURNED: &str = r#"op {
+}
+== OUTPUTS_TURNED: a command on the empty tree at `/`, which is output 0, and on the second entry at `/in`, which is output 1 and read-only
+op {
     inputs {
         digest %0
     }
@@ -256,10 +271,9 @@ pub(crate) const OUTPUTS_TURNED: &str = r#"op {
             dest "/"
         }
     }
-}"#;
-
-// A command on the first entry that is done, one that ends with status 1, and one after it; the second entry is not looked at.
-pub(crate) const FAILS_AT_1: &str = r#"op {
+}
+== FAILS_AT_1: a command on the first entry that is done, one that ends with status 1, and one after it; the second entry is not looked at
+op {
     inputs {
         digest %0
     }
@@ -277,11 +291,9 @@ pub(crate) const FAILS_AT_1: &str = r#"op {
             dest "/"
         }
     }
-}"#;
-
-// ---- the graph of `examples/execution.text`, after the source
-
-pub(crate) const MAKES_OUT: &str = r#"op {
+}
+== MAKES_OUT: a directory `/out` on nothing (the graph of `examples/execution.text`)
+op {
     file {
         actions {
             input -1
@@ -292,11 +304,9 @@ pub(crate) const MAKES_OUT: &str = r#"op {
             }
         }
     }
-}"#;
-
-// Seven commands in `/out` of the second entry, with the texts of the source at `/src` and a tmpfs at `/tmp`.
-pub(crate) const WORKS_IN_OUT: &str = concat!(
-    r#"op {
+}
+== WORKS_IN_OUT: seven commands in `/out` of the second entry, with the texts of the source at `/src` and a tmpfs at `/tmp`
+op {
     inputs {
         digest %1
     }
@@ -307,10 +317,8 @@ pub(crate) const WORKS_IN_OUT: &str = concat!(
         meta {
             args "/bin/sh"
             args "-c"
-            args ""#,
-    "mkdir -p bin && concat bin/all /src/head /src/tail && sha256 bin/all /tmp/digest && cp /tmp/digest bin/digest",
-    " && chmod 0444 bin/all && envfile env && test -f bin/all",
-    r#""
+            args "mkdir -p bin && concat bin/all /src/head /src/tail && sha256 bin/all /tmp/digest && cp /tmp/digest bin/digest"#,
+    r#" && chmod 0444 bin/all && envfile env && test -f bin/all"
             env "LANG=C"
             cwd "/out"
         }
@@ -331,5 +339,100 @@ pub(crate) const WORKS_IN_OUT: &str = concat!(
             mountType 4
         }
     }
-}"#
+}
+== IN_TWO_WAYS: one ID in two ways: locked at `/c`, and shared at `/e`
+op {
+    exec {
+        meta {
+            args "/bin/sh"
+            args "-c"
+            args "write /c/a x && write /e/b y"
+            cwd "/"
+        }
+        mounts {
+            input -1
+            dest "/"
+        }
+        mounts {
+            input -1
+            dest "/c"
+            output -1
+            mountType 3
+            cacheOpt {
+                ID "k"
+                sharing 2
+            }
+        }
+        mounts {
+            input -1
+            dest "/e"
+            output -1
+            mountType 3
+            cacheOpt {
+                ID "k"
+            }
+        }
+    }
+}
+== IN_TWO_WAYS_SEEN: the same, with a listing of each
+op {
+    exec {
+        meta {
+            args "/bin/sh"
+            args "-c"
+            args "write /c/a x && write /e/b y && listing /c /locked && listing /e /shared"
+            cwd "/"
+        }
+        mounts {
+            input -1
+            dest "/"
+        }
+        mounts {
+            input -1
+            dest "/c"
+            output -1
+            mountType 3
+            cacheOpt {
+                ID "k"
+                sharing 2
+            }
+        }
+        mounts {
+            input -1
+            dest "/e"
+            output -1
+            mountType 3
+            cacheOpt {
+                ID "k"
+            }
+        }
+    }
+}
+"#
 );
+
+// The local tree `p` has a file `/old`, and `q` a file `/f`.
+pub(crate) const OLD_AND_F: &str = "== p
+d 0755 0 0 /
+f 0644 0 0 6869 /old
+== q
+d 0755 0 0 /
+f 0644 0 0 6869 /f
+";
+
+// `p` is empty, and `q` has a directory `/sub` with a file `/sub/f`.
+pub(crate) const EMPTY_AND_SUB: &str = "== p
+d 0755 0 0 /
+== q
+d 0755 0 0 /
+d 0755 0 0 /sub
+f 0644 0 0 6869 /sub/f
+";
+
+// The tree of `examples/source.tree`.
+pub(crate) const SOURCE_TREE: &str = "== source
+d 0755 0 0 /
+d 0755 0 0 /text
+f 0644 0 0 68656c6c6f2c0a /text/head
+f 0644 0 0 776f726c640a /text/tail
+";

@@ -1,290 +1,226 @@
 //! Stories of runs on local trees: sources, merges, file operations and executions.
 
-use super::definitions::{
-    CHANGES_0_BY_1, COPIES_BY_A_TMPFS, FAILS_AT_1, MAKES_OUT, MERGES_0_1_EMPTY, OUTPUTS_TURNED,
-    RESULT_2, SOURCE, SOURCE_P, SOURCE_Q, WORKS_IN_OUT,
-};
-use super::sessions::{Story, are_all_told, first_wrong};
-use super::written::{Definition, Local};
+use super::sessions::are_stories;
 
-// The local tree `p` has a file `/old`, and `q` a file `/f`.
-pub(crate) const OLD_AND_F: &[Local] = &[
-    ("p", "d 0755 0 0 /\nf 0644 0 0 6869 /old\n"),
-    ("q", "d 0755 0 0 /\nf 0644 0 0 6869 /f\n"),
-];
+const LOCALS_ARE_READ: &str = "
+    # A source is read, and a merge lays one input a step.
+    @ 1 on OLD_AND_F: SOURCE_P; SOURCE_Q; MERGES_0_1_EMPTY; RESULT_2
+    > claim 0 2
+    fault 171 134
+    > claim 0 0
+    1 claim 0 0 -> source 1
+    > step 0
+    2 step 0 -> read
+    > step 0
+    fault 171 137
+    > settle 0
+    3 settle 0 -> 0 done
+    > tree 0 0
+    d 0755 0 0 /
+    f 0644 0 0 6869 /old
+    > claim 0 1
+    4 claim 0 1 -> source 1
+    > settle 0
+    fault 171 138
+    > step 0
+    5 step 0 -> read
+    > settle 0
+    6 settle 0 -> 1 done
+    > claim 0 2
+    7 claim 0 2 -> merge 3
+    > step 0
+    8 step 0 -> merged 0
+    > step 0
+    9 step 0 -> merged 1
+    > settle 0
+    fault 171 138
+    > step 0
+    10 step 0 -> merged 2
+    > step 0
+    fault 171 137
+    > settle 0
+    11 settle 0 -> 2 done
+    > tree 2 0
+    d 0755 0 0 /
+    f 0644 0 0 6869 /f
+    f 0644 0 0 6869 /old
+    > next
+    end
 
-// `p` is empty, and `q` has a directory `/sub` with a file `/sub/f`.
-pub(crate) const EMPTY_AND_SUB: &[Local] = &[
-    ("p", "d 0755 0 0 /\n"),
-    (
-        "q",
-        "d 0755 0 0 /\nd 0755 0 0 /sub\nf 0644 0 0 6869 /sub/f\n",
-    ),
-];
+    # A file operation changes one local tree by another.
+    @ 1 on OLD_AND_F: SOURCE_P; SOURCE_Q; CHANGES_0_BY_1; RESULT_2
+    > go
+    1 claim 0 0 -> source 1
+    2 step 0 -> read
+    3 settle 0 -> 0 done
+    4 claim 0 1 -> source 1
+    5 step 0 -> read
+    6 settle 0 -> 1 done
+    7 claim 0 2 -> file 3
+    8 step 0 -> acted 0
+    9 step 0 -> acted 1
+    10 step 0 -> acted 2
+    11 settle 0 -> 2 done
+    end
+    > tree 2 0
+    d 0755 0 0 /
+    d 0755 0 0 /d
+    f 0644 0 0 6869 /d/f
+    > tree 0 0
+    d 0755 0 0 /
+    f 0644 0 0 6869 /old
+    ";
 
-pub(crate) const MERGES: Definition = &[SOURCE_P, SOURCE_Q, MERGES_0_1_EMPTY, RESULT_2];
+const COMMANDS_ARE_RUN: &str = "
+    # An execution runs a command a step on its mounts, and what it was given stays.
+    @ 1 on EMPTY_AND_SUB: SOURCE_P; SOURCE_Q; COPIES_BY_A_TMPFS; RESULT_2
+    > break settle 1
+    > go
+    1 claim 0 0 -> source 1
+    2 step 0 -> read
+    3 settle 0 -> 0 done
+    4 claim 0 1 -> source 1
+    5 step 0 -> read
+    6 settle 0 -> 1 done
+    stop
+    > claim 0 2
+    7 claim 0 2 -> exec 3
+    > settle 0
+    fault 171 138
+    > step 0
+    8 step 0 -> ran 0 0
+    > step 0
+    9 step 0 -> ran 1 0
+    > step 0
+    10 step 0 -> ran 2 0
+    > step 0
+    fault 171 137
+    > settle 0
+    11 settle 0 -> 2 done
+    > tree 2 0
+    d 0755 0 0 /
+    f 0644 0 0 6869 /y
+    > tree 2 1
+    d 0755 0 0 /
+    d 0755 0 0 /sub
+    f 0644 0 0 6869 /sub/f
+    f 0644 0 0 6b0a /sub/g
+    > tree 2 2
+    none
+    > tree 1 0
+    d 0755 0 0 /
+    d 0755 0 0 /sub
+    f 0644 0 0 6869 /sub/f
 
-pub(crate) const COPIES: Definition = &[SOURCE_P, SOURCE_Q, COPIES_BY_A_TMPFS, RESULT_2];
+    # Outputs stand in the order of their numbers.
+    @ 1 on EMPTY_AND_SUB: SOURCE_P; SOURCE_Q; OUTPUTS_TURNED; RESULT_2
+    > break claim 2
+    > go
+    1 claim 0 0 -> source 1
+    2 step 0 -> read
+    3 settle 0 -> 0 done
+    4 claim 0 1 -> source 1
+    5 step 0 -> read
+    6 settle 0 -> 1 done
+    7 claim 0 2 -> exec 1
+    stop
+    > step 0
+    8 step 0 -> ran 0 0
+    > settle 0
+    9 settle 0 -> 2 done
+    > tree 2 0
+    d 0755 0 0 /
+    f 0644 0 0 6b0a /x
+    > tree 2 1
+    d 0755 0 0 /
+    d 0755 0 0 /sub
+    f 0644 0 0 6869 /sub/f
 
-pub(crate) const FAILS: Definition = &[SOURCE_P, SOURCE_Q, FAILS_AT_1, RESULT_2];
+    # A command that ends with another status is the last.
+    @ 1 on EMPTY_AND_SUB: SOURCE_P; SOURCE_Q; FAILS_AT_1; RESULT_2
+    > break claim 2
+    > go
+    1 claim 0 0 -> source 1
+    2 step 0 -> read
+    3 settle 0 -> 0 done
+    4 claim 0 1 -> source 1
+    5 step 0 -> read
+    6 settle 0 -> 1 done
+    7 claim 0 2 -> exec 3
+    stop
+    > step 0
+    8 step 0 -> ran 0 0
+    > step 0
+    9 step 0 -> ran 1 1
+    > step 0
+    fault 171 137
+    > settle 0
+    10 settle 0 -> 2 failed
+    > status
+    0 done
+    1 done
+    2 failed command 1 status 1
+    > tree 2 0
+    none
+    > next
+    end
 
-const LOCALS_ARE_READ: &[Story] = &[
-    Story {
-        shows: "a source is read, and a merge lays one input a step",
-        definition: MERGES,
-        locals: OLD_AND_F,
-        workers: 1,
-        told: "
-            > claim 0 2
-            fault 171 134
-            > claim 0 0
-            1 claim 0 0 -> source 1
-            > step 0
-            2 step 0 -> read
-            > step 0
-            fault 171 137
-            > settle 0
-            3 settle 0 -> 0 done
-            > tree 0 0
-            d 0755 0 0 /
-            f 0644 0 0 6869 /old
-            > claim 0 1
-            4 claim 0 1 -> source 1
-            > settle 0
-            fault 171 138
-            > step 0
-            5 step 0 -> read
-            > settle 0
-            6 settle 0 -> 1 done
-            > claim 0 2
-            7 claim 0 2 -> merge 3
-            > step 0
-            8 step 0 -> merged 0
-            > step 0
-            9 step 0 -> merged 1
-            > settle 0
-            fault 171 138
-            > step 0
-            10 step 0 -> merged 2
-            > step 0
-            fault 171 137
-            > settle 0
-            11 settle 0 -> 2 done
-            > tree 2 0
-            d 0755 0 0 /
-            f 0644 0 0 6869 /f
-            f 0644 0 0 6869 /old
-            > next
-            end
-            ",
-    },
-    Story {
-        shows: "a file operation changes one local tree by another",
-        definition: &[SOURCE_P, SOURCE_Q, CHANGES_0_BY_1, RESULT_2],
-        locals: OLD_AND_F,
-        workers: 1,
-        told: "
-            > go
-            1 claim 0 0 -> source 1
-            2 step 0 -> read
-            3 settle 0 -> 0 done
-            4 claim 0 1 -> source 1
-            5 step 0 -> read
-            6 settle 0 -> 1 done
-            7 claim 0 2 -> file 3
-            8 step 0 -> acted 0
-            9 step 0 -> acted 1
-            10 step 0 -> acted 2
-            11 settle 0 -> 2 done
-            end
-            > tree 2 0
-            d 0755 0 0 /
-            d 0755 0 0 /d
-            f 0644 0 0 6869 /d/f
-            > tree 0 0
-            d 0755 0 0 /
-            f 0644 0 0 6869 /old
-            ",
-    },
-];
-
-const COMMANDS_ARE_RUN: &[Story] = &[
-    Story {
-        shows: "an execution runs a command a step on its mounts, and what it was given stays",
-        definition: COPIES,
-        locals: EMPTY_AND_SUB,
-        workers: 1,
-        told: "
-            > break settle 1
-            > go
-            1 claim 0 0 -> source 1
-            2 step 0 -> read
-            3 settle 0 -> 0 done
-            4 claim 0 1 -> source 1
-            5 step 0 -> read
-            6 settle 0 -> 1 done
-            stop
-            > claim 0 2
-            7 claim 0 2 -> exec 3
-            > settle 0
-            fault 171 138
-            > step 0
-            8 step 0 -> ran 0 0
-            > step 0
-            9 step 0 -> ran 1 0
-            > step 0
-            10 step 0 -> ran 2 0
-            > step 0
-            fault 171 137
-            > settle 0
-            11 settle 0 -> 2 done
-            > tree 2 0
-            d 0755 0 0 /
-            f 0644 0 0 6869 /y
-            > tree 2 1
-            d 0755 0 0 /
-            d 0755 0 0 /sub
-            f 0644 0 0 6869 /sub/f
-            f 0644 0 0 6b0a /sub/g
-            > tree 2 2
-            none
-            > tree 1 0
-            d 0755 0 0 /
-            d 0755 0 0 /sub
-            f 0644 0 0 6869 /sub/f
-            ",
-    },
-    Story {
-        shows: "outputs stand in the order of their numbers",
-        definition: &[SOURCE_P, SOURCE_Q, OUTPUTS_TURNED, RESULT_2],
-        locals: EMPTY_AND_SUB,
-        workers: 1,
-        told: "
-            > break claim 2
-            > go
-            1 claim 0 0 -> source 1
-            2 step 0 -> read
-            3 settle 0 -> 0 done
-            4 claim 0 1 -> source 1
-            5 step 0 -> read
-            6 settle 0 -> 1 done
-            7 claim 0 2 -> exec 1
-            stop
-            > step 0
-            8 step 0 -> ran 0 0
-            > settle 0
-            9 settle 0 -> 2 done
-            > tree 2 0
-            d 0755 0 0 /
-            f 0644 0 0 6b0a /x
-            > tree 2 1
-            d 0755 0 0 /
-            d 0755 0 0 /sub
-            f 0644 0 0 6869 /sub/f
-            ",
-    },
-    Story {
-        shows: "a command that ends with another status is the last",
-        definition: FAILS,
-        locals: EMPTY_AND_SUB,
-        workers: 1,
-        told: "
-            > break claim 2
-            > go
-            1 claim 0 0 -> source 1
-            2 step 0 -> read
-            3 settle 0 -> 0 done
-            4 claim 0 1 -> source 1
-            5 step 0 -> read
-            6 settle 0 -> 1 done
-            7 claim 0 2 -> exec 3
-            stop
-            > step 0
-            8 step 0 -> ran 0 0
-            > step 0
-            9 step 0 -> ran 1 1
-            > step 0
-            fault 171 137
-            > settle 0
-            10 settle 0 -> 2 failed
-            > status
-            0 done
-            1 done
-            2 failed command 1 status 1
-            > tree 2 0
-            none
-            > next
-            end
-            ",
-    },
-    // The definition, the local tree and the session of `examples/`.
-    Story {
-        shows: "the example goes behind a vertex, back and on",
-        definition: &[SOURCE, MAKES_OUT, WORKS_IN_OUT, RESULT_2],
-        locals: &[(
-            "source",
-            "d 0755 0 0 /\nd 0755 0 0 /text\nf 0644 0 0 68656c6c6f2c0a /text/head\nf 0644 0 0 776f726c640a /text/tail\n",
-        )],
-        workers: 2,
-        told: "
-            > break settle 1
-            > go
-            1 claim 0 0 -> source 1
-            2 step 0 -> read
-            3 settle 0 -> 0 done
-            4 claim 0 1 -> file 1
-            5 step 0 -> acted 0
-            6 settle 0 -> 1 done
-            stop
-            > tree 1 0
-            d 0755 0 0 /
-            d 0755 0 0 /out
-            > back
-            back 5
-            > back
-            back 4
-            > status
-            0 done
-            1 running 0
-            2 waiting
-            > claim 1 2
-            fault 171 134
-            > go
-            5 step 0 -> acted 0
-            6 settle 0 -> 1 done
-            stop
-            > clear
-            > go
-            7 claim 0 2 -> exec 7
-            8 step 0 -> ran 0 0
-            9 step 0 -> ran 1 0
-            10 step 0 -> ran 2 0
-            11 step 0 -> ran 3 0
-            12 step 0 -> ran 4 0
-            13 step 0 -> ran 5 0
-            14 step 0 -> ran 6 0
-            15 settle 0 -> 2 done
-            end
-            > tree 2 0
-            d 0755 0 0 /
-            d 0755 0 0 /out
-            d 0755 0 0 /out/bin
-            f 0444 0 0 68656c6c6f2c0a776f726c640a /out/bin/all
-            f 0644 0 0 643263636365636364386166303765366232323737653234616162376338623763396161663063336134303638363064636666373632636639366461336135610a \
-            /out/bin/digest
-            f 0644 0 0 4c414e473d430a /out/env
-            ",
-    },
-];
+    # The example goes behind a vertex, back and on.
+    @ 2 on SOURCE_TREE: SOURCE; MAKES_OUT; WORKS_IN_OUT; RESULT_2
+    > break settle 1
+    > go
+    1 claim 0 0 -> source 1
+    2 step 0 -> read
+    3 settle 0 -> 0 done
+    4 claim 0 1 -> file 1
+    5 step 0 -> acted 0
+    6 settle 0 -> 1 done
+    stop
+    > tree 1 0
+    d 0755 0 0 /
+    d 0755 0 0 /out
+    > back
+    back 5
+    > back
+    back 4
+    > status
+    0 done
+    1 running 0
+    2 waiting
+    > claim 1 2
+    fault 171 134
+    > go
+    5 step 0 -> acted 0
+    6 settle 0 -> 1 done
+    stop
+    > clear
+    > go
+    7 claim 0 2 -> exec 7
+    8 step 0 -> ran 0 0
+    9 step 0 -> ran 1 0
+    10 step 0 -> ran 2 0
+    11 step 0 -> ran 3 0
+    12 step 0 -> ran 4 0
+    13 step 0 -> ran 5 0
+    14 step 0 -> ran 6 0
+    15 settle 0 -> 2 done
+    end
+    > tree 2 0
+    d 0755 0 0 /
+    d 0755 0 0 /out
+    d 0755 0 0 /out/bin
+    f 0444 0 0 68656c6c6f2c0a776f726c640a /out/bin/all
+    f 0644 0 0 643263636365636364386166303765366232323737653234616162376338623763396161663063336134303638363064636666373632636639366461336135610a \
+    /out/bin/digest
+    f 0644 0 0 4c414e473d430a /out/env
+    ";
 
 #[test]
 fn sources_merges_and_file_operations_go_step_by_step(rt: HostRuntime) {
-    let rows = LOCALS_ARE_READ;
-    are_all_told(&rt, first_wrong(&rt, rt.alloc(), rows), rows.len());
+    are_stories(&rt, rt.alloc(), LOCALS_ARE_READ);
 }
 
 #[test]
 fn executions_run_a_command_a_step(rt: HostRuntime) {
-    let rows = COMMANDS_ARE_RUN;
-    are_all_told(&rt, first_wrong(&rt, rt.alloc(), rows), rows.len());
+    are_stories(&rt, rt.alloc(), COMMANDS_ARE_RUN);
 }

@@ -1,9 +1,8 @@
 //! Many workers, each in a thread of its own, that take their vertices from one queue.
 
-use super::cached::{LOCKED_A, LOCKED_B, PRIVATE_A, PRIVATE_B, SHARED_A_B, SHARED_C_D};
 use super::calls::{are_same, breaks_at, goes_back, replayed};
-use super::definitions::{MAKES_A, MAKES_B, MERGES_0_1, RESULT_2};
-use super::written::{board_from, board_of};
+use super::runs::TWO_FILES;
+use super::written::{board_from, board_of, push_entries};
 use llb_board::{Board, Event, Gate, Stopped};
 use llb_stepper::{Break, Stepper, Stop};
 use llb_wire::Same;
@@ -117,8 +116,6 @@ fn sixty_four_workers_are_at_work_together(rt: HostRuntime) {
     assert!(rt; matches!(counts(&end, 64), Some((258, 3..))));
 }
 
-const TWO_AND_THEIR_MERGE: [&str; 4] = [MAKES_A, MAKES_B, MERGES_0_1, RESULT_2];
-
 // Whether the merge alone is a user of either file, and nothing of the merge.
 fn have_users(board: &Board) -> bool {
     board.users(0) == [2].as_slice()
@@ -129,7 +126,7 @@ fn have_users(board: &Board) -> bool {
 
 #[test]
 fn users_are_those_that_have_an_edge_to_a_vertex(rt: HostRuntime) {
-    let board = board_of(&rt, rt.alloc(), &TWO_AND_THEIR_MERGE, &[], 2);
+    let board = board_of(&rt, rt.alloc(), TWO_FILES, "", 2);
     assert!(rt; have_users(&board));
 }
 
@@ -148,7 +145,7 @@ fn made_by<R: Abort + Threads + Wait + Sync>(
     wanted: &Board,
     workers: u32,
 ) -> Option<u64> {
-    let board = board_of(rt, alloc, &TWO_AND_THEIR_MERGE, &[], workers);
+    let board = board_of(rt, alloc, TWO_FILES, "", workers);
     let end = run_workers(rt, alloc, board, &Open);
     match counts(&end, 64) {
         Some((all, _)) if have_one_tree(&end.board, wanted) => Some(all),
@@ -158,7 +155,7 @@ fn made_by<R: Abort + Threads + Wait + Sync>(
 
 #[test]
 fn any_number_of_workers_leaves_one_tree(rt: HostRuntime) {
-    let alone = run_alone(board_of(&rt, rt.alloc(), &TWO_AND_THEIR_MERGE, &[], 1));
+    let alone = run_alone(board_of(&rt, rt.alloc(), TWO_FILES, "", 1));
     for workers in [1, 2, 3, 64] {
         let made = made_by(&rt, rt.alloc(), &alone.board, workers);
         assert!(rt; made == Some(10), "{workers} workers");
@@ -181,9 +178,9 @@ fn walked(stepper: &mut Stepper, events: &[Event]) -> Option<(Stop, usize)> {
 #[test]
 fn a_record_of_threads_is_walked(rt: HostRuntime) {
     let alloc = rt.alloc();
-    let board = board_of(&rt, alloc, &TWO_AND_THEIR_MERGE, &[], 2);
+    let board = board_of(&rt, alloc, TWO_FILES, "", 2);
     let left = run_workers(&rt, alloc, board, &Open).board;
-    let board = board_of(&rt, alloc, &TWO_AND_THEIR_MERGE, &[], 2);
+    let board = board_of(&rt, alloc, TWO_FILES, "", 2);
     let stop = Stop {
         events: 7,
         at_break: true,
@@ -192,17 +189,14 @@ fn a_record_of_threads_is_walked(rt: HostRuntime) {
     assert!(rt; walk == Some((stop, 5)));
 }
 
-const ON_CACHES: [&str; 6] = [
-    LOCKED_A, LOCKED_B, PRIVATE_A, PRIVATE_B, SHARED_A_B, SHARED_C_D,
-];
+const ON_CACHES: &str =
+    "locked: write /c/a x; locked: write /c/b y; private: write /c/a x; private: write /c/b y; \
+    shared: append /c/l a && append /c/l b; shared: append /c/l c && append /c/l d";
 
 // Executions on a cache that is shared in each of the three ways, two of each, and the merge of what they give.
 fn on_caches(rt: &impl Abort, alloc: Global) -> Board {
     let mut text = String::new(alloc);
-    for entry in ON_CACHES {
-        text.push_str(entry).expect(rt, "memory");
-        text.push_str("\n").expect(rt, "memory");
-    }
+    push_entries(rt, &mut text, ON_CACHES);
     push_merge(rt, &mut text, 6);
     board_from(rt, alloc, text.as_str(), 64)
 }

@@ -1,11 +1,9 @@
 //! Work of jobs away from the board: its outcome, gates that stop it, and where an outcome lands.
 
-use super::cached::{LOCKED_A_FAILS_EARLY, LOCKED_TRUE, SHARED_A_B, SHARED_C_D};
 use super::calls::{are_done, landed, worked};
-use super::definitions::{MAKES_B, MAKES_XA, MAKES_Z, MERGES_0_1, RESULT_2};
 use super::runs::TWO_FILES;
 use super::sessions::are_all_told;
-use super::written::{Definition, board_of};
+use super::written::board_of;
 use llb_board::{Board, Event, Gate, Outcome, Status, Stopped};
 use std::alloc::Global;
 use std::process::Abort;
@@ -36,23 +34,25 @@ impl Gate for Stops {
     }
 }
 
-const OTHER_FILES: Definition = &[MAKES_Z, MAKES_B, MERGES_0_1, RESULT_2];
+const OTHER_FILES: &str = "MAKES_Z; MAKES_B; MERGES_0_1; RESULT_2";
 
-const FIRST_FAILS: Definition = &[MAKES_XA, MAKES_B, MERGES_0_1, RESULT_2];
+const FIRST_FAILS: &str = "MAKES_XA; MAKES_B; MERGES_0_1; RESULT_2";
 
-const ON_A_SHARED_CACHE: Definition = &[SHARED_A_B, SHARED_C_D, MERGES_0_1, RESULT_2];
+const ON_A_SHARED_CACHE: &str =
+    "shared: append /c/l a && append /c/l b; shared: append /c/l c && append /c/l d; MERGES_0_1; RESULT_2";
 
-const SECOND_COMMAND_FAILS: Definition = &[LOCKED_A_FAILS_EARLY, LOCKED_TRUE, MERGES_0_1, RESULT_2];
+const SECOND_COMMAND_FAILS: &str =
+    "locked: write /c/a x && false && true; locked: true; MERGES_0_1; RESULT_2";
 
 // What worker w works out of vertex 0, or the number of the fault.
 fn outcome_from<G: Gate>(
     rt: &impl Abort,
     alloc: Global,
-    definition: Definition,
+    definition: &str,
     w: u32,
     gate: &G,
 ) -> Result<Outcome, u32> {
-    let mut board = board_of(rt, alloc, definition, &[], 2);
+    let mut board = board_of(rt, alloc, definition, "", 2);
     worked(alloc, &mut board, w, 0, gate)
 }
 
@@ -60,7 +60,7 @@ fn outcome_from<G: Gate>(
 fn counted<G: Gate>(
     rt: &impl Abort,
     alloc: Global,
-    definition: Definition,
+    definition: &str,
     w: u32,
     gate: &G,
 ) -> Result<(u32, bool), u32> {
@@ -71,13 +71,13 @@ fn counted<G: Gate>(
 }
 
 // What worker 0 counts at vertex 0.
-const COUNTS: &[(Definition, (u32, bool))] = &[
+const COUNTS: &[(&str, (u32, bool))] = &[
     (TWO_FILES, (1, false)),
     (FIRST_FAILS, (1, true)),
     (SECOND_COMMAND_FAILS, (2, true)),
 ];
 
-fn first_other_count(rt: &impl Abort, alloc: Global, rows: &[(Definition, (u32, bool))]) -> usize {
+fn first_other_count(rt: &impl Abort, alloc: Global, rows: &[(&str, (u32, bool))]) -> usize {
     for (at, (definition, wanted)) in rows.iter().enumerate() {
         if counted(rt, alloc, definition, 0, &Passes) != Ok(*wanted) {
             return at;
@@ -101,7 +101,7 @@ fn a_gate_stops_whom_it_does_not_let_work(rt: HostRuntime) {
 
 // What an outcome of vertex 0 is worked out on by worker 0, the board that it is brought to, what was done there, who brings it, and the
 // fault, or 0 where it lands.
-type Landing = (Definition, Definition, &'static str, u32, u32);
+type Landing = (&'static str, &'static str, &'static str, u32, u32);
 
 const CLAIMED: &str = "claim 0 0";
 
@@ -120,7 +120,7 @@ const LANDINGS: &[Landing] = &[
 
 fn brought(rt: &impl Abort, alloc: Global, row: &Landing) -> u32 {
     let outcome = outcome_from(rt, alloc, row.0, 0, &Passes);
-    let mut board = board_of(rt, alloc, row.1, &[], 2);
+    let mut board = board_of(rt, alloc, row.1, "", 2);
     assert!(rt; are_done(&mut board, row.2));
     landed(&mut board, row.3, outcome.ok().expect(rt, "an outcome"))
 }
@@ -161,7 +161,7 @@ fn is_late(board: &mut Board, outcome: Outcome) -> [bool; 3] {
 
 #[test]
 fn a_landing_is_the_steps_that_are_left_and_the_settle(rt: HostRuntime) {
-    let mut board = board_of(&rt, rt.alloc(), TWO_FILES, &[], 2);
+    let mut board = board_of(&rt, rt.alloc(), TWO_FILES, "", 2);
     let outcome = worked(rt.alloc(), &mut board, 0, 0, &Passes);
     let outcome = outcome.ok().expect(&rt, "an outcome");
     assert!(rt; is_a_block(&mut board, outcome) == [true; 3]);
@@ -169,7 +169,7 @@ fn a_landing_is_the_steps_that_are_left_and_the_settle(rt: HostRuntime) {
 
 #[test]
 fn an_outcome_does_not_land_once_a_step_was_done(rt: HostRuntime) {
-    let mut board = board_of(&rt, rt.alloc(), TWO_FILES, &[], 2);
+    let mut board = board_of(&rt, rt.alloc(), TWO_FILES, "", 2);
     let outcome = worked(rt.alloc(), &mut board, 0, 0, &Passes);
     let outcome = outcome.ok().expect(&rt, "an outcome");
     assert!(rt; is_late(&mut board, outcome) == [true; 3]);

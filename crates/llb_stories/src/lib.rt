@@ -5,8 +5,6 @@
 #[cfg(test)]
 mod alike;
 #[cfg(test)]
-mod cached;
-#[cfg(test)]
 mod caches;
 #[cfg(test)]
 mod calling;

@@ -1,15 +1,13 @@
 //! What the opening of a board takes and gives back, and what a board that is left gives to the next.
 
-use super::cached::{LOCKED_A_AND_TRUE, LOCKED_B, LOCKED_TRUE, PRIVATE_A, PRIVATE_B, SHARED_TRUE};
 use super::calls::{are_done, opened};
-use super::definitions::{MERGES_0_1, RESULT_2};
-use super::executions::{MERGES, OLD_AND_F};
+use super::definitions::OLD_AND_F;
 use super::faults::prints;
 use super::instances::{K_LOCKED, K_SHARED};
 use super::runs::D_ON_SECOND;
 use super::sessions::are_all_told;
 use super::told::is_answered;
-use super::written::{CacheRow, Definition, Local, board_of, graph_from, locals_of, needs_of};
+use super::written::{CacheRow, board_of, graph_from, locals_of, needs_of};
 use llb_board::{Board, OpenFault};
 use llb_cache::{Caches, Many};
 use llb_loader::Locals;
@@ -64,19 +62,17 @@ fn a_number_of_workers_other_than_1_to_64_gives_the_graph_back(rt: HostRuntime) 
     are_all_told(&rt, first_wrong(&rt, rt.alloc(), rows), rows.len());
 }
 
-const P: Local = ("p", "d 0755 0 0 /\n");
-
-const Q: Local = ("q", "d 0755 0 0 /\n");
+const MERGES: &str = "SOURCE_P; SOURCE_Q; MERGES_0_1_EMPTY; RESULT_2";
 
 // Local trees, and why a board of no worker is not opened: the one that is missing comes before the number of workers.
-const MISSING: &[(&[Local], &str)] = &[
-    (&[], "121 p"),
-    (&[Q], "121 p"),
-    (&[P, P], "121 q"),
-    (&[Q, P], "122"),
+const MISSING: &[(&str, &str)] = &[
+    ("", "121 p"),
+    ("== q\nd 0755 0 0 /\n", "121 p"),
+    ("== p\nd 0755 0 0 /\n== p\nd 0755 0 0 /\n", "121 q"),
+    ("== q\nd 0755 0 0 /\n== p\nd 0755 0 0 /\n", "122"),
 ];
 
-fn is_missing(rt: &impl Abort, alloc: Global, given: &[Local], wanted: &str) -> bool {
+fn is_missing(rt: &impl Abort, alloc: Global, given: &str, wanted: &str) -> bool {
     let graph = graph_from(rt, alloc, MERGES);
     let locals = locals_of(rt, alloc, given);
     match opened(rt, alloc, graph, locals, Caches::new(alloc), 0) {
@@ -85,7 +81,7 @@ fn is_missing(rt: &impl Abort, alloc: Global, given: &[Local], wanted: &str) -> 
     }
 }
 
-fn first_other_name(rt: &impl Abort, alloc: Global, rows: &[(&[Local], &str)]) -> usize {
+fn first_other_name(rt: &impl Abort, alloc: Global, rows: &[(&str, &str)]) -> usize {
     for (at, (given, wanted)) in rows.iter().enumerate() {
         if !is_missing(rt, alloc, given, wanted) {
             return at;
@@ -109,15 +105,15 @@ fn a_board_gives_back_what_it_was_opened_with(rt: HostRuntime) {
 
 #[test]
 fn a_record_is_copied(rt: HostRuntime) {
-    let mut board = board_of(&rt, rt.alloc(), D_ON_SECOND, &[], 1);
+    let mut board = board_of(&rt, rt.alloc(), D_ON_SECOND, "", 1);
     assert!(rt; are_done(&mut board, "claim 0 0"));
     let record = board.events().copy().ok().expect(&rt, "memory");
     assert!(rt; record.len() == 1);
 }
 
 // The caches of a board that is left after some events.
-fn left(rt: &impl Abort, alloc: Global, definition: Definition, events: &str) -> Caches {
-    let mut board = board_of(rt, alloc, definition, &[], 2);
+fn left(rt: &impl Abort, alloc: Global, definition: &str, events: &str) -> Caches {
+    let mut board = board_of(rt, alloc, definition, "", 2);
     assert!(rt; are_done(&mut board, events));
     let (_, _, caches) = board.into_parts();
     caches
@@ -138,7 +134,7 @@ fn in_order(rt: &impl Abort, alloc: Global, rows: &[CacheRow]) -> Caches {
 
 #[test]
 fn keys_stand_in_the_order_of_the_first_claims(rt: HostRuntime) {
-    let definition: Definition = &[LOCKED_TRUE, SHARED_TRUE, MERGES_0_1, RESULT_2];
+    let definition = "locked: true; shared: true; MERGES_0_1; RESULT_2";
     let caches = left(&rt, rt.alloc(), definition, "claim 0 1\nclaim 1 0");
     assert!(rt; caches.same(&in_order(&rt, rt.alloc(), &[K_SHARED, K_LOCKED])));
     assert!(rt; !caches.same(&in_order(&rt, rt.alloc(), &[K_LOCKED, K_SHARED])));
@@ -165,7 +161,7 @@ const BEHIND: &str = "
 fn opened_with(
     rt: &impl Abort,
     alloc: Global,
-    definition: Definition,
+    definition: &str,
     caches: Caches,
     workers: u32,
 ) -> Result<Board, OpenFault> {
@@ -176,7 +172,7 @@ fn opened_with(
 #[test]
 fn a_board_that_is_left_in_the_middle_gives_its_caches_to_the_next(rt: HostRuntime) {
     let alloc = rt.alloc();
-    let definition: Definition = &[LOCKED_A_AND_TRUE, LOCKED_B, MERGES_0_1, RESULT_2];
+    let definition = "locked: write /c/a x && true; locked: write /c/b y; MERGES_0_1; RESULT_2";
     let caches = left(&rt, alloc, definition, "claim 0 0\nstep 0");
     let board = opened_with(&rt, alloc, definition, caches, 2);
     let mut board = board.ok().expect(&rt, "a board");
@@ -194,7 +190,7 @@ fn has_caches(fault: &OpenFault, caches: &Caches) -> bool {
 #[test]
 fn a_board_without_workers_gives_the_caches_back(rt: HostRuntime) {
     let alloc = rt.alloc();
-    let definition: Definition = &[PRIVATE_A, PRIVATE_B, MERGES_0_1, RESULT_2];
+    let definition = "private: write /c/a x; private: write /c/b y; MERGES_0_1; RESULT_2";
     let caches = left(&rt, alloc, definition, "claim 0 0\nstep 0");
     let copy = caches.copy().ok().expect(&rt, "memory");
     let fault = opened_with(&rt, alloc, definition, copy, 0).err();

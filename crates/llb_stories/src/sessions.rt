@@ -1,7 +1,8 @@
-//! A story on a board is a session: a definition, local trees, and a transcript of what was said and printed. Each line of a transcript is
-//! read without what stands before and after it; one with `> ` first is a command, and the lines after it are what it prints.
+//! Stories on boards as transcripts of sessions. A line with `@ ` first opens a board (`written`); one with `> ` first is a command, and the
+//! lines after it are what it prints; one with `# ` first says what the story shows. Each line is read without what stands before and
+//! after it.
 
-use super::written::{Definition, Local, board_of};
+use super::written::board_in;
 use llb_session::converse;
 use llb_stepper::Stepper;
 use std::alloc::Global;
@@ -11,21 +12,12 @@ pub(crate) const LIMIT: usize = 1 << 20;
 
 pub(crate) const READS: u64 = 1 << 20;
 
-#[derive(Clone, Copy)]
-pub(crate) struct Story {
-    pub shows: &'static str,
-    pub definition: Definition,
-    pub locals: &'static [Local],
-    pub workers: u32,
-    pub told: &'static str,
-}
-
-// The lines of a transcript, without what stands before and after each.
+// The lines of a transcript that are told, without what stands before and after each.
 pub(crate) fn wanted(rt: &impl Abort, alloc: Global, told: &str) -> String {
     let mut text = String::new(alloc);
     for line in told.lines() {
         let line = line.trim();
-        if !line.is_empty() {
+        if !line.is_empty() && !line.starts_with("# ") {
             text.push_str(line).expect(rt, "memory");
             text.push_str("\n").expect(rt, "memory");
         }
@@ -52,19 +44,14 @@ pub(crate) fn is_told(rt: &impl Abort, alloc: Global, stepper: &mut Stepper, tol
     out.as_slice() == wanted(rt, alloc, told).as_bytes()
 }
 
-fn holds(rt: &impl Abort, alloc: Global, story: &Story) -> bool {
-    let board = board_of(rt, alloc, story.definition, story.locals, story.workers);
-    is_told(rt, alloc, &mut Stepper::new(alloc, board), story.told)
-}
-
-// The number of the first story that is told otherwise than it goes; past the end where there is none.
-pub(crate) fn first_wrong(rt: &impl Abort, alloc: Global, stories: &[Story]) -> usize {
-    for (at, story) in stories.iter().enumerate() {
-        if !holds(rt, alloc, story) {
-            return at;
-        }
+// Ends the test at the first story that goes otherwise than it is told.
+pub(crate) fn are_stories(rt: &impl Abort, alloc: Global, told: &str) {
+    let (_, stories) = told.split_once("@ ").expect(rt, "a story");
+    for story in stories.split("@ ") {
+        let (head, lines) = story.split_once('\n').expect(rt, "a line");
+        let mut stepper = Stepper::new(alloc, board_in(rt, alloc, head));
+        assert!(rt; is_told(rt, alloc, &mut stepper, lines), "{head}");
     }
-    stories.len()
 }
 
 // Ends the test where the first row of a table that is told otherwise is not past its end.

@@ -1,12 +1,12 @@
-//! What a session doesn't say of a board: where its workers are, and which instances of caches there are. A story of calls is a transcript as
-//! that of a session is: a line with `> ` first is a call, and the lines after it are what it answers. The calls are a session's events, of
+//! What a session doesn't say of a board: where its workers are, and which instances of caches there are. Such a story is a transcript of the
+//! form of a session's: a line with `> ` first is a call, and the lines after it are what it answers. The calls are a session's events, of
 //! which nothing is told where they are done; `job W V`, a claim that is told by its job and by the instances of caches that it takes;
 //! `worker W`; `instance WAY I`, the tree of an instance of the cache `k` that is shared in that way; and `leases`.
 
 use super::calls::{event_in, is_event_done};
 use super::instances::{K_LOCKED, K_PRIVATE, K_SEEDED, K_SHARED};
-use super::sessions::{Story, wanted};
-use super::written::{CacheRow, board_of, key_of};
+use super::sessions::wanted;
+use super::written::{CacheRow, board_in, key_of};
 use llb_board::laws::headline;
 use llb_board::{At, Board, Event, Job};
 use llb_tree::Tree;
@@ -145,17 +145,12 @@ pub(crate) fn is_answered(rt: &impl Abort, alloc: Global, board: &mut Board, tol
     text.as_str() == wanted(rt, alloc, told).as_str()
 }
 
-fn holds(rt: &impl Abort, alloc: Global, story: &Story) -> bool {
-    let mut board = board_of(rt, alloc, story.definition, story.locals, story.workers);
-    is_answered(rt, alloc, &mut board, story.told)
-}
-
-// The number of the first story whose calls are answered otherwise; past the end where there is none.
-pub(crate) fn first_wrong(rt: &impl Abort, alloc: Global, stories: &[Story]) -> usize {
-    for (at, story) in stories.iter().enumerate() {
-        if !holds(rt, alloc, story) {
-            return at;
-        }
+// Ends the test at the first story whose calls are answered otherwise than it is told.
+pub(crate) fn are_stories_of_calls(rt: &impl Abort, alloc: Global, told: &str) {
+    let (_, stories) = told.split_once("@ ").expect(rt, "a story");
+    for story in stories.split("@ ") {
+        let (head, lines) = story.split_once('\n').expect(rt, "a line");
+        let mut board = board_in(rt, alloc, head);
+        assert!(rt; is_answered(rt, alloc, &mut board, lines), "{head}");
     }
-    stories.len()
 }

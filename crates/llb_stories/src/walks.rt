@@ -7,7 +7,7 @@ use super::calls::{are_done, are_same, breaks_at, copy_of, goes_back, is_event_d
 use super::runs::{FAILS_FIRST, IN_A_ROW, TWO_FILES};
 use super::sessions::are_all_told;
 use super::told::is_answered;
-use super::written::{Definition, board_of};
+use super::written::board_of;
 use llb_board::{At, Board, Event, Status};
 use llb_stepper::{Break, Stepper, Stop};
 use std::alloc::Global;
@@ -43,7 +43,7 @@ fn finish(board: &mut Board) -> bool {
 }
 
 // Definitions, and what is then answered on the complete board.
-const WALKED: &[(Definition, &str)] = &[
+const WALKED: &[(&str, &str)] = &[
     (FAILS_FIRST, "> leases\n0"),
     (IN_A_ROW, "> worker 0\nidle"),
     (
@@ -61,8 +61,8 @@ const WALKED: &[(Definition, &str)] = &[
 ];
 
 // Whether a run that is walked and taken back leaves a board as its copy, and both go on to the same end, where this is answered.
-fn is_walked(rt: &impl Abort, alloc: Global, definition: Definition, ended: &str) -> [bool; 4] {
-    let mut board = board_of(rt, alloc, definition, &[], 2);
+fn is_walked(rt: &impl Abort, alloc: Global, definition: &str, ended: &str) -> [bool; 4] {
+    let mut board = board_of(rt, alloc, definition, "", 2);
     let mut fresh = copy_of(&board).expect(rt, "memory");
     let complete = there_and_back(&mut board, 50);
     let back = are_same(&board, &fresh);
@@ -75,7 +75,7 @@ fn is_walked(rt: &impl Abort, alloc: Global, definition: Definition, ended: &str
     ]
 }
 
-fn first_wrong(rt: &impl Abort, alloc: Global, rows: &[(Definition, &str)]) -> usize {
+fn first_wrong(rt: &impl Abort, alloc: Global, rows: &[(&str, &str)]) -> usize {
     for (at, (definition, ended)) in rows.iter().enumerate() {
         if is_walked(rt, alloc, definition, ended) != [true; 4] {
             return at;
@@ -103,7 +103,7 @@ fn is_refused(alloc: Global, board: &mut Board, event: Event, wanted: &str) -> b
 
 #[test]
 fn a_walk_is_refused_as_the_event_is(rt: HostRuntime) {
-    let mut board = board_of(&rt, rt.alloc(), IN_A_ROW, &[], 2);
+    let mut board = board_of(&rt, rt.alloc(), IN_A_ROW, "", 2);
     assert!(rt; are_done(&mut board, "claim 0 0\nstep 0"));
     assert!(rt; is_refused(rt.alloc(), &mut board, Event::Claim(0, 1), "132"));
 }
@@ -144,6 +144,6 @@ fn is_replayed(stepper: &mut Stepper) -> [bool; 3] {
 
 #[test]
 fn a_record_is_replayed_up_to_a_breakpoint(rt: HostRuntime) {
-    let board = board_of(&rt, rt.alloc(), TWO_FILES, &[], 2);
+    let board = board_of(&rt, rt.alloc(), TWO_FILES, "", 2);
     assert!(rt; is_replayed(&mut Stepper::new(rt.alloc(), board)) == [true; 3]);
 }

@@ -64,7 +64,7 @@ fn ends(rt: &impl Abort, alloc: Global, stepper: &mut Stepper, most: u32) -> [u3
 // Two vertices by one worker: 2 workers and 2 orders; by two workers: 2 ways and 20 interleavings; then either worker merges.
 #[test]
 fn all_88_interleavings_of_two_workers_end_in_the_same_trees(rt: HostRuntime) {
-    let board = board_of(&rt, rt.alloc(), TWO_FILES, &[], 2);
+    let board = board_of(&rt, rt.alloc(), TWO_FILES, "", 2);
     let mut stepper = Stepper::new(rt.alloc(), board);
     assert_eq!(rt; ends(&rt, rt.alloc(), &mut stepper, 20), [88, 88]);
 }

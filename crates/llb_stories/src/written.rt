@@ -1,5 +1,10 @@
-//! Boards over what is written: definitions by the texts of their entries, local trees by their texts, and keys of caches by rows.
+//! Boards over what is written: definitions by their entries, local trees by their texts, and keys of caches by rows.
+//!
+//! Entries are separated by `; `. One is a name of `definitions`, or a script on the empty tree at `/` and the cache `k` at `/c`, after the
+//! way in which the cache is shared: `locked: SCRIPT`, `private: SCRIPT` or `shared: SCRIPT`. A new instance begins empty, or, where the way
+//! is followed by ` on 0`, with what the first entry gives.
 
+use super::definitions::{EMPTY_AND_SUB, ENTRIES, OLD_AND_F, SOURCE_TREE};
 use llb_asm::assemble;
 use llb_board::Board;
 use llb_cache::{Caches, Key, Mode, Need, Seed};
@@ -11,22 +16,66 @@ use llb_wire::Text;
 use std::alloc::Global;
 use std::process::Abort;
 
-// A local tree: its name, and its text.
-pub(crate) type Local = (&'static str, &'static str);
-
-// A definition by its entries, one after the other.
-pub(crate) type Definition = &'static [&'static str];
-
 // A key: its ID, its mode, and the output of the first entry that is its seed, or none.
 pub(crate) type CacheRow = (&'static str, Mode, Option<u32>);
 
-fn text_of(rt: &impl Abort, alloc: Global, entries: &[&str]) -> String {
-    let mut text = String::new(alloc);
-    for entry in entries {
-        text.push_str(entry).expect(rt, "memory");
-        text.push_str("\n").expect(rt, "memory");
+// The lines after the one with `== ` and the name.
+fn block<'a>(text: &'a str, wanted: &str) -> Option<&'a str> {
+    for block in text.split("== ") {
+        if let Some((head, lines)) = block.split_once('\n') {
+            let (name, _) = head.split_once(": ").unwrap_or((head, ""));
+            if name == wanted {
+                return Some(lines);
+            }
+        }
     }
-    text
+    None
+}
+
+// The numbers of the ways in which a cache is shared.
+fn sharing_of(way: &str) -> u32 {
+    match way.split_once(' ').unwrap_or((way, "")).0 {
+        "private" => 1,
+        "locked" => 2,
+        _ => 0,
+    }
+}
+
+fn push_on_cache(rt: &impl Abort, text: &mut String, way: &str, script: &str) {
+    let sharing = sharing_of(way);
+    let (inputs, begins) = if way.ends_with(" on 0") {
+        ("inputs {\ndigest %0\n}\n", "0")
+    } else {
+        ("", "-1")
+    };
+    write!(
+        text,
+        "op {{\n{inputs}exec {{\nmeta {{\nargs \"/bin/sh\"\nargs \"-c\"\nargs \"{script}\"\ncwd \"/\"\n}}\n"
+    )
+    .expect(rt, "memory");
+    text.push_str("mounts {\ninput -1\ndest \"/\"\n}\n")
+        .expect(rt, "memory");
+    write!(
+        text,
+        "mounts {{\ninput {begins}\ndest \"/c\"\noutput -1\nmountType 3\ncacheOpt {{\nID \"k\"\nsharing {sharing}\n}}\n}}\n}}\n}}\n"
+    )
+    .expect(rt, "memory");
+}
+
+fn push_entry(rt: &impl Abort, text: &mut String, entry: &str) {
+    match entry.split_once(": ") {
+        Some((way, script)) => push_on_cache(rt, text, way, script),
+        None => text
+            .push_str(block(ENTRIES, entry).unwrap_or("no entry\n"))
+            .expect(rt, "memory"),
+    }
+}
+
+/// Puts the text of some entries at the end.
+pub(crate) fn push_entries(rt: &impl Abort, text: &mut String, entries: &str) {
+    for entry in entries.split("; ") {
+        push_entry(rt, text, entry);
+    }
 }
 
 // The graph of the definition that a text is assembled to.
@@ -36,8 +85,10 @@ fn graph_in(rt: &impl Abort, alloc: Global, text: &str) -> Graph {
     load(alloc, definition.as_slice()).expect(rt, "a graph")
 }
 
-pub(crate) fn graph_from(rt: &impl Abort, alloc: Global, entries: &[&str]) -> Graph {
-    graph_in(rt, alloc, text_of(rt, alloc, entries).as_str())
+pub(crate) fn graph_from(rt: &impl Abort, alloc: Global, entries: &str) -> Graph {
+    let mut text = String::new(alloc);
+    push_entries(rt, &mut text, entries);
+    graph_in(rt, alloc, text.as_str())
 }
 
 fn board_on(rt: &impl Abort, alloc: Global, graph: Graph, locals: Locals, workers: u32) -> Board {
@@ -60,13 +111,16 @@ fn tree_of(rt: &impl Abort, alloc: Global, text: &str) -> Tree {
     read_tree(alloc, text.as_bytes()).expect(rt, "a tree")
 }
 
-pub(crate) fn locals_of(rt: &impl Abort, alloc: Global, given: &[Local]) -> Locals {
+// Local trees by a text: each after a line with `== ` and its name.
+pub(crate) fn locals_of(rt: &impl Abort, alloc: Global, given: &str) -> Locals {
     let mut locals = Locals::new(alloc);
-    for (name, text) in given {
-        let name = Text::from_str(alloc, name).expect(rt, "memory");
-        locals
-            .add(name, tree_of(rt, alloc, text))
-            .expect(rt, "memory");
+    for local in given.split("== ") {
+        if let Some((name, text)) = local.split_once('\n') {
+            let name = Text::from_str(alloc, name).expect(rt, "memory");
+            locals
+                .add(name, tree_of(rt, alloc, text))
+                .expect(rt, "memory");
+        }
     }
     locals
 }
@@ -74,12 +128,30 @@ pub(crate) fn locals_of(rt: &impl Abort, alloc: Global, given: &[Local]) -> Loca
 pub(crate) fn board_of(
     rt: &impl Abort,
     alloc: Global,
-    definition: &[&str],
-    given: &[Local],
+    definition: &str,
+    given: &str,
     workers: u32,
 ) -> Board {
     let graph = graph_from(rt, alloc, definition);
     board_on(rt, alloc, graph, locals_of(rt, alloc, given), workers)
+}
+
+fn locals_named(name: &str) -> &'static str {
+    match name {
+        "OLD_AND_F" => OLD_AND_F,
+        "EMPTY_AND_SUB" => EMPTY_AND_SUB,
+        "SOURCE_TREE" => SOURCE_TREE,
+        _ => "",
+    }
+}
+
+/// The board of a story by its first line: the number of workers, after ` on ` the name of its local trees where it has some, and after `: `
+/// the entries of its definition.
+pub(crate) fn board_in(rt: &impl Abort, alloc: Global, head: &str) -> Board {
+    let (opened, definition) = head.split_once(": ").expect(rt, "a definition");
+    let (workers, locals) = opened.split_once(" on ").unwrap_or((opened, ""));
+    let workers = workers.parse::<u32>().ok().expect(rt, "a number");
+    board_of(rt, alloc, definition, locals_named(locals), workers)
 }
 
 // The digest of the entry that makes `/a`, which is the first where a cache begins with an output.

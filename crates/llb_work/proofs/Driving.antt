@@ -24,12 +24,12 @@ use Rattle.llb_model.proofs.Alone.{Ascends, alone_step}
 use Rattle.llb_board.specs.Board.{Seen, ChosenIsGranted, after_event, recorded}
 use Rattle.llb_board.specs.Rules.{GivesClaim, claim_of, claim_fault, GivesStep, step_of, step_fault, GivesSettle, settle_of, settle_fault}
 use Rattle.llb_board.specs.Views.{event_of, step_reply, settle_reply}
-use Rattle.llb_board.specs.declared.event.Event as event
-use Rattle.llb_board.specs.declared.event.Stepped.{Stepped}
-use Rattle.llb_board.specs.declared.event.Settled.{Settled}
-use Rattle.llb_board.specs.declared.fault.ClaimFault.{ClaimFault}
-use Rattle.llb_board.specs.declared.fault.StepFault.{StepFault}
-use Rattle.llb_board.specs.declared.fault.SettleFault.{SettleFault}
+use Rattle.llb_events.specs.declared.event.Event as event
+use Rattle.llb_events.specs.declared.event.Stepped.{Stepped}
+use Rattle.llb_events.specs.declared.event.Settled.{Settled}
+use Rattle.llb_events.specs.declared.fault.ClaimFault.{ClaimFault}
+use Rattle.llb_events.specs.declared.fault.StepFault.{StepFault}
+use Rattle.llb_events.specs.declared.fault.SettleFault.{SettleFault}
 use Rattle.llb_work.specs.Alone.{Takes, IsLeft, Goes, TakesMemory}
 
 abbrev ok_of : {A F : Type 0} → A → Result A F

@@ -8,11 +8,11 @@ use Rattle.llb_board.specs.Jobs.{OutcomeValue}
 use Rattle.llb_board.specs.Landing.{Lands}
 use Rattle.llb_board.specs.Rules.{GivesClaim, claim_of, GivesStep, step_of, GivesSettle, settle_of}
 use Rattle.llb_board.specs.Views.{step_reply, settle_reply}
-use Rattle.llb_board.specs.declared.event.Stepped.{Stepped}
-use Rattle.llb_board.specs.declared.event.Settled.{Settled}
-use Rattle.llb_board.specs.declared.fault.ClaimFault.{ClaimFault}
-use Rattle.llb_board.specs.declared.fault.StepFault.{StepFault}
-use Rattle.llb_board.specs.declared.fault.SettleFault.{SettleFault}
+use Rattle.llb_events.specs.declared.event.Stepped.{Stepped}
+use Rattle.llb_events.specs.declared.event.Settled.{Settled}
+use Rattle.llb_events.specs.declared.fault.ClaimFault.{ClaimFault}
+use Rattle.llb_events.specs.declared.fault.StepFault.{StepFault}
+use Rattle.llb_events.specs.declared.fault.SettleFault.{SettleFault}
 use Rattle.llb_board.specs.declared.fault.LandFault.{LandFault}
 use Rattle.llb_work.specs.Crew.{GoesOn}
 use Rattle.llb_work.proofs.Driving.{claim_takes, step_takes, settle_takes}

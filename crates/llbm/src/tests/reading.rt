@@ -1,9 +1,7 @@
 //! Reading within small bounds, and what is told of it.
 
 use super::devices::{Ran, Slow};
-use crate::bounded::{ReadFault, read_bounded};
-use crate::fault::refusal;
-use crate::input::unread;
+use llb_commands::{ReadFault, read_bounded, refusal, unread};
 use std::alloc::Global;
 use std::io;
 use std::io::{ErrorKind, Read};

@@ -2,7 +2,7 @@
 
 use super::devices::Ran;
 use super::told::{definition_of, is_told};
-use crate::run::run_over;
+use llb_commands::run_over;
 use llb_loader::Locals;
 
 const RUNS: &str = "

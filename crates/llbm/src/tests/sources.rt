@@ -1,7 +1,7 @@
 //! What is told of a local source that has no tree.
 
 use super::devices::Ran;
-use crate::sources::{SourceFault, source_refusal};
+use llb_commands::{SourceFault, source_refusal};
 use llb_treetext::TextFault;
 use std::alloc::Global;
 

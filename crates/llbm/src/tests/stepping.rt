@@ -2,7 +2,7 @@
 
 use super::devices::Ran;
 use super::told::{definition_of, is_told};
-use crate::stepping::step_over;
+use llb_commands::step_over;
 use llb_loader::Locals;
 
 const SESSION: &str = "

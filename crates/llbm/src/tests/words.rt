@@ -2,8 +2,7 @@
 //! say: the command, the workers, the file if there is one, and of each local source the name and the file.
 
 use super::devices::{Narrow, Ran};
-use crate::command_line::command_of;
-use crate::words::{Command, Line, Local, WordsFault, words_refusal};
+use llb_commands::{Command, Line, Local, WordsFault, command_of, words_refusal};
 use std::alloc::Global;
 use std::process::Abort;
 

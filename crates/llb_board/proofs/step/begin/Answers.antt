@@ -8,7 +8,7 @@ use Rattle.llb_board.specs.Caches.{taken_with}
 use Rattle.llb_board.specs.Begun.{outfit_as}
 use Rattle.llb_board.specs.Rules.{or_not_ready}
 use Rattle.llb_board.specs.Views.{status_of}
-use Rattle.llb_board.specs.declared.fault.ClaimFault.{ClaimFault}
+use Rattle.llb_events.specs.declared.fault.ClaimFault.{ClaimFault}
 use Rattle.llb_board.proofs.Begins.{Parts, AreParts, begun_of, supplied, workable}
 use Rattle.llb_board.proofs.step.begin.Goals as goal
 use Rattle.llb_board.proofs.step.begin.Goals.{After-new-2}

@@ -6,7 +6,7 @@ use Rattle.llb_model.specs.Table.{claim_start}
 use Rattle.llb_model.specs.Table as table
 use Rattle.llb_board.specs.Views.{status_of, at_of}
 use Rattle.llb_board.specs.Rules.{faulted, claim_fault}
-use Rattle.llb_board.specs.declared.fault.ClaimFault.TheVariants.{NotReady}
+use Rattle.llb_events.specs.declared.fault.ClaimFault.TheVariants.{NotReady}
 use Rattle.llb_model.proofs.Vertices.{kind_at}
 use Rattle.llb_board.proofs.Behind.{ready_so}
 use Rattle.llb_board.proofs.step.claimable.Goals as goal

@@ -5,7 +5,8 @@ use Rattle.llb_board.specs.Board.{Seen, opened}
 use Rattle.llb_board.specs.Rules.{may_work}
 use Rattle.llb_board.specs.declared.fault.OpenFault.{OpenFault}
 use Rattle.llb_board.specs.declared.fault.OpenFault.TheVariants.{Workers}
-use Rattle.llb_board.specs.Links.{IsLinked, done_in}
+use Rattle.llb_links.specs.Links.{IsLinked}
+use Rattle.llb_board.specs.OpenInputs.{done_in}
 use Rattle.llb_board.specs.Views.{status_of}
 use Rattle.llb_board.specs.declared.stand.Stand.TheVariants.{Waiting}
 use Rattle.llb_board.proofs.Behind.{linked_open}

@@ -13,7 +13,7 @@ use Rattle.llb_board.specs.declared.stand.Stand.TheVariants as stand
 use Rattle.llb_board.specs.declared.stand.Desk.TheVariants as desk
 use Rattle.llb_board.proofs.Claiming.{data_of}
 use Rattle.llb_board.proofs.Undone.{on_true, on_false, undone_is}
-use Rattle.llb_board.specs.Links.{done_in}
+use Rattle.llb_board.specs.OpenInputs.{done_in}
 use Rattle.llb_board.proofs.Behind.{low_user, users_counted, counts_fit, linked_resumed}
 use Rattle.llb_board.proofs.Undos.{tracked, over_written, low_vertex, low_graph, places_resumed, resume_leaves}
 use Rattle.llb_board.proofs.board.Board.resume.Goals as goal

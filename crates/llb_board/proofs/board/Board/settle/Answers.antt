@@ -11,7 +11,8 @@ use Rattle.llb_board.specs.Board.{Seen}
 use Rattle.llb_board.specs.Rules.{settle_fault, settle_of, left_at}
 use Rattle.llb_board.specs.Room.{AreOver, seen}
 use Rattle.llb_board.specs.declared.stand.Desk.TheVariants as desk
-use Rattle.llb_board.specs.Links.{IsLinked, done_in}
+use Rattle.llb_links.specs.Links.{IsLinked}
+use Rattle.llb_board.specs.OpenInputs.{done_in}
 use Rattle.llb_board.proofs.Behind.{low_user, users_counted, all_counted, linked_set, linked_settled, spread_stops}
 use Rattle.llb_board.proofs.Lists.{map_set}
 use Rattle.llb_board.proofs.Calls.{CanSettle, settle_done}

@@ -5,7 +5,7 @@ use Rattle.llb_model.specs.Outcome.{Done, Failed}
 use Rattle.llb_model.specs.State.{Status, Waiting, Running, Settled, start_from, is_ready, is_waiting, is_blocked}
 use Rattle.llb_model.proofs.Lists.{get_within}
 use Rattle.llb_board.specs.Board.{Seen}
-use Rattle.llb_board.specs.Links.{has_inputs}
+use Rattle.llb_links.specs.Links.{has_inputs}
 use Rattle.llb_board.specs.Room.{seen}
 use Rattle.llb_board.specs.Views.{status_of, look, look_at}
 use Rattle.llb_board.proofs.Behind.{tells, ready_so}

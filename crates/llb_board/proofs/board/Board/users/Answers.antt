@@ -1,6 +1,7 @@
 use Rattle.std.proofs.Common.{◌∙◌, map, ap}
 use Rattle.llb_board.specs.Board.{Seen}
-use Rattle.llb_board.specs.Links.{users_of, done_in}
+use Rattle.llb_links.specs.Links.{users_of}
+use Rattle.llb_board.specs.OpenInputs.{done_in}
 use Rattle.llb_board.specs.Views.{status_of}
 use Rattle.llb_board.proofs.Behind.{users_told}
 use Rattle.llb_board.proofs.board.Board.users.Goals as goal

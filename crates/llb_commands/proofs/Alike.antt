@@ -1,0 +1,64 @@
+-- Definitions of the same entries run to the same text.
+use Rattle.std.proofs.Common.{◌≡◌, ℕ, List, refl, sym, ap, subst, ◌∙◌}
+use Rattle.std.specs.Prelude.{Option, Some, None, Result, Ok, Err}
+use Rattle.llb_wire.specs.Spelling.{AreBytes}
+use Rattle.llb_treetext.specs.TreeText.{tree_text}
+use Rattle.llb_ops.specs.declared.fault.OpFault.{OpFault}
+use Rattle.llb_ops.specs.Definition.{definition_of, definition_bytes}
+use Rattle.llb_ops.specs.Laws.{AreReadAgain}
+use Rattle.llb_asm.specs.Reading.{HasOneAnswer}
+use Rattle.llb_loader.specs.Graph.{Numbered}
+use Rattle.llb_loader.specs.Laws.{HasOneAnswerIn}
+use Rattle.llb_loader.specs.Link.{IsGraphOf}
+use Rattle.llb_loader.specs.Load.{rows_from, IsGraphIn}
+use Rattle.llb_loader.specs.Locals.{Local}
+use Rattle.llb_model.specs.State.{State}
+use Rattle.llb_commands.specs.Answer.{build_of, result_in, IsEnd, Yields}
+use Rattle.llb_commands.specs.Assembly.{RunsAlike}
+
+-- what stands in the place of an `Ok` or a `Some`
+abbrev ok_of : {A F : Type 0} → A → Result A F → A
+ok_of a (Ok x) = x
+ok_of a (Err e) = a
+
+abbrev some_of : {A : Type 0} → A → Option A → A
+some_of a (Some x) = x
+some_of a None = a
+
+abbrev Read : Type 0
+Read = Result (List (List ℕ)) OpFault
+
+-- a graph of bytes is one of all bytes with the same entries
+moved : (bytes other : List ℕ) (entries : List (List ℕ)) (g : Numbered) → definition_of bytes ≡ Ok entries → definition_of other ≡ Ok entries
+    → IsGraphIn bytes g → IsGraphIn other g
+moved bytes other entries g read again loaded =
+    let same : loaded.0 ≡ entries = ap (λ (r : Read). ok_of entries r) (sym loaded.1 ∙ read) in
+    (entries, again, subst (λ es. IsGraphOf (rows_from es) g) same loaded.2)
+
+-- one graph on the same trees runs to one text
+one_text : (locals : List Local) (bytes other one two : List ℕ) (y : Yields 1 locals bytes one) (z : Yields 1 locals other two) → y.graph ≡ z.graph → one ≡ two
+one_text locals bytes other one two y z graphs = y.printed ∙ ap tree_text trees ∙ sym z.printed
+  where
+    ended : IsEnd 1 (build_of locals z.graph) y.state
+    ended = subst (λ g. IsEnd 1 (build_of locals g) y.state) graphs y.ended
+
+    states : y.state ≡ z.state
+    states = (z.ended.alone refl).only ended.events y.state (ended.alone refl).ends
+
+    results : Some y.tree ≡ Some z.tree
+    results = sym y.result ∙ ap (λ (s : State). result_in s y.graph) states ∙ ap (result_in z.state) graphs ∙ z.result
+
+    trees : y.tree ≡ z.tree
+    trees = ap (some_of y.tree) results
+
+-- a text and any bytes with the entries that it stands for have one graph, so that both run to one text
+pub runs_alike : (text bytes : List ℕ) (entries : List (List ℕ)) → HasOneAnswer text → HasOneAnswerIn bytes → AreReadAgain entries → AreBytes bytes
+    → RunsAlike text entries bytes
+runs_alike text bytes entries once graphs again are stands read locals definition one other assembled y z =
+    one_text locals definition bytes one other y z (graphs.graphs y.graph z.graph loaded z.loaded)
+  where
+    same : definition ≡ definition_bytes entries
+    same = assembled.same ∙ ap definition_bytes (once.entries assembled.entries entries assembled.stands stands)
+
+    loaded : IsGraphIn bytes y.graph
+    loaded = moved definition bytes entries y.graph (ap definition_of same ∙ again bytes are read) read y.loaded

@@ -1,0 +1,211 @@
+-- What a run tells of the bytes that it read.
+use Rattle.std.proofs.Common.{◌≡◌, ℕ, ◌<◌, Bool, true, false, cond, ltb, List, [], length, ◌⊎◌, Option, Some, None, Result, Ok, Err, inl}
+use Rattle.std.proofs.Common.{inr, refl, sym, ap, subst, ◌∙◌}
+use Rattle.std.specs.Prelude.{IfSome}
+use Rattle.std.proofs.lemmas.Bool.{lt-ltb}
+use Rattle.std.specs.Io.KnownBytes.{Appends}
+use Rattle.llb_wire.specs.Sink.{PartOut}
+use Rattle.llb_ops.specs.declared.fault.OpFault.TheVariants.{OverLimit}
+use Rattle.llb_ops.specs.Limits.{definition_limit}
+use Rattle.llb_ops.specs.Definition.{definition_of}
+use Rattle.llb_tree.specs.Tree.{TreeMap}
+use Rattle.llb_loader.specs.declared.fault.LoadFault.{LoadFault}
+use Rattle.llb_loader.specs.declared.fault.LoadFault.TheVariants.{Definition}
+use Rattle.llb_loader.specs.Faults.{is_memory}
+use Rattle.llb_loader.specs.Graph.{Numbered, IsGraph}
+use Rattle.llb_loader.specs.Locals.{Local}
+use Rattle.llb_loader.specs.Load.{IsGraphIn, IsRefusalIn}
+use Rattle.llb_board.specs.Board.{Seen}
+use Rattle.llb_commands.specs.declared.fault.ProgramFault.{ProgramFault}
+use Rattle.llb_commands.specs.declared.fault.ProgramFault.TheVariants.{Refused, Loading}
+use Rattle.llb_treetext.specs.TreeText.{tree_text}
+use Rattle.llb_commands.specs.GraphText.{graph_text}
+use Rattle.llb_commands.specs.Answer.{build_of, result_in, Yields, YieldsNone, YieldsAll, IsRefused, IsUnopened, IsNotRun, YieldsPart, DrawsPart}
+use Rattle.llb_commands.specs.Answer.{Runs}
+use Rattle.llb_commands.proofs.Ending.{result_fails, tree_fails_none, plain_tree}
+use Rattle.llb_commands.specs.Running.{passed_on, unread_as, IsRefusal, TellsRefusal, IsFinished, Shows, Answers, Tells}
+use Rattle.llb_commands.specs.Assembly.{IsUnread}
+use Rattle.llb_commands.specs.Bounded.{ReadsAll}
+use Rattle.llb_commands.specs.declared.bounded.ReadFault.{ReadFault}
+use Rattle.llb_commands.specs.declared.bounded.ReadFault.TheVariants.{TooLong, Failed, Unending}
+use Rattle.llb_commands.specs.declared.bounded.ReadFault.TheVariants as reading
+use Rattle.std.specs.Prelude.{Vec}
+use Rattle.std.specs.Global.{Global}
+use Rattle.std.specs.Io.KnownBytes.{Keeps}
+use Rattle.std.proofs.KnownBytes.{Appends-kept, Keeps-refl, Keeps-trans}
+use Rattle.std.proofs.lemmas.List.{append-nil}
+
+-- where what is known has one fact, it has any that follows from it
+pub some_map : {A : Type 0} (P Q : A → Type 0) (o : Option A) → ((x : A) → P x → Q x) → IfSome o P → IfSome o Q
+some_map P Q None f h = tt
+some_map P Q (Some x) f h = f x h
+
+-- bytes past the limit are no definition
+unread_long : (bytes : List ℕ) → 67108864 < length bytes → IsUnread bytes
+unfolding definition_of
+unread_long bytes long =
+    let yes : ltb definition_limit (length bytes) ≡ true = lt-ltb _ _ long in
+    (OverLimit, rw yes refl)
+
+-- and so they are refused
+refuses_long : (bytes : List ℕ) → 67108864 < length bytes → IsRefused bytes
+refuses_long bytes long = let unread = unread_long bytes long in (Definition unread.0, inl (unread.0, unread.1, refl))
+
+-- what the loader refuses is refused
+pub tells : (left : Option (List ℕ)) (e : LoadFault) (bytes : List ℕ) → IfSome left (λ xs. bytes ≡ xs)
+    → (is_memory e ≡ false → IsRefusalIn bytes e) → IsRefusal (passed_on e) → IfSome left IsRefused
+tells left e bytes read refused h =
+    some_map (λ xs. bytes ≡ xs) IsRefused left (λ xs same. (e, subst (λ ys. IsRefusalIn ys e) same (refused (by_test (is_memory e) refl h)))) read
+  where
+    by_test : (b : Bool) → is_memory e ≡ b → IsRefusal (cond b Loading (Refused e)) → is_memory e ≡ false
+    by_test true is h = absurd h
+    by_test false is h = is
+
+-- what was read is the definition of the graph that was loaded
+pub reads_graph : (left : Option (List ℕ)) (g : Numbered) (bytes : List ℕ) → IfSome left (λ xs. bytes ≡ xs) → IsGraphIn bytes g
+    → IfSome left (λ xs. IsGraphIn xs g)
+reads_graph left g bytes read loaded = some_map (λ xs. bytes ≡ xs) (λ xs. IsGraphIn xs g) left (λ xs same. subst (λ ys. IsGraphIn ys g) same loaded) read
+
+module _ (workers : ℕ) (ls : List Local) (left : Option (List ℕ)) (g : Numbered) (graph : IsGraph g) (b : Seen) (fin : IsFinished workers ls g b)
+    (loads : IfSome left (λ bytes. IsGraphIn bytes g)) where
+  yields : (bytes : List ℕ) → IsGraphIn bytes g → (t : TreeMap) → result_in b.state g ≡ Some t → Yields workers ls bytes (tree_text t)
+  yields bytes loaded t is = record {
+    graph = g;
+    loaded = loaded;
+    state = b.state;
+    ended = fin.ended;
+    tree = t;
+    result = is;
+    plainly = plain_tree (build_of ls g) graph b.state fin.ended.plain t is;
+    none_failed = tree_fails_none (build_of ls g) graph b.state fin.here t is;
+    printed = refl;
+  }
+
+  answers_text : (out out' : Option (List ℕ)) (t : TreeMap) → result_in b.state g ≡ Some t → Appends out out' (tree_text t)
+      → IfSome left (YieldsAll workers ls out out')
+  answers_text out out' t is app = some_map (λ bytes. IsGraphIn bytes g) (YieldsAll workers ls out out') left (λ bytes loaded.
+      (tree_text t, yields bytes loaded t is, app)) loads
+
+  answers_part : (out out' : Option (List ℕ)) (t : TreeMap) → result_in b.state g ≡ Some t → PartOut out out' (tree_text t)
+      → IfSome left (YieldsPart workers ls out out')
+  answers_part out out' t is part = some_map (λ bytes. IsGraphIn bytes g) (YieldsPart workers ls out out') left (λ bytes loaded.
+      (tree_text t, yields bytes loaded t is, part)) loads
+
+  answers_none : result_in b.state g ≡ None → IfSome left (YieldsNone workers ls)
+  answers_none none =
+      let fails = result_fails (build_of ls g) graph b.state fin.here fin.ended.complete none in
+      some_map (λ bytes. IsGraphIn bytes g) (YieldsNone workers ls) left
+      (λ bytes loaded. record { graph = g; loaded = loaded; state = b.state; ended = fin.ended; result = none; fails = fails }) loads
+
+  -- what is shown of the result is the answer
+  pub answers : {B : Type 0} (out out' : Option (List ℕ)) (r : Result (Option B) ProgramFault) → Shows out out' (result_in b.state g) r
+      → Answers workers ls left out out' r
+  answers out out' (Ok None) s = answers_text out out' s.0 s.1 s.2
+  answers out out' (Ok (Some x)) s = (s.1, answers_none s.0)
+  answers out out' (Err e) s = inr (s.0, answers_part out out' s.1.0 s.1.1 s.1.2)
+
+-- ---- what the parts answered, where the answer is known
+
+abbrev read_err : ReadFault → Result (Vec ℕ Global) ReadFault
+read_err e = Err e
+
+too_long : (left left' : Option (List ℕ)) (r : Result (Vec ℕ Global) ReadFault) (e : ReadFault) → r ≡ Err e → e ≡ TooLong
+    → ReadsAll 67108864 134217728 left left' r → IfSome left (λ xs. 67108864 < length xs)
+too_long left left' r e is same reads =
+    let h : ReadsAll 67108864 134217728 left left' (Err TooLong) = subst (ReadsAll 67108864 134217728 left left') (is ∙ ap read_err same) reads in h
+
+-- a refusal of what was not read stands, of what all bytes are that are too long
+module _ (IsSo : List ℕ → Type 0) (long : (bytes : List ℕ) → 67108864 < length bytes → IsSo bytes) (left left' : Option (List ℕ)) (r : Result (Vec ℕ
+    Global) ReadFault) where
+  by_fault : (e : ReadFault) → r ≡ Err e → ReadsAll 67108864 134217728 left left' r → TellsRefusal IsSo left (unread_as e)
+  by_fault TooLong is reads = λ _. some_map (λ xs. 67108864 < length xs) IsSo left long (too_long left left' r TooLong is refl reads)
+  by_fault (Failed kind) is reads = λ h. absurd h
+  by_fault (Unending interrupted) is reads = λ h. absurd h
+  by_fault reading.Memory is reads = λ h. absurd h
+
+  tells_so : (e : ReadFault) (p : ProgramFault) → r ≡ Err e → p ≡ unread_as e → ReadsAll 67108864 134217728 left left' r → TellsRefusal IsSo left p
+  tells_so e p is same reads = subst (TellsRefusal IsSo left) (sym same) (by_fault e is reads)
+
+-- it is refused
+pub tells_unread : (left left' : Option (List ℕ)) (r : Result (Vec ℕ Global) ReadFault) (e : ReadFault) (p : ProgramFault)
+    → r ≡ Err e → p ≡ unread_as e → ReadsAll 67108864 134217728 left left' r → TellsRefusal IsRefused left p
+tells_unread = tells_so IsRefused refuses_long
+
+-- it is no definition
+pub tells_no_definition : (left left' : Option (List ℕ)) (r : Result (Vec ℕ Global) ReadFault) (e : ReadFault) (p : ProgramFault)
+    → r ≡ Err e → p ≡ unread_as e → ReadsAll 67108864 134217728 left left' r → TellsRefusal IsUnread left p
+tells_no_definition = tells_so IsUnread unread_long
+
+-- a reading without a fault gives all the bytes that were left
+pub all_read : (left left' : Option (List ℕ)) (r : Result (Vec ℕ Global) ReadFault) (bytes : Vec ℕ Global) → r ≡ Ok bytes
+    → ReadsAll 67108864 134217728 left left' r → IfSome left (λ xs. bytes.items ≡ xs)
+all_read left left' r bytes is reads =
+    let h : ReadsAll 67108864 134217728 left left' (Ok bytes) = subst (ReadsAll 67108864 134217728 left left') is reads in h.1
+
+-- ---- a whole run
+
+-- the status for a fault tells it
+pub tells_fault : {B : Type 0} (out : Option (List ℕ)) (r : Result (Option B) ProgramFault) (e : ProgramFault) (status : ℕ) → r ≡ Err e
+    → (status ≡ 3) ⊎ ((status ≡ 2) × IsRefusal e) → Tells out out r status
+tells_fault out r e status is told = subst (λ x. Tells out out x status) (sym is) (Keeps-refl out, told)
+
+module _ (workers : ℕ) (ls : List Local) (left out out' last : Option (List ℕ)) where
+  all_kept : Keeps out' last → (bytes : List ℕ) → YieldsAll workers ls out out' bytes → YieldsAll workers ls out last bytes
+  all_kept keeps bytes y = (y.0, y.1, Appends-kept out out' last y.0 y.2 keeps)
+
+  all_part : Keeps out' last → (bytes : List ℕ) → YieldsAll workers ls out out' bytes → YieldsPart workers ls out last bytes
+  all_part keeps bytes y = (y.0, y.1, (y.0, [], sym (append-nil y.0), Appends-kept out out' last y.0 y.2 keeps))
+
+  part_kept : Keeps out' last → (bytes : List ℕ) → YieldsPart workers ls out out' bytes → YieldsPart workers ls out last bytes
+  part_kept keeps bytes (text, yields, (front, rest, split, app)) = (text, yields, (front, rest, split, Appends-kept out out' last front app keeps))
+
+  -- an answer and the status that is told for it are a run
+  pub run_told : {B : Type 0} (r : Result (Option B) ProgramFault) (status : ℕ) → Answers workers ls left out out' r → Tells out' last r status
+      → Runs workers ls left out last status
+  run_told (Ok None) status done (keeps, inl zero) = inl (
+    zero,
+    some_map (YieldsAll workers ls out out') (YieldsAll workers ls out last) left
+        (all_kept keeps) done,
+  )
+  run_told (Ok None) status done (keeps, inr three) = inr (inr (inr (
+    three,
+    inr (some_map (YieldsAll workers ls out out')
+        (YieldsPart workers ls out last) left (all_part keeps) done),
+  )))
+  run_told (Ok (Some b)) status (kept, lacks) (keeps, inl one) = inr (inl (one, Keeps-trans out out' last kept keeps, lacks))
+  run_told (Ok (Some b)) status (kept, lacks) (keeps, inr three) = inr (inr (inr (three, inl (Keeps-trans out out' last kept keeps))))
+  run_told (Err e) status (inl (kept, tells)) (keeps, inl three) = inr (inr (inr (three, inl (Keeps-trans out out' last kept keeps))))
+  run_told (Err e) status (inl (kept, tells)) (keeps, inr (two, is)) = inr (inr (inl (two, Keeps-trans out out' last kept keeps, tells is)))
+  run_told (Err e) status (inr (none, part)) (keeps, inl three) = inr (inr (inr (
+    three,
+    inr (some_map (YieldsPart workers ls out out')
+        (YieldsPart workers ls out last) left (part_kept keeps) part),
+  )))
+  run_told (Err e) status (inr (none, part)) (keeps, inr (two, is)) = absurd (none is)
+
+-- ---- a show
+
+-- a text that is out is a prefix of itself
+pub drawn_unflushed : (left out out' last : Option (List ℕ)) (g : Numbered) → IfSome left (λ bytes. IsGraphIn bytes g)
+    → Appends out out' (graph_text g) → Keeps out' last → IfSome left (DrawsPart out last)
+drawn_unflushed left out out' last g loads whole keeps =
+    some_map (λ bytes. IsGraphIn bytes g) (DrawsPart out last) left
+    (λ bytes loaded. (g, loaded, (graph_text g, [], sym (append-nil (graph_text g)), Appends-kept out out' last (graph_text g) whole keeps))) loads
+
+-- ---- a definition that is not run
+
+-- what is refused is not run
+pub tells_not_run : (workers : ℕ) (ls : List Local) (left : Option (List ℕ)) (e : ProgramFault) → TellsRefusal IsRefused left e
+    → TellsRefusal (IsNotRun workers ls) left e
+tells_not_run workers ls left e tells h = some_map IsRefused (IsNotRun workers ls) left (λ bytes refused. inl refused) (tells h)
+
+-- what is refused has no run
+pub tells_no_run : (workers : ℕ) (ls : List Local) (left : Option (List ℕ)) (e : ProgramFault) → TellsRefusal IsRefused left e
+    → TellsRefusal (IsNotRun workers ls) left e
+tells_no_run workers ls left e tells h = some_map IsRefused (IsNotRun workers ls) left (λ bytes refused. inl refused) (tells h)
+
+-- nor is what has no board, or too many workers
+pub tells_unrun : (workers : ℕ) (ls : List Local) (left : Option (List ℕ)) (g : Numbered) (e : ProgramFault) → IfSome left (λ bytes. IsGraphIn bytes g)
+    → (IsRefusal e → IsUnopened ls g workers) → TellsRefusal (IsNotRun workers ls) left e
+tells_unrun workers ls left g e loads unrun h = some_map (λ bytes. IsGraphIn bytes g) (IsNotRun workers ls) left (λ bytes loaded. inr
+    (g, loaded, unrun h)) loads

@@ -1,0 +1,9 @@
+use Rattle.std.proofs.Common.{subst}
+use Rattle.llb_loader.specs.Laws.{HasOneAnswerIn}
+use Rattle.llb_commands.proofs.Alike.{runs_alike}
+use Rattle.llb_commands.proofs.laws.assembled_runs_alike.Goals as goal
+
+pub returns : goal.returns
+returns c =
+    runs_alike c.args.text.now c.args.bytes.now c.args.entries.now c.one_answer.ensures
+    (subst HasOneAnswerIn c.as_slice.ensures c.one_answer_in.ensures) c.definition_is_read_again.ensures c.is_bytes.ensures

@@ -1,0 +1,8 @@
+use Rattle.llb_commands.proofs.Answering.{run_told}
+use Rattle.llb_commands.proofs.run.run_many_over.Goals as goal
+
+pub returns : goal.returns
+returns g c =
+    run_told c.args.workers c.args.locals (g.R.Read.remaining c.args.input.now) (g.W.Write.contents c.args.out.now)
+    (g.W.Write.contents c.answer_by-answer.new.out)
+    (g.W.Write.contents c.told.new.out) c.answer_by-answer.result c.told.result c.answer_by-answer.ensures c.told.ensures

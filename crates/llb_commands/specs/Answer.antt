@@ -1,0 +1,131 @@
+-- What the program answers to the bytes that it reads.
+use Rattle.std.specs.Prelude.{◌≡◌, ◌≤◌, ◌<◌, ◌⊎◌, ℕ, true, false, List, length, Option, Some, None, IfSome, slice_get}
+use Rattle.std.specs.Io.KnownBytes.{Appends, Keeps}
+use Rattle.llb_wire.specs.Sink.{PartOut}
+use Rattle.llb_tree.specs.Tree.{TreeMap}
+use Rattle.llb_loader.specs.declared.fault.LoadFault.{LoadFault}
+use Rattle.llb_loader.specs.Graph.{Numbered}
+use Rattle.llb_loader.specs.Load.{IsGraphIn, IsRefusalIn}
+use Rattle.llb_loader.specs.Locals.{Local}
+use Rattle.llb_model.specs.declared.fault.VertexFault.{VertexFault}
+use Rattle.llb_model.specs.Caches.{no_instances}
+use Rattle.llb_model.specs.Program.{Build}
+use Rattle.llb_model.specs.Outcome.{Failed, ending_in, outcome, output_in}
+use Rattle.llb_model.specs.State.{State, Opening, opening, ending_at, missing_local}
+use Rattle.llb_model.specs.Table.{Event, Reply}
+use Rattle.llb_model.specs.Run.{run, is_complete, StandsPlainly}
+use Rattle.llb_model.specs.Laws.{HasNoCaches}
+use Rattle.llb_treetext.specs.TreeText.{tree_text}
+use Rattle.llb_board.specs.Rules.{may_work}
+use Rattle.llb_work.specs.Alone.{EndsInClaimOrder}
+use Rattle.llb_commands.specs.GraphText.{graph_text}
+
+-- a run is over a graph and the local trees
+abbrev pub build_of : List Local → Numbered → Build
+build_of locals g = record { graph = g; locals = locals }
+
+-- a run begins with that many workers, and with caches that are empty
+abbrev pub run_opening : ℕ → Opening
+run_opening workers = record { workers = workers; store = no_instances }
+
+-- One worker does the chosen events in the order of the claims, and no run that does so ends in another state.
+pub record IsAlone (b : Build) (s : State) (events : List Event) : Type 0 where
+  pub ends : EndsInClaimOrder b (run_opening 1) events s
+  pub only : (es : List Event) (t : State) → EndsInClaimOrder b (run_opening 1) es t → t ≡ s
+
+-- A state in which a run of a build by that many workers ends: granted events lead to it, and nothing is left to do. Without caches each vertex stands
+-- there as its plain outcome, for any number of workers.
+pub record IsEnd (workers : ℕ) (b : Build) (s : State) : Type 0 where
+  pub events : List Event
+  pub replies : List Reply
+  pub leads : run b (opening b (run_opening workers)) events ≡ Some (s, replies)
+  pub complete : is_complete b s ≡ true
+  pub plain : HasNoCaches b → (v : ℕ) → v < length b.graph.vertices → StandsPlainly (slice_get s.statuses v) (outcome b v)
+  pub alone : workers ≡ 1 → IsAlone b s events
+
+-- the tree that a graph's result is in a state: none where its vertex is not done
+abbrev pub result_in : State → Numbered → Option TreeMap
+result_in s g = output_in (ending_at s.statuses g.result.vertex) g.result.index
+
+-- the tree that a graph's result is by the plain outcomes
+abbrev pub plain_result : Build → Option TreeMap
+plain_result b = output_in (ending_in (outcome b b.graph.result.vertex)) b.graph.result.index
+
+-- bytes that are the definition of a graph whose result, where a run on these local trees by that many workers has ended, is a tree of that text; then no
+-- vertex has failed, and without caches it is the tree that the plain outcomes give
+pub record Yields (workers : ℕ) (locals : List Local) (bytes text : List ℕ) : Type 0 where
+  pub graph : Numbered
+  pub loaded : IsGraphIn bytes graph
+  pub state : State
+  pub ended : IsEnd workers (build_of locals graph) state
+  pub tree : TreeMap
+  pub result : result_in state graph ≡ Some tree
+  pub plainly : HasNoCaches (build_of locals graph) → plain_result (build_of locals graph) ≡ Some tree
+  pub none_failed : (v : ℕ) (f : VertexFault) → ending_at state.statuses v ≡ Some (Failed f) → ⊥
+  pub printed : text ≡ tree_text tree
+
+-- a vertex at or before one has failed
+pub record FailsBy (s : State) (v : ℕ) : Type 0 where
+  pub vertex : ℕ
+  pub before : vertex ≤ v
+  pub fault : VertexFault
+  pub failed : ending_at s.statuses vertex ≡ Some (Failed fault)
+
+-- bytes that are the definition of a graph whose result is no tree where a run has ended, since a vertex has failed
+pub record YieldsNone (workers : ℕ) (locals : List Local) (bytes : List ℕ) : Type 0 where
+  pub graph : Numbered
+  pub loaded : IsGraphIn bytes graph
+  pub state : State
+  pub ended : IsEnd workers (build_of locals graph) state
+  pub result : result_in state graph ≡ None
+  pub fails : FailsBy state graph.result.vertex
+
+-- bytes that are no definition of a graph
+abbrev pub IsRefused : List ℕ → Type 0
+IsRefused bytes = (e : LoadFault) × IsRefusalIn bytes e
+
+-- a local source of a graph has no tree
+abbrev pub Lacks : List Local → Numbered → Type 0
+Lacks locals g = (name : List ℕ) × (missing_local locals g.vertices ≡ Some name)
+
+-- no board is opened on a graph: a local tree is missing, or the number of workers is 0 or more than 64
+abbrev pub IsUnopened : List Local → Numbered → ℕ → Type 0
+IsUnopened locals g workers = Lacks locals g ⊎ (may_work workers ≡ false)
+
+-- bytes that are no definition of a graph, or of one on which no run is begun
+abbrev pub IsNotRun : ℕ → List Local → List ℕ → Type 0
+IsNotRun workers locals bytes = IsRefused bytes ⊎ ((g : Numbered) × IsGraphIn bytes g × IsUnopened locals g workers)
+
+-- a prefix of the text that the bytes yield is out, and no more
+abbrev pub YieldsPart : ℕ → List Local → Option (List ℕ) → Option (List ℕ) → List ℕ → Type 0
+YieldsPart workers locals out out' bytes = (text : List ℕ) × Yields workers locals bytes text × PartOut out out' text
+
+-- the text is out, and nothing else
+abbrev pub YieldsAll : ℕ → List Local → Option (List ℕ) → Option (List ℕ) → List ℕ → Type 0
+YieldsAll workers locals out out' bytes = (text : List ℕ) × Yields workers locals bytes text × Appends out out' text
+
+-- How a run by that many workers ends. 0: the text of the result is out, and nothing else. 1: a vertex failed, so that the result is no tree, and nothing is
+-- out. 2: the bytes are refused, a local tree is missing, or there are no workers or too many, and nothing is out. 3: a device, a thread or memory failed;
+-- nothing is out, or a prefix of the text.
+abbrev pub Runs : ℕ → List Local → Option (List ℕ) → Option (List ℕ) → Option (List ℕ) → ℕ → Type 0
+Runs workers locals input out out' status =
+    ((status ≡ 0) × IfSome input (YieldsAll workers locals out out'))
+    ⊎ (((status ≡ 1) × Keeps out out' × IfSome input (YieldsNone workers locals))
+    ⊎ (((status ≡ 2) × Keeps out out' × IfSome input (IsNotRun workers locals))
+    ⊎ ((status ≡ 3) × (Keeps out out' ⊎ IfSome input (YieldsPart workers locals out out')))))
+
+-- the text of the graph of the bytes is out, and nothing else
+abbrev pub DrawsAll : Option (List ℕ) → Option (List ℕ) → List ℕ → Type 0
+DrawsAll out out' bytes = (g : Numbered) × IsGraphIn bytes g × Appends out out' (graph_text g)
+
+-- a prefix of it is, and no more
+abbrev pub DrawsPart : Option (List ℕ) → Option (List ℕ) → List ℕ → Type 0
+DrawsPart out out' bytes = (g : Numbered) × IsGraphIn bytes g × PartOut out out' (graph_text g)
+
+-- How a show ends. 0: the text of the graph is out, and nothing else. 2: the bytes are refused, and nothing is out. 3: a device or memory
+-- failed; nothing is out, or a prefix of the text.
+abbrev pub Draws : Option (List ℕ) → Option (List ℕ) → Option (List ℕ) → ℕ → Type 0
+Draws input out out' status =
+    ((status ≡ 0) × IfSome input (DrawsAll out out'))
+    ⊎ (((status ≡ 2) × Keeps out out' × IfSome input IsRefused)
+    ⊎ ((status ≡ 3) × (Keeps out out' ⊎ IfSome input (DrawsPart out out'))))

@@ -1,0 +1,78 @@
+-- Between a text and the definition of its entries: what assembling and disassembling answer.
+use Rattle.std.specs.Prelude.{◌≡◌, ◌⊎◌, ◌<◌, ℕ, List, length, Option, Ok, Err, Bool, true, false, IfSome}
+use Rattle.std.specs.Io.KnownBytes.{Appends, Keeps}
+use Rattle.llb_wire.specs.Sink.{PartOut}
+use Rattle.llb_ops.specs.declared.fault.OpFault.{OpFault}
+use Rattle.llb_ops.specs.Definition.{definition_of, definition_bytes}
+use Rattle.llb_asm.specs.Lines.{kept}
+use Rattle.llb_asm.specs.Reading as asm
+use Rattle.llb_asm.specs.Reading.{StandsFor}
+use Rattle.llb_asm.specs.declared.fault.AsmFault.{AsmFault}
+use Rattle.llb_asm.specs.declared.fault.AsmFault.TheVariants.{Line, UnknownLabel, Memory, Write}
+use Rattle.llb_asm.specs.Plain.{Formed, AreFormed, plain_text}
+use Rattle.llb_loader.specs.Locals.{Local}
+use Rattle.llb_commands.specs.Answer.{Yields}
+use Rattle.llb_commands.specs.Sources.{limit}
+
+-- the definition of the entries that a text stands for
+pub record IsAssembled (text definition : List ℕ) : Type 0 where
+  pub entries : List (List ℕ)
+  pub stands : StandsFor (kept text) entries
+  pub same : definition ≡ definition_bytes entries
+
+-- a fault that refuses a line
+abbrev pub refuses_a_line : AsmFault → Bool
+refuses_a_line (Line n rule) = true
+refuses_a_line (UnknownLabel n) = true
+refuses_a_line Memory = false
+refuses_a_line Write = false
+
+-- a line of a text is refused: the first one, with its first fault
+abbrev pub HasFaultyLine : List ℕ → Type 0
+HasFaultyLine text = (e : AsmFault) × (refuses_a_line e ≡ true) × asm.Assembles text (Err e)
+
+-- a text that stands for none: it is too long, or one of its lines is refused
+abbrev pub IsNoText : List ℕ → Type 0
+IsNoText text = (limit < length text) ⊎ HasFaultyLine text
+
+-- the text that is written of the entries of a definition
+pub record IsDisassembled (definition text : List ℕ) : Type 0 where
+  pub entries : List (List ℕ)
+  pub read : definition_of definition ≡ Ok entries
+  pub forms : List Formed
+  pub are : AreFormed entries forms
+  pub same : text ≡ plain_text forms
+
+-- a definition that does not read
+abbrev pub IsUnread : List ℕ → Type 0
+IsUnread definition = (e : OpFault) × (definition_of definition ≡ Err e)
+
+-- what comes of the input is out, and nothing else
+abbrev pub IsOut : (List ℕ → List ℕ → Type 0) → Option (List ℕ) → Option (List ℕ) → List ℕ → Type 0
+IsOut Comes out out' input = (text : List ℕ) × Comes input text × Appends out out' text
+
+-- a prefix of it is, and no more
+abbrev pub IsPartOut : (List ℕ → List ℕ → Type 0) → Option (List ℕ) → Option (List ℕ) → List ℕ → Type 0
+IsPartOut Comes out out' input = (text : List ℕ) × Comes input text × PartOut out out' text
+
+-- How a command ends that writes what comes of its input. 0: all of it is out, and nothing else. 2: the input is refused, and nothing is
+-- out. 3: a device or memory failed; nothing is out, or a prefix of it.
+abbrev pub Ends : (List ℕ → List ℕ → Type 0) → (List ℕ → Type 0) → Option (List ℕ) → Option (List ℕ) → Option (List ℕ) → ℕ → Type 0
+Ends Comes IsRefused input out out' status =
+    ((status ≡ 0) × IfSome input (IsOut Comes out out'))
+    ⊎ (((status ≡ 2) × Keeps out out' × IfSome input IsRefused)
+    ⊎ ((status ≡ 3) × (Keeps out out' ⊎ IfSome input (IsPartOut Comes out out'))))
+
+-- a text is assembled to the definition of the entries that it stands for
+abbrev pub Assembles : Option (List ℕ) → Option (List ℕ) → Option (List ℕ) → ℕ → Type 0
+Assembles = Ends IsAssembled IsNoText
+
+-- a definition is written as the text of its entries
+abbrev pub Disassembles : Option (List ℕ) → Option (List ℕ) → Option (List ℕ) → ℕ → Type 0
+Disassembles = Ends IsDisassembled IsUnread
+
+-- the definition that a text is assembled to runs to the text of the result to which any bytes run whose entries are those that the text stands for
+abbrev pub RunsAlike : List ℕ → List (List ℕ) → List ℕ → Type 0
+RunsAlike text entries bytes =
+    StandsFor (kept text) entries → definition_of bytes ≡ Ok entries → (locals : List Local) (definition one other : List ℕ)
+    → IsAssembled text definition → Yields 1 locals definition one → Yields 1 locals bytes other → one ≡ other

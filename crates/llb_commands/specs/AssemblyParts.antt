@@ -1,0 +1,53 @@
+-- The parts of assembling and disassembling, each with what it tells of the input.
+use Rattle.std.specs.Prelude.{◌≡◌, ◌⊎◌, ℕ, List, Option, Result, Ok, Err, IfSome, if◌then◌else◌}
+use Rattle.std.specs.Io.KnownBytes.{Keeps}
+use Rattle.llb_ops.specs.declared.fault.OpFault.{OpFault}
+use Rattle.llb_ops.specs.Faults as ops
+use Rattle.llb_ops.specs.Definition.{definition_of}
+use Rattle.llb_asm.specs.declared.fault.AsmFault.{AsmFault}
+use Rattle.llb_asm.specs.declared.fault.AsmFault.TheVariants as asm
+use Rattle.llb_commands.specs.declared.bounded.ReadFault.{ReadFault}
+use Rattle.llb_commands.specs.declared.bounded.ReadFault.TheVariants as reading
+use Rattle.llb_commands.specs.declared.fault.ProgramFault.{ProgramFault}
+use Rattle.llb_commands.specs.declared.fault.ProgramFault.TheVariants as fault
+use Rattle.llb_commands.specs.Running.{IsRefusal, TellsRefusal}
+use Rattle.llb_commands.specs.Assembly.{IsOut, IsPartOut, IsAssembled, IsNoText, IsUnread}
+
+-- how a fault of the assembler is passed on: a refusal of a line is one of the program
+abbrev pub assembling_fault : AsmFault → ProgramFault
+assembling_fault (asm.Line n rule) = fault.Assembling (asm.Line n rule)
+assembling_fault (asm.UnknownLabel n) = fault.Assembling (asm.UnknownLabel n)
+assembling_fault asm.Memory = fault.Text asm.Memory
+assembling_fault asm.Write = fault.Text asm.Write
+
+-- how a fault of reading entries is
+abbrev pub entries_fault : OpFault → ProgramFault
+entries_fault e = if ops.is_memory e then fault.Entries else fault.Unread e
+
+-- what a fault of reading a text comes to
+abbrev pub text_unread_as : ReadFault → ProgramFault
+text_unread_as reading.TooLong = fault.TooLong
+text_unread_as (reading.Failed kind) = fault.Read
+text_unread_as (reading.Unending interrupted) = fault.Read
+text_unread_as reading.Memory = fault.Memory
+
+-- what comes of the input is out; or a fault stands, and at most a prefix of it is out
+abbrev pub EndsIn : (List ℕ → List ℕ → Type 0) → (List ℕ → Type 0) → Option (List ℕ) → Option (List ℕ) → Option (List ℕ) → Result (Unit {0}) ProgramFault
+    → Type 0
+EndsIn Comes IsRefused input out out' (Ok u) = IfSome input (IsOut Comes out out')
+EndsIn Comes IsRefused input out out' (Err e) = (Keeps out out' × TellsRefusal IsRefused input e) ⊎ ((¬ IsRefusal e) × IfSome input (IsPartOut Comes out out'))
+
+-- the definition that a text is assembled to, or why there is none
+abbrev pub IsDefinitionOf : List ℕ → Result (List ℕ) ProgramFault → Type 0
+IsDefinitionOf text (Ok definition) = IsAssembled text definition
+IsDefinitionOf text (Err e) = IsRefusal e → IsNoText text
+
+-- the same of an input
+abbrev pub IsDefinitionIn : Option (List ℕ) → Result (List ℕ) ProgramFault → Type 0
+IsDefinitionIn input (Ok definition) = IfSome input (λ text. IsAssembled text definition)
+IsDefinitionIn input (Err e) = TellsRefusal IsNoText input e
+
+-- the entries of an input, or why there are none
+abbrev pub AreEntriesIn : Option (List ℕ) → Result (List (List ℕ)) ProgramFault → Type 0
+AreEntriesIn input (Ok entries) = IfSome input (λ bytes. definition_of bytes ≡ Ok entries)
+AreEntriesIn input (Err e) = TellsRefusal IsUnread input e

@@ -1,0 +1,179 @@
+-- The command line of the program, as `clap` sees it, and what its words say.
+use Rattle.std.specs.Prelude.{◌≡◌, ◌≢◌, ◌⊎◌, ◌==◌, ℕ, nat_lt, pos, Bool, true, not, if◌then◌else◌, List, [], ◌++◌, length, map, find, codes}
+use Rattle.std.specs.Prelude.{Option, Some, None, is_some, option_map, option_and_then, unwrap_or, Result, Ok, Err}
+use Rattle.std.specs.Borrow.{Bor}
+use Rattle.std.specs.List.{position_or_len, before_first, after_first}
+use Rattle.std.specs.Str.Parse.{digits_value, without_leading_plus}
+use Rattle.std.specs.Io.KnownBytes.{Appends}
+use Rattle.clap.specs.Words.{App, Kinds, Row, Rule, Text, all_of, first_of, new_app, new_rule, one_of, with_rule, with_subcommand}
+use Rattle.clap.specs.ValueTests.{is_unsigned_in}
+use Rattle.clap.specs.declared.builder.action.ArgAction.TheVariants.{Append, Set}
+use Rattle.clap.specs.declared.builder.value_parser.ValueParser.TheVariants.{Signed}
+use Rattle.clap.specs.declared.error.kind.ErrorKind.{ErrorKind}
+use Rattle.clap.specs.declared.error.kind.ErrorKind.TheVariants.{OutOfMemory}
+use Rattle.llb_commands.specs.declared.words.Command.{Command}
+use Rattle.llb_commands.specs.declared.words.Command.TheVariants.{Run, Show, Step, Assemble, Disassemble}
+use Rattle.llb_commands.specs.declared.words.Line.{Line}
+use Rattle.llb_commands.specs.declared.words.Local.{Local}
+use Rattle.llb_commands.specs.declared.words.WordsFault.{WordsFault}
+use Rattle.llb_commands.specs.declared.words.WordsFault.TheVariants.{Words, Memory}
+
+-- the program's name is no word of its own, and `help` is no command
+abbrev pub base_app : App
+base_app = record {
+  top = record (new_app (codes "llbm")).top { no_binary_name = true; disable_help_subcommand = true };
+  subs = [];
+}
+
+-- words that name local sources, as many as there are
+abbrev pub local_rule : Rule
+local_rule = record (new_rule (codes "local")) { action = Some Append }
+
+-- the file of the definition, which has to be there
+abbrev pub file_rule : Rule
+file_rule = record (new_rule (codes "file")) { action = Some Set; required = true }
+
+-- the number of workers, one of 32 bits, after `--workers`
+abbrev pub workers_rule : Rule
+workers_rule = record (new_rule (codes "workers")) {
+  long = Some (codes "workers");
+  action = Some Set;
+  parser = Some (Signed (pos 0) (pos 4294967295));
+}
+
+abbrev pub run_app : App
+run_app = with_rule (with_rule (new_app (codes "run")) workers_rule) local_rule
+
+-- the file stands before the local sources
+abbrev pub step_app : App
+step_app = with_rule (with_rule (with_rule (new_app (codes "step")) workers_rule) file_rule) local_rule
+
+-- a command that takes no word
+abbrev pub with_plain : App → Text → App
+with_plain app name = with_subcommand app (new_app name).top
+
+-- those on graphs
+abbrev pub graph_app : App
+graph_app = with_subcommand (with_plain (with_subcommand base_app run_app.top) (codes "show")) step_app.top
+
+-- the commands: `run` takes workers and local sources, `step` a file, workers and local sources, and the others no word
+abbrev pub llbm_app : App
+llbm_app = with_plain (with_plain graph_app (codes "asm")) (codes "dis")
+
+abbrev pub name_of : Command → Text
+name_of Run = codes "run"
+name_of Show = codes "show"
+name_of Step = codes "step"
+name_of Assemble = codes "asm"
+name_of Disassemble = codes "dis"
+
+-- the name of a command
+abbrev pub IsName : Text → Type 0
+IsName name = (name ≡ codes "run") ⊎ ((name ≡ codes "show") ⊎ ((name ≡ codes "step") ⊎ ((name ≡ codes "asm") ⊎ (name ≡ codes "dis"))))
+
+-- the byte `=`
+abbrev pub is_equals : ℕ → Bool
+is_equals b = b == 61
+
+-- the name before the first `=` of a word and the file after it, and none where the word has no `=`
+abbrev pub split_word : Text → Option (Text × Text)
+split_word word = if nat_lt (position_or_len is_equals word) (length word) then Some (before_first is_equals word, after_first is_equals word) else None
+
+abbrev pub named_file : Local → Option (Text × Text)
+named_file l = Some (l.name.now, l.file.now)
+
+-- the words are split into these, in their order
+abbrev pub AreSplit : List Text → List Local → Type 0
+AreSplit words locals = map split_word words ≡ map named_file locals
+
+abbrev pub is_unsplit : Text → Bool
+is_unsplit word = not (is_some (split_word word))
+
+-- the word is the first that has no `=`
+abbrev pub IsUnsplit : List Text → Text → Type 0
+IsUnsplit words word = find is_unsplit words ≡ Some word
+
+-- the command that is named in the matches; no words are the command run
+abbrev pub named : Option (Text × List Row) → Text
+named None = codes "run"
+named (Some p) = p.0
+
+-- the words for local sources among the matches
+abbrev pub local_words : List Row → List Text
+local_words rows = unwrap_or (all_of (codes "local") rows) []
+
+abbrev pub given : Option (Text × List Row) → List Text
+given None = []
+given (Some p) = local_words p.1
+
+-- the number that a text is read as, where it is one of 32 bits: digits, after a plus or none
+abbrev pub number_of : Text → Option ℕ
+number_of text = if is_unsigned_in 0 4294967295 text then Some (digits_value 10 (without_leading_plus text)) else None
+
+-- The workers are as many as the word for them says; where there is none, 1 for a run and 2 for a session. No other command takes a number.
+-- `clap` reads the word without a hyphen before it, and takes one there only at 0.
+abbrev pub IsWorkers : Command → List Row → ℕ → Type 0
+IsWorkers Run rows n = n ≡ unwrap_or (option_and_then number_of (one_of (codes "workers") rows)) 1
+IsWorkers Step rows n = n ≡ unwrap_or (option_and_then number_of (one_of (codes "workers") rows)) 2
+IsWorkers _ rows n = n ≡ 1
+
+-- the file is the word for it; no other command takes one
+abbrev pub IsFile : Command → List Row → Option (Bor Text) → Type 0
+IsFile Step rows file = option_map (λ w. w.now) file ≡ first_of (codes "file") rows
+IsFile _ rows file = file ≡ None
+
+-- the command of that name, with these matches
+pub record SaysCommand (name : Text) (rows : List Row) (line : Line) : Type 0 where
+  pub command : name_of line.command ≡ name
+  pub workers : IsWorkers line.command rows line.workers
+  pub file : IsFile line.command rows line.file
+  pub locals : AreSplit (local_words rows) line.locals
+
+-- the matches of the command that is named
+abbrev pub matches_named : Option (Text × List Row) → List Row
+matches_named None = []
+matches_named (Some p) = p.1
+
+-- what a line says, by the subcommand in the matches
+abbrev pub Says : Option (Text × List Row) → Line → Type 0
+Says met line = SaysCommand (named met) (matches_named met) line
+
+-- No word is named where `clap` refuses for another cause than memory. Where it does not, a word is: the first for a local source that has no `=`.
+abbrev pub Refuses : Kinds → List Text → WordsFault → Type 0
+Refuses kinds words (Words None) = kinds ≢ []
+Refuses kinds words (Words (Some w)) = (kinds ≡ []) × IsUnsplit words w.now
+Refuses kinds words Memory = Unit {0}
+
+-- there is no other refusal
+abbrev pub IsByWords : Kinds → List Text → Result Line WordsFault → Type 0
+IsByWords kinds words (Ok line) = kinds ≡ []
+IsByWords kinds words (Err e) = Refuses kinds words e
+
+-- a word for a local source is refused, or memory
+abbrev pub RefusesWord : List Text → WordsFault → Type 0
+RefusesWord words (Words None) = ⊥
+RefusesWord words (Words (Some w)) = IsUnsplit words w.now
+RefusesWord words Memory = Unit {0}
+
+-- what a refusal by `clap` comes to
+abbrev pub StandsFor : ErrorKind → WordsFault → Type 0
+StandsFor kind (Words None) = kind ≢ OutOfMemory
+StandsFor kind (Words (Some w)) = ⊥
+StandsFor kind Memory = kind ≡ OutOfMemory
+
+-- what stands after the word `fault`
+abbrev pub words_text : WordsFault → List ℕ
+words_text (Words None) = codes "183"
+words_text (Words (Some word)) = codes "183 " ++ word.now
+words_text Memory = codes "184"
+
+abbrev pub words_line : WordsFault → List ℕ
+words_line e = codes "fault " ++ (words_text e ++ codes "\n")
+
+abbrev pub words_status : WordsFault → ℕ
+words_status (Words w) = 2
+words_status Memory = 3
+
+-- the line is out, and the status is the fault's; or the writer failed
+abbrev pub TellsWords : Option (List ℕ) → Option (List ℕ) → WordsFault → ℕ → Type 0
+TellsWords err err' e status = ((status ≡ words_status e) × Appends err err' (words_line e)) ⊎ (status ≡ 3)

@@ -1,0 +1,62 @@
+-- The text of a graph: one line for each vertex by number, and one for the result.
+use Rattle.std.specs.Prelude.{ℕ, List, [], ◌∷◌, ◌++◌, codes, Bool, true, false, Option, Some, None, Result}
+use Rattle.std.specs.List.{flat_map, enumerate_from}
+use Rattle.std.specs.Fmt.{decimal}
+use Rattle.llb_wire.specs.Answer as answer
+use Rattle.llb_ops.specs.declared.op.Kind.{Kind}
+use Rattle.llb_ops.specs.declared.op.Kind.TheVariants.{Exec, Source, File, Build, Merge, Diff}
+use Rattle.llb_loader.specs.declared.graph.Edge.{Edge}
+use Rattle.llb_loader.specs.declared.graph.Vertex.{Vertex}
+use Rattle.llb_loader.specs.Graph.{Numbered}
+use Rattle.llb_commands.specs.Output as output
+use Rattle.llb_commands.specs.declared.fault.OutputFault.{OutputFault}
+use Rattle.llb_commands.specs.declared.fault.OutputFault.TheVariants.{Write, Memory}
+
+-- the kind of an op; no graph has an op of the last two, or of none
+abbrev pub kind_text : Option Kind → List ℕ
+kind_text (Some (Source s)) = codes "source"
+kind_text (Some (File f)) = codes "file"
+kind_text (Some (Merge m)) = codes "merge"
+kind_text (Some (Exec e)) = codes "exec"
+kind_text (Some (Build b)) = codes "build"
+kind_text (Some (Diff d)) = codes "diff"
+kind_text None = codes "none"
+
+-- vertex and index
+abbrev pub edge_text : Edge → List ℕ
+edge_text e = decimal e.vertex ++ (codes "." ++ decimal e.index)
+
+-- a space before each input, and a dash for none
+abbrev pub input_text : Edge → List ℕ
+input_text e = codes " " ++ edge_text e
+
+abbrev pub inputs_text : List Edge → List ℕ
+inputs_text [] = codes " -"
+inputs_text (e ∷ es) = flat_map input_text (e ∷ es)
+
+abbrev pub vertex_line : ℕ → Vertex → List ℕ
+vertex_line number v = decimal number ++ (codes " " ++ (kind_text v.op.kind ++ (codes " steps " ++ (decimal v.steps
+    ++ (codes " outputs " ++ (decimal v.outputs ++ (codes " inputs" ++ (inputs_text v.inputs ++ codes "\n"))))))))
+
+abbrev pub numbered_line : ℕ × Vertex → List ℕ
+numbered_line v = vertex_line v.0 v.1
+
+-- the lines of the vertices under their numbers
+abbrev pub vertex_lines : List Vertex → List ℕ
+vertex_lines vertices = flat_map numbered_line (enumerate_from 0 vertices)
+
+abbrev pub result_line : Edge → List ℕ
+result_line e = codes "result " ++ (edge_text e ++ codes "\n")
+
+abbrev pub graph_text : Numbered → List ℕ
+graph_text g = vertex_lines g.vertices ++ result_line g.result
+
+abbrev pub is_memory : OutputFault → Bool
+is_memory Memory = true
+is_memory Write = false
+
+abbrev pub Gives : {X Y : Type 0} → (X → Y) → Result X OutputFault → Result Y OutputFault → Type 0
+Gives = answer.Gives is_memory
+
+abbrev pub Writes : Option (List ℕ) → Option (List ℕ) → Bool → List ℕ → Result (Unit {0}) OutputFault → Type 0
+Writes = output.Writes is_memory

@@ -1,0 +1,80 @@
+-- The parts of a run, each with what it tells of the bytes.
+use Rattle.std.specs.Prelude.{◌≡◌, ◌⊎◌, ℕ, List, Option, Some, None, Result, Ok, Err, IfSome, ⊤, if◌then◌else◌}
+use Rattle.std.specs.Io.KnownBytes.{Appends, Keeps}
+use Rattle.llb_wire.specs.Sink.{PartOut}
+use Rattle.llb_tree.specs.Tree.{TreeMap}
+use Rattle.llb_loader.specs.Graph.{Numbered}
+use Rattle.llb_loader.specs.Load.{IsGraphIn}
+use Rattle.llb_loader.specs.Locals.{Local}
+use Rattle.llb_board.specs.Board.{Seen}
+use Rattle.llb_model.specs.Consistent.{IsConsistent}
+use Rattle.llb_treetext.specs.TreeText.{tree_text}
+use Rattle.llb_commands.specs.Answer.{build_of, IsEnd, YieldsNone, YieldsAll, YieldsPart, IsRefused, IsNotRun, DrawsAll, DrawsPart}
+use Rattle.llb_commands.specs.declared.fault.ProgramFault.{ProgramFault}
+use Rattle.llb_commands.specs.declared.fault.ProgramFault.TheVariants.{Refused, MissingLocal, Workers, Loading, Read, Memory, Unread, Assembling, TooLong}
+use Rattle.llb_commands.specs.declared.bounded.ReadFault.{ReadFault}
+use Rattle.llb_commands.specs.declared.bounded.ReadFault.TheVariants as reading
+use Rattle.llb_ops.specs.declared.fault.OpFault.TheVariants.{OverLimit}
+use Rattle.llb_loader.specs.declared.fault.LoadFault.TheVariants.{Definition}
+use Rattle.llb_loader.specs.declared.fault.LoadFault.{LoadFault}
+use Rattle.llb_loader.specs.Faults.{is_memory}
+
+-- how a fault of the loader is passed on
+abbrev pub passed_on : LoadFault → ProgramFault
+passed_on e = if is_memory e then Loading else Refused e
+
+-- what a fault of reading comes to
+abbrev pub unread_as : ReadFault → ProgramFault
+unread_as reading.TooLong = Refused (Definition OverLimit)
+unread_as (reading.Failed kind) = Read
+unread_as (reading.Unending interrupted) = Read
+unread_as reading.Memory = Memory
+
+-- a fault that refuses the input
+abbrev pub IsRefusal : ProgramFault → Type 0
+IsRefusal (Refused e) = ⊤
+IsRefusal (MissingLocal name) = ⊤
+IsRefusal Workers = ⊤
+IsRefusal (Unread e) = ⊤
+IsRefusal (Assembling e) = ⊤
+IsRefusal TooLong = ⊤
+IsRefusal _ = ⊥
+
+-- a refusal of the input stands only where the input is refused
+abbrev pub TellsRefusal : (List ℕ → Type 0) → Option (List ℕ) → ProgramFault → Type 0
+TellsRefusal IsSo input e = IsRefusal e → IfSome input IsSo
+
+-- the graph of the input, or why there is none
+abbrev pub Loads : Option (List ℕ) → Result Numbered ProgramFault → Type 0
+Loads input (Ok g) = IfSome input (λ bytes. IsGraphIn bytes g)
+Loads input (Err e) = TellsRefusal IsRefused input e
+
+-- a board on which a run of the graph by that many workers has ended
+pub record IsFinished (workers : ℕ) (locals : List Local) (g : Numbered) (b : Seen) : Type 0 where
+  pub build : b.build ≡ build_of locals g
+  pub ended : IsEnd workers (build_of locals g) b.state
+  pub here : IsConsistent (build_of locals g) b.state
+
+-- a tree is out where there is one
+abbrev pub Shows : {B : Type 0} → Option (List ℕ) → Option (List ℕ) → Option TreeMap → Result (Option B) ProgramFault → Type 0
+Shows out out' tree (Ok None) = (t : TreeMap) × (tree ≡ Some t) × Appends out out' (tree_text t)
+Shows out out' tree (Ok (Some b)) = (tree ≡ None) × Keeps out out'
+Shows out out' tree (Err e) = (¬ IsRefusal e) × ((t : TreeMap) × (tree ≡ Some t) × PartOut out out' (tree_text t))
+
+-- the text is out; or the result is no tree, or a fault stands, and at most a prefix of the text is out
+abbrev pub Answers : {B : Type 0} → ℕ → List Local → Option (List ℕ) → Option (List ℕ) → Option (List ℕ) → Result (Option B) ProgramFault → Type 0
+Answers workers locals input out out' (Ok None) = IfSome input (YieldsAll workers locals out out')
+Answers workers locals input out out' (Ok (Some b)) = Keeps out out' × IfSome input (YieldsNone workers locals)
+Answers workers locals input out out' (Err e) =
+    (Keeps out out' × TellsRefusal (IsNotRun workers locals) input e) ⊎ ((¬ IsRefusal e) × IfSome input (YieldsPart workers locals out out'))
+
+-- the exit status for an answer: 0 for a text that is out, 1 where there is none, 2 for a refusal, and 3 where a device fails after any of them
+abbrev pub Tells : {B : Type 0} → Option (List ℕ) → Option (List ℕ) → Result (Option B) ProgramFault → ℕ → Type 0
+Tells out out' (Ok None) status = Keeps out out' × ((status ≡ 0) ⊎ (status ≡ 3))
+Tells out out' (Ok (Some b)) status = Keeps out out' × ((status ≡ 1) ⊎ (status ≡ 3))
+Tells out out' (Err e) status = Keeps out out' × ((status ≡ 3) ⊎ ((status ≡ 2) × IsRefusal e))
+
+-- the text of the graph is out; or a fault stands, and at most a prefix of the text is out
+abbrev pub ShowsIn : Option (List ℕ) → Option (List ℕ) → Option (List ℕ) → Result (Unit {0}) ProgramFault → Type 0
+ShowsIn input out out' (Ok u) = IfSome input (DrawsAll out out')
+ShowsIn input out out' (Err e) = (Keeps out out' × TellsRefusal IsRefused input e) ⊎ ((¬ IsRefusal e) × IfSome input (DrawsPart out out'))

@@ -1,0 +1,48 @@
+-- What is read of the files of local sources.
+use Rattle.std.specs.Prelude.{◌≡◌, ◌<◌, ◌≤◌, ◌⊎◌, ℕ, List, [], ◌∷◌, length, if◌then◌else◌, Option, Result, Ok, Err, IfSome}
+use Rattle.llb_tree.specs.Tree.{TreeMap}
+use Rattle.llb_treetext.specs.declared.fault.TextFault.{TextFault}
+use Rattle.llb_treetext.specs.Faults.{is_memory}
+use Rattle.llb_treetext.specs.Reading.{Answers, MemoryIsLast}
+use Rattle.llb_loader.specs.Locals as given
+use Rattle.llb_loader.specs.Locals.{with_local}
+use Rattle.llb_commands.specs.declared.words.Local.{Local}
+use Rattle.llb_commands.specs.declared.sources.SourceFault.{SourceFault}
+use Rattle.llb_commands.specs.declared.sources.SourceFault.TheVariants.{Read, TooLong, Text, Reading, Adding}
+
+-- the most bytes that the text of a tree may have
+abbrev pub limit : ℕ
+limit = 67108864
+
+-- What is read of bytes: the tree whose text they are, or why they are none's. A device or memory may fail at any bytes, but the reading of the
+-- text needs memory only where the bytes are a tree's.
+abbrev pub ReadsTree : List ℕ → Result TreeMap SourceFault → Type 0
+ReadsTree bytes (Ok t) = (length bytes ≤ limit) × Answers bytes (Ok t)
+ReadsTree bytes (Err TooLong) = limit < length bytes
+ReadsTree bytes (Err (Text e)) = (length bytes ≤ limit) × Answers bytes (Err e) × MemoryIsLast bytes (Err e)
+ReadsTree bytes (Err Read) = Unit {0}
+ReadsTree bytes (Err Reading) = Unit {0}
+ReadsTree bytes (Err Adding) = Unit {0}
+
+-- the reading of a text, as that of a source
+abbrev pub told : Result TreeMap TextFault → Result TreeMap SourceFault
+told (Ok t) = Ok t
+told (Err e) = Err (Text e)
+
+-- the same, where the bytes are known
+abbrev pub Reads : Option (List ℕ) → Result TreeMap SourceFault → Type 0
+Reads known r = IfSome known (λ bytes. ReadsTree bytes r)
+
+-- what files give to local sources, one after another, each over the trees of those before it: the first fault, or all their trees
+abbrev pub Gathers : (List ℕ → Option (List ℕ)) → List Local → List given.Local → Result (List given.Local) SourceFault → Type 0
+Gathers files [] trees r = r ≡ Ok trees
+Gathers files (l ∷ ls) trees r = ((e : SourceFault) × Reads (files l.file.now) (Err e) × (r ≡ Err e))
+    ⊎ ((t : TreeMap) × Reads (files l.file.now) (Ok t) × Gathers files ls (with_local trees l.name.now t) r)
+
+-- the status for a fault: 2 where a text is refused, and else 3
+abbrev pub source_status : SourceFault → ℕ
+source_status Read = 3
+source_status TooLong = 2
+source_status (Text e) = if is_memory e then 3 else 2
+source_status Reading = 3
+source_status Adding = 3

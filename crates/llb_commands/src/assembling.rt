@@ -1,0 +1,105 @@
+//! From a text to the definition of the entries that it stands for: read, assemble, write.
+
+ghost use Rattle.std.specs.Prelude.{◌≡◌};
+ghost use Rattle.llb_commands.specs.Assembly.{Assembles, IsAssembled, IsNoText};
+ghost use Rattle.llb_commands.specs.AssemblyParts.{assembling_fault, text_unread_as, EndsIn, IsDefinitionIn, IsDefinitionOf};
+ghost use Rattle.llb_commands.specs.Output.{PrintsOut};
+
+use crate::bounded::{LIMIT, READS, ReadFault, read_bounded};
+use crate::fault::{OutputFault, ProgramFault, refusal};
+use llb_asm::{AsmFault, assemble};
+use llb_ops::write_definition;
+use llb_wire::{Bytes, Over, write_all};
+use std::alloc::Global;
+use std::io::{Read, Write};
+
+// A refusal of a line is one of the program; out of memory is not.
+fn assembling_fault(fault: AsmFault) -> ProgramFault
+    ensures { result ≡ assembling_fault fault }
+{
+    match fault {
+        AsmFault::Line(_, _) | AsmFault::UnknownLabel(_) => ProgramFault::Assembling(fault),
+        AsmFault::Memory | AsmFault::Write => ProgramFault::Text(fault),
+    }
+}
+
+// Why no text was read: one that is too long is refused.
+fn text_unread(fault: ReadFault) -> ProgramFault
+    ensures { result ≡ text_unread_as fault }
+{
+    match fault {
+        ReadFault::TooLong => ProgramFault::TooLong,
+        ReadFault::Failed(_) | ReadFault::Unending(_) => ProgramFault::Read,
+        ReadFault::Memory => ProgramFault::Memory,
+    }
+}
+
+// The definition of the entries that a text stands for.
+fn definition_of(alloc: Global, text: &[u8]) -> Result<Bytes, ProgramFault>
+    ensures { IsDefinitionOf text.now result }
+{
+    match assemble(alloc, text) {
+        Err(fault) => Err(assembling_fault(fault)),
+        Ok(entries) => match write_definition(alloc, &entries) {
+            Ok(definition) => Ok(definition),
+            Err(_) => Err(ProgramFault::Entries),
+        },
+    }
+}
+
+// The same of a text that is read.
+fn definition_from<R: Read>(alloc: Global, input: &mut R) -> Result<Bytes, ProgramFault>
+    ensures { IsDefinitionIn (R.remaining input.old) result }
+{
+    match read_bounded(alloc, input, LIMIT, READS) {
+        Err(fault) => Err(text_unread(fault)),
+        Ok(text) => definition_of(alloc, text.as_slice()),
+    }
+}
+
+// Writes bytes to a writer.
+fn bytes_over<W: Write>(bytes: &[u8], out: &mut W) -> Result<(), OutputFault>
+    ensures { PrintsOut (W.contents out.old) (W.contents out.new) bytes.now result }
+{
+    let mut sink = Over::new(out);
+    match write_all(&mut sink, bytes) {
+        Ok(()) => Ok(()),
+        Err(_) => Err(OutputFault::Write),
+    }
+}
+
+// The whole way.
+fn assembled<R: Read, W: Write>(
+    alloc: Global,
+    input: &mut R,
+    out: &mut W,
+) -> Result<(), ProgramFault>
+    ensures { EndsIn IsAssembled IsNoText (R.remaining input.old) (W.contents out.old) (W.contents out.new) result }
+{
+    let definition = definition_from(alloc, input)?;
+    match bytes_over(definition.as_slice(), out) {
+        Err(fault) => Err(ProgramFault::Output(fault)),
+        Ok(()) => match out.flush() {
+            Ok(()) => Ok(()),
+            Err(_) => Err(ProgramFault::Output(OutputFault::Write)),
+        },
+    }
+}
+
+/// Reads a text from `input` and writes the definition of the entries that it stands for to `out`; a refusal goes to `err`, as a line.
+/// Answers the exit status: 0 where the whole definition is out; 2 where the text is refused (`fault 161 N RULE`, `fault 162 N`, and
+/// `fault 185` past 67,108,864 bytes), and nothing is written to `out`; 3 where a read (181), a write (182) or memory (14, 163, 184)
+/// failed, and nothing, or a prefix of the definition, is written.
+pub fn asm_over<R: Read, W: Write, E: Write>(
+    alloc: Global,
+    input: &mut R,
+    out: &mut W,
+    err: &mut E,
+) -> u8
+    ensures { Assembles (R.remaining input.old) (W.contents out.old) (W.contents out.new) result }
+{
+    match assembled(alloc, input, out) {
+        Ok(()) => 0,
+        Err(fault) => refusal(&fault, err),
+    }
+}

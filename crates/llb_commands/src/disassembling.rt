@@ -1,0 +1,83 @@
+//! From the bytes of a definition to the text of its entries: read, disassemble.
+
+ghost use Rattle.std.specs.Prelude.{◌≡◌, List};
+ghost use Rattle.llb_asm.specs.Plain.{Formed, AreFormed, plain_text};
+ghost use Rattle.llb_commands.specs.Assembly.{Disassembles, IsDisassembled, IsUnread};
+ghost use Rattle.llb_commands.specs.AssemblyParts.{entries_fault, AreEntriesIn, EndsIn};
+ghost use Rattle.llb_commands.specs.Output.{PrintsOut};
+
+use crate::bounded::{LIMIT, READS, read_bounded};
+use crate::fault::{ProgramFault, refusal};
+use crate::input::unread;
+use llb_asm::{AsmFault, disassemble};
+use llb_ops::{Entries, OpFault, read_definition};
+use llb_wire::Over;
+use std::alloc::Global;
+use std::io::{Read, Write};
+
+// A definition that does not read is refused; out of memory is no refusal.
+fn entries_fault(fault: OpFault) -> ProgramFault
+    ensures { result ≡ entries_fault fault }
+{
+    match fault {
+        OpFault::Memory => ProgramFault::Entries,
+        _ => ProgramFault::Unread(fault),
+    }
+}
+
+// The entries of a definition that is read.
+fn entries_from<R: Read>(alloc: Global, input: &mut R) -> Result<Entries, ProgramFault>
+    ensures { AreEntriesIn (R.remaining input.old) result }
+{
+    match read_bounded(alloc, input, LIMIT, READS) {
+        Err(fault) => Err(unread(fault)),
+        Ok(bytes) => match read_definition(alloc, bytes.as_slice()) {
+            Ok(entries) => Ok(entries),
+            Err(fault) => Err(entries_fault(fault)),
+        },
+    }
+}
+
+// Writes the text of entries to a writer.
+fn text_over<W: Write>(alloc: Global, entries: &Entries, out: &mut W) -> Result<(), AsmFault>
+    ensures { (xs : List Formed) × AreFormed entries.now xs × PrintsOut (W.contents out.old) (W.contents out.new) (plain_text xs) result }
+{
+    let mut sink = Over::new(out);
+    disassemble(alloc, entries, &mut sink)
+}
+
+// The whole way.
+fn disassembled<R: Read, W: Write>(
+    alloc: Global,
+    input: &mut R,
+    out: &mut W,
+) -> Result<(), ProgramFault>
+    ensures { EndsIn IsDisassembled IsUnread (R.remaining input.old) (W.contents out.old) (W.contents out.new) result }
+{
+    let entries = entries_from(alloc, input)?;
+    match text_over(alloc, &entries, out) {
+        Err(fault) => Err(ProgramFault::Text(fault)),
+        Ok(()) => match out.flush() {
+            Ok(()) => Ok(()),
+            Err(_) => Err(ProgramFault::Text(AsmFault::Write)),
+        },
+    }
+}
+
+/// Reads a definition from `input` and writes its entries to `out` as their one text; a refusal goes to `err`, as a line. Answers the
+/// exit status: 0 where the whole text is out; 2 where the definition does not read (`fault 1` to `4`, `11` to `13`, and `fault 81 13` past
+/// 67,108,864 bytes), and nothing is written to `out`; 3 where a read (181), a write (164) or memory (14, 163, 184) failed, and
+/// nothing, or a prefix of the text, is written.
+pub fn dis_over<R: Read, W: Write, E: Write>(
+    alloc: Global,
+    input: &mut R,
+    out: &mut W,
+    err: &mut E,
+) -> u8
+    ensures { Disassembles (R.remaining input.old) (W.contents out.old) (W.contents out.new) result }
+{
+    match disassembled(alloc, input, out) {
+        Ok(()) => 0,
+        Err(fault) => refusal(&fault, err),
+    }
+}

@@ -1,0 +1,133 @@
+//! A graph is one text: a line for each vertex by number, and a line for the result. It is written to a sink, a line at a
+//! time.
+
+ghost use Rattle.std.specs.Prelude.{◌≡◌, ◌++◌, Ok, string_bytes};
+ghost use Rattle.llb_commands.specs.GraphText.{Gives, kind_text, inputs_text, input_text, vertex_line, vertex_lines, result_line, graph_text, Writes};
+
+use crate::fault::OutputFault;
+use llb_loader::{Edge, Graph, Vertex};
+use llb_ops::{Kind, Op};
+use llb_wire::{Sink, write_all};
+use std::alloc::Global;
+
+// The name of an op's kind. No graph has an op of the last two, or of none.
+fn kind_name(op: &Op) -> &'static str
+    ensures { result.now ≡ kind_text op.now.kind }
+{
+    match &op.kind {
+        Some(kind) => match kind {
+            Kind::Source(_) => "source",
+            Kind::File(_) => "file",
+            Kind::Merge(_) => "merge",
+            Kind::Exec(_) => "exec",
+            Kind::Build(_) => "build",
+            Kind::Diff(_) => "diff",
+        },
+        None => "none",
+    }
+}
+
+// A space, the vertex and the index of an input.
+fn push_input(line: &mut String, input: Edge) -> Result<(), OutputFault>
+    ensures { Gives (λ _. string_bytes line.new) result (Ok (string_bytes line.old ++ input_text input)) }
+{
+    let Edge { vertex, index } = input;
+    write!(line, " {vertex}.{index}")?;
+    Ok(())
+}
+
+// The inputs in their order, and a dash for none.
+fn push_inputs(line: &mut String, inputs: &[Edge]) -> Result<(), OutputFault>
+    ensures { Gives (λ _. string_bytes line.new) result (Ok (string_bytes line.old ++ inputs_text inputs.now)) }
+{
+    if inputs.is_empty() {
+        line.push_str(" -")?;
+        return Ok(());
+    }
+    for input in inputs {
+        push_input(line, *input)?;
+    }
+    Ok(())
+}
+
+// The line of the vertex of that number.
+fn vertex_line(alloc: Global, number: usize, vertex: &Vertex) -> Result<String, OutputFault>
+    ensures { Gives (λ s. string_bytes s) result (Ok (vertex_line number vertex.now)) }
+{
+    let kind = kind_name(&vertex.op);
+    let (steps, outputs) = (vertex.steps, vertex.outputs);
+    let mut line = format!(in alloc; "{number} {kind} steps {steps} outputs {outputs} inputs")?;
+    push_inputs(&mut line, vertex.inputs.as_slice())?;
+    line.push_str("\n")?;
+    Ok(line)
+}
+
+// The line of the result.
+fn result_line(alloc: Global, edge: Edge) -> Result<String, OutputFault>
+    ensures { Gives (λ s. string_bytes s) result (Ok (result_line edge)) }
+{
+    let Edge { vertex, index } = edge;
+    let line = format!(in alloc; "result {vertex}.{index}\n")?;
+    Ok(line)
+}
+
+// Writes a line that is there.
+fn write_line<W: Sink>(line: &str, out: &mut W) -> Result<(), OutputFault>
+    ensures writes { Writes (W.taken out.old) (W.taken out.new) (W.failed out.new) line.now result }
+    ensures same { W.lender out.new ≡ W.lender out.old }
+{
+    match write_all(out, line.as_bytes()) {
+        Err(_) => Err(OutputFault::Write),
+        Ok(()) => Ok(()),
+    }
+}
+
+// Writes the line of a vertex.
+fn print_vertex<W: Sink>(
+    alloc: Global,
+    number: usize,
+    vertex: &Vertex,
+    out: &mut W,
+) -> Result<(), OutputFault>
+    ensures writes { Writes (W.taken out.old) (W.taken out.new) (W.failed out.new) (vertex_line number vertex.now) result }
+    ensures same { W.lender out.new ≡ W.lender out.old }
+{
+    match vertex_line(alloc, number, vertex) {
+        Err(fault) => Err(fault),
+        Ok(line) => write_line(line.as_str(), out),
+    }
+}
+
+// Writes the lines of the vertices, by number.
+fn print_vertices<W: Sink>(
+    alloc: Global,
+    vertices: &[Vertex],
+    out: &mut W,
+) -> Result<(), OutputFault>
+    ensures writes { Writes (W.taken out.old) (W.taken out.new) (W.failed out.new) (vertex_lines vertices.now) result }
+    ensures same { W.lender out.new ≡ W.lender out.old }
+{
+    for (number, vertex) in vertices.iter().enumerate() {
+        match print_vertex(alloc, number, vertex, out) {
+            Ok(()) => {}
+            Err(fault) => return Err(fault),
+        }
+    }
+    Ok(())
+}
+
+/// Writes the text of a graph to a sink: a line for each vertex by number, `V KIND steps S outputs O inputs LIST`, and the
+/// line `result V.I`. LIST is the inputs as `V.I`, a dash for none. 182 only where the writer failed, 184; a prefix of the
+/// text is out then.
+pub fn print_graph<W: Sink>(alloc: Global, graph: &Graph, out: &mut W) -> Result<(), OutputFault>
+    ensures writes { Writes (W.taken out.old) (W.taken out.new) (W.failed out.new) (graph_text graph.now) result }
+    ensures same { W.lender out.new ≡ W.lender out.old }
+{
+    match print_vertices(alloc, graph.vertices(), out) {
+        Err(fault) => Err(fault),
+        Ok(()) => match result_line(alloc, graph.result()) {
+            Err(fault) => Err(fault),
+            Ok(line) => write_line(line.as_str(), out),
+        },
+    }
+}

@@ -1,0 +1,45 @@
+//! The definition that is read, and its graph.
+
+ghost use Rattle.std.specs.Prelude.{◌≡◌};
+ghost use Rattle.llb_commands.specs.Running.{passed_on, unread_as, Loads};
+
+use crate::bounded::{LIMIT, READS, ReadFault, read_bounded};
+use crate::fault::ProgramFault;
+use llb_loader::{Graph, LoadFault, load_owned};
+use llb_ops::OpFault;
+use std::alloc::Global;
+use std::io::Read;
+
+// A refusal by the loader is one of the program; out of memory is not.
+fn passed_on(fault: LoadFault) -> ProgramFault
+    ensures { result ≡ passed_on fault }
+{
+    match fault {
+        LoadFault::Memory => ProgramFault::Loading,
+        _ => ProgramFault::Refused(fault),
+    }
+}
+
+/// Why the program ends where no definition was read: one that is too long is refused (81 13), else 181 or 184.
+pub fn unread(fault: ReadFault) -> ProgramFault
+    ensures { result ≡ unread_as fault }
+{
+    match fault {
+        ReadFault::TooLong => ProgramFault::Refused(LoadFault::Definition(OpFault::OverLimit)),
+        ReadFault::Failed(_) | ReadFault::Unending(_) => ProgramFault::Read,
+        ReadFault::Memory => ProgramFault::Memory,
+    }
+}
+
+// Reads the definition and loads it.
+pub(crate) fn loaded<R: Read>(alloc: Global, input: &mut R) -> Result<Graph, ProgramFault>
+    ensures { Loads (R.remaining input.old) result }
+{
+    match read_bounded(alloc, input, LIMIT, READS) {
+        Err(fault) => Err(unread(fault)),
+        Ok(bytes) => match load_owned(alloc, bytes) {
+            Ok(graph) => Ok(graph),
+            Err(fault) => Err(passed_on(fault)),
+        },
+    }
+}

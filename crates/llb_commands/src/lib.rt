@@ -1,0 +1,33 @@
+//! What the program's commands do, over readers and writers: `run`, `show`, `step`, `asm` and `dis`, the words that ask for them, and the
+//! exit status of each. Stands on all libraries; the process's own words, files and devices stand in `llbm`.
+#![tactic(auto)]
+
+mod assembling;
+mod bounded;
+mod command_line;
+mod disassembling;
+mod fault;
+mod graph_text;
+mod input;
+pub mod laws;
+mod opening;
+mod performing;
+mod run;
+mod show;
+mod sources;
+mod stepping;
+mod words;
+
+pub use assembling::asm_over;
+pub use bounded::{ReadFault, read_bounded};
+pub use command_line::command_of;
+pub use disassembling::dis_over;
+pub use fault::{OutputFault, ProgramFault, refusal};
+pub use graph_text::print_graph;
+pub use input::unread;
+pub use performing::perform;
+pub use run::{run_many_over, run_over};
+pub use show::show_over;
+pub use sources::{SourceFault, Sources, local_from, locals_of, source_refusal};
+pub use stepping::step_over;
+pub use words::{Command, Line, Local, WordsFault, words_refusal};

@@ -1,0 +1,30 @@
+//! The board on which the graph of a definition is run.
+
+ghost use Rattle.std.specs.Prelude.{◌≡◌, [], IfOk, IfErr};
+ghost use Rattle.llb_board.specs.Board.{opened};
+ghost use Rattle.llb_commands.specs.Answer.{build_of, IsUnopened};
+ghost use Rattle.llb_commands.specs.Running.{IsRefusal};
+
+use crate::fault::ProgramFault;
+use llb_board::{Board, OpenFault};
+use llb_cache::Caches;
+use llb_loader::{Graph, Locals};
+use std::alloc::Global;
+
+/// A board with that many workers and no caches, or why there is none.
+pub(crate) fn opened(
+    alloc: Global,
+    graph: Graph,
+    locals: Locals,
+    workers: u32,
+) -> Result<Board, ProgramFault>
+    ensures board { IfOk result (λ b. b ≡ opened (build_of locals graph) workers []) }
+    ensures fault { IfErr result (λ e. IsRefusal e → IsUnopened locals graph workers) }
+{
+    match Board::open(alloc, graph, locals, Caches::new(alloc), workers) {
+        Ok(board) => Ok(board),
+        Err(OpenFault::MissingLocal(name, _, _, _)) => Err(ProgramFault::MissingLocal(name)),
+        Err(OpenFault::Workers(_, _, _)) => Err(ProgramFault::Workers),
+        Err(OpenFault::Memory(_, _, _)) => Err(ProgramFault::Opening),
+    }
+}

@@ -1,0 +1,209 @@
+//! From the bytes of a definition to the text of its result: read, load, open a board, run it with one worker or with several, print.
+
+ghost use Rattle.std.specs.Prelude.{◌≡◌, [], IfOk, IfErr};
+ghost use Rattle.llb_model.specs.Outcome.{output_in};
+ghost use Rattle.llb_model.specs.State.{ending_at};
+ghost use Rattle.llb_commands.specs.Answer.{IsUnopened, Runs};
+ghost use Rattle.llb_commands.specs.Output.{PrintsOut};
+ghost use Rattle.llb_treetext.specs.TreeText.{tree_text};
+ghost use Rattle.llb_commands.specs.Running.{IsFinished, IsRefusal, Shows, Answers, Tells};
+
+use crate::fault::{ProgramFault, refusal};
+use crate::input::loaded;
+use crate::opening::opened;
+use llb_board::laws::{complete_is_plain, is_consistent};
+use llb_board::{Board, Gate, Status, Stopped};
+use llb_loader::{Edge, Graph, Locals};
+use llb_tree::Tree;
+use llb_treetext::{PrintFault, print_tree};
+use llb_wire::Over;
+use llb_work::{RunEnd, run_alone, run_workers};
+use std::alloc::Global;
+use std::io;
+use std::io::{Read, Write};
+use std::sync::Wait;
+use std::thread::Threads;
+
+// A gate that every worker passes.
+struct Open;
+
+impl Gate for Open {
+    ghost use Rattle.std.specs.Prelude.{false};
+
+    ghost may_stop = { λ _ _. false };
+
+    fn pass(&self, _w: u32, _v: u32) -> Result<(), Stopped> {
+        Ok(())
+    }
+}
+
+// Runs the graph to its end with one worker.
+fn finished(alloc: Global, graph: Graph, locals: Locals) -> Result<Board, ProgramFault>
+    ensures board { IfOk result (IsFinished 1 locals graph) }
+    ensures fault { IfErr result (λ e. IsRefusal e → IsUnopened locals graph 1) }
+{
+    graph.is_graph();
+    let board = opened(alloc, graph, locals, 1)?;
+    let RunEnd { board, fault, .. } = run_alone(board);
+    is_consistent(&board);
+    match fault {
+        None => Ok(board),
+        Some(fault) => Err(ProgramFault::Run(fault)),
+    }
+}
+
+// The same with several, each in a thread of its own.
+fn finished_by<R: Threads + Wait + Sync>(
+    rt: &R,
+    alloc: Global,
+    graph: Graph,
+    locals: Locals,
+    workers: u32,
+) -> Result<Board, ProgramFault>
+    ensures board { IfOk result (IsFinished workers locals graph) }
+    ensures fault { IfErr result (λ e. IsRefusal e → IsUnopened locals graph workers) }
+{
+    if workers == 1 {
+        return finished(alloc, graph, locals);
+    }
+    graph.is_graph();
+    let board = opened(alloc, graph, locals, workers)?;
+    let RunEnd { board, fault, .. } = run_workers(rt, alloc, board, &Open);
+    is_consistent(&board);
+    complete_is_plain(&board);
+    match fault {
+        None => Ok(board),
+        Some(fault) => Err(ProgramFault::Run(fault)),
+    }
+}
+
+// Writes the text of a tree to a writer.
+fn print_over<W: Write>(alloc: Global, tree: &Tree, out: &mut W) -> Result<(), PrintFault>
+    ensures { PrintsOut (W.contents out.old) (W.contents out.new) (tree_text tree.now) result }
+{
+    let mut sink = Over::new(out);
+    print_tree(alloc, tree, &mut sink)
+}
+
+// Writes the text of the result, where it is a tree; where it is none, the board comes back.
+fn print_result<W: Write>(
+    alloc: Global,
+    board: Board,
+    edge: Edge,
+    out: &mut W,
+) -> Result<Option<Board>, ProgramFault>
+    ensures { Shows (W.contents out.old) (W.contents out.new) (output_in (ending_at board.state.statuses edge.vertex) edge.index) result }
+{
+    let Some(tree) = board.output(edge.vertex, edge.index) else {
+        return Ok(Some(board));
+    };
+    match print_over(alloc, tree, out) {
+        Ok(()) => Ok(None),
+        Err(fault) => Err(ProgramFault::Print(fault)),
+    }
+}
+
+// The whole way with one worker; a board comes back where the result is no tree.
+fn answer<R: Read, W: Write>(
+    alloc: Global,
+    input: &mut R,
+    out: &mut W,
+    locals: Locals,
+) -> Result<Option<Board>, ProgramFault>
+    ensures { Answers 1 locals (R.remaining input.old) (W.contents out.old) (W.contents out.new) result }
+{
+    let graph = loaded(alloc, input)?;
+    graph.is_graph();
+    let edge = graph.result();
+    let board = finished(alloc, graph, locals)?;
+    print_result(alloc, board, edge, out)
+}
+
+// The same with that many.
+fn answer_by<T: Threads + Wait + Sync, R: Read, W: Write>(
+    rt: &T,
+    alloc: Global,
+    input: &mut R,
+    out: &mut W,
+    locals: Locals,
+    workers: u32,
+) -> Result<Option<Board>, ProgramFault>
+    ensures { Answers workers locals (R.remaining input.old) (W.contents out.old) (W.contents out.new) result }
+{
+    let graph = loaded(alloc, input)?;
+    graph.is_graph();
+    let edge = graph.result();
+    let board = finished_by(rt, alloc, graph, locals, workers)?;
+    print_result(alloc, board, edge, out)
+}
+
+// A line for each vertex that failed, by number.
+fn failures<E: Write>(board: &Board, err: &mut E) -> io::Result<()> {
+    for v in 0..u32::MAX {
+        match board.status(v) {
+            None => return Ok(()),
+            Some(Status::Failed(fault)) => writeln!(err, "failed {v} {fault}")?,
+            Some(_) => {}
+        }
+    }
+    Ok(())
+}
+
+// The exit status for an answer, once its lines are out.
+fn told<W: Write, E: Write>(
+    answer: Result<Option<Board>, ProgramFault>,
+    out: &mut W,
+    err: &mut E,
+) -> u8
+    ensures { Tells (W.contents out.old) (W.contents out.new) answer result }
+{
+    match answer {
+        Ok(None) => match out.flush() {
+            Ok(()) => 0,
+            Err(_) => refusal(&ProgramFault::Print(PrintFault::Write), err),
+        },
+        Ok(Some(board)) => {
+            if failures(&board, err).is_err() {
+                return 3;
+            }
+            1
+        }
+        Err(fault) => refusal(&fault, err),
+    }
+}
+
+/// Reads a definition from `input`, runs it on the local trees with one worker and caches that are empty at first, and writes
+/// the text of its result to `out`; refusals and failures go to `err`, a line each. Answers the exit status: 0 where the whole
+/// text is out; 1 where a vertex failed; 2 where the definition is refused, or a local source has no tree (`fault 121` and its
+/// name); 3 where a read, a write or memory failed. But for 0, nothing is written to `out`, or, for 3, a prefix of the text.
+/// Reading ends past 67,108,864 bytes (`fault 81 13`) or after 2^27 reads (`fault 181`).
+pub fn run_over<R: Read, W: Write, E: Write>(
+    alloc: Global,
+    input: &mut R,
+    out: &mut W,
+    err: &mut E,
+    locals: Locals,
+) -> u8
+    ensures { Runs 1 locals (R.remaining input.old) (W.contents out.old) (W.contents out.new) result }
+{
+    let answer = answer(alloc, input, out, locals);
+    told(answer, out, err)
+}
+
+/// The same with that many workers, where they are several each in a thread of its own, which it waits for. Where no cache is mounted, the text is
+/// that of the plain outcomes, for any number of workers. 2 also where the number is 0, or more than 64 (`fault 122`); 3 also where a thread
+/// could not be started (`fault 153`).
+pub fn run_many_over<T: Threads + Wait + Sync, R: Read, W: Write, E: Write>(
+    rt: &T,
+    alloc: Global,
+    input: &mut R,
+    out: &mut W,
+    err: &mut E,
+    locals: Locals,
+    workers: u32,
+) -> u8
+    ensures { Runs workers locals (R.remaining input.old) (W.contents out.old) (W.contents out.new) result }
+{
+    let answer = answer_by(rt, alloc, input, out, locals, workers);
+    told(answer, out, err)
+}

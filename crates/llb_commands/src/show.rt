@@ -1,0 +1,54 @@
+//! From the bytes of a definition to the text of its graph: read, load, print.
+
+ghost use Rattle.std.specs.Prelude.{◌≡◌};
+ghost use Rattle.llb_commands.specs.Answer.{Draws};
+ghost use Rattle.llb_commands.specs.GraphText.{graph_text};
+ghost use Rattle.llb_commands.specs.Output.{PrintsOut};
+ghost use Rattle.llb_commands.specs.Running.{ShowsIn};
+
+use crate::fault::{OutputFault, ProgramFault, refusal};
+use crate::graph_text::print_graph;
+use crate::input::loaded;
+use llb_loader::Graph;
+use llb_wire::Over;
+use std::alloc::Global;
+use std::io::{Read, Write};
+
+// Writes the text of a graph to a writer.
+fn graph_over<W: Write>(alloc: Global, graph: &Graph, out: &mut W) -> Result<(), OutputFault>
+    ensures { PrintsOut (W.contents out.old) (W.contents out.new) (graph_text graph.now) result }
+{
+    let mut sink = Over::new(out);
+    print_graph(alloc, graph, &mut sink)
+}
+
+// The whole way.
+fn shown<R: Read, W: Write>(alloc: Global, input: &mut R, out: &mut W) -> Result<(), ProgramFault>
+    ensures { ShowsIn (R.remaining input.old) (W.contents out.old) (W.contents out.new) result }
+{
+    let graph = loaded(alloc, input)?;
+    match graph_over(alloc, &graph, out) {
+        Err(fault) => Err(ProgramFault::Output(fault)),
+        Ok(()) => match out.flush() {
+            Ok(()) => Ok(()),
+            Err(_) => Err(ProgramFault::Output(OutputFault::Write)),
+        },
+    }
+}
+
+/// Reads a definition from `input` and writes the text of its graph to `out`; a refusal goes to `err`, as a line. Answers
+/// the exit status: 0 where the whole text is out; 2 where the definition is refused, and nothing is written to `out`; 3
+/// where a read, a write or memory failed, and nothing, or a prefix of the text, is written.
+pub fn show_over<R: Read, W: Write, E: Write>(
+    alloc: Global,
+    input: &mut R,
+    out: &mut W,
+    err: &mut E,
+) -> u8
+    ensures { Draws (R.remaining input.old) (W.contents out.old) (W.contents out.new) result }
+{
+    match shown(alloc, input, out) {
+        Ok(()) => 0,
+        Err(fault) => refusal(&fault, err),
+    }
+}

@@ -1,0 +1,129 @@
+//! The trees of local sources, read from the texts of their files. Which files there are is told by a trait, so that
+//! the program's are the only ones whose bytes are not known here.
+
+ghost use Rattle.std.specs.Prelude.{◌≡◌, ◌⊎◌, ℕ, List, [], Option, Some, IfOk, IfErr, OnOk, IfSome};
+ghost use Rattle.llb_loader.specs.Locals.{with_local};
+ghost use Rattle.llb_commands.specs.Sources.{source_status, Gathers, Reads, told};
+ghost use Rattle.llb_commands.specs.declared.sources.SourceFault.TheVariants.{Adding};
+
+use crate::bounded::{LIMIT, READS, ReadFault, read_bounded};
+use crate::words::Local;
+use llb_loader::Locals;
+use llb_tree::Tree;
+use llb_treetext::{TextFault, read_tree};
+use llb_wire::Text;
+use std::alloc::Global;
+use std::io;
+use std::io::{Read, Write};
+use thiserror::Error;
+
+/// Why a local source has no tree.
+#[derive(Clone, Copy, Debug, Error)]
+pub enum SourceFault {
+    /// 181: a file of a local source was not opened, a read of it failed, or its bound on reads was met.
+    #[error("181")]
+    Read,
+    /// 185: the file of a local source has more than 67,108,864 bytes.
+    #[error("185")]
+    TooLong,
+    /// 31 to 34: the file of a local source is read as no tree.
+    #[error("{0}")]
+    Text(TextFault),
+    /// 184: memory was refused while the file of a local source was read.
+    #[error("184")]
+    Reading,
+    /// 92: memory was refused while the tree of a local source was kept.
+    #[error("92")]
+    Adding,
+}
+
+/// Files that are opened by name.
+pub trait Sources {
+    type Input: Read + Drop;
+
+    /// The bytes of a file, where they are known.
+    ghost bytes: { Self → List ℕ → Option (List ℕ) };
+
+    /// Opens a file at its start.
+    fn open(&self, file: &str) -> io::Result<Self::Input>
+        ensures { IfOk result (λ input. IfSome (bytes self.now file.now) (λ xs. Self.Input.remaining input ≡ Some xs)) };
+}
+
+/// Reads a text to its end as a tree. 181 where a read fails, or the end is not met in 2^27 reads; 185 past 67,108,864
+/// bytes; 31 to 34; 184.
+pub fn local_from<R: Read>(alloc: Global, input: &mut R) -> Result<Tree, SourceFault>
+    ensures { Reads (R.remaining input.old) result }
+{
+    match read_bounded(alloc, input, LIMIT, READS) {
+        Ok(bytes) => told(read_tree(alloc, bytes.as_slice())),
+        Err(ReadFault::TooLong) => Err(SourceFault::TooLong),
+        Err(ReadFault::Memory) => Err(SourceFault::Reading),
+        Err(_) => Err(SourceFault::Read),
+    }
+}
+
+// What is told of the reading of a text.
+fn told(read: Result<Tree, TextFault>) -> Result<Tree, SourceFault>
+    ensures { result ≡ told read }
+{
+    match read {
+        Ok(tree) => Ok(tree),
+        Err(fault) => Err(SourceFault::Text(fault)),
+    }
+}
+
+// Reads a file as a tree.
+fn tree_of<F: Sources>(alloc: Global, files: &F, file: &str) -> Result<Tree, SourceFault>
+    ensures { Reads (F.bytes files.now file.now) result }
+{
+    let Ok(mut input) = files.open(file) else {
+        return Err(SourceFault::Read);
+    };
+    local_from(alloc, &mut input)
+}
+
+// Keeps a tree under a name.
+fn keep(alloc: Global, locals: &mut Locals, name: &str, tree: Tree) -> Result<(), SourceFault>
+    ensures ok { OnOk result (locals.new ≡ with_local locals.old name.now tree) }
+    ensures err { IfErr result (λ e. e ≡ Adding) }
+{
+    let Ok(name) = String::from_str(alloc, name) else {
+        return Err(SourceFault::Adding);
+    };
+    match locals.add(Text::new(name), tree) {
+        Ok(()) => Ok(()),
+        Err(_) => Err(SourceFault::Adding),
+    }
+}
+
+/// Reads the trees of local sources, in their order; of two under one name, the later holds. The first fault ends it:
+/// 31 to 34, 92, 181, 184 and 185.
+pub fn locals_of<F: Sources>(
+    alloc: Global,
+    files: &F,
+    locals: &[Local<'_>],
+) -> Result<Locals, SourceFault>
+    ensures { Gathers (F.bytes files.now) locals.now [] result }
+{
+    let mut trees = Locals::new(alloc);
+    for local in locals {
+        let tree = tree_of(alloc, files, local.file)?;
+        keep(alloc, &mut trees, local.name, tree)?;
+    }
+    Ok(trees)
+}
+
+/// The status for a local source that has no tree, once its line is out.
+pub fn source_refusal<E: Write>(fault: &SourceFault, err: &mut E) -> u8
+    ensures { (result ≡ source_status fault.now) ⊎ (result ≡ 3) }
+{
+    if writeln!(err, "fault {fault}").is_err() {
+        return 3;
+    }
+    match fault {
+        SourceFault::TooLong => 2,
+        SourceFault::Text(TextFault::Memory) => 3,
+        SourceFault::Text(_) => 2,
+        _ => 3,
+    }
+}

@@ -1,0 +1,71 @@
+//! A stepping session over the run of a definition: read, load, open a board, answer the commands.
+
+ghost use Rattle.std.specs.Prelude.{◌≡◌};
+ghost use Rattle.llb_commands.specs.Stepping.{Steps, StepsIn, session_fault};
+
+use crate::bounded::{LIMIT, READS};
+use crate::fault::{OutputFault, ProgramFault, refusal};
+use crate::input::loaded;
+use crate::opening::opened;
+use llb_loader::Locals;
+use llb_session::{SessionFault, converse};
+use llb_stepper::Stepper;
+use std::alloc::Global;
+use std::io::{Read, Write};
+
+// What a fault of a session comes to.
+fn session_fault(fault: SessionFault) -> ProgramFault
+    ensures { result ≡ session_fault fault }
+{
+    match fault {
+        SessionFault::Read => ProgramFault::Read,
+        SessionFault::Write => ProgramFault::Output(OutputFault::Write),
+        SessionFault::Memory => ProgramFault::Memory,
+        SessionFault::TooLong => ProgramFault::TooLong,
+    }
+}
+
+// The whole way.
+fn stepped<R: Read, C: Read, W: Write>(
+    alloc: Global,
+    file: &mut R,
+    commands: &mut C,
+    out: &mut W,
+    locals: Locals,
+    workers: u32,
+) -> Result<(), ProgramFault>
+    ensures { StepsIn locals workers (R.remaining file.old) (C.remaining commands.old) (C.remaining commands.new)
+        (W.contents out.old) (W.contents out.new) result }
+{
+    let graph = loaded(alloc, file)?;
+    let board = opened(alloc, graph, locals, workers)?;
+    let mut stepper = Stepper::new(alloc, board);
+    match converse(alloc, &mut stepper, commands, out, LIMIT, READS) {
+        Ok(()) => Ok(()),
+        Err(fault) => Err(session_fault(fault)),
+    }
+}
+
+/// Reads a definition from `file`, and answers the lines of `commands` on a board with that many workers and caches that are empty at first:
+/// what they print goes to `out`, line by line, refusals of commands too. A refusal of the definition goes to `err`, as a line. Answers the
+/// exit status: 0 where the session ended, by a line `quit` or with the commands; 2 where the definition is refused (81 to 90), a local
+/// source has no tree (121), or the number of workers is 0 or more than 64 (122), and nothing is written to `out`, or where the commands
+/// have more than 67,108,864 bytes (185), and the lines within them are answered; 3 where a read (181), a write (182) or memory (91, 123, 184)
+/// failed, and nothing, or a prefix of the answers, is written.
+pub fn step_over<R: Read, C: Read, W: Write, E: Write>(
+    alloc: Global,
+    file: &mut R,
+    commands: &mut C,
+    out: &mut W,
+    err: &mut E,
+    locals: Locals,
+    workers: u32,
+) -> u8
+    ensures { Steps locals workers (R.remaining file.old) (C.remaining commands.old) (C.remaining commands.new)
+        (W.contents out.old) (W.contents out.new) result }
+{
+    match stepped(alloc, file, commands, out, locals, workers) {
+        Ok(()) => 0,
+        Err(fault) => refusal(&fault, err),
+    }
+}

@@ -1,0 +1,99 @@
+//! What the words of the command line say, or why they say nothing.
+
+ghost use Rattle.std.specs.Prelude.{Some};
+ghost use Rattle.llb_commands.specs.CommandLine.{words_text, TellsWords};
+
+use llb_wire::Many;
+use std::alloc::{AllocError, AllocFailed};
+use std::fmt;
+use std::io::Write;
+
+/// What the program is to do.
+#[derive(Clone, Copy, Debug, PartialEq, Eq)]
+pub enum Command {
+    /// To run a definition and print the tree of its result.
+    Run,
+    /// To print the graph of a definition.
+    Show,
+    /// To step through the run of a definition.
+    Step,
+    /// To write the definition of the entries that a text stands for.
+    Assemble,
+    /// To write the entries of a definition as text.
+    Disassemble,
+}
+
+/// The tree text of a local source: its name, and the file in which the text lies.
+#[derive(Clone, Copy, Debug)]
+pub struct Local<'a> {
+    pub name: &'a str,
+    pub file: &'a str,
+}
+
+/// What the words say.
+#[derive(Debug, Drop)]
+pub struct Line<'a> {
+    pub command: Command,
+    /// Where none is given, 2 for a session, and 1 for every other command.
+    pub workers: u32,
+    /// The file of the definition, where the command takes one.
+    pub file: Option<&'a str>,
+    /// The local sources, in the order of the words.
+    pub locals: Many<Local<'a>>,
+}
+
+/// Why words say nothing. A fault prints what stands after the word `fault`.
+#[derive(Clone, Copy, Debug)]
+pub enum WordsFault<'a> {
+    /// 183: the words are refused; a word that follows was to be a local source and has no `=`.
+    Words(Option<&'a str>),
+    /// 184: memory was refused while the words were read.
+    Memory,
+}
+
+impl fmt::Display for WordsFault<'_> {
+    ghost output = { λ e. Some (words_text e) };
+
+    fn fmt<W: fmt::Write>(&self, f: &mut fmt::Formatter<W>) -> fmt::Result {
+        match self {
+            WordsFault::Words(Some(word)) => write!(f, "183 {word}"),
+            WordsFault::Words(None) => write!(f, "183"),
+            WordsFault::Memory => write!(f, "184"),
+        }
+    }
+}
+
+impl From<AllocError> for WordsFault<'_> {
+    ghost use Rattle.std.specs.Prelude.{◌≡◌};
+    ghost use Rattle.llb_commands.specs.declared.words.WordsFault.TheVariants.{Memory};
+
+    ghost from_gives = { λ _ e. e ≡ Memory };
+
+    fn from(_: AllocError) -> Self {
+        WordsFault::Memory
+    }
+}
+
+impl<T: Drop> From<AllocFailed<T>> for WordsFault<'_> {
+    ghost use Rattle.std.specs.Prelude.{◌≡◌};
+    ghost use Rattle.llb_commands.specs.declared.words.WordsFault.TheVariants.{Memory};
+
+    ghost from_gives = { λ _ e. e ≡ Memory };
+
+    fn from(_: AllocFailed<T>) -> Self {
+        WordsFault::Memory
+    }
+}
+
+/// The status for words that say nothing, once their line is out: 2 for the words, 3 where it is out of memory.
+pub fn words_refusal<E: Write>(fault: &WordsFault<'_>, err: &mut E) -> u8
+    ensures { TellsWords (E.contents err.old) (E.contents err.new) fault.now result }
+{
+    if writeln!(err, "fault {fault}").is_err() {
+        return 3;
+    }
+    match fault {
+        WordsFault::Words(_) => 2,
+        WordsFault::Memory => 3,
+    }
+}

@@ -1,0 +1,50 @@
+-- What stands after the word `fault` where a board refuses an event: the number, and the key of a cache that is held.
+use Rattle.std.specs.Prelude.{ℕ, List, ◌++◌, codes}
+use Rattle.llb_events.specs.declared.fault.ClaimFault.{ClaimFault}
+use Rattle.llb_events.specs.declared.fault.ClaimFault.TheVariants as claim
+use Rattle.llb_events.specs.declared.fault.StepFault.{StepFault}
+use Rattle.llb_events.specs.declared.fault.StepFault.TheVariants as step
+use Rattle.llb_events.specs.declared.fault.SettleFault.{SettleFault}
+use Rattle.llb_events.specs.declared.fault.SettleFault.TheVariants as settle
+use Rattle.llb_events.specs.declared.fault.WalkFault.{WalkFault}
+use Rattle.llb_events.specs.declared.fault.WalkFault.TheVariants as walk
+
+abbrev pub claim_text : ClaimFault → List ℕ
+claim_text claim.NoWorker = codes "131"
+claim_text claim.Busy = codes "132"
+claim_text claim.NoVertex = codes "133"
+claim_text claim.NotReady = codes "134"
+claim_text (claim.Held key) = codes "135 " ++ key.id
+claim_text claim.Memory = codes "141"
+
+abbrev pub step_text : StepFault → List ℕ
+step_text step.NoWorker = codes "131"
+step_text step.NotRunning = codes "136"
+step_text step.NothingLeft = codes "137"
+step_text step.Memory = codes "141"
+
+abbrev pub settle_text : SettleFault → List ℕ
+settle_text settle.NoWorker = codes "131"
+settle_text settle.NotRunning = codes "136"
+settle_text settle.NotFinished = codes "138"
+
+abbrev pub walk_text : WalkFault → List ℕ
+walk_text (walk.Claim e) = claim_text e
+walk_text (walk.Step e) = step_text e
+walk_text (walk.Settle e) = settle_text e
+walk_text walk.Memory = codes "141"
+
+-- out of memory is one fault, whoever has it
+abbrev pub claim_refused : ClaimFault → WalkFault
+claim_refused claim.Memory = walk.Memory
+claim_refused claim.NoWorker = walk.Claim claim.NoWorker
+claim_refused claim.Busy = walk.Claim claim.Busy
+claim_refused claim.NoVertex = walk.Claim claim.NoVertex
+claim_refused claim.NotReady = walk.Claim claim.NotReady
+claim_refused (claim.Held k) = walk.Claim (claim.Held k)
+
+abbrev pub step_refused : StepFault → WalkFault
+step_refused step.Memory = walk.Memory
+step_refused step.NoWorker = walk.Step step.NoWorker
+step_refused step.NotRunning = walk.Step step.NotRunning
+step_refused step.NothingLeft = walk.Step step.NothingLeft

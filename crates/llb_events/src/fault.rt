@@ -1,0 +1,378 @@
+//! Why an event is refused, and why a job comes to no outcome. A fault prints its number, and after it the ID of a held key.
+
+ghost use Rattle.std.specs.Prelude.{Some};
+ghost use Rattle.llb_events.specs.Faults.{claim_text, step_text, settle_text, walk_text};
+
+use crate::gate::Stopped;
+use llb_cache::Key;
+use llb_tree::TreeFault;
+use std::alloc::{AllocError, AllocFailed};
+use std::{error, fmt};
+use thiserror::Error;
+
+/// 141: memory was refused.
+#[derive(Clone, Copy, Debug, Error)]
+#[error("141")]
+pub struct Memory;
+
+/// Why a job comes to no outcome.
+#[derive(Clone, Copy, Debug, Error)]
+pub enum WorkFault {
+    /// 143: the gate let no work begin.
+    #[error("143")]
+    Stopped,
+    /// 142: memory was refused.
+    #[error("142")]
+    Memory,
+}
+
+/// Why a vertex is not claimed: the first cause that stands.
+#[derive(Debug, Drop)]
+pub enum ClaimFault {
+    /// 131: there is no worker of that number.
+    NoWorker,
+    /// 132: the worker runs a vertex.
+    Busy,
+    /// 133: there is no vertex of that number.
+    NoVertex,
+    /// 134: the vertex does not wait, or an input of it is not done.
+    NotReady,
+    /// 135: a running worker has the locked cache of this key, the first such key in the order of the mounts.
+    Held(Key),
+    /// 141: memory was refused.
+    Memory,
+}
+
+impl fmt::Display for ClaimFault {
+    ghost output = { λ e. Some (claim_text e) };
+
+    fn fmt<W: fmt::Write>(&self, f: &mut fmt::Formatter<W>) -> fmt::Result {
+        match self {
+            ClaimFault::NoWorker => write!(f, "131"),
+            ClaimFault::Busy => write!(f, "132"),
+            ClaimFault::NoVertex => write!(f, "133"),
+            ClaimFault::NotReady => write!(f, "134"),
+            ClaimFault::Held(key) => write!(f, "135 {key}"),
+            ClaimFault::Memory => write!(f, "141"),
+        }
+    }
+}
+
+impl error::Error for ClaimFault {}
+
+/// Why a micro-step is not done: the first cause that stands.
+#[derive(Clone, Copy, Debug, PartialEq, Eq)]
+pub enum StepFault {
+    /// 131: there is no worker of that number.
+    NoWorker,
+    /// 136: the worker is idle.
+    NotRunning,
+    /// 137: what the worker runs is finished.
+    NothingLeft,
+    /// 141: memory was refused.
+    Memory,
+}
+
+impl fmt::Display for StepFault {
+    ghost output = { λ e. Some (step_text e) };
+
+    fn fmt<W: fmt::Write>(&self, f: &mut fmt::Formatter<W>) -> fmt::Result {
+        match self {
+            StepFault::NoWorker => write!(f, "131"),
+            StepFault::NotRunning => write!(f, "136"),
+            StepFault::NothingLeft => write!(f, "137"),
+            StepFault::Memory => write!(f, "141"),
+        }
+    }
+}
+
+impl error::Error for StepFault {}
+
+/// Why a vertex is not settled: the first cause that stands.
+#[derive(Clone, Copy, Debug, PartialEq, Eq)]
+pub enum SettleFault {
+    /// 131: there is no worker of that number.
+    NoWorker,
+    /// 136: the worker is idle.
+    NotRunning,
+    /// 138: what the worker runs is not finished.
+    NotFinished,
+}
+
+impl fmt::Display for SettleFault {
+    ghost output = { λ e. Some (settle_text e) };
+
+    fn fmt<W: fmt::Write>(&self, f: &mut fmt::Formatter<W>) -> fmt::Result {
+        match self {
+            SettleFault::NoWorker => write!(f, "131"),
+            SettleFault::NotRunning => write!(f, "136"),
+            SettleFault::NotFinished => write!(f, "138"),
+        }
+    }
+}
+
+impl error::Error for SettleFault {}
+
+/// Why an event of a walk is refused: the fault of the claim, the step or the settle, or out of memory, whoever has it.
+#[derive(Debug, Drop)]
+pub enum WalkFault {
+    /// 131 to 135.
+    Claim(ClaimFault),
+    /// 131, 136, 137.
+    Step(StepFault),
+    /// 131, 136, 138.
+    Settle(SettleFault),
+    /// 141: memory was refused.
+    Memory,
+}
+
+impl fmt::Display for WalkFault {
+    ghost output = { λ e. Some (walk_text e) };
+
+    fn fmt<W: fmt::Write>(&self, f: &mut fmt::Formatter<W>) -> fmt::Result {
+        match self {
+            WalkFault::Claim(fault) => write!(f, "{fault}"),
+            WalkFault::Step(fault) => write!(f, "{fault}"),
+            WalkFault::Settle(fault) => write!(f, "{fault}"),
+            WalkFault::Memory => write!(f, "141"),
+        }
+    }
+}
+
+impl error::Error for WalkFault {}
+
+impl From<AllocError> for Memory {
+    fn from(_: AllocError) -> Memory {
+        Memory
+    }
+}
+
+impl<T: Drop> From<AllocFailed<T>> for Memory {
+    fn from(_: AllocFailed<T>) -> Memory {
+        Memory
+    }
+}
+
+/// Of a copy of caches.
+impl From<llb_cache::Memory> for Memory {
+    fn from(_: llb_cache::Memory) -> Memory {
+        Memory
+    }
+}
+
+/// Of a copy of a tree, which can only lack memory.
+impl From<TreeFault> for Memory {
+    fn from(_: TreeFault) -> Memory {
+        Memory
+    }
+}
+
+/// Of a copy of a view.
+impl From<llb_wire::Memory> for Memory {
+    fn from(_: llb_wire::Memory) -> Memory {
+        Memory
+    }
+}
+
+/// Of a copy of a graph and of local trees.
+impl From<llb_loader::Memory> for Memory {
+    fn from(_: llb_loader::Memory) -> Memory {
+        Memory
+    }
+}
+
+/// Of a copy of where commands run.
+impl From<llb_applet::Memory> for Memory {
+    fn from(_: llb_applet::Memory) -> Memory {
+        Memory
+    }
+}
+
+impl From<Stopped> for WorkFault {
+    ghost use Rattle.std.specs.Prelude.{◌≡◌};
+    ghost use Rattle.llb_events.specs.declared.fault.WorkFault.TheVariants as work;
+
+    ghost from_gives = { λ _ e. e ≡ work.Stopped };
+
+    fn from(_: Stopped) -> WorkFault {
+        WorkFault::Stopped
+    }
+}
+
+impl From<Memory> for WorkFault {
+    ghost use Rattle.std.specs.Prelude.{◌≡◌};
+    ghost use Rattle.llb_events.specs.declared.fault.WorkFault.TheVariants as work;
+
+    ghost from_gives = { λ _ e. e ≡ work.Memory };
+
+    fn from(_: Memory) -> WorkFault {
+        WorkFault::Memory
+    }
+}
+
+impl From<AllocError> for ClaimFault {
+    ghost use Rattle.std.specs.Prelude.{◌≡◌};
+    ghost use Rattle.llb_events.specs.declared.fault.ClaimFault.TheVariants.{Memory};
+
+    ghost from_gives = { λ _ e. e ≡ Memory };
+
+    fn from(_: AllocError) -> ClaimFault {
+        ClaimFault::Memory
+    }
+}
+
+impl<T: Drop> From<AllocFailed<T>> for ClaimFault {
+    ghost use Rattle.std.specs.Prelude.{◌≡◌};
+    ghost use Rattle.llb_events.specs.declared.fault.ClaimFault.TheVariants.{Memory};
+
+    ghost from_gives = { λ _ e. e ≡ Memory };
+
+    fn from(_: AllocFailed<T>) -> ClaimFault {
+        ClaimFault::Memory
+    }
+}
+
+/// Of a call on a tree that can only lack memory.
+impl From<TreeFault> for ClaimFault {
+    ghost use Rattle.std.specs.Prelude.{◌≡◌};
+    ghost use Rattle.llb_events.specs.declared.fault.ClaimFault.TheVariants.{Memory};
+
+    ghost from_gives = { λ _ e. e ≡ Memory };
+
+    fn from(_: TreeFault) -> ClaimFault {
+        ClaimFault::Memory
+    }
+}
+
+/// Of a copy of a text, and of the parts of an execution.
+impl From<llb_wire::Memory> for ClaimFault {
+    ghost use Rattle.std.specs.Prelude.{◌≡◌};
+    ghost use Rattle.llb_events.specs.declared.fault.ClaimFault.TheVariants.{Memory};
+
+    ghost from_gives = { λ _ e. e ≡ Memory };
+
+    fn from(_: llb_wire::Memory) -> ClaimFault {
+        ClaimFault::Memory
+    }
+}
+
+/// Of a copy of a key.
+impl From<llb_cache::Memory> for ClaimFault {
+    ghost use Rattle.std.specs.Prelude.{◌≡◌};
+    ghost use Rattle.llb_events.specs.declared.fault.ClaimFault.TheVariants.{Memory};
+
+    ghost from_gives = { λ _ e. e ≡ Memory };
+
+    fn from(_: llb_cache::Memory) -> ClaimFault {
+        ClaimFault::Memory
+    }
+}
+
+/// Of a lease that can only lack memory.
+impl From<llb_cache::LeaseFault> for ClaimFault {
+    ghost use Rattle.std.specs.Prelude.{◌≡◌};
+    ghost use Rattle.llb_events.specs.declared.fault.ClaimFault.TheVariants.{Memory};
+
+    ghost from_gives = { λ _ e. e ≡ Memory };
+
+    fn from(_: llb_cache::LeaseFault) -> ClaimFault {
+        ClaimFault::Memory
+    }
+}
+
+/// Of a call on a tree that can only lack memory.
+impl From<TreeFault> for StepFault {
+    ghost use Rattle.std.specs.Prelude.{◌≡◌};
+    ghost use Rattle.llb_events.specs.declared.fault.StepFault.TheVariants.{Memory};
+
+    ghost from_gives = { λ _ e. e ≡ Memory };
+
+    fn from(_: TreeFault) -> StepFault {
+        StepFault::Memory
+    }
+}
+
+/// Of a micro-step on a view, which can only lack memory.
+impl From<llb_wire::Memory> for StepFault {
+    ghost use Rattle.std.specs.Prelude.{◌≡◌};
+    ghost use Rattle.llb_events.specs.declared.fault.StepFault.TheVariants.{Memory};
+
+    ghost from_gives = { λ _ e. e ≡ Memory };
+
+    fn from(_: llb_wire::Memory) -> StepFault {
+        StepFault::Memory
+    }
+}
+
+impl From<AllocError> for StepFault {
+    ghost use Rattle.std.specs.Prelude.{◌≡◌};
+    ghost use Rattle.llb_events.specs.declared.fault.StepFault.TheVariants.{Memory};
+
+    ghost from_gives = { λ _ e. e ≡ Memory };
+
+    fn from(_: AllocError) -> StepFault {
+        StepFault::Memory
+    }
+}
+
+impl From<Memory> for WalkFault {
+    ghost use Rattle.std.specs.Prelude.{◌≡◌};
+    ghost use Rattle.llb_events.specs.declared.fault.WalkFault.TheVariants as walk;
+
+    ghost from_gives = { λ _ e. e ≡ walk.Memory };
+
+    fn from(_: Memory) -> WalkFault {
+        WalkFault::Memory
+    }
+}
+
+/// Of a mark of a view.
+impl From<llb_wire::Memory> for WalkFault {
+    ghost use Rattle.std.specs.Prelude.{◌≡◌};
+    ghost use Rattle.llb_events.specs.declared.fault.WalkFault.TheVariants as walk;
+
+    ghost from_gives = { λ _ e. e ≡ walk.Memory };
+
+    fn from(_: llb_wire::Memory) -> WalkFault {
+        WalkFault::Memory
+    }
+}
+
+impl From<ClaimFault> for WalkFault {
+    ghost use Rattle.std.specs.Prelude.{◌≡◌};
+    ghost use Rattle.llb_events.specs.Faults.{claim_refused};
+
+    ghost from_gives = { λ f e. e ≡ claim_refused f };
+
+    fn from(fault: ClaimFault) -> WalkFault {
+        match fault {
+            ClaimFault::Memory => WalkFault::Memory,
+            other => WalkFault::Claim(other),
+        }
+    }
+}
+
+impl From<StepFault> for WalkFault {
+    ghost use Rattle.std.specs.Prelude.{◌≡◌};
+    ghost use Rattle.llb_events.specs.Faults.{step_refused};
+
+    ghost from_gives = { λ f e. e ≡ step_refused f };
+
+    fn from(fault: StepFault) -> WalkFault {
+        match fault {
+            StepFault::Memory => WalkFault::Memory,
+            other => WalkFault::Step(other),
+        }
+    }
+}
+
+impl From<SettleFault> for WalkFault {
+    ghost use Rattle.std.specs.Prelude.{◌≡◌};
+    ghost use Rattle.llb_events.specs.declared.fault.WalkFault.TheVariants as walk;
+
+    ghost from_gives = { λ f e. e ≡ walk.Settle f };
+
+    fn from(fault: SettleFault) -> WalkFault {
+        WalkFault::Settle(fault)
+    }
+}

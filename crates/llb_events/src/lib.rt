@@ -1,0 +1,11 @@
+//! What is asked of a board and what it answers: the events, their replies, how vertices and workers look, why an event is refused, and
+//! the gate before work. Types alone: which event is granted, and what it changes, is the board's.
+#![tactic(auto)]
+
+mod event;
+mod fault;
+mod gate;
+
+pub use event::{At, Event, Settled, Status, Stepped};
+pub use fault::{ClaimFault, Memory, SettleFault, StepFault, WalkFault, WorkFault};
+pub use gate::{Gate, Stopped};

@@ -1,0 +1,77 @@
+//! Calls on the libraries as transcripts. A line with `> ` first is a call, and the lines after it are what it answers, or its fault; one
+//! with `# ` first says what the next calls show. On the stage are two trees (`trees`, `acts`) and the mounts of a view (`views`), none of
+//! them after `new`; calls on graphs (`graphs`) stand by themselves.
+
+use super::acts::{lay_down, say_act};
+use super::graphs::say_graph_call;
+use super::trees::{Trees, answer, word_and_rest};
+use super::views::{put_mount, say_run};
+use llb_mount::Shown;
+use llb_tree::Tree;
+use std::alloc::Global;
+use std::process::Abort;
+
+#[derive(Drop)]
+struct Stage {
+    trees: Trees,
+    mounts: Vec<Shown>,
+}
+
+fn empty_stage(rt: &impl Abort, alloc: Global) -> Stage {
+    let this = Tree::empty(alloc).expect(rt, "memory");
+    let other = Tree::empty(alloc).expect(rt, "memory");
+    Stage {
+        trees: Trees { this, other },
+        mounts: Vec::new(alloc),
+    }
+}
+
+fn say_on_trees(rt: &impl Abort, alloc: Global, text: &mut String, trees: &mut Trees, call: &str) {
+    if let Err(fault) = answer(alloc, text, trees, call) {
+        write!(text, "{fault}\n").expect(rt, "memory");
+    }
+}
+
+fn say_call(rt: &impl Abort, alloc: Global, text: &mut String, stage: &mut Stage, call: &str) {
+    let (name, words) = word_and_rest(call);
+    let Stage { trees, mounts } = stage;
+    match name {
+        "new" => *stage = empty_stage(rt, alloc),
+        "act" => say_act(rt, alloc, text, trees, words),
+        "lay" => lay_down(rt, alloc, trees),
+        "mount" => put_mount(rt, alloc, trees, mounts, words),
+        "run" => say_run(rt, alloc, text, mounts.as_slice(), words),
+        "link" | "op" | "load" | "evaluate" => say_graph_call(rt, alloc, text, name, words),
+        _ => say_on_trees(rt, alloc, text, trees, call),
+    }
+}
+
+// A call and what it answers; nothing of a line that is no call.
+fn say_line(rt: &impl Abort, alloc: Global, text: &mut String, stage: &mut Stage, line: &str) {
+    if let Some(call) = line.strip_prefix("> ") {
+        write!(text, "{line}\n").expect(rt, "memory");
+        say_call(rt, alloc, text, stage, call);
+    }
+}
+
+fn transcript(rt: &impl Abort, alloc: Global, told: &str) -> String {
+    let mut text = String::new(alloc);
+    let mut stage = empty_stage(rt, alloc);
+    for line in told.lines() {
+        say_line(rt, alloc, &mut text, &mut stage, line.trim());
+    }
+    text
+}
+
+// Ends the test at the first line of a transcript that is told otherwise.
+pub(crate) fn are_told(rt: &impl Abort, alloc: Global, told: &str) {
+    let text = transcript(rt, alloc, told);
+    let mut lines = text.lines();
+    for line in told.lines() {
+        let line = line.trim();
+        if !line.is_empty() && !line.starts_with("# ") {
+            assert_eq!(rt; lines.next().unwrap_or("nothing").trim(), line);
+        }
+    }
+    assert!(rt; lines.next().is_none());
+}

@@ -1,0 +1,99 @@
+//! Scripts on views, as transcripts have them (`stage`). `mount DEST SELECTOR` puts a mount with this tree, which is then empty; `read-only`
+//! after them makes it so. `run CWD TEXT` runs the script of a text on a view of such mounts, and answers the statuses of its commands, up to
+//! the first that is not 0, and then each mount's tree after a bar; the mounts themselves stay as they are.
+
+use super::scripts::texts;
+use super::told::push_tree;
+use super::trees::{Trees, word_and_rest};
+use llb_applet::{Command, Many, Path, Script, Setting, View, read_script, run_command};
+use llb_mount::Shown;
+use llb_tree::Tree;
+use std::alloc::Global;
+use std::mem;
+use std::process::Abort;
+
+pub(crate) fn put_mount(
+    rt: &impl Abort,
+    alloc: Global,
+    trees: &mut Trees,
+    mounts: &mut Vec<Shown>,
+    words: &str,
+) {
+    let (dest, rest) = word_and_rest(words);
+    let (selector, way) = word_and_rest(rest);
+    let dest = Path::read(alloc, dest).expect(rt, "a path");
+    let selector = Path::read(alloc, selector).expect(rt, "a path");
+    let empty = Tree::empty(alloc).expect(rt, "memory");
+    let shown = Shown {
+        dest,
+        selector,
+        readonly: way == "read-only",
+        tree: mem::replace(&mut trees.this, empty),
+    };
+    mounts.push(shown).expect(rt, "memory");
+}
+
+fn view_of(rt: &impl Abort, alloc: Global, mounts: &[Shown]) -> View {
+    let mut copies = Vec::new(alloc);
+    for shown in mounts {
+        let shown = shown.copy().expect(rt, "memory");
+        copies.push(shown).expect(rt, "memory");
+    }
+    assert!(rt; View::can_make(&copies));
+    View::make(Many::new(copies)).expect(rt, "a view")
+}
+
+fn setting_of(rt: &impl Abort, alloc: Global, cwd: &str) -> Setting {
+    let cwd = Path::read(alloc, cwd).expect(rt, "a path");
+    let env = texts(alloc, &["A=1", "B", ""]).expect(rt, "memory");
+    let env = Many::new(env);
+    Setting { cwd, env }.copy().expect(rt, "memory")
+}
+
+fn script_of(rt: &impl Abort, alloc: Global, text: &str) -> Script {
+    let args = texts(alloc, &["/bin/sh", "-c", text]).expect(rt, "memory");
+    assert!(rt; !args.is_empty());
+    let script = read_script(alloc, &args).expect(rt, "a script");
+    script.copy().expect(rt, "memory")
+}
+
+// Runs the commands up to the first whose status is not 0, and tells the statuses.
+fn say_statuses(
+    rt: &impl Abort,
+    alloc: Global,
+    text: &mut String,
+    commands: &[Command],
+    setting: &Setting,
+    view: &mut View,
+) {
+    for command in commands {
+        let status = run_command(alloc, command, setting, view).expect(rt, "memory");
+        write!(text, "{status}").expect(rt, "memory");
+        if status != 0 {
+            return;
+        }
+    }
+}
+
+fn say_trees(rt: &impl Abort, text: &mut String, mounts: &[Shown]) {
+    for shown in mounts {
+        text.push_str("|").expect(rt, "memory");
+        push_tree(text, &shown.tree).expect(rt, "memory");
+    }
+    text.push_str("\n").expect(rt, "memory");
+}
+
+pub(crate) fn say_run(
+    rt: &impl Abort,
+    alloc: Global,
+    text: &mut String,
+    mounts: &[Shown],
+    words: &str,
+) {
+    let (cwd, script) = word_and_rest(words);
+    let setting = setting_of(rt, alloc, cwd);
+    let script = script_of(rt, alloc, script);
+    let mut view = view_of(rt, alloc, mounts);
+    say_statuses(rt, alloc, text, script.commands(), &setting, &mut view);
+    say_trees(rt, text, view.mounts());
+}

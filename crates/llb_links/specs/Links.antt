@@ -1,0 +1,115 @@
+-- Which vertices have an edge to which, how many inputs of each are not done, and what is after a vertex.
+use Rattle.std.specs.Prelude.{◌≡◌, ℕ, zero, suc, ◌+◌, ◌-◌, ◌<◌, ◌≤◌, ◌==◌, Bool, true, false, ◌&&◌, not, List, [], ◌∷◌, ◌++◌, length, get_or}
+use Rattle.std.specs.Prelude.{◌⊎◌, All, Contains, Some, slice_get, if◌then◌else◌}
+use Rattle.std.specs.List.{list_any}
+use Rattle.llb_loader.specs.declared.graph.Edge.{Edge}
+use Rattle.llb_loader.specs.declared.graph.Vertex.{Vertex}
+
+-- ---- the vertices that have an edge to one
+
+-- whether one of some edges leads to a vertex
+abbrev pub leads : List Edge → ℕ → Bool
+leads edges u = list_any (λ (e : Edge). e.vertex == u) edges
+
+-- the numbers of the vertices that have an edge to another, where the first has this number
+abbrev pub users_from : ℕ → ℕ → List Vertex → List ℕ
+users_from u k [] = []
+users_from u k (x ∷ xs) = if leads x.inputs u then k ∷ users_from u (k + 1) xs else users_from u (k + 1) xs
+
+-- the vertices that have an edge to one, ascending, each once
+abbrev pub users_of : List Vertex → ℕ → List ℕ
+users_of vs u = users_from u 0 vs
+
+-- ---- the inputs that are not done
+
+-- how many numbers below a bound pass a test
+abbrev pub count_below : (ℕ → Bool) → ℕ → ℕ
+count_below p zero = 0
+count_below p (suc n) = (if p n then 1 else 0) + count_below p n
+
+-- a vertex has an edge to another, which is not done
+abbrev pub waits_for : (ℕ → Bool) → Vertex → ℕ → Bool
+waits_for done x u = leads x.inputs u && not (done u)
+
+-- how many vertices that are not done it has edges to
+abbrev pub open_inputs : List Vertex → (ℕ → Bool) → Vertex → ℕ
+open_inputs vs done x = count_below (waits_for done x) (length vs)
+
+-- every edge leads to a vertex below its own
+abbrev pub AreBelow : List Vertex → Type 0
+AreBelow vs = (v : ℕ) (x : Vertex) → slice_get vs v ≡ Some x → All (λ (e : Edge). e.vertex < v) x.inputs
+
+-- vertex v is entered at the end of the list of each vertex to which one of the edges leads, and these are that many
+pub record IsEntered (edges : List Edge) (v : ℕ) (old new : List (List ℕ)) (count : ℕ) : Type 0 where
+  pub same : length new ≡ length old
+  pub lists : (u : ℕ) → u < length old → get_or new u [] ≡ (if leads edges u then get_or old u [] ++ v ∷ [] else get_or old u [])
+  pub counted : count ≡ count_below (leads edges) (length old)
+
+-- what is kept: of each vertex those that have an edge to it, and how many inputs of it are not done
+pub record Linked : Type 0 where
+  pub users : List (List ℕ)
+  pub counts : List ℕ
+
+-- nothing is reached, and there is room for that many
+pub record HasRoom (count : ℕ) (reached : List ℕ) (room : ℕ) : Type 0 where
+  pub none : reached ≡ []
+  pub fits : count ≤ room
+
+-- these are those of the vertices, of which some are done
+pub record IsLinked (vs : List Vertex) (done : ℕ → Bool) (l : Linked) : Type 0 where
+  pub same_users : length l.users ≡ length vs
+  pub same_counts : length l.counts ≡ length vs
+  pub users_are : (u : ℕ) → u < length vs → get_or l.users u [] ≡ users_of vs u
+  pub counts_are : (v : ℕ) (x : Vertex) → slice_get vs v ≡ Some x → get_or l.counts v 0 ≡ open_inputs vs done x
+
+abbrev pub users_at : Linked → ℕ → List ℕ
+users_at l u = get_or l.users u []
+
+-- no input of a vertex is open
+abbrev pub has_inputs : Linked → ℕ → Bool
+has_inputs l v = get_or l.counts v 1 == 0
+
+-- how often a number stands in a list
+abbrev pub times : ℕ → List ℕ → ℕ
+times x [] = 0
+times x (y ∷ ys) = (if y == x then 1 else 0) + times x ys
+
+-- each count is lower by one for each time that its vertex is listed, or higher
+abbrev pub AreLowered : List ℕ → List ℕ → List ℕ → Type 0
+AreLowered users old new = (length new ≡ length old) × ((x : ℕ) → get_or new x 0 ≡ get_or old x 0 - times x users)
+
+abbrev pub AreRaised : List ℕ → List ℕ → List ℕ → Type 0
+AreRaised users old new = (length new ≡ length old) × ((x : ℕ) → x < length old → get_or new x 0 ≡ get_or old x 0 + times x users)
+
+-- ---- marks that spread from a vertex to those after it
+
+abbrev pub is_marked : List Bool → ℕ → Bool
+is_marked marks x = get_or marks x false
+
+-- a set of vertices that has with each vertex those that have an edge to it
+abbrev pub IsClosed : List (List ℕ) → (ℕ → Bool) → Type 0
+IsClosed users p = (y x : ℕ) → p y ≡ true → Contains (get_or users y []) x → p x ≡ true
+
+-- how many are not marked
+abbrev pub unmarked : List Bool → ℕ
+unmarked [] = 0
+unmarked (b ∷ bs) = (if b then 0 else 1) + unmarked bs
+
+-- some vertices are marked, and those among them that were not stand at the end of the ones that were reached
+pub record Visits (users : List ℕ) (old new : List Bool) (reached reached_new : List ℕ) : Type 0 where
+  pub same : length new ≡ length old
+  pub more : List ℕ
+  pub is : reached_new ≡ reached ++ more
+  pub from : (x : ℕ) → Contains more x → Contains users x
+  pub kept : (x : ℕ) → is_marked old x ≡ true → is_marked new x ≡ true
+  pub all : (x : ℕ) → Contains users x → is_marked new x ≡ true
+  pub only : (x : ℕ) → is_marked new x ≡ true → (is_marked old x ≡ true) ⊎ Contains more x
+  pub count : unmarked new + length more ≡ unmarked old
+
+-- the marks are the least such set that has one vertex and all that were marked
+pub record Spreads (users : List (List ℕ)) (v : ℕ) (old new : List Bool) : Type 0 where
+  pub same : length new ≡ length old
+  pub kept : (x : ℕ) → is_marked old x ≡ true → is_marked new x ≡ true
+  pub here : is_marked new v ≡ true
+  pub closed : IsClosed users (is_marked old) → IsClosed users (is_marked new)
+  pub least : (p : ℕ → Bool) → IsClosed users p → ((x : ℕ) → is_marked old x ≡ true → p x ≡ true) → p v ≡ true → (x : ℕ) → is_marked new x ≡ true → p x ≡ true

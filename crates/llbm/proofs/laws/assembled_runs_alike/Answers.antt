@@ -1,9 +1,0 @@
-use Rattle.std.proofs.Common.{subst}
-use Rattle.llb_loader.specs.Laws.{HasOneAnswerIn}
-use Rattle.llbm.proofs.Alike.{runs_alike}
-use Rattle.llbm.proofs.laws.assembled_runs_alike.Goals as goal
-
-pub returns : goal.returns
-returns c =
-    runs_alike c.args.text.now c.args.bytes.now c.args.entries.now c.one_answer.ensures
-    (subst HasOneAnswerIn c.as_slice.ensures c.one_answer_in.ensures) c.definition_is_read_again.ensures c.is_bytes.ensures

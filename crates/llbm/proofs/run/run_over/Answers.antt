@@ -1,7 +1,0 @@
-use Rattle.llbm.proofs.Answering.{run_told}
-use Rattle.llbm.proofs.run.run_over.Goals as goal
-
-pub returns : goal.returns
-returns g c =
-    run_told 1 c.args.locals (g.R.Read.remaining c.args.input.now) (g.W.Write.contents c.args.out.now) (g.W.Write.contents c.answer-answer.new.out)
-    (g.W.Write.contents c.told.new.out) c.answer-answer.result c.told.result c.answer-answer.ensures c.told.ensures
