@@ -1,376 +1,377 @@
-//! Caches. A need is a row: the ID and the mode of its key, the index of its seed or none, and the name of the one file in
-//! its tree, where it has one. A story is told in a line of text: the answer to each step.
+//! Caches, as transcripts. A line with `> ` first is a call, and the lines after it are what it answers; one with `# ` first says what the
+//! next calls show. A need is the ID and the way of its key, the index of its seed or `-`, and the name of the one file in its tree, where it
+//! has one. `lease NEED, ..` answers the number of the lease and of the instance of each need, or the fault; `see LEASE NEED` the name of the
+//! file in what a lease has there, which `set LEASE NEED NAME` changes, and `back LEASE` gives a lease back; leases are named by their place
+//! among those granted. `count NEED` answers how many instances a key has, how many leases are out, and each instance's file; `next NEED` the
+//! instance that a lease would have now, or `shut`. There are no caches after `new`.
 
-use super::told::{are_all_told, file, is_told, tree_of};
-use llb_cache::{Caches, Key, Lease, Many, Memory, Mode, Need, Seed};
+use super::stage::is_told_as;
+use super::told::{file, tree_of};
+use super::trees::word_and_rest;
+use llb_cache::{Caches, Key, Lease, Many, Mode, Need, Seed};
 use llb_tree::{Path, Text, Tree};
 use std::alloc::Global;
+use std::process::Abort;
 
-pub(crate) type Row = (&'static str, Mode, Option<u32>, &'static str);
+pub(crate) type Row<'a> = (&'a str, Mode, Option<u32>, &'a str);
 
-// A step of a story. A lease is named by its place among those that were granted.
-#[derive(Clone, Copy)]
-enum Step {
-    Lease(&'static [Row]),
-    Set(usize, u32, &'static str),
-    See(usize, u32),
-    Back(usize),
-    Count(Row),
-    Next(Row),
+#[derive(Drop)]
+struct Stage {
+    caches: Caches,
+    leases: Vec<Lease>,
+}
+
+fn empty_stage(alloc: Global) -> Stage {
+    Stage {
+        caches: Caches::new(alloc),
+        leases: Vec::new(alloc),
+    }
+}
+
+fn mode_of(way: &str) -> Mode {
+    match way {
+        "locked" => Mode::Locked,
+        "private" => Mode::Private,
+        _ => Mode::Shared,
+    }
+}
+
+fn row_of(need: &str) -> Row<'_> {
+    let (id, rest) = word_and_rest(need);
+    let (way, rest) = word_and_rest(rest);
+    let (seed, name) = word_and_rest(rest);
+    (id, mode_of(way), seed.parse::<u32>().ok(), name)
 }
 
 // The tree with an empty file of that name, or with none.
-fn marked(alloc: Global, name: &str) -> Result<Tree, Memory> {
+fn marked(rt: &impl Abort, alloc: Global, name: &str) -> Tree {
     if name.is_empty() {
-        return Ok(Tree::empty(alloc)?);
+        return Tree::empty(alloc).expect(rt, "memory");
     }
-    Ok(tree_of(alloc, &[file(name, "")])?)
+    tree_of(alloc, &[file(name, "")]).expect(rt, "memory")
 }
 
-fn seed_of(alloc: Global, index: Option<u32>) -> Result<Option<Seed>, Memory> {
-    match index {
-        Some(index) => {
-            let digest = Text::from_str(alloc, "sha256:00")?;
-            Ok(Some(Seed { digest, index }))
-        }
-        None => Ok(None),
-    }
+fn seed_of(rt: &impl Abort, alloc: Global, index: u32) -> Seed {
+    let digest = Text::from_str(alloc, "sha256:00").expect(rt, "memory");
+    Seed { digest, index }
 }
 
-pub(crate) fn key_of(alloc: Global, row: &Row) -> Result<Key, Memory> {
+pub(crate) fn key_of(rt: &impl Abort, alloc: Global, row: &Row<'_>) -> Key {
     let (id, mode, index, _) = *row;
-    let id = Text::from_str(alloc, id)?;
-    let seed = seed_of(alloc, index)?;
-    Ok(Key { id, seed, mode })
+    let id = Text::from_str(alloc, id).expect(rt, "memory");
+    let seed = match index {
+        Some(index) => Some(seed_of(rt, alloc, index)),
+        None => None,
+    };
+    Key { id, seed, mode }
 }
 
-fn needs_of(alloc: Global, rows: &[Row]) -> Result<Vec<Need>, Memory> {
+fn needs_of(rt: &impl Abort, alloc: Global, words: &str) -> Vec<Need> {
     let mut needs = Vec::new(alloc);
-    for row in rows {
-        let key = key_of(alloc, row)?;
-        let tree = marked(alloc, row.3)?;
-        needs.push(Need { key, tree })?;
+    for need in words.split(", ") {
+        if !need.is_empty() {
+            let row = row_of(need);
+            let key = key_of(rt, alloc, &row);
+            let tree = marked(rt, alloc, row.3);
+            needs.push(Need { key, tree }).expect(rt, "memory");
+        }
     }
-    Ok(needs)
+    needs
 }
 
-// The names of a tree's files.
-fn push_files(alloc: Global, text: &mut String, tree: &Tree) -> Result<(), Memory> {
-    let names = tree.list(&Path::root(alloc))?;
+// The names of a tree's files, or `-`.
+fn say_files(rt: &impl Abort, alloc: Global, text: &mut String, tree: &Tree) {
+    let names = tree.list(&Path::root(alloc)).expect(rt, "memory");
     for name in names.as_slice() {
-        text.push_str(name.as_str())?;
+        text.push_str(name.as_str()).expect(rt, "memory");
     }
-    Ok(())
+    if names.as_slice().is_empty() {
+        text.push_str("-").expect(rt, "memory");
+    }
 }
 
 // The number of a lease, and of the instance of each of its needs.
-fn push_lease(
-    alloc: Global,
-    text: &mut String,
-    caches: &Caches,
-    lease: Lease,
-) -> Result<(), Memory> {
+fn say_lease(rt: &impl Abort, text: &mut String, caches: &Caches, lease: Lease) {
     let number = lease.number();
-    write!(text, "{number}:")?;
+    write!(text, "{number}:").expect(rt, "memory");
     for need in 0..4 {
         if (need as usize) < caches.needs(lease) {
             let instance = caches.instance_of(&lease, need);
-            write!(text, "{instance}")?;
+            write!(text, "{instance}").expect(rt, "memory");
         }
     }
-    Ok(())
+    text.push_str("\n").expect(rt, "memory");
 }
 
-fn ask(
-    alloc: Global,
-    text: &mut String,
-    caches: &mut Caches,
-    leases: &mut Vec<Lease>,
-    rows: &[Row],
-) -> Result<(), Memory> {
-    let needs = needs_of(alloc, rows)?;
-    if !caches.can_lease(&needs) {
-        text.push_str("twice")?;
-        return Ok(());
+fn ask(rt: &impl Abort, alloc: Global, text: &mut String, stage: &mut Stage, words: &str) {
+    let needs = needs_of(rt, alloc, words);
+    if !stage.caches.can_lease(&needs) {
+        return text.push_str("twice\n").expect(rt, "memory");
     }
-    match caches.lease(Many::new(needs)) {
+    match stage.caches.lease(Many::new(needs)) {
         Ok(lease) => {
-            leases.push(lease)?;
-            push_lease(alloc, text, caches, lease)
+            stage.leases.push(lease).expect(rt, "memory");
+            say_lease(rt, text, &stage.caches, lease);
         }
-        Err(fault) => {
-            write!(text, "{fault}")?;
-            Ok(())
-        }
+        Err(fault) => write!(text, "{fault}\n").expect(rt, "memory"),
     }
 }
 
-fn push_count(alloc: Global, text: &mut String, caches: &Caches, row: &Row) -> Result<(), Memory> {
-    let key = key_of(alloc, row)?;
+fn say_count(rt: &impl Abort, alloc: Global, text: &mut String, caches: &Caches, need: &str) {
+    let key = key_of(rt, alloc, &row_of(need));
     let instances = caches.instances(&key);
     let leases = caches.leases();
-    write!(text, "{instances}/{leases}")?;
+    write!(text, "{instances}/{leases}").expect(rt, "memory");
     for number in 0..4 {
         if let Some(tree) = caches.instance(&key, number) {
-            text.push_str(" ")?;
-            push_files(alloc, text, tree)?;
+            text.push_str(" ").expect(rt, "memory");
+            say_files(rt, alloc, text, tree);
         }
     }
-    Ok(())
+    text.push_str("\n").expect(rt, "memory");
 }
 
 // The instance that a lease of the key would have now, or that it would be refused.
-fn push_next(alloc: Global, text: &mut String, caches: &Caches, row: &Row) -> Result<(), Memory> {
-    let key = key_of(alloc, row)?;
+fn say_next(rt: &impl Abort, alloc: Global, text: &mut String, caches: &Caches, need: &str) {
+    let key = key_of(rt, alloc, &row_of(need));
     if caches.is_shut(&key.by_ref()) {
-        text.push_str("shut")?;
-        return Ok(());
+        return text.push_str("shut\n").expect(rt, "memory");
     }
     let number = caches.next_instance(&key);
-    write!(text, "{number}")?;
-    Ok(())
+    write!(text, "{number}\n").expect(rt, "memory");
 }
 
-fn see(
-    alloc: Global,
-    text: &mut String,
-    caches: &Caches,
-    lease: Lease,
-    need: u32,
-) -> Result<(), Memory> {
-    if (need as usize) < caches.needs(lease) {
-        push_files(alloc, text, caches.content(&lease, need))?;
-    }
-    Ok(())
+// The lease at a place, the number of a need, and what stands after both.
+fn lease_at<'a>(rt: &impl Abort, stage: &Stage, words: &'a str) -> (Lease, u32, &'a str) {
+    let (place, rest) = word_and_rest(words);
+    let (need, name) = word_and_rest(rest);
+    let place = place.parse::<usize>().unwrap_or(0);
+    let lease = stage.leases.get(place).copied().expect(rt, "a lease");
+    (lease, need.parse::<u32>().unwrap_or(0), name)
 }
 
-fn set(
-    alloc: Global,
-    caches: &mut Caches,
-    lease: Lease,
-    need: u32,
-    name: &str,
-) -> Result<(), Memory> {
-    let tree = marked(alloc, name)?;
-    if (need as usize) < caches.needs(lease) {
-        caches.set_content(&lease, need, tree);
-    }
-    Ok(())
+fn see(rt: &impl Abort, alloc: Global, text: &mut String, stage: &Stage, words: &str) {
+    let (lease, need, _) = lease_at(rt, stage, words);
+    assert!(rt; (need as usize) < stage.caches.needs(lease));
+    say_files(rt, alloc, text, stage.caches.content(&lease, need));
+    text.push_str("\n").expect(rt, "memory");
 }
 
-fn tell(
-    alloc: Global,
-    text: &mut String,
-    caches: &mut Caches,
-    leases: &mut Vec<Lease>,
-    step: Step,
-) -> Result<(), Memory> {
-    match step {
-        Step::Lease(rows) => ask(alloc, text, caches, leases, rows),
-        Step::Set(lease, need, name) if lease < leases.len() => {
-            set(alloc, caches, leases[lease], need, name)
-        }
-        Step::See(lease, need) if lease < leases.len() => {
-            see(alloc, text, caches, leases[lease], need)
-        }
-        Step::Back(lease) if lease < leases.len() => {
-            let lease = leases[lease];
-            if caches.is_out(lease) {
-                caches.give_back(lease);
-            }
-            Ok(())
-        }
-        Step::Count(row) => push_count(alloc, text, caches, &row),
-        Step::Next(row) => push_next(alloc, text, caches, &row),
-        _ => Ok(()),
+fn set(rt: &impl Abort, alloc: Global, stage: &mut Stage, words: &str) {
+    let (lease, need, name) = lease_at(rt, stage, words);
+    let tree = marked(rt, alloc, name);
+    assert!(rt; (need as usize) < stage.caches.needs(lease));
+    stage.caches.set_content(&lease, need, tree);
+}
+
+fn give_back(rt: &impl Abort, stage: &mut Stage, words: &str) {
+    let (lease, _, _) = lease_at(rt, stage, words);
+    assert!(rt; stage.caches.is_out(lease));
+    stage.caches.give_back(lease);
+}
+
+fn say_call(rt: &impl Abort, alloc: Global, text: &mut String, stage: &mut Stage, call: &str) {
+    let (name, words) = word_and_rest(call);
+    match name {
+        "new" => *stage = empty_stage(alloc),
+        "lease" => ask(rt, alloc, text, stage, words),
+        "see" => see(rt, alloc, text, stage, words),
+        "set" => set(rt, alloc, stage, words),
+        "back" => give_back(rt, stage, words),
+        "count" => say_count(rt, alloc, text, &stage.caches, words),
+        _ => say_next(rt, alloc, text, &stage.caches, words),
     }
 }
 
-fn told(alloc: Global, steps: &[Step]) -> Result<String, Memory> {
-    let mut caches = Caches::new(alloc);
-    let mut leases = Vec::new(alloc);
+fn transcript(rt: &impl Abort, alloc: Global, told: &str) -> String {
     let mut text = String::new(alloc);
-    for step in steps {
-        tell(alloc, &mut text, &mut caches, &mut leases, *step)?;
-        text.push_str(";")?;
-    }
-    Ok(text)
-}
-
-pub(crate) const A: Row = ("a", Mode::Locked, None, "");
-
-pub(crate) const B: Row = ("b", Mode::Locked, None, "");
-
-pub(crate) const P: Row = ("p", Mode::Private, Some(0), "f");
-
-pub(crate) const S: Row = ("s", Mode::Shared, None, "");
-
-// What a story shows, its steps, and how it is told.
-const STORIES: &[(&str, &[Step], &str)] = &[
-    (
-        "a held key refuses all needs",
-        &[
-            Step::Lease(&[B]),
-            Step::Lease(&[A, B]),
-            Step::Count(A),
-            Step::Lease(&[A]),
-            Step::Count(A),
-        ],
-        "0:0;111 b;0/1;1:0;1/2 ;",
-    ),
-    (
-        "the first held key in the order of the needs is named",
-        &[
-            Step::Lease(&[B]),
-            Step::Lease(&[A]),
-            Step::Lease(&[P, A, B]),
-            Step::Lease(&[B, S, A]),
-            Step::Count(P),
-        ],
-        "0:0;1:0;111 a;111 b;0/2;",
-    ),
-    (
-        "a private key gives the least free instance",
-        &[
-            Step::Lease(&[P]),
-            Step::See(0, 0),
-            Step::Set(0, 0, ""),
-            Step::See(0, 0),
-            Step::Lease(&[P]),
-            Step::See(1, 0),
-            Step::Back(0),
-            Step::Lease(&[P]),
-            Step::See(2, 0),
-            Step::Count(P),
-        ],
-        "0:0;f;;;1:1;f;;0:0;;2/2  f;",
-    ),
-    (
-        "a locked key is free once its lease is given back",
-        &[
-            Step::Lease(&[A]),
-            Step::Set(0, 0, "g"),
-            Step::Lease(&[A]),
-            Step::Back(0),
-            Step::Lease(&[("a", Mode::Locked, None, "h")]),
-            Step::See(1, 0),
-        ],
-        "0:0;;111 a;;0:0;g;",
-    ),
-    (
-        "a shared instance is seen by all leases",
-        &[
-            Step::Lease(&[S]),
-            Step::Lease(&[S, P]),
-            Step::Set(0, 0, "g"),
-            Step::See(1, 0),
-            Step::See(1, 1),
-            Step::Set(1, 1, "h"),
-            Step::See(0, 0),
-            Step::See(1, 1),
-        ],
-        "0:0;1:00;;g;f;;g;h;",
-    ),
-    (
-        "one id in two modes or with two seeds is two keys",
-        &[
-            Step::Lease(&[A, ("a", Mode::Shared, None, "g")]),
-            Step::Lease(&[
-                ("a", Mode::Locked, Some(0), "h"),
-                ("a", Mode::Locked, Some(1), "i"),
-            ]),
-            Step::See(0, 1),
-            Step::See(1, 1),
-            Step::Lease(&[A, A]),
-            Step::Lease(&[("a", Mode::Locked, Some(1), "")]),
-        ],
-        "0:00;1:00;g;i;twice;111 a;",
-    ),
-    (
-        "a lease takes the least free number",
-        &[
-            Step::Lease(&[P]),
-            Step::Lease(&[P, S]),
-            Step::Lease(&[]),
-            Step::Back(1),
-            Step::Count(P),
-            Step::Lease(&[S]),
-            Step::Back(0),
-            Step::Back(2),
-            Step::Lease(&[P]),
-            Step::Lease(&[P]),
-            Step::Count(S),
-        ],
-        "0:0;1:10;2:;;2/2 f f;1:0;;;0:0;2:1;1/3 ;",
-    ),
-    (
-        "what a lease would have is told before",
-        &[
-            Step::Next(A),
-            Step::Lease(&[A, P, S]),
-            Step::Next(A),
-            Step::Next(P),
-            Step::Next(S),
-            Step::Next(("a", Mode::Locked, Some(0), "")),
-            Step::Lease(&[P]),
-            Step::Back(0),
-            Step::Next(A),
-            Step::Next(P),
-        ],
-        "0;0:000;shut;1;0;0;1:1;;0;0;",
-    ),
-];
-
-// The number of the first row that is answered otherwise; past the end where there is none.
-fn first_wrong(alloc: Global, rows: &[(&str, &[Step], &str)]) -> usize {
-    for (at, (_, steps, wanted)) in rows.iter().enumerate() {
-        if !is_told(alloc, told(alloc, steps), wanted) {
-            return at;
+    let mut stage = empty_stage(alloc);
+    for line in told.lines() {
+        if let Some(call) = line.trim().strip_prefix("> ") {
+            write!(text, "> {call}\n").expect(rt, "memory");
+            say_call(rt, alloc, &mut text, &mut stage, call);
         }
     }
-    rows.len()
+    text
 }
+
+const STORIES: &str = "
+    # A held key refuses all needs.
+    > new
+    > lease b locked -
+    0:0
+    > lease a locked -, b locked -
+    111 b
+    > count a locked -
+    0/1
+    > lease a locked -
+    1:0
+    > count a locked -
+    1/2 -
+
+    # The first held key in the order of the needs is named.
+    > new
+    > lease b locked -
+    0:0
+    > lease a locked -
+    1:0
+    > lease p private 0 f, a locked -, b locked -
+    111 a
+    > lease b locked -, s shared -, a locked -
+    111 b
+    > count p private 0 f
+    0/2
+
+    # A private key gives the least free instance.
+    > new
+    > lease p private 0 f
+    0:0
+    > see 0 0
+    f
+    > set 0 0
+    > see 0 0
+    -
+    > lease p private 0 f
+    1:1
+    > see 1 0
+    f
+    > back 0
+    > lease p private 0 f
+    0:0
+    > see 2 0
+    -
+    > count p private 0 f
+    2/2 - f
+
+    # A locked key is free once its lease is given back.
+    > new
+    > lease a locked -
+    0:0
+    > set 0 0 g
+    > lease a locked -
+    111 a
+    > back 0
+    > lease a locked - h
+    0:0
+    > see 1 0
+    g
+
+    # A shared instance is seen by all leases.
+    > new
+    > lease s shared -
+    0:0
+    > lease s shared -, p private 0 f
+    1:00
+    > set 0 0 g
+    > see 1 0
+    g
+    > see 1 1
+    f
+    > set 1 1 h
+    > see 0 0
+    g
+    > see 1 1
+    h
+
+    # One id in two modes or with two seeds is two keys.
+    > new
+    > lease a locked -, a shared - g
+    0:00
+    > lease a locked 0 h, a locked 1 i
+    1:00
+    > see 0 1
+    g
+    > see 1 1
+    i
+    > lease a locked -, a locked -
+    twice
+    > lease a locked 1
+    111 a
+
+    # A lease takes the least free number.
+    > new
+    > lease p private 0 f
+    0:0
+    > lease p private 0 f, s shared -
+    1:10
+    > lease
+    2:
+    > back 1
+    > count p private 0 f
+    2/2 f f
+    > lease s shared -
+    1:0
+    > back 0
+    > back 2
+    > lease p private 0 f
+    0:0
+    > lease p private 0 f
+    2:1
+    > count s shared -
+    1/3 -
+
+    # What a lease would have is told before.
+    > new
+    > next a locked -
+    0
+    > lease a locked -, p private 0 f, s shared -
+    0:000
+    > next a locked -
+    shut
+    > next p private 0 f
+    1
+    > next s shared -
+    0
+    > next a locked 0
+    0
+    > lease p private 0 f
+    1:1
+    > back 0
+    > next a locked -
+    0
+    > next p private 0 f
+    0
+    ";
 
 #[test]
 fn leases_exclude_one_another(rt: HostRuntime) {
-    let rows = STORIES;
-    are_all_told(&rt, first_wrong(rt.alloc(), rows), rows.len());
+    is_told_as(&rt, transcript(&rt, rt.alloc(), STORIES).as_str(), STORIES);
 }
 
-// A copy that is the same until one of both goes on.
-fn copies(alloc: Global) -> Result<bool, Memory> {
-    let mut caches = Caches::new(alloc);
-    let mut leases = Vec::new(alloc);
+pub(crate) const A: Row<'static> = ("a", Mode::Locked, None, "");
+
+pub(crate) const B: Row<'static> = ("b", Mode::Locked, None, "");
+
+pub(crate) const P: Row<'static> = ("p", Mode::Private, Some(0), "f");
+
+pub(crate) const S: Row<'static> = ("s", Mode::Shared, None, "");
+
+// Whether a copy is the same, then whether it is once it went on alone, once both went on, and once one gave a lease back.
+fn copies(rt: &impl Abort, alloc: Global) -> [bool; 4] {
     let mut text = String::new(alloc);
-    for step in [Step::Lease(&[A, P]), Step::Lease(&[S])] {
-        tell(alloc, &mut text, &mut caches, &mut leases, step)?;
-    }
-    let mut copy = caches.copy()?;
-    if !copy.same(&caches) {
-        return Ok(false);
-    }
-    tell(
+    let mut stage = empty_stage(alloc);
+    ask(
+        rt,
         alloc,
         &mut text,
-        &mut copy,
-        &mut leases,
-        Step::Set(0, 1, "g"),
-    )?;
-    let first = copy.same(&caches);
-    tell(
-        alloc,
-        &mut text,
-        &mut caches,
-        &mut leases,
-        Step::Set(0, 1, "g"),
-    )?;
-    let second = copy.same(&caches);
-    tell(alloc, &mut text, &mut copy, &mut leases, Step::Back(1))?;
-    let third = copy.same(&caches);
-    Ok(!first && second && !third)
+        &mut stage,
+        "a locked -, p private 0 f",
+    );
+    ask(rt, alloc, &mut text, &mut stage, "s shared -");
+    let mut other = Stage {
+        caches: stage.caches.copy().expect(rt, "memory"),
+        leases: Vec::from_slice(alloc, &stage.leases).expect(rt, "memory"),
+    };
+    let first = other.caches.same(&stage.caches);
+    set(rt, alloc, &mut other, "0 1 g");
+    let second = other.caches.same(&stage.caches);
+    set(rt, alloc, &mut stage, "0 1 g");
+    let third = other.caches.same(&stage.caches);
+    give_back(rt, &mut other, "1");
+    [first, second, third, other.caches.same(&stage.caches)]
 }
 
 #[test]
 fn a_copy_is_the_same(rt: HostRuntime) {
-    assert!(rt; copies(rt.alloc()) == Ok(true));
+    assert!(rt; copies(&rt, rt.alloc()) == [true, false, true, false]);
 }

@@ -63,9 +63,8 @@ fn transcript(rt: &impl Abort, alloc: Global, told: &str) -> String {
     text
 }
 
-// Ends the test at the first line of a transcript that is told otherwise.
-pub(crate) fn are_told(rt: &impl Abort, alloc: Global, told: &str) {
-    let text = transcript(rt, alloc, told);
+// Ends the test at the first line of what is told that is another in the transcript.
+pub(crate) fn is_told_as(rt: &impl Abort, text: &str, told: &str) {
     let mut lines = text.lines();
     for line in told.lines() {
         let line = line.trim();
@@ -74,4 +73,9 @@ pub(crate) fn are_told(rt: &impl Abort, alloc: Global, told: &str) {
         }
     }
     assert!(rt; lines.next().is_none());
+}
+
+// Ends the test at the first line of a transcript that is told otherwise.
+pub(crate) fn are_told(rt: &impl Abort, alloc: Global, told: &str) {
+    is_told_as(rt, transcript(rt, alloc, told).as_str(), told);
 }
