@@ -3,7 +3,8 @@ use Rattle.std.proofs.lemmas.List.{take_more, length-map, map-set, get_or_defaul
 use Rattle.std.specs.Prelude.{All, if◌then◌else◌, false}
 use Rattle.llb_links.specs.Links.{IsEntered, leads}
 use Rattle.llb_links.proofs.Spread.{got_mapped}
-use Rattle.llb_links.proofs.Linking.{entered_none, entered_more, count_few}
+use Rattle.llb_links.proofs.Linking.{entered_none, entered_more}
+use Rattle.llb_links.specs.Laws.{count_few}
 use Rattle.llb_loader.specs.declared.graph.Edge.{Edge}
 use Rattle.llb_links.proofs.links.enter.Goals as goal
 use Rattle.llb_links.proofs.links.enter.Goals.{In_ok-more}
