@@ -2,6 +2,7 @@
 //! as the second: its fields as the assembler takes them. It answers `ok`, or the fault, and this tree is as it was. `lay` lays this tree
 //! over the other one, which is then what comes of it, and this one is empty.
 
+use super::told::{say, say_fault};
 use super::trees::Trees;
 use llb_asm::assemble;
 use llb_fileop::{ActFault, act};
@@ -63,9 +64,9 @@ pub(crate) fn say_act(
     match acted(rt, alloc, words, &trees.this, Some(&trees.other)) {
         Ok(after) => {
             trees.this = after;
-            text.push_str("ok\n").expect(rt, "memory");
+            say(rt, text, "ok\n");
         }
-        Err(fault) => write!(text, "{fault}\n").expect(rt, "memory"),
+        Err(fault) => say_fault(rt, text, &fault),
     }
 }
 

@@ -6,7 +6,7 @@
 //! instance that a lease would have now, or `shut`. There are no caches after `new`.
 
 use super::stage::is_told_as;
-use super::told::{file, tree_of};
+use super::told::{file, say, say_fault, say_number, tree_of};
 use super::trees::word_and_rest;
 use llb_cache::{Caches, Key, Lease, Many, Mode, Need, Seed};
 use llb_tree::{Path, Text, Tree};
@@ -83,62 +83,61 @@ fn needs_of(rt: &impl Abort, alloc: Global, words: &str) -> Vec<Need> {
 fn say_files(rt: &impl Abort, alloc: Global, text: &mut String, tree: &Tree) {
     let names = tree.list(&Path::root(alloc)).expect(rt, "memory");
     for name in names.as_slice() {
-        text.push_str(name.as_str()).expect(rt, "memory");
+        say(rt, text, name.as_str());
     }
     if names.as_slice().is_empty() {
-        text.push_str("-").expect(rt, "memory");
+        say(rt, text, "-");
     }
 }
 
 // The number of a lease, and of the instance of each of its needs.
 fn say_lease(rt: &impl Abort, text: &mut String, caches: &Caches, lease: Lease) {
-    let number = lease.number();
-    write!(text, "{number}:").expect(rt, "memory");
+    say_number(rt, text, lease.number());
+    say(rt, text, ":");
     for need in 0..4 {
         if (need as usize) < caches.needs(lease) {
-            let instance = caches.instance_of(&lease, need);
-            write!(text, "{instance}").expect(rt, "memory");
+            say_number(rt, text, caches.instance_of(&lease, need));
         }
     }
-    text.push_str("\n").expect(rt, "memory");
+    say(rt, text, "\n");
 }
 
 fn ask(rt: &impl Abort, alloc: Global, text: &mut String, stage: &mut Stage, words: &str) {
     let needs = needs_of(rt, alloc, words);
     if !stage.caches.can_lease(&needs) {
-        return text.push_str("twice\n").expect(rt, "memory");
+        return say(rt, text, "twice\n");
     }
     match stage.caches.lease(Many::new(needs)) {
         Ok(lease) => {
             stage.leases.push(lease).expect(rt, "memory");
             say_lease(rt, text, &stage.caches, lease);
         }
-        Err(fault) => write!(text, "{fault}\n").expect(rt, "memory"),
+        Err(fault) => say_fault(rt, text, &fault),
     }
 }
 
 fn say_count(rt: &impl Abort, alloc: Global, text: &mut String, caches: &Caches, need: &str) {
     let key = key_of(rt, alloc, &row_of(need));
-    let instances = caches.instances(&key);
-    let leases = caches.leases();
-    write!(text, "{instances}/{leases}").expect(rt, "memory");
+    say_number(rt, text, caches.instances(&key));
+    say(rt, text, "/");
+    say_number(rt, text, caches.leases());
     for number in 0..4 {
         if let Some(tree) = caches.instance(&key, number) {
-            text.push_str(" ").expect(rt, "memory");
+            say(rt, text, " ");
             say_files(rt, alloc, text, tree);
         }
     }
-    text.push_str("\n").expect(rt, "memory");
+    say(rt, text, "\n");
 }
 
 // The instance that a lease of the key would have now, or that it would be refused.
 fn say_next(rt: &impl Abort, alloc: Global, text: &mut String, caches: &Caches, need: &str) {
     let key = key_of(rt, alloc, &row_of(need));
     if caches.is_shut(&key.by_ref()) {
-        return text.push_str("shut\n").expect(rt, "memory");
+        return say(rt, text, "shut\n");
     }
-    let number = caches.next_instance(&key);
-    write!(text, "{number}\n").expect(rt, "memory");
+    say_number(rt, text, caches.next_instance(&key));
+    say(rt, text, "\n");
 }
 
 // The lease at a place, the number of a need, and what stands after both.
@@ -154,7 +153,7 @@ fn see(rt: &impl Abort, alloc: Global, text: &mut String, stage: &Stage, words: 
     let (lease, need, _) = lease_at(rt, stage, words);
     assert!(rt; (need as usize) < stage.caches.needs(lease));
     say_files(rt, alloc, text, stage.caches.content(&lease, need));
-    text.push_str("\n").expect(rt, "memory");
+    say(rt, text, "\n");
 }
 
 fn set(rt: &impl Abort, alloc: Global, stage: &mut Stage, words: &str) {

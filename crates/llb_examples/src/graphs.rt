@@ -9,7 +9,7 @@
 
 use super::entries::{ENTRIES, PIECES, SPELLED};
 use super::plain_ops::PLAIN_ENTRIES;
-use super::told::{block, dir, file, push_tree, tree_of};
+use super::told::{block, dir, file, push_tree, say, say_fault, say_number, tree_of};
 use super::trees::word_and_rest;
 use llb_asm::assemble;
 use llb_loader::{Edge, Graph, LoadFault, Locals, Row, Vertex, link, load_owned};
@@ -19,10 +19,6 @@ use llb_tree::Tree;
 use llb_wire::{Bytes, Text};
 use std::alloc::Global;
 use std::process::Abort;
-
-fn say(rt: &impl Abort, text: &mut String, more: &str) {
-    text.push_str(more).expect(rt, "memory");
-}
 
 fn push_mount(rt: &impl Abort, text: &mut String, input: &str, words: &str) {
     let (dest, names) = word_and_rest(words);
@@ -107,8 +103,10 @@ pub(crate) fn graph_of(rt: &impl Abort, alloc: Global, given: &str) -> Result<Gr
 }
 
 fn say_edge(rt: &impl Abort, text: &mut String, edge: Edge) {
-    let (vertex, index) = (edge.vertex, edge.index);
-    write!(text, " {vertex}.{index}").expect(rt, "memory");
+    say(rt, text, " ");
+    say_number(rt, text, edge.vertex);
+    say(rt, text, ".");
+    say_number(rt, text, edge.index);
 }
 
 fn say_vertex(rt: &impl Abort, text: &mut String, vertex: &Vertex) {
@@ -120,8 +118,10 @@ fn say_vertex(rt: &impl Abort, text: &mut String, vertex: &Vertex) {
         let commands = script.commands().len();
         write!(text, " runs {commands}").expect(rt, "memory");
     }
-    let (steps, outputs) = (vertex.steps, vertex.outputs);
-    write!(text, " {steps} {outputs}").expect(rt, "memory");
+    say(rt, text, " ");
+    say_number(rt, text, vertex.steps);
+    say(rt, text, " ");
+    say_number(rt, text, vertex.outputs);
     for edge in vertex.inputs.as_slice() {
         say_edge(rt, text, *edge);
     }
@@ -141,7 +141,7 @@ fn say_graph(rt: &impl Abort, text: &mut String, graph: &Graph) {
 fn say_loaded(rt: &impl Abort, text: &mut String, answer: Result<Graph, LoadFault>) {
     match answer {
         Ok(graph) => say_graph(rt, text, &graph),
-        Err(fault) => write!(text, "{fault}\n").expect(rt, "memory"),
+        Err(fault) => say_fault(rt, text, &fault),
     }
 }
 
@@ -220,7 +220,7 @@ fn say_evaluated(rt: &impl Abort, alloc: Global, text: &mut String, words: &str)
     let (names, given) = words.split_once(": ").expect(rt, "local trees and rows");
     match evaluated(rt, alloc, names, given) {
         Ok(outcomes) => say_outcomes(rt, text, &outcomes),
-        Err(fault) => write!(text, "{fault}\n").expect(rt, "memory"),
+        Err(fault) => say_fault(rt, text, &fault),
     }
 }
 

@@ -4,6 +4,7 @@
 
 use super::acts::{lay_down, say_act};
 use super::graphs::say_graph_call;
+use super::told::{say, say_fault};
 use super::trees::{Trees, answer, word_and_rest};
 use super::views::{put_mount, say_run};
 use llb_mount::Shown;
@@ -28,7 +29,7 @@ fn empty_stage(rt: &impl Abort, alloc: Global) -> Stage {
 
 fn say_on_trees(rt: &impl Abort, alloc: Global, text: &mut String, trees: &mut Trees, call: &str) {
     if let Err(fault) = answer(alloc, text, trees, call) {
-        write!(text, "{fault}\n").expect(rt, "memory");
+        say_fault(rt, text, &fault);
     }
 }
 
@@ -49,7 +50,8 @@ fn say_call(rt: &impl Abort, alloc: Global, text: &mut String, stage: &mut Stage
 // A call and what it answers; nothing of a line that is no call.
 fn say_line(rt: &impl Abort, alloc: Global, text: &mut String, stage: &mut Stage, line: &str) {
     if let Some(call) = line.strip_prefix("> ") {
-        write!(text, "{line}\n").expect(rt, "memory");
+        say(rt, text, line);
+        say(rt, text, "\n");
         say_call(rt, alloc, text, stage, call);
     }
 }

@@ -61,6 +61,19 @@ pub(crate) fn are_all_told(rt: &impl Abort, first_wrong: usize, rows: usize) {
     assert_eq!(rt; first_wrong, rows);
 }
 
+pub(crate) fn say(rt: &impl Abort, text: &mut String, more: &str) {
+    text.push_str(more).expect(rt, "memory");
+}
+
+pub(crate) fn say_number(rt: &impl Abort, text: &mut String, number: u32) {
+    write!(text, "{number}").expect(rt, "memory");
+}
+
+// What a fault prints, and the end of the line.
+pub(crate) fn say_fault<E: Display>(rt: &impl Abort, text: &mut String, fault: &E) {
+    write!(text, "{fault}\n").expect(rt, "memory");
+}
+
 // The lines after the one with `== ` and the name; what stands there after `: ` is told to the reader.
 pub(crate) fn block<'a>(text: &'a str, wanted: &str) -> Option<&'a str> {
     for block in text.split("== ") {

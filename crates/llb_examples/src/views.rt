@@ -3,7 +3,7 @@
 //! the first that is not 0, and then each mount's tree after a bar; the mounts themselves stay as they are.
 
 use super::scripts::texts;
-use super::told::push_tree;
+use super::told::{push_tree, say, say_number};
 use super::trees::{Trees, word_and_rest};
 use llb_applet::{Command, Many, Path, Script, Setting, View, read_script, run_command};
 use llb_mount::Shown;
@@ -68,7 +68,7 @@ fn say_statuses(
 ) {
     for command in commands {
         let status = run_command(alloc, command, setting, view).expect(rt, "memory");
-        write!(text, "{status}").expect(rt, "memory");
+        say_number(rt, text, u32::from(status));
         if status != 0 {
             return;
         }
@@ -77,10 +77,10 @@ fn say_statuses(
 
 fn say_trees(rt: &impl Abort, text: &mut String, mounts: &[Shown]) {
     for shown in mounts {
-        text.push_str("|").expect(rt, "memory");
+        say(rt, text, "|");
         push_tree(text, &shown.tree).expect(rt, "memory");
     }
-    text.push_str("\n").expect(rt, "memory");
+    say(rt, text, "\n");
 }
 
 pub(crate) fn say_run(
