@@ -7,32 +7,63 @@ use super::trees::Trees;
 use llb_asm::assemble;
 use llb_fileop::{ActFault, act};
 use llb_merge::{at_each_path, lay, over_itself, over_the_empty_tree, under_the_empty_tree};
-use llb_ops::{Action, Kind, Op, read_op};
+use llb_ops::{Action, Entries, Kind, Op, read_op};
 use llb_tree::Tree;
 use std::alloc::Global;
 use std::process::Abort;
+
+fn say_fields(rt: &impl Abort, text: &mut String, fields: &str) {
+    for field in fields.split(" | ") {
+        say(rt, text, field);
+        say(rt, text, "\n");
+    }
+}
 
 // The text of a file op with that one action.
 fn op_text(rt: &impl Abort, alloc: Global, words: &str) -> String {
     let (kind, fields) = words.split_once(" | ").unwrap_or((words, ""));
     let mut text = String::new(alloc);
-    write!(
-        text,
-        "op {{\nfile {{\nactions {{\nsecondaryInput 1\n{kind} {{\n"
-    )
-    .expect(rt, "memory");
-    for field in fields.split(" | ") {
-        write!(text, "{field}\n").expect(rt, "memory");
-    }
-    text.push_str("}\n}\n}\n}\n").expect(rt, "memory");
+    say(rt, &mut text, "op {\nfile {\nactions {\nsecondaryInput 1\n");
+    say(rt, &mut text, kind);
+    say(rt, &mut text, " {\n");
+    say_fields(rt, &mut text, fields);
+    say(rt, &mut text, "}\n}\n}\n}\n");
     text
+}
+
+// The calls, each in a function without clauses.
+fn entries_of(rt: &impl Abort, alloc: Global, text: &str) -> Entries {
+    assemble(alloc, text.as_bytes()).expect(rt, "an entry")
+}
+
+fn op_in(rt: &impl Abort, alloc: Global, entries: &Entries) -> Op {
+    let entry = entries.as_slice().first().expect(rt, "an entry");
+    read_op(alloc, entry.as_slice()).expect(rt, "an op")
+}
+
+fn act_on(
+    alloc: Global,
+    action: &Action,
+    tree: &Tree,
+    second: Option<&Tree>,
+) -> Result<Tree, ActFault> {
+    act(alloc, action, tree, second)
+}
+
+fn laid(rt: &impl Abort, alloc: Global, lower: &Tree, upper: &Tree) -> Tree {
+    lay(alloc, lower, upper).expect(rt, "memory")
+}
+
+fn laws(lower: &Tree, upper: &Tree) {
+    at_each_path(lower, upper);
+    over_itself(lower);
+    over_the_empty_tree(lower);
+    under_the_empty_tree(lower);
 }
 
 fn op_of(rt: &impl Abort, alloc: Global, words: &str) -> Op {
     let text = op_text(rt, alloc, words);
-    let entries = assemble(alloc, text.as_bytes()).expect(rt, "an entry");
-    let entry = entries.as_slice().first().expect(rt, "an entry");
-    read_op(alloc, entry.as_slice()).expect(rt, "an op")
+    op_in(rt, alloc, &entries_of(rt, alloc, text.as_str()))
 }
 
 fn action_in(op: &Op) -> Option<&Action> {
@@ -51,7 +82,7 @@ pub(crate) fn acted(
     second: Option<&Tree>,
 ) -> Result<Tree, ActFault> {
     let op = op_of(rt, alloc, words);
-    act(alloc, action_in(&op).expect(rt, "an action"), tree, second)
+    act_on(alloc, action_in(&op).expect(rt, "an action"), tree, second)
 }
 
 pub(crate) fn say_act(
@@ -72,12 +103,8 @@ pub(crate) fn say_act(
 
 // One tree over another.
 pub(crate) fn over(rt: &impl Abort, alloc: Global, lower: &Tree, upper: &Tree) -> Tree {
-    at_each_path(lower, upper);
-    let laid = lay(alloc, lower, upper).expect(rt, "memory");
-    over_itself(&laid);
-    over_the_empty_tree(&laid);
-    under_the_empty_tree(&laid);
-    laid
+    laws(lower, upper);
+    laid(rt, alloc, lower, upper)
 }
 
 pub(crate) fn lay_down(rt: &impl Abort, alloc: Global, trees: &mut Trees) {

@@ -8,7 +8,7 @@
 use super::stage::is_told_as;
 use super::told::{file, say, say_fault, say_number, tree_of};
 use super::trees::word_and_rest;
-use llb_cache::{Caches, Key, Lease, Many, Mode, Need, Seed};
+use llb_cache::{Caches, Key, Lease, LeaseFault, Many, Mode, Need, Seed};
 use llb_tree::{Path, Text, Tree};
 use std::alloc::Global;
 use std::process::Abort;
@@ -90,53 +90,112 @@ fn say_files(rt: &impl Abort, alloc: Global, text: &mut String, tree: &Tree) {
     }
 }
 
+// ---- the calls, each in a function without clauses: a story compares values, and what a call promises besides need not be carried through it
+
+// None where two needs have one key.
+fn leased(caches: &mut Caches, needs: Vec<Need>) -> Option<Result<Lease, LeaseFault>> {
+    if !caches.can_lease(&needs) {
+        return None;
+    }
+    Some(caches.lease(Many::new(needs)))
+}
+
+fn instance_of(caches: &Caches, lease: Lease, need: u32) -> Option<u32> {
+    if (need as usize) < caches.needs(lease) {
+        return Some(caches.instance_of(&lease, need));
+    }
+    None
+}
+
+fn content(caches: &Caches, lease: Lease, need: u32) -> Option<&Tree> {
+    if (need as usize) < caches.needs(lease) {
+        return Some(caches.content(&lease, need));
+    }
+    None
+}
+
+fn is_set(caches: &mut Caches, lease: Lease, need: u32, tree: Tree) -> bool {
+    if (need as usize) < caches.needs(lease) {
+        caches.set_content(&lease, need, tree);
+        return true;
+    }
+    false
+}
+
+fn is_given_back(caches: &mut Caches, lease: Lease) -> bool {
+    if caches.is_out(lease) {
+        caches.give_back(lease);
+        return true;
+    }
+    false
+}
+
+fn instance<'a>(caches: &'a Caches, key: &Key, number: u32) -> Option<&'a Tree> {
+    caches.instance(key, number)
+}
+
+fn instances(caches: &Caches, key: &Key) -> u32 {
+    caches.instances(key)
+}
+
+// None where a lease of the key would be refused.
+fn next_instance(caches: &Caches, key: &Key) -> Option<u32> {
+    if caches.is_shut(&key.by_ref()) {
+        return None;
+    }
+    Some(caches.next_instance(key))
+}
+
+// ---- what they answer
+
 // The number of a lease, and of the instance of each of its needs.
 fn say_lease(rt: &impl Abort, text: &mut String, caches: &Caches, lease: Lease) {
     say_number(rt, text, lease.number());
     say(rt, text, ":");
     for need in 0..4 {
-        if (need as usize) < caches.needs(lease) {
-            say_number(rt, text, caches.instance_of(&lease, need));
+        if let Some(number) = instance_of(caches, lease, need) {
+            say_number(rt, text, number);
         }
     }
     say(rt, text, "\n");
 }
 
 fn ask(rt: &impl Abort, alloc: Global, text: &mut String, stage: &mut Stage, words: &str) {
-    let needs = needs_of(rt, alloc, words);
-    if !stage.caches.can_lease(&needs) {
-        return say(rt, text, "twice\n");
-    }
-    match stage.caches.lease(Many::new(needs)) {
-        Ok(lease) => {
+    match leased(&mut stage.caches, needs_of(rt, alloc, words)) {
+        None => say(rt, text, "twice\n"),
+        Some(Ok(lease)) => {
             stage.leases.push(lease).expect(rt, "memory");
             say_lease(rt, text, &stage.caches, lease);
         }
-        Err(fault) => say_fault(rt, text, &fault),
+        Some(Err(fault)) => say_fault(rt, text, &fault),
+    }
+}
+
+fn say_instances(rt: &impl Abort, alloc: Global, text: &mut String, caches: &Caches, key: &Key) {
+    for number in 0..4 {
+        if let Some(tree) = instance(caches, key, number) {
+            say(rt, text, " ");
+            say_files(rt, alloc, text, tree);
+        }
     }
 }
 
 fn say_count(rt: &impl Abort, alloc: Global, text: &mut String, caches: &Caches, need: &str) {
     let key = key_of(rt, alloc, &row_of(need));
-    say_number(rt, text, caches.instances(&key));
+    say_number(rt, text, instances(caches, &key));
     say(rt, text, "/");
     say_number(rt, text, caches.leases());
-    for number in 0..4 {
-        if let Some(tree) = caches.instance(&key, number) {
-            say(rt, text, " ");
-            say_files(rt, alloc, text, tree);
-        }
-    }
+    say_instances(rt, alloc, text, caches, &key);
     say(rt, text, "\n");
 }
 
 // The instance that a lease of the key would have now, or that it would be refused.
 fn say_next(rt: &impl Abort, alloc: Global, text: &mut String, caches: &Caches, need: &str) {
     let key = key_of(rt, alloc, &row_of(need));
-    if caches.is_shut(&key.by_ref()) {
-        return say(rt, text, "shut\n");
+    match next_instance(caches, &key) {
+        Some(number) => say_number(rt, text, number),
+        None => say(rt, text, "shut"),
     }
-    say_number(rt, text, caches.next_instance(&key));
     say(rt, text, "\n");
 }
 
@@ -151,22 +210,20 @@ fn lease_at<'a>(rt: &impl Abort, stage: &Stage, words: &'a str) -> (Lease, u32, 
 
 fn see(rt: &impl Abort, alloc: Global, text: &mut String, stage: &Stage, words: &str) {
     let (lease, need, _) = lease_at(rt, stage, words);
-    assert!(rt; (need as usize) < stage.caches.needs(lease));
-    say_files(rt, alloc, text, stage.caches.content(&lease, need));
+    let tree = content(&stage.caches, lease, need).expect(rt, "a need");
+    say_files(rt, alloc, text, tree);
     say(rt, text, "\n");
 }
 
 fn set(rt: &impl Abort, alloc: Global, stage: &mut Stage, words: &str) {
     let (lease, need, name) = lease_at(rt, stage, words);
     let tree = marked(rt, alloc, name);
-    assert!(rt; (need as usize) < stage.caches.needs(lease));
-    stage.caches.set_content(&lease, need, tree);
+    assert!(rt; is_set(&mut stage.caches, lease, need, tree));
 }
 
 fn give_back(rt: &impl Abort, stage: &mut Stage, words: &str) {
     let (lease, _, _) = lease_at(rt, stage, words);
-    assert!(rt; stage.caches.is_out(lease));
-    stage.caches.give_back(lease);
+    assert!(rt; is_given_back(&mut stage.caches, lease));
 }
 
 fn say_call(rt: &impl Abort, alloc: Global, text: &mut String, stage: &mut Stage, call: &str) {
@@ -182,14 +239,19 @@ fn say_call(rt: &impl Abort, alloc: Global, text: &mut String, stage: &mut Stage
     }
 }
 
+fn say_line(rt: &impl Abort, alloc: Global, text: &mut String, stage: &mut Stage, line: &str) {
+    if let Some(call) = line.strip_prefix("> ") {
+        say(rt, text, line);
+        say(rt, text, "\n");
+        say_call(rt, alloc, text, stage, call);
+    }
+}
+
 fn transcript(rt: &impl Abort, alloc: Global, told: &str) -> String {
     let mut text = String::new(alloc);
     let mut stage = empty_stage(alloc);
     for line in told.lines() {
-        if let Some(call) = line.trim().strip_prefix("> ") {
-            write!(text, "> {call}\n").expect(rt, "memory");
-            say_call(rt, alloc, &mut text, &mut stage, call);
-        }
+        say_line(rt, alloc, &mut text, &mut stage, line.trim());
     }
     text
 }
@@ -345,8 +407,8 @@ pub(crate) const P: Row<'static> = ("p", Mode::Private, Some(0), "f");
 
 pub(crate) const S: Row<'static> = ("s", Mode::Shared, None, "");
 
-// Whether a copy is the same, then whether it is once it went on alone, once both went on, and once one gave a lease back.
-fn copies(rt: &impl Abort, alloc: Global) -> [bool; 4] {
+// Two leases, the first of two needs.
+fn two_leases(rt: &impl Abort, alloc: Global) -> Stage {
     let mut text = String::new(alloc);
     let mut stage = empty_stage(alloc);
     ask(
@@ -357,20 +419,35 @@ fn copies(rt: &impl Abort, alloc: Global) -> [bool; 4] {
         "a locked -, p private 0 f",
     );
     ask(rt, alloc, &mut text, &mut stage, "s shared -");
-    let mut other = Stage {
+    stage
+}
+
+fn copy_of(rt: &impl Abort, alloc: Global, stage: &Stage) -> Stage {
+    Stage {
         caches: stage.caches.copy().expect(rt, "memory"),
         leases: Vec::from_slice(alloc, &stage.leases).expect(rt, "memory"),
-    };
-    let first = other.caches.same(&stage.caches);
-    set(rt, alloc, &mut other, "0 1 g");
-    let second = other.caches.same(&stage.caches);
-    set(rt, alloc, &mut stage, "0 1 g");
-    let third = other.caches.same(&stage.caches);
-    give_back(rt, &mut other, "1");
-    [first, second, third, other.caches.same(&stage.caches)]
+    }
+}
+
+fn are_same(one: &Stage, other: &Stage) -> bool {
+    one.caches.same(&other.caches)
+}
+
+// Whether a copy is the same, then whether it is once it went on alone, once both went on, and once one gave a lease back.
+fn compared(rt: &impl Abort, alloc: Global, one: &mut Stage, other: &mut Stage) -> [bool; 4] {
+    let first = are_same(one, other);
+    set(rt, alloc, other, "0 1 g");
+    let second = are_same(one, other);
+    set(rt, alloc, one, "0 1 g");
+    let third = are_same(one, other);
+    give_back(rt, other, "1");
+    [first, second, third, are_same(one, other)]
 }
 
 #[test]
 fn a_copy_is_the_same(rt: HostRuntime) {
-    assert!(rt; copies(&rt, rt.alloc()) == [true, false, true, false]);
+    let mut one = two_leases(&rt, rt.alloc());
+    let mut other = copy_of(&rt, rt.alloc(), &one);
+    let told = compared(&rt, rt.alloc(), &mut one, &mut other);
+    assert!(rt; told == [true, false, true, false]);
 }

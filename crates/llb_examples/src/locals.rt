@@ -1,46 +1,57 @@
-//! The trees of local sources by their names. Each tree is told by its entries.
+//! The trees of local sources by their names.
 
-use super::told::{dir, is_told, push_tree, tree_of};
+use super::told::{dir, is_told, tree_of};
 use llb_loader::{Locals, Memory};
-use llb_tree::TreeFault;
+use llb_tree::Path;
 use llb_wire::Text;
 use std::alloc::Global;
-use std::test::Fail;
+use std::process::Abort;
 
-fn give(locals: &mut Locals, alloc: Global, name: &str, path: &str) -> Result<(), Fail> {
-    let tree = tree_of(alloc, &[dir(path)])?;
-    locals.add(Text::from_str(alloc, name)?, tree)?;
-    Ok(())
+// Gives a tree with one directory.
+fn give(rt: &impl Abort, alloc: Global, locals: &mut Locals, name: &str, path: &str) {
+    let tree = tree_of(alloc, &[dir(path)]).expect(rt, "memory");
+    let name = Text::from_str(alloc, name).expect(rt, "memory");
+    locals.add(name, tree).expect(rt, "memory");
 }
 
-// The tree of a name, if there is one.
-fn push_tree_of(text: &mut String, locals: &Locals, name: &str) -> Result<(), TreeFault> {
-    match locals.get(name) {
-        Some(tree) => push_tree(text, tree)?,
-        None => text.push_str("none")?,
-    }
-    Ok(text.push_str(";")?)
+// Whether the tree of a name has a directory, where there is a tree.
+fn has(rt: &impl Abort, alloc: Global, locals: &Locals, name: &str, path: &str) -> Option<bool> {
+    let path = Path::read(alloc, path).expect(rt, "a path");
+    let tree = locals.get(name)?;
+    Some(tree.is_dir(&path))
 }
 
-// What `a` is at first, and what `a`, `b`, `c` and the empty name are once three trees were given.
-fn told(alloc: Global) -> Result<String, Fail> {
-    let mut text = String::new(alloc);
+fn given(rt: &impl Abort, alloc: Global) -> Locals {
     let mut locals = Locals::new(alloc);
-    push_tree_of(&mut text, &locals, "a")?;
-    for (name, path) in [("a", "/one"), ("b", "/two"), ("a", "/three")] {
-        give(&mut locals, alloc, name, path)?;
+    give(rt, alloc, &mut locals, "a", "/one");
+    give(rt, alloc, &mut locals, "b", "/two");
+    give(rt, alloc, &mut locals, "a", "/three");
+    locals
+}
+
+// A name, a directory, and whether the name's tree has it.
+const HAD: &[(&str, &str, Option<bool>)] = &[
+    ("a", "/one", Some(false)),
+    ("a", "/three", Some(true)),
+    ("b", "/two", Some(true)),
+    ("c", "/one", None),
+    ("", "/one", None),
+];
+
+#[test]
+fn a_name_has_the_tree_that_was_given_last(rt: HostRuntime) {
+    let locals = given(&rt, rt.alloc());
+    for (name, path, wanted) in HAD {
+        assert!(rt;
+            has(&rt, rt.alloc(), &locals, name, path) == *wanted,
+            "{name} {path}"
+        );
     }
-    for name in ["a", "b", "c", ""] {
-        push_tree_of(&mut text, &locals, name)?;
-    }
-    Ok(text)
 }
 
 #[test]
-fn a_name_has_the_tree_that_was_given_last(rt: HostRuntime) -> Result<(), Fail> {
-    let told = told(rt.alloc())?;
-    assert!(rt; told.as_str() == "none; d d/three; d d/two;none;none;");
-    Ok(())
+fn no_name_has_a_tree_at_first(rt: HostRuntime) {
+    assert!(rt; Locals::new(rt.alloc()).get("a").is_none());
 }
 
 #[test]

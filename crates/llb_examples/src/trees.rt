@@ -3,7 +3,7 @@
 //! `dir PATH MODE OWNER` and `file PATH MODE OWNER CONTENT` put an entry; `remove PATH` removes what is at or below a path; `graft PATH GOAL`
 //! puts what is at or below the path at the goal as well; `overlay MODE USER GROUP KEEPS` lays the other tree over this one. `look PATH`,
 //! `list PATH` and `tree` tell of this one. `copy` and `subtree PATH` make the other tree of this one, `below PATH` makes it an empty tree
-//! with this one at the path, and `swap` exchanges the two. In a content `\n` is an end of line.
+//! with this one at the path, and `swap` exchanges the two. A content that ends in `\n` ends in an end of line.
 
 use super::told::{push_list, push_looked, push_tree};
 use llb_tree::{Bytes, Meta, Path, Tree, TreeFault, Way};
@@ -35,16 +35,12 @@ fn meta(mode: &str, owner: &str) -> Meta {
     }
 }
 
-// A content with its ends of lines.
+// A content with its end of line.
 fn content_of(alloc: Global, text: &str) -> Result<String, AllocError> {
-    let mut content = String::new(alloc);
-    for (at, line) in text.split("\\n").enumerate() {
-        if at > 0 {
-            content.push_str("\n")?;
-        }
-        content.push_str(line)?;
+    match text.strip_suffix("\\n") {
+        Some(line) => format!(in alloc; "{line}\n"),
+        None => String::from_str(alloc, text),
     }
-    Ok(content)
 }
 
 fn put(alloc: Global, tree: &mut Tree, name: &str, words: &str) -> Result<(), TreeFault> {

@@ -1,5 +1,6 @@
 //! The program over readers and writers in memory: the worked examples, refusals, and devices that fail.
 
+mod assembler_texts;
 mod assembling;
 mod definitions;
 mod devices;

@@ -1,7 +1,7 @@
 //! The program as transcripts. A line with `> ` first is a call, and the lines after it are what the call writes, what it tells (`! ` first),
 //! and its status where that is not 0. One with `# ` first says what the next calls show. A call is the program's words; after ` < ` the
-//! names of the entries that it reads as a definition, or `=` and the bytes in hexadecimal, or `@` and the name of a text; after ` | ` the
-//! commands of a session, each ended by `;`. The file `FILE` is the definition, too. What `asm` writes is told in hexadecimal.
+//! names of the entries that it reads as a definition, or `=` and the bytes in hexadecimal, or `@` and the name of a text, or `$` and a text
+//! in which `|` ends a line; after ` | ` the commands of a session, each ended by `;`. The file `FILE` is the definition, too. What `asm` writes is told in hexadecimal.
 //!
 //! In brackets before the words stands what bounds the devices: how many reads and writes of a byte each are done, how many bytes of the
 //! told line are taken (`told`), and whether the writer fails at its end (`1 end`).
@@ -120,12 +120,25 @@ fn bound(bounds: &str, wanted: &str) -> Option<usize> {
     None
 }
 
+// A text in which each of these marks ends a line.
+fn lines_ended(rt: &impl Abort, alloc: Global, text: &str) -> Bytes {
+    let mut lines = Vec::new(alloc);
+    for byte in text.as_bytes() {
+        let byte = if *byte == b'|' { b'\n' } else { *byte };
+        lines.push(byte).expect(rt, "memory");
+    }
+    Bytes::new(lines)
+}
+
 /// The definition of the entries with these names, or the bytes that are spelled.
 pub(crate) fn definition_of(rt: &impl Abort, alloc: Global, entries: &str) -> Bytes {
     if let Some(digits) = entries.strip_prefix("=") {
         return read_hex(alloc, digits)
             .expect(rt, "memory")
             .expect(rt, "digits");
+    }
+    if let Some(text) = entries.strip_prefix("$") {
+        return lines_ended(rt, alloc, text);
     }
     if let Some(name) = entries.strip_prefix("@") {
         let text = block(TEXTS, name).unwrap_or("");
