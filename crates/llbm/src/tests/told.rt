@@ -1,7 +1,8 @@
 //! The program as transcripts. A line with `> ` first is a call, and the lines after it are what the call writes, what it tells (`! ` first),
 //! and its status where that is not 0. One with `# ` first says what the next calls show. A call is the program's words; after ` < ` the
-//! names of the entries that it reads as a definition, or `=` and the bytes in hexadecimal, or `@` and the name of a text, or `$` and a text
-//! in which `|` ends a line; after ` | ` the commands of a session, each ended by `;`. The file `FILE` is the definition, too. What `asm` writes is told in hexadecimal.
+//! names of the entries that it reads as a definition, or `=` and the bytes in hexadecimal, or `@` and the name of a text, or `$` and a
+//! text in which `|` ends a line; after ` | ` the commands of a session, each ended by `;`. The file `FILE` is the definition, too. What
+//! `asm` writes is told in hexadecimal.
 //!
 //! In brackets before the words stands what bounds the devices: how many reads and writes of a byte each are done, how many bytes of the
 //! told line are taken (`told`), and whether the writer fails at its end (`1 end`).
