@@ -28,9 +28,11 @@ use Rattle.llb_model.proofs.Lists.{inside}
 use Rattle.llb_model.proofs.Events.{Answer, ready_is}
 use Rattle.llb_model.proofs.Leases.{refuses_alike, takes_alike, makes_alike, writes_alike}
 use Rattle.llb_execution.specs.Parts.{work_with}
-use Rattle.llb_board.specs.Caches.{shut_key, unless_shut, places_taken, some_lease, lease_if, written}
+use Rattle.llb_board.specs.Caches.{some_lease, lease_if, written}
+use Rattle.llb_needs.specs.Needs.{shut_key, unless_shut, places_taken}
 use Rattle.llb_board.specs.Board.{Seen, recorded}
-use Rattle.llb_board.specs.Rules.{faulted, claim_fault, claim_of, step_fault, claim_may_want, Begun, begun_at, begun, Written, written_by}
+use Rattle.llb_board.specs.Rules.{faulted, claim_fault, claim_of, step_fault, Begun, begun_at, begun, Written, written_by}
+use Rattle.llb_events.specs.Faults.{claim_may_want}
 use Rattle.llb_board.specs.Rules.{worked_in, worked_by, left_at}
 use Rattle.llb_board.specs.Views.{at_of, state_of}
 use Rattle.llb_board.specs.declared.stand.Desk.{Desk}

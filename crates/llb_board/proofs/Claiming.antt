@@ -14,7 +14,8 @@ use Rattle.llb_model.specs.Table.{Event, Claim, Reply, claim_grant}
 use Rattle.llb_model.proofs.Leasing.{leased_holds_as}
 use Rattle.llb_model.proofs.Lists.{length_set}
 use Rattle.llb_model.proofs.Needs.{graph_distinct}
-use Rattle.llb_board.specs.Caches.{shut_key, unless_shut, places_taken, lease_if, rows_after}
+use Rattle.llb_board.specs.Caches.{lease_if, rows_after}
+use Rattle.llb_needs.specs.Needs.{shut_key, unless_shut, places_taken}
 use Rattle.llb_board.specs.Room.{supplies_of, supplies_for}
 use Rattle.llb_board.specs.Rules.{Begun, begun}
 use Rattle.llb_board.specs.Views.{status_of, at_of, leased_by, execution_of}

@@ -29,7 +29,8 @@ use Rattle.llb_model.proofs.Rooms.{run_has_few}
 use Rattle.llb_model.proofs.Runs.{run_none, run_one, run_on}
 use Rattle.llb_model.proofs.Landing.{first_step, steps_as_block, after_again, further_keeps}
 use Rattle.llb_board.specs.Board.{Seen, Replays, kept_next, kept_along, opening_with, after_event, recorded}
-use Rattle.llb_board.specs.Caches.{written, places_at, rows_after, leased_places, number_of}
+use Rattle.llb_board.specs.Caches.{written, places_at, rows_after, leased_places}
+use Rattle.llb_needs.specs.Needs.{number_of}
 use Rattle.llb_board.specs.Jobs.{OutcomeValue, IsOutcome, begun_on}
 use Rattle.llb_board.specs.Landing.{job_now, IsBegun, IsRunOf, CanLand, IsThrough, Lands, desk_left}
 use Rattle.llb_board.specs.Room.{Supplies, supplies_of, supplies_for, needs_at}

@@ -22,7 +22,8 @@ use Rattle.llb_model.proofs.Claims.{places_distinct, places_length, first_length
 use Rattle.llb_model.proofs.Kept.{shows_instances, made_stands}
 use Rattle.llb_model.proofs.Leases.{takes_alike}
 use Rattle.llb_model.proofs.Others.{first_same}
-use Rattle.llb_board.specs.Caches.{places_taken, showing, written}
+use Rattle.llb_board.specs.Caches.{showing, written}
+use Rattle.llb_needs.specs.Needs.{places_taken}
 
 -- ---- instances that are there
 

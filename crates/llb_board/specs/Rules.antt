@@ -5,7 +5,6 @@ use Rattle.llb_loader.specs.declared.graph.Vertex.{Vertex}
 use Rattle.llb_tree.specs.Tree.{TreeMap}
 use Rattle.llb_cache.specs.declared.need.Need as cache_need
 use Rattle.llb_cache.specs.Caches.{CachesValue, Row}
-use Rattle.llb_cache.specs.Key.{has_text}
 use Rattle.llb_model.specs.Caches.{Place, trees_at}
 use Rattle.llb_model.specs.Kept.{store_of}
 use Rattle.llb_model.specs.Leases.{asked, put_each}
@@ -20,7 +19,7 @@ use Rattle.llb_model.specs.SettleCause.{SettleCause}
 use Rattle.llb_model.specs.Table.{Claim, Step, Settle, Reply, Claimed, claim_grant, step_grant, settle_grant, execution_on, job_on, with_step, step_reply}
 use Rattle.llb_board.specs.Board.{Seen, opened, recorded}
 use Rattle.llb_execution.specs.Parts.{work_with}
-use Rattle.llb_board.specs.Caches.{places_taken}
+use Rattle.llb_needs.specs.Needs.{places_taken}
 use Rattle.llb_board.specs.declared.fault.OpenFault.{OpenFault}
 use Rattle.llb_board.specs.declared.fault.OpenFault.TheVariants as opening
 use Rattle.llb_events.specs.declared.fault.ClaimFault.{ClaimFault}
@@ -86,27 +85,6 @@ claim_fault (no_claim.Held key) = claim.Held key
 
 abbrev pub claim_of : Seen → ℕ → ℕ → Result (Seen × Reply) ClaimFault
 claim_of b w v = recorded b (Claim w v) claim_fault (claim_grant b.build b.state w v)
-
--- where memory may be wanted of a claim: where nothing else stands in the way, or for the text of the key that is held
-abbrev pub claim_may_want : {A : Type 0} → Result A ClaimFault → Bool
-claim_may_want (Ok a) = true
-claim_may_want (Err (claim.Held k)) = has_text k
-claim_may_want (Err claim.NoWorker) = false
-claim_may_want (Err claim.Busy) = false
-claim_may_want (Err claim.NoVertex) = false
-claim_may_want (Err claim.NotReady) = false
-claim_may_want (Err claim.Memory) = false
-
-abbrev pub claim_memory : ClaimFault → Bool
-claim_memory claim.Memory = true
-claim_memory claim.NoWorker = false
-claim_memory claim.Busy = false
-claim_memory claim.NoVertex = false
-claim_memory claim.NotReady = false
-claim_memory (claim.Held key) = false
-
-abbrev pub GivesClaim : {X Y : Type 0} → (X → Y) → Result X ClaimFault → Result Y ClaimFault → Type 0
-GivesClaim = answer.Gives claim_memory
 
 -- inputs that are not all there are no trees to begin with
 abbrev pub or_not_ready : {A : Type 0} → Option A → Result A ClaimFault

@@ -12,7 +12,8 @@ ghost use Rattle.llb_board.specs.declared.stand.Execution as own;
 ghost use Rattle.llb_model.specs.Kept.{store_of};
 ghost use Rattle.llb_model.specs.Landing.{steps_by};
 ghost use Rattle.llb_cache.specs.Caches.{trees_of};
-ghost use Rattle.llb_board.specs.Caches.{tree_of, number_of};
+ghost use Rattle.llb_board.specs.Caches.{tree_of};
+ghost use Rattle.llb_needs.specs.Needs.{number_of};
 ghost use Rattle.llb_board.specs.Landing.{is_shared, IsRunOf, IsBegun, IsRunOf, CanLand, StandsInWay, IsRefused, land_fault, IsThrough, Lands, desk_left};
 ghost use Rattle.llb_board.specs.Views.{leased_by, execution_of, settle_reply};
 

@@ -15,7 +15,6 @@ mod job;
 mod landing;
 pub mod laws;
 mod micro_step;
-mod needs;
 mod outcome;
 mod ready;
 mod same;

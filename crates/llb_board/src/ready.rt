@@ -8,7 +8,8 @@ ghost use Rattle.llb_model.specs.Outcome.{inputs_from, output_in};
 ghost use Rattle.llb_model.specs.State.{ending_at, is_failed, is_waiting, next_stopped};
 ghost use Rattle.llb_links.specs.Links.{has_inputs};
 ghost use Rattle.llb_board.specs.Views.{status_of};
-ghost use Rattle.llb_board.specs.Rules.{GivesClaim, or_not_ready};
+ghost use Rattle.llb_board.specs.Rules.{or_not_ready};
+ghost use Rattle.llb_events.specs.Faults.{GivesClaim};
 ghost use Rattle.llb_loader.specs.declared.graph.Edge as edge;
 
 use crate::stand::Stand;

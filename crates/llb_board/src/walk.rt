@@ -10,10 +10,10 @@ ghost use Rattle.llb_model.specs.Table.{Step, Settle};
 use crate::board::Board;
 use crate::build::Build;
 use crate::copying::{copied, copied_leases};
-use crate::needs::shows_cache;
 use crate::stand::Desk;
 use crate::undo::{Back, Before, Undo};
 use llb_events::{Event, Memory, SettleFault, Settled, StepFault, Stepped, WalkFault};
+use llb_needs::shows_cache;
 
 /// What an event answers.
 #[derive(Clone, Copy, Debug, PartialEq, Eq)]

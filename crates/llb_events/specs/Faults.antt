@@ -1,5 +1,7 @@
--- What stands after the word `fault` where a board refuses an event: the number, and the key of a cache that is held.
-use Rattle.std.specs.Prelude.{ℕ, List, ◌++◌, codes}
+-- What stands after the word `fault` where a board refuses an event: the number, and the key of a cache that is held. And where memory is a claim's cause.
+use Rattle.std.specs.Prelude.{ℕ, Bool, true, false, List, ◌++◌, Result, Ok, Err, codes}
+use Rattle.llb_wire.specs.Answer as answer
+use Rattle.llb_cache.specs.Key.{has_text}
 use Rattle.llb_events.specs.declared.fault.ClaimFault.{ClaimFault}
 use Rattle.llb_events.specs.declared.fault.ClaimFault.TheVariants as claim
 use Rattle.llb_events.specs.declared.fault.StepFault.{StepFault}
@@ -48,3 +50,26 @@ step_refused step.Memory = walk.Memory
 step_refused step.NoWorker = walk.Step step.NoWorker
 step_refused step.NotRunning = walk.Step step.NotRunning
 step_refused step.NothingLeft = walk.Step step.NothingLeft
+
+-- ---- memory that a claim may want
+
+-- where it may be wanted: where nothing else stands in the way, or for the text of the key that is held
+abbrev pub claim_may_want : {A : Type 0} → Result A ClaimFault → Bool
+claim_may_want (Ok a) = true
+claim_may_want (Err (claim.Held k)) = has_text k
+claim_may_want (Err claim.NoWorker) = false
+claim_may_want (Err claim.Busy) = false
+claim_may_want (Err claim.NoVertex) = false
+claim_may_want (Err claim.NotReady) = false
+claim_may_want (Err claim.Memory) = false
+
+abbrev pub claim_memory : ClaimFault → Bool
+claim_memory claim.Memory = true
+claim_memory claim.NoWorker = false
+claim_memory claim.Busy = false
+claim_memory claim.NoVertex = false
+claim_memory claim.NotReady = false
+claim_memory (claim.Held key) = false
+
+abbrev pub GivesClaim : {X Y : Type 0} → (X → Y) → Result X ClaimFault → Result Y ClaimFault → Type 0
+GivesClaim = answer.Gives claim_memory

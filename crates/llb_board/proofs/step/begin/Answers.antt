@@ -4,7 +4,7 @@ use Rattle.llb_loader.specs.declared.graph.Edge.{Edge}
 use Rattle.llb_model.specs.Outcome.{inputs_from}
 use Rattle.llb_model.specs.Program.{view_on}
 use Rattle.llb_model.specs.State.{ending_at}
-use Rattle.llb_board.specs.Caches.{taken_with}
+use Rattle.llb_needs.specs.Needs.{taken_with}
 use Rattle.llb_board.specs.Begun.{outfit_as}
 use Rattle.llb_board.specs.Rules.{or_not_ready}
 use Rattle.llb_board.specs.Views.{status_of}

@@ -6,10 +6,11 @@ use Rattle.llb_model.specs.State.{Waiting, ending_at}
 use Rattle.llb_model.specs.Table.{Claim}
 use Rattle.llb_model.proofs.Lists.{length_set}
 use Rattle.llb_board.specs.Begun.{begun_as}
-use Rattle.llb_board.specs.Caches.{shut_key, unless_shut}
+use Rattle.llb_needs.specs.Needs.{shut_key, unless_shut}
 use Rattle.llb_board.specs.Views.{status_of, state_of, claim_reply}
 use Rattle.llb_board.specs.Board.{Seen}
-use Rattle.llb_board.specs.Rules.{begun, claim_fault, claim_of, claim_memory, claim_may_want}
+use Rattle.llb_board.specs.Rules.{begun, claim_fault, claim_of}
+use Rattle.llb_events.specs.Faults.{claim_memory, claim_may_want}
 use Rattle.llb_board.specs.Room.{seen}
 use Rattle.llb_board.specs.declared.stand.Desk.TheVariants as desk
 use Rattle.llb_board.specs.declared.stand.Stand.TheVariants as stand

@@ -6,8 +6,8 @@ use Rattle.llb_model.specs.Caches.{content}
 use Rattle.llb_model.specs.Kept.{store_of}
 use Rattle.llb_model.specs.Program.{base_in}
 use Rattle.llb_model.proofs.Kept.{shows_instances}
-use Rattle.llb_board.specs.Rules.{GivesClaim}
-use Rattle.llb_board.proofs.needs.first_tree.Goals as goal
+use Rattle.llb_events.specs.Faults.{GivesClaim}
+use Rattle.llb_needs.proofs.needs.first_tree.Goals as goal
 
 pub returns-in_ok-copy-in-Some : goal.returns-in_ok-copy-in-Some
 returns-in_ok-copy-in-Some c =

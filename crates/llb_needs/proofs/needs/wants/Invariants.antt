@@ -1,9 +1,9 @@
 use Rattle.std.proofs.Common.{◌≡◌, ◌++◌, map}
 use Rattle.llb_loader.specs.Rules.{kind_mounts}
 use Rattle.llb_model.specs.Program.{needs_of}
-use Rattle.llb_board.specs.Caches.{need_of}
-use Rattle.llb_board.proofs.Wanting.{needs_left}
-use Rattle.llb_board.proofs.needs.wants.Given as goal
+use Rattle.llb_needs.specs.Needs.{need_of}
+use Rattle.llb_needs.proofs.Wanting.{needs_left}
+use Rattle.llb_needs.proofs.needs.wants.Given as goal
 
 abbrev pub invariant-loop-i : goal.invariant-loop-i
 invariant-loop-i l = record {

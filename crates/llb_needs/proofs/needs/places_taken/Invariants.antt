@@ -1,6 +1,6 @@
 use Rattle.std.proofs.Common.{◌≡◌, map, take}
-use Rattle.llb_board.specs.Caches.{need_of, places_taken}
-use Rattle.llb_board.proofs.needs.places_taken.Given as goal
+use Rattle.llb_needs.specs.Needs.{need_of, places_taken}
+use Rattle.llb_needs.proofs.needs.places_taken.Given as goal
 
 abbrev pub invariant-loop-want : goal.invariant-loop-want
 invariant-loop-want l = l.places.items ≡ places_taken l.caches.out (map need_of (take l.want-index l.wanted))

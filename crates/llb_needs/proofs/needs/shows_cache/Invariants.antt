@@ -1,8 +1,8 @@
 use Rattle.std.proofs.Common.{◌≡◌}
 use Rattle.llb_loader.specs.Rules.{kind_mounts}
 use Rattle.llb_model.specs.Program.{needs_of}
-use Rattle.llb_board.proofs.Wanting.{needs_left}
-use Rattle.llb_board.proofs.needs.shows_cache.Given as goal
+use Rattle.llb_needs.proofs.Wanting.{needs_left}
+use Rattle.llb_needs.proofs.needs.shows_cache.Given as goal
 
 abbrev pub invariant-loop-mount : goal.invariant-loop-mount
 invariant-loop-mount l = record {

@@ -5,8 +5,8 @@ use Rattle.llb_tree.specs.Tree.{TreeMap}
 use Rattle.llb_model.specs.Caches.{content}
 use Rattle.llb_model.specs.Kept.{store_of}
 use Rattle.llb_model.specs.Program.{base_in}
-use Rattle.llb_board.proofs.Wanting.{first_more}
-use Rattle.llb_board.proofs.needs.first_trees.Goals as goal
+use Rattle.llb_needs.proofs.Wanting.{first_more}
+use Rattle.llb_needs.proofs.needs.first_trees.Goals as goal
 
 pub loop-i-preserved : goal.loop-i-preserved
 loop-i-preserved c =

@@ -9,9 +9,9 @@ ghost use Rattle.llb_model.specs.Kept.{store_of};
 ghost use Rattle.llb_model.specs.Leases.{asked};
 ghost use Rattle.llb_model.specs.Program.{needs_of, mount_of, base_in, mode_of, key_as, seed_as};
 ghost use Rattle.llb_model.specs.State.{first_trees};
-ghost use Rattle.llb_board.specs.Caches.{need_of, shut_key, unless_shut, places_taken, number_of, taken_with, HasEdges};
+ghost use Rattle.llb_needs.specs.Needs.{need_of, shut_key, unless_shut, places_taken, number_of, taken_with, HasEdges};
 ghost use Rattle.llb_cache.specs.Key.{seed_by};
-ghost use Rattle.llb_board.specs.Rules.{GivesClaim, claim_memory, claim_may_want};
+ghost use Rattle.llb_events.specs.Faults.{GivesClaim, claim_memory, claim_may_want};
 
 use llb_cache::{Caches, Key, KeyRef, Mode, Need, Place};
 use llb_events::ClaimFault;
@@ -23,7 +23,7 @@ use std::alloc::Global;
 
 /// A cache that an exec shows: at which mount, its key, and the number of the input that a new instance begins with, -1 for none.
 #[derive(Drop)]
-pub(crate) struct Wanted {
+pub struct Wanted {
     pub mount: u32,
     pub key: Key,
     pub input: i64,
@@ -31,7 +31,7 @@ pub(crate) struct Wanted {
 
 /// What a claim takes, made before anything changes.
 #[derive(Drop)]
-pub(crate) struct Taking {
+pub struct Taking {
     pub places: Vec<Place>,
     /// The numbers of the instances.
     pub instances: Vec<u32>,
@@ -41,7 +41,7 @@ pub(crate) struct Taking {
 }
 
 /// The caches that a vertex shows, or the first locked key that a lease has: then memory is taken for that key alone.
-pub(crate) fn wanted_by(
+pub fn wanted_by(
     alloc: Global,
     caches: &Caches,
     vertex: &Vertex,
@@ -59,7 +59,7 @@ pub(crate) fn wanted_by(
 }
 
 /// Whether a vertex shows a cache. No memory.
-pub(crate) fn shows_cache(vertex: &Vertex) -> bool
+pub fn shows_cache(vertex: &Vertex) -> bool
     requires { HasEdges vertex.now }
     ensures { result ≡ false → needs_of vertex.now ≡ [] }
 {
@@ -140,7 +140,7 @@ fn mode_of(sharing: i32) -> Mode
 }
 
 /// The numbers of the mounts that show caches.
-pub(crate) fn mount_numbers(alloc: Global, wanted: &[Wanted]) -> Result<Vec<u32>, ClaimFault>
+pub fn mount_numbers(alloc: Global, wanted: &[Wanted]) -> Result<Vec<u32>, ClaimFault>
     ensures { GivesClaim (λ ns. ns.items) result (Ok (map mount_of (map need_of wanted.now))) }
 {
     let mut numbers = Vec::new(alloc);
@@ -151,7 +151,7 @@ pub(crate) fn mount_numbers(alloc: Global, wanted: &[Wanted]) -> Result<Vec<u32>
 }
 
 /// What a claim of these caches takes, with the trees of the inputs. Out of memory alone refuses it.
-pub(crate) fn taking_for(
+pub fn taking_for(
     alloc: Global,
     caches: &Caches,
     inputs: &[Tree],
