@@ -14,21 +14,21 @@ use Rattle.llb_model.specs.Table.{Event, Claim, Reply, claim_grant}
 use Rattle.llb_model.proofs.Leasing.{leased_holds_as}
 use Rattle.llb_model.proofs.Lists.{length_set}
 use Rattle.llb_model.proofs.Needs.{graph_distinct}
-use Rattle.llb_board.specs.Caches.{lease_if, rows_after}
+use Rattle.llb_state.specs.Caches.{lease_if, rows_after}
 use Rattle.llb_needs.specs.Needs.{shut_key, unless_shut, places_taken}
-use Rattle.llb_board.specs.Room.{supplies_of, supplies_for}
-use Rattle.llb_board.specs.Rules.{Begun, begun}
-use Rattle.llb_board.specs.Views.{status_of, at_of, leased_by, execution_of}
-use Rattle.llb_board.specs.declared.stand.Stand.{Stand}
-use Rattle.llb_board.specs.declared.stand.Stand.TheVariants as stand
-use Rattle.llb_board.specs.declared.stand.Desk.{Desk}
-use Rattle.llb_board.specs.declared.stand.Desk.TheVariants as desk
-use Rattle.llb_board.specs.declared.stand.Execution as own
-use Rattle.llb_board.proofs.Lists.{length_map}
-use Rattle.llb_board.proofs.Wanting.{asked_differ}
-use Rattle.llb_board.proofs.Returned.{few_leases}
-use Rattle.llb_board.proofs.Calls.{CanClaim, Claims, claims, granted_of, needs_asked, claim_done}
-use Rattle.llb_board.proofs.Kept.{Data, state_as, Keeps, kept_after, claimed, claim_does, claim_rows, leased_claimed, made_for, supplies_claimed, marks_kept}
+use Rattle.llb_state.specs.Room.{supplies_of, supplies_for}
+use Rattle.llb_state.specs.Rules.{Begun, begun}
+use Rattle.llb_state.specs.Views.{status_of, at_of, leased_by, execution_of}
+use Rattle.llb_state.specs.declared.stand.Stand.{Stand}
+use Rattle.llb_state.specs.declared.stand.Stand.TheVariants as stand
+use Rattle.llb_state.specs.declared.stand.Desk.{Desk}
+use Rattle.llb_state.specs.declared.stand.Desk.TheVariants as desk
+use Rattle.llb_state.specs.declared.stand.Execution as own
+use Rattle.llb_state.proofs.Lists.{length_map}
+use Rattle.llb_state.proofs.Wanting.{asked_differ}
+use Rattle.llb_state.proofs.Returned.{few_leases}
+use Rattle.llb_state.proofs.Calls.{CanClaim, Claims, claims, granted_of, needs_asked, claim_done}
+use Rattle.llb_state.proofs.Kept.{Data, state_as, Keeps, kept_after, claimed, claim_does, claim_rows, leased_claimed, made_for, supplies_claimed, marks_kept}
 
 -- the data of a board over these caches
 abbrev pub data_of : List Stand → List Desk → CachesValue → List Bool → Data

@@ -8,14 +8,14 @@ use Rattle.llb_model.specs.Program.{Build}
 use Rattle.llb_model.specs.Room.{most_events}
 use Rattle.llb_model.specs.State.{At, stopped}
 use Rattle.llb_model.specs.Table.{Event}
-use Rattle.llb_board.specs.Board.{Seen, Replays, opening_with}
+use Rattle.llb_state.specs.Board.{Seen, Replays, opening_with}
 use Rattle.llb_links.specs.Links.{Linked, IsLinked}
-use Rattle.llb_board.specs.OpenInputs.{done_in}
-use Rattle.llb_board.specs.Room.{AreOver, IsTracked, seen, ready_made, needed}
-use Rattle.llb_board.specs.Views.{status_of, at_of, leased_by}
-use Rattle.llb_board.specs.declared.stand.Stand.{Stand}
-use Rattle.llb_board.specs.declared.stand.Desk.{Desk}
-use Rattle.llb_board.proofs.Lists.{length_map}
+use Rattle.llb_state.specs.OpenInputs.{done_in}
+use Rattle.llb_state.specs.Room.{AreOver, IsTracked, seen, ready_made, needed}
+use Rattle.llb_state.specs.Views.{status_of, at_of, leased_by}
+use Rattle.llb_state.specs.declared.stand.Stand.{Stand}
+use Rattle.llb_state.specs.declared.stand.Desk.{Desk}
+use Rattle.llb_state.proofs.Lists.{length_map}
 
 -- the parts of a board's data
 pub record Parts : Type 0 where

@@ -28,27 +28,28 @@ use Rattle.llb_model.proofs.There.{held_are_there}
 use Rattle.llb_model.proofs.Rooms.{run_has_few}
 use Rattle.llb_model.proofs.Runs.{run_none, run_one, run_on}
 use Rattle.llb_model.proofs.Landing.{first_step, steps_as_block, after_again, further_keeps}
-use Rattle.llb_board.specs.Board.{Seen, Replays, kept_next, kept_along, opening_with, after_event, recorded}
-use Rattle.llb_board.specs.Caches.{written, places_at, rows_after, leased_places}
+use Rattle.llb_state.specs.Board.{Seen, Replays, kept_next, kept_along, opening_with, after_event, recorded}
+use Rattle.llb_state.specs.Caches.{written, places_at, rows_after, leased_places}
 use Rattle.llb_needs.specs.Needs.{number_of}
-use Rattle.llb_board.specs.Jobs.{OutcomeValue, IsOutcome, begun_on}
-use Rattle.llb_board.specs.Landing.{job_now, IsBegun, IsRunOf, CanLand, IsThrough, Lands, desk_left}
-use Rattle.llb_board.specs.Room.{Supplies, supplies_of, supplies_for, needs_at}
-use Rattle.llb_board.specs.Rules.{settle_fault, settle_of, GivesSettle}
-use Rattle.llb_board.specs.Views.{at_of, leased_by, execution_of, settle_reply}
+use Rattle.llb_state.specs.Jobs.{OutcomeValue, IsOutcome, begun_on}
+use Rattle.llb_board.specs.Landing.{CanLand, IsThrough, Lands}
+use Rattle.llb_state.specs.Jobs.{job_now, IsBegun, IsRunOf, desk_left}
+use Rattle.llb_state.specs.Room.{Supplies, supplies_of, supplies_for, needs_at}
+use Rattle.llb_state.specs.Rules.{settle_fault, settle_of, GivesSettle}
+use Rattle.llb_state.specs.Views.{at_of, leased_by, execution_of, settle_reply}
 use Rattle.llb_events.specs.declared.event.Settled.{Settled}
 use Rattle.llb_events.specs.declared.fault.SettleFault.{SettleFault}
-use Rattle.llb_board.specs.declared.stand.Desk.{Desk}
-use Rattle.llb_board.specs.declared.stand.Desk.TheVariants as desk
-use Rattle.llb_board.specs.declared.stand.Execution as running
-use Rattle.llb_board.proofs.Lists.{length_map, map_set, get_map}
-use Rattle.llb_board.proofs.Needed.{few_needs}
-use Rattle.llb_board.proofs.Calls.{settle_done}
-use Rattle.llb_board.proofs.Kept.{Data, state_as, seen_as, Keeps, kept_more, made_enough, supplies_claimed}
-use Rattle.llb_board.proofs.Rewritten.{AreKeysApart, AreWithin, each_within, each_again, each_there}
-use Rattle.llb_board.proofs.Sound.{consistent, reached}
-use Rattle.llb_board.proofs.Stepping.{Holding, holding, held_keys, places_are, leased_stepped}
-use Rattle.llb_board.proofs.Written.{written_each}
+use Rattle.llb_state.specs.declared.stand.Desk.{Desk}
+use Rattle.llb_state.specs.declared.stand.Desk.TheVariants as desk
+use Rattle.llb_state.specs.declared.stand.Execution as running
+use Rattle.llb_state.proofs.Lists.{length_map, map_set, get_map}
+use Rattle.llb_state.proofs.Needed.{few_needs}
+use Rattle.llb_state.proofs.Calls.{settle_done}
+use Rattle.llb_state.proofs.Kept.{Data, state_as, seen_as, Keeps, kept_more, made_enough, supplies_claimed}
+use Rattle.llb_state.proofs.Rewritten.{AreKeysApart, AreWithin, each_within, each_again, each_there}
+use Rattle.llb_state.proofs.Sound.{consistent, reached}
+use Rattle.llb_state.proofs.Stepping.{Holding, holding, held_keys, places_are, leased_stepped}
+use Rattle.llb_state.proofs.Written.{written_each}
 
 -- ---- the lists of instances after the steps
 

@@ -11,16 +11,16 @@ use Rattle.llb_model.specs.Leases.{AreLeased}
 use Rattle.llb_model.specs.Table.{Event}
 use Rattle.llb_model.specs.Room.{most_events}
 use Rattle.llb_model.specs.Run.{run}
-use Rattle.llb_board.specs.Views.{status_of, at_of, leased_by}
-use Rattle.llb_board.specs.Board.{Replays, opening_with, opened}
-use Rattle.llb_board.specs.Rules.{may_work}
-use Rattle.llb_board.specs.Room.{IsKept, seen, ready_made, needed}
-use Rattle.llb_board.specs.declared.stand.Stand.{Stand}
-use Rattle.llb_board.specs.declared.stand.Stand.TheVariants.{Waiting}
-use Rattle.llb_board.specs.declared.stand.Desk.{Desk}
-use Rattle.llb_board.specs.declared.stand.Desk.TheVariants.{Idle}
-use Rattle.llb_board.proofs.Returned.{none_leased}
-use Rattle.llb_board.proofs.Marked.{unmarked}
+use Rattle.llb_state.specs.Views.{status_of, at_of, leased_by}
+use Rattle.llb_state.specs.Board.{Replays, opening_with, opened}
+use Rattle.llb_board.specs.Opening.{may_work}
+use Rattle.llb_state.specs.Room.{IsKept, seen, ready_made, needed}
+use Rattle.llb_state.specs.declared.stand.Stand.{Stand}
+use Rattle.llb_state.specs.declared.stand.Stand.TheVariants.{Waiting}
+use Rattle.llb_state.specs.declared.stand.Desk.{Desk}
+use Rattle.llb_state.specs.declared.stand.Desk.TheVariants.{Idle}
+use Rattle.llb_state.proofs.Returned.{none_leased}
+use Rattle.llb_state.proofs.Marked.{unmarked}
 
 -- what a function makes of n equal items are n equal results
 pub map_replicate : {A B : Type 0} (f : A → B) (n : ℕ) (x : A) → map f (replicate n x) ≡ replicate n (f x)

@@ -8,19 +8,19 @@ use Rattle.llb_model.specs.Program.{Build}
 use Rattle.llb_model.specs.State.{Running, Runs, stopped}
 use Rattle.llb_model.specs.Table.{Event, Settle, settle_reply, settle_grant}
 use Rattle.llb_model.proofs.Lists.{length_set}
-use Rattle.llb_board.specs.Caches.{rows_after, IsOutIf, given_back}
-use Rattle.llb_board.specs.Room.{AreOver}
-use Rattle.llb_board.specs.Rules.{left_at}
-use Rattle.llb_board.specs.Views.{status_of, at_of, leased_by}
-use Rattle.llb_board.specs.declared.stand.Stand.{Stand}
-use Rattle.llb_board.specs.declared.stand.Desk.{Desk}
-use Rattle.llb_board.specs.declared.stand.Desk.TheVariants as desk
-use Rattle.llb_board.proofs.Lists.{length_map}
-use Rattle.llb_board.proofs.Lent.{leased_settled, lease_out}
-use Rattle.llb_board.proofs.Calls.{CanSettle, can_settle, settle_done}
+use Rattle.llb_state.specs.Caches.{rows_after, IsOutIf, given_back}
+use Rattle.llb_state.specs.Room.{AreOver}
+use Rattle.llb_state.specs.Rules.{left_at}
+use Rattle.llb_state.specs.Views.{status_of, at_of, leased_by}
+use Rattle.llb_state.specs.declared.stand.Stand.{Stand}
+use Rattle.llb_state.specs.declared.stand.Desk.{Desk}
+use Rattle.llb_state.specs.declared.stand.Desk.TheVariants as desk
+use Rattle.llb_state.proofs.Lists.{length_map}
+use Rattle.llb_state.proofs.Lent.{leased_settled, lease_out}
+use Rattle.llb_state.proofs.Calls.{CanSettle, can_settle, settle_done}
 use Rattle.llb_board.proofs.Claiming.{data_of}
-use Rattle.llb_board.proofs.Sound.{consistent}
-use Rattle.llb_board.proofs.Kept.{Data, state_as, seen_as, Keeps, kept_after, settled, settle_does, settle_rows, leaves_running, supplies_settled, still_over}
+use Rattle.llb_state.proofs.Sound.{consistent}
+use Rattle.llb_state.proofs.Kept.{Data, state_as, seen_as, Keeps, kept_after, settled, settle_does, settle_rows, leaves_running, supplies_settled, still_over}
 
 module _ (b : Build) (first : List Row) (ss : List Stand) (ds : List Desk) (c : CachesValue) (stop_marks : List Bool) (es : List Event) (capacity w v : ℕ) (l
     : Option ℕ) (s : Stand)

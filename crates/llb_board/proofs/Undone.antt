@@ -1,12 +1,11 @@
 -- An event taken back, over the board's data: what its type keeps.
-use Rattle.std.proofs.Common.{◌≡◌, ℕ, zero, suc, ◌+◌, ◌-◌, ◌<◌, ◌≤◌, Bool, true, false, ◌||◌, ◌&&◌, List, [], ◌∷◌, ◌++◌, map, length, take, Option}
+use Rattle.std.proofs.Common.{◌≡◌, ℕ, zero, suc, ◌+◌, ◌-◌, ◌<◌, ◌≤◌, Bool, true, false, ◌||◌, ◌&&◌, List, [], ◌∷◌, ◌++◌, map, length, Option}
 use Rattle.std.proofs.Common.{Some, None, unwrap_or, inr, refl, sym, ap, subst, ◌∙◌, arith, length-append}
 use Rattle.std.specs.Prelude.{slice_get, slice_set, nat_lt}
 use Rattle.std.specs.Bool.{OnTrue, OnFalse}
 use Rattle.std.specs.Option.{ForSome}
 use Rattle.std.specs.List.{list_any}
 use Rattle.std.proofs.lemmas.Bool.{ltb-true, ltb-false}
-use Rattle.std.proofs.lemmas.List.{map-append, take_all}
 use Rattle.std.proofs.lemmas.Option.{slice_get_within}
 use Rattle.llb_cache.specs.Caches.{CachesValue, Row, Leases}
 use Rattle.llb_execution.specs.Marks.{Mark, put_back}
@@ -23,24 +22,26 @@ use Rattle.llb_model.specs.State.{Status, Waiting, Running, Execution, At, Idle,
 use Rattle.llb_model.specs.State.{stopped, is_stopped}
 use Rattle.llb_model.specs.Table.{Event}
 use Rattle.llb_model.proofs.Lists.{get_set_same, get_set_other, get_within, length_set}
-use Rattle.llb_board.specs.Board.{Seen, Replays, opening_with}
-use Rattle.llb_board.specs.Room.{AreOver, Supplies, supplies_for, ready_made, needed}
-use Rattle.llb_board.specs.Undo.{Back, Unclaim, Unstep, Resume, Before, Displaced, Left, left_in, caches_in}
-use Rattle.llb_board.specs.Undo.{statuses_before, workers_before, step_before, rows_before, store_before, front, undone}
+use Rattle.llb_state.specs.Board.{Seen, Replays, opening_with}
+use Rattle.llb_state.specs.Room.{AreOver, Supplies, supplies_for, ready_made, needed}
+use Rattle.llb_board.specs.Undo.{Back, Unclaim, Unstep, Resume, Displaced}
+use Rattle.llb_state.specs.Undoing.{Before, Left, left_in, caches_in}
+use Rattle.llb_board.specs.Undo.{statuses_before, workers_before, step_before, rows_before, store_before, undone}
+use Rattle.llb_state.specs.Undoing.{front}
 use Rattle.llb_board.specs.Undo.{IsBegun, HasNoPlaces, FitsLeases}
-use Rattle.llb_board.specs.Undoing.{desk_before, desk_leased, leases_before, caches_before, HasPlaceFor}
-use Rattle.llb_board.specs.Views.{status_of, at_of, leased_by, execution_of}
-use Rattle.llb_board.specs.declared.stand.Stand.{Stand}
-use Rattle.llb_board.specs.declared.stand.Stand.TheVariants as stand
-use Rattle.llb_board.specs.declared.stand.Desk.{Desk}
-use Rattle.llb_board.specs.declared.stand.Desk.TheVariants as desk
-use Rattle.llb_board.specs.declared.stand.Execution as own
-use Rattle.llb_board.specs.declared.undo.Before as before
-use Rattle.llb_board.proofs.Kept.{Data, Keeps, seen_as, made_enough, supplies_claimed, leased_claimed}
-use Rattle.llb_board.proofs.Lists.{map_set, get_map, length_map, set_same}
-use Rattle.llb_board.proofs.Sound.{consistent}
-use Rattle.llb_board.proofs.Stepping.{leased_stepped}
-use Rattle.llb_board.proofs.Marked.{marks_stay}
+use Rattle.llb_state.specs.Undoing.{desk_before, leases_before, caches_before, HasPlaceFor}
+use Rattle.llb_state.specs.Views.{status_of, at_of, leased_by, execution_of}
+use Rattle.llb_state.specs.declared.stand.Stand.{Stand}
+use Rattle.llb_state.specs.declared.stand.Stand.TheVariants as stand
+use Rattle.llb_state.specs.declared.stand.Desk.{Desk}
+use Rattle.llb_state.specs.declared.stand.Desk.TheVariants as desk
+use Rattle.llb_state.specs.declared.stand.Execution as own
+use Rattle.llb_state.specs.declared.undoing.Before as before
+use Rattle.llb_state.proofs.Kept.{Data, Keeps, seen_as, made_enough, supplies_claimed, leased_claimed}
+use Rattle.llb_state.proofs.Lists.{map_set, get_map, length_map}
+use Rattle.llb_state.proofs.Sound.{consistent}
+use Rattle.llb_state.proofs.Stepping.{leased_stepped}
+use Rattle.llb_state.proofs.Marked.{marks_stay}
 
 -- ---- what is over stays so below a vertex
 
@@ -312,68 +313,6 @@ resumed_marks b ss w v had false old new are at is anew same =
     same refl ∙ are
     ∙ sym (ap (stopped b) (map_set status_of ss v (stand.Running w))
     ∙ marks_stay b.graph.vertices (map status_of ss) v (status_of had) (Running w) (get_map status_of ss v had at) (sym is) refl)
-
--- ---- leases that are put back one after another
-
--- the leases of the first that many
-pub record PutSoFar (ds ds' : List Desk) (ls : List (Option ℕ)) (n : ℕ) : Type 0 where
-  pub workers : map at_of ds' ≡ map at_of ds
-  pub made : map ready_made ds' ≡ map ready_made ds
-  pub leases : map leased_by (take n ds') ≡ take n ls
-
-take_set : {A : Type 0} (xs : List A) (n : ℕ) (x : A) → n < length xs → take (suc n) (slice_set xs n x) ≡ take n xs ++ x ∷ []
-take_set [] n x low = absurd (omega (arith, low))
-take_set (y ∷ xs) zero x low = refl
-take_set (y ∷ xs) (suc n) x low = ap (λ l. y ∷ l) (take_set xs n x (omega (arith, low)))
-
-take_next : {A : Type 0} (xs : List A) (n : ℕ) (x : A) → slice_get xs n ≡ Some x → take (suc n) xs ≡ take n xs ++ x ∷ []
-take_next [] n x at = absurd cc
-take_next (y ∷ xs) zero x at = let same : y ≡ x = cc in ap (λ z. z ∷ []) same
-take_next (y ∷ xs) (suc n) x at = ap (λ l. y ∷ l) (take_next xs n x at)
-
-lease_inside : {k l : Option ℕ} → ◌≡◌ {A = Option (Option ℕ)} (Some k) (Some l) → k ≡ l
-lease_inside e = cc
-
-worker_leased : (l : Option ℕ) (d : Desk) → at_of (desk_leased l d) ≡ at_of d
-worker_leased l desk.Idle = refl
-worker_leased l (desk.Runs k x) = refl
-
-made_leased : (l : Option ℕ) (d : Desk) → ready_made (desk_leased l d) ≡ ready_made d
-made_leased l desk.Idle = refl
-made_leased l (desk.Runs k x) = refl
-
-lease_put : (ls : List (Option ℕ)) (workers : List At) (n : ℕ) (l : Option ℕ) (d : Desk) → HasPlaceFor ls workers → slice_get ls n ≡ Some l
-    → slice_get workers n ≡ Some (at_of d)
-    → leased_by (desk_leased l d) ≡ l
-lease_put ls workers n l desk.Idle place at there = lease_inside (sym (place.idle n there) ∙ at)
-lease_put ls workers n l (desk.Runs k x) place at there = refl
-
--- the lease of one worker more is put back
-pub put_more : (ds ds' new : List Desk) (ls : List (Option ℕ)) (n : ℕ) (l : Option ℕ) (d : Desk) → HasPlaceFor ls (map at_of ds) → PutSoFar ds ds' ls n
-    → slice_get ds' n ≡ Some d → slice_get ls n ≡ Some l → new ≡ slice_set ds' n (desk_leased l d) → PutSoFar ds new ls (n + 1)
-put_more ds ds' new ls n l d place so_far there at is =
-    let next : suc n ≡ n + 1 = omega arith in
-    let worker = get_map at_of ds' n d there in
-    let lease = lease_put ls (map at_of ds) n l d place at (ap (λ ws. slice_get ws n) (sym so_far.workers) ∙ worker) in
-    record {
-      workers = ap (map at_of) is ∙ map_set at_of ds' n (desk_leased l d) ∙ ap (slice_set (map at_of ds') n) (worker_leased l d)
-          ∙ set_same (map at_of ds') n (at_of d) worker ∙ so_far.workers;
-      made = ap (map ready_made) is ∙ map_set ready_made ds' n (desk_leased l d) ∙ ap (slice_set (map ready_made ds') n) (made_leased l d)
-          ∙ set_same (map ready_made ds') n (ready_made d) (get_map ready_made ds' n d there) ∙ so_far.made;
-      leases = ap (λ xs. map leased_by (take (n + 1) xs)) is
-          ∙ ap (λ k. map leased_by (take k (slice_set ds' n (desk_leased l d)))) (sym next)
-          ∙ ap (map leased_by) (take_set ds' n (desk_leased l d) (slice_get_within ds' n d there))
-          ∙ map-append leased_by (take n ds') (desk_leased l d ∷ [])
-          ∙ (λ i. so_far.leases i ++ lease i ∷ [])
-          ∙ sym (take_next ls n l at)
-          ∙ ap (λ k. take k ls) next;
-    }
-
-pub put_whole : (ds ds' : List Desk) (ls : List (Option ℕ)) (n : ℕ) → length ls ≡ length (map at_of ds) → PutSoFar ds ds' ls n → length ds' ≤ n
-    → map leased_by ds' ≡ ls
-put_whole ds ds' ls n count so_far past =
-    let many : length ds' ≡ length ls = sym (length_map at_of ds') ∙ ap length so_far.workers ∙ sym count in
-    ap (map leased_by) (sym (take_all n ds' past)) ∙ so_far.leases ∙ take_all n ls (omega (arith, many, past))
 
 -- facts that hang on a test
 pub on_true : (b : Bool) (P : Type 0) → OnTrue b P → b ≡ true → P

@@ -9,25 +9,26 @@ use Rattle.llb_model.specs.Leases.{AreLeased}
 use Rattle.llb_model.specs.Program.{Build}
 use Rattle.llb_model.specs.State.{Running, Idle, Runs, is_failed, ending_of, stopped}
 use Rattle.llb_model.specs.Table.{Event}
-use Rattle.llb_board.specs.Board.{Seen}
-use Rattle.llb_board.specs.Caches.{IsOutIf, given_back}
+use Rattle.llb_state.specs.Board.{Seen}
+use Rattle.llb_state.specs.Caches.{IsOutIf, given_back}
 use Rattle.llb_links.specs.Links.{Linked, IsLinked}
-use Rattle.llb_board.specs.OpenInputs.{done_in}
-use Rattle.llb_board.specs.Room.{AreOver, IsTracked, ready_made, needed}
-use Rattle.llb_board.specs.Undo.{Back, Unclaim, Unstep, Resume, Displaced, left_in, caches_in, front, statuses_before, workers_before, HasNoPlaces, CanUndo}
-use Rattle.llb_board.specs.Undoing.{desk_before, leases_before, caches_before, HasPlaceFor}
-use Rattle.llb_board.specs.Views.{status_of, at_of, leased_by}
-use Rattle.llb_board.specs.declared.stand.Stand.{Stand}
-use Rattle.llb_board.specs.declared.stand.Stand.TheVariants as stand
-use Rattle.llb_board.specs.declared.stand.Desk.{Desk}
-use Rattle.llb_board.specs.declared.stand.Desk.TheVariants as desk
-use Rattle.llb_board.specs.declared.stand.Execution as own
-use Rattle.llb_board.specs.declared.undo.Before as before
+use Rattle.llb_state.specs.OpenInputs.{done_in}
+use Rattle.llb_state.specs.Room.{AreOver, IsTracked, ready_made, needed}
+use Rattle.llb_board.specs.Undo.{Back, Unclaim, Unstep, Resume, Displaced, statuses_before, workers_before, HasNoPlaces, CanUndo}
+use Rattle.llb_state.specs.Undoing.{left_in, caches_in, front}
+use Rattle.llb_state.specs.Undoing.{desk_before, leases_before, caches_before, HasPlaceFor}
+use Rattle.llb_state.specs.Views.{status_of, at_of, leased_by}
+use Rattle.llb_state.specs.declared.stand.Stand.{Stand}
+use Rattle.llb_state.specs.declared.stand.Stand.TheVariants as stand
+use Rattle.llb_state.specs.declared.stand.Desk.{Desk}
+use Rattle.llb_state.specs.declared.stand.Desk.TheVariants as desk
+use Rattle.llb_state.specs.declared.stand.Execution as own
+use Rattle.llb_state.specs.declared.undoing.Before as before
 use Rattle.llb_board.proofs.Claiming.{data_of}
-use Rattle.llb_board.proofs.Kept.{Data, Keeps, seen_as, supplies_claimed, supplies_settled}
-use Rattle.llb_board.proofs.Lent.{leased_settled, lease_out}
-use Rattle.llb_board.proofs.Lists.{map_set, length_map}
-use Rattle.llb_board.proofs.Sound.{consistent}
+use Rattle.llb_state.proofs.Kept.{Data, Keeps, seen_as, supplies_claimed, supplies_settled}
+use Rattle.llb_state.proofs.Lent.{leased_settled, lease_out}
+use Rattle.llb_state.proofs.Lists.{map_set, length_map}
+use Rattle.llb_state.proofs.Sound.{consistent}
 use Rattle.llb_board.proofs.Undone.{Leaves, undo_keeps, over_below, leased_so, leased_put, rows_put, places_put, runs_there, unclaimed_workers}
 use Rattle.llb_board.proofs.Undone.{unclaimed_marks, unstep_leaves, resumed_workers, resumed_there, resumed_leased, resumed_marks}
 

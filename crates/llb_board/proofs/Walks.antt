@@ -17,27 +17,28 @@ use Rattle.llb_model.specs.Table.{Event, Claim, Step, Settle, worker_of, with_st
 use Rattle.llb_model.specs.Leases.{AreLeased}
 use Rattle.llb_model.proofs.Events.{Answer, IsStep, IsSettle, claim_places, claim_is, step_is, settle_is}
 use Rattle.llb_model.proofs.Lists.{get_set_same}
-use Rattle.llb_board.specs.Board.{Seen, Replays, after_event, recorded}
-use Rattle.llb_board.specs.Caches.{written, places_at, rows_after}
-use Rattle.llb_board.specs.Room.{Supplies, supplies_for, ready_made, needed, mounts_at, needs_at}
-use Rattle.llb_board.specs.Rules.{claim_fault, step_fault, settle_fault}
-use Rattle.llb_board.specs.Undo.{told_as, walk_of, Back, Unclaim, Unstep, Resume, Before, Displaced, left_in}
+use Rattle.llb_state.specs.Board.{Seen, Replays, after_event, recorded}
+use Rattle.llb_state.specs.Caches.{written, places_at, rows_after}
+use Rattle.llb_state.specs.Room.{Supplies, supplies_for, ready_made, needed, mounts_at, needs_at}
+use Rattle.llb_state.specs.Rules.{claim_fault, step_fault, settle_fault}
+use Rattle.llb_board.specs.Undo.{told_as, walk_of, Back, Unclaim, Unstep, Resume, Displaced}
+use Rattle.llb_state.specs.Undoing.{Before, left_in}
 use Rattle.llb_board.specs.Undo.{statuses_before, with_view_back, step_before, workers_before, rows_before, store_before, undone}
 use Rattle.llb_board.specs.Undo.{StandsBehind, HasNoPlaces, FitsLeases, CanUndo, KeepsWhere, MarksClaim, MarksStep, MarksSettle, Marks}
 use Rattle.llb_events.specs.declared.fault.WalkFault.{WalkFault}
 use Rattle.llb_events.specs.declared.fault.WalkFault.TheVariants as walk
-use Rattle.llb_board.specs.Views.{execution_of, at_of}
+use Rattle.llb_state.specs.Views.{execution_of, at_of}
 use Rattle.llb_board.specs.Walking.{KeepsIf}
 use Rattle.llb_events.specs.declared.fault.SettleFault.TheVariants as no_settle
 use Rattle.llb_events.specs.declared.fault.StepFault.TheVariants as no_step
-use Rattle.llb_board.specs.declared.stand.Desk.{Desk}
-use Rattle.llb_board.specs.declared.stand.Desk.TheVariants as desk
-use Rattle.llb_board.specs.declared.stand.Execution as own
+use Rattle.llb_state.specs.declared.stand.Desk.{Desk}
+use Rattle.llb_state.specs.declared.stand.Desk.TheVariants as desk
+use Rattle.llb_state.specs.declared.stand.Execution as own
 use Rattle.llb_board.specs.declared.walk.Reply as replied
-use Rattle.llb_board.proofs.Calls.{claim_done, step_done, settle_done}
-use Rattle.llb_board.proofs.Kept.{made_enough}
-use Rattle.llb_board.proofs.Lists.{get_map, set_back, front_again}
-use Rattle.llb_board.proofs.Sound.{consistent}
+use Rattle.llb_state.proofs.Calls.{claim_done, step_done, settle_done}
+use Rattle.llb_state.proofs.Kept.{made_enough}
+use Rattle.llb_state.proofs.Lists.{get_map, set_back, front_again}
+use Rattle.llb_state.proofs.Sound.{consistent}
 
 -- ---- what a walk answers
 

@@ -6,7 +6,7 @@ use Rattle.llb_model.specs.Caches.{Place, content, Has, IsExclusive}
 use Rattle.llb_model.specs.Laws.{with_content, with_content_after}
 use Rattle.llb_model.specs.State.{Execution, Runs, State}
 use Rattle.llb_model.specs.Table.{Event, Reply, worker_of, table}
-use Rattle.llb_board.specs.Board.{Seen, Replays, SettledArePlain}
+use Rattle.llb_state.specs.Board.{Seen, Replays, SettledArePlain}
 
 -- a running worker has an instance
 pub record HasPlace (b : Seen) (w : ℕ) (p : Place) : Type 0 where

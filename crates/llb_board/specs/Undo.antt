@@ -1,7 +1,7 @@
 -- An event as a walker does it, what it displaces, and the board after the event taken back.
-use Rattle.std.specs.Prelude.{◌≡◌, ℕ, ◌-◌, Bool, true, false, List, [], length, take, Option, Some, None, Result, Ok, Err, slice_get, slice_set}
+use Rattle.std.specs.Prelude.{◌≡◌, ℕ, ◌-◌, Bool, true, false, List, [], length, Option, Some, None, Result, Ok, Err, slice_get, slice_set}
 use Rattle.llb_wire.specs.Answer as answer
-use Rattle.llb_cache.specs.Caches.{CachesValue, Row}
+use Rattle.llb_cache.specs.Caches.{Row}
 use Rattle.llb_execution.specs.Marks.{Mark, mark_of, put_back}
 use Rattle.llb_execution.specs.Parts.{mounts_in}
 use Rattle.llb_model.specs.Caches.{Store}
@@ -9,18 +9,17 @@ use Rattle.llb_model.specs.Kept.{store_of}
 use Rattle.llb_model.specs.Leases.{AreLeased}
 use Rattle.llb_model.specs.State.{Status, Waiting, Running, Execution, At, Idle, Runs}
 use Rattle.llb_model.specs.Table as table
-use Rattle.llb_board.specs.Board.{Seen, Replays}
-use Rattle.llb_board.specs.Room.{Supplies, supplies_for, supplies_of, mounts_at, needs_at}
-use Rattle.llb_board.specs.Rules.{claim_of, step_of, settle_of}
-use Rattle.llb_board.specs.Views.{execution_of}
+use Rattle.llb_state.specs.Board.{Seen, Replays}
+use Rattle.llb_state.specs.Room.{supplies_for, mounts_at, needs_at}
+use Rattle.llb_state.specs.Rules.{claim_of, step_of, settle_of}
 use Rattle.llb_events.specs.declared.event.Stepped.TheVariants as stepped
 use Rattle.llb_events.specs.declared.event.Settled.TheVariants as settled
 use Rattle.llb_events.specs.declared.fault.WalkFault.{WalkFault}
 use Rattle.llb_events.specs.declared.fault.WalkFault.TheVariants as walk
-use Rattle.llb_board.specs.declared.stand.Execution as own
+use Rattle.llb_state.specs.declared.stand.Execution as own
 use Rattle.llb_board.specs.declared.undo.Back as undo
 use Rattle.llb_board.specs.declared.undo.Back.TheVariants as back
-use Rattle.llb_board.specs.declared.undo.Before as before
+use Rattle.llb_state.specs.declared.undoing.Before as before
 use Rattle.llb_board.specs.declared.walk.Reply.{Reply}
 use Rattle.llb_board.specs.declared.walk.Reply.TheVariants as reply
 
@@ -58,41 +57,21 @@ GivesWalk = answer.Gives walk_memory
 
 -- ---- what an event displaces
 
--- what a worker has that settles
-pub record Left : Type 0 where
-  pub execution : Execution
-  pub supplies : Supplies
-
 -- a claim the vertex that waited, a step what it can change of a view, a settle what the worker ran
 pub data Back : Type 0 where
   Unclaim : ℕ → ℕ → Back
   Unstep : ℕ → Mark → Back
   Resume : ℕ → Left → Back
 
--- the caches before an event, and the leases of all workers
-pub record Before : Type 0 where
-  pub caches : CachesValue
-  pub leases : List (Option ℕ)
-
 -- and where the vertex shows caches, these as they were
 pub record Displaced : Type 0 where
   pub back : Back
   pub caches : Option Before
 
-abbrev pub left_in : own.Execution → Left
-left_in x = record { execution = execution_of x; supplies = supplies_of x }
-
 abbrev pub back_in : undo.Back → Back
 back_in (back.Unclaim w v) = Unclaim w v
 back_in (back.Unstep w mark) = Unstep w mark
 back_in (back.Resume w x) = Resume w (left_in x)
-
-abbrev pub before_in : before.Before → Before
-before_in c = record { caches = c.caches; leases = c.leases.items }
-
-abbrev pub caches_in : Option before.Before → Option Before
-caches_in (Some c) = Some (before_in c)
-caches_in None = None
 
 -- ---- the event taken back
 
@@ -122,10 +101,6 @@ rows_before None rows = rows
 abbrev pub store_before : Option Before → Store → Store
 store_before (Some c) store = store_of c.caches.rows
 store_before None store = store
-
--- all but the last
-abbrev pub front : {A : Type 0} → List A → List A
-front xs = take (length xs - 1) xs
 
 -- what an undo leaves of a board
 abbrev pub undone : Displaced → Seen → Seen

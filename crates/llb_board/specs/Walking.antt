@@ -1,7 +1,8 @@
 -- What is kept of a board before an event, by what is asked for.
 use Rattle.std.specs.Prelude.{Bool, true, false, Option, Some, None}
-use Rattle.llb_board.specs.Board.{Seen}
-use Rattle.llb_board.specs.Undo.{Before, KeepsCaches}
+use Rattle.llb_state.specs.Board.{Seen}
+use Rattle.llb_board.specs.Undo.{KeepsCaches}
+use Rattle.llb_state.specs.Undoing.{Before}
 
 -- caches are kept where they are asked for
 abbrev pub KeepsIf : Bool → Seen → Option Before → Type 0

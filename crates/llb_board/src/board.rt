@@ -9,34 +9,31 @@ ghost use Rattle.llb_model.specs.Room.{most_events, still_to_come};
 ghost use Rattle.llb_model.specs.Run.{chosen, is_complete};
 ghost use Rattle.llb_model.specs.Laws.{IsReached};
 ghost use Rattle.llb_loader.specs.Graph.{IsGraph};
-ghost use Rattle.llb_board.specs.Board.{Seen, Replays};
+ghost use Rattle.llb_state.specs.Board.{Seen, Replays};
 ghost use Rattle.llb_links.specs.Links.{users_of};
 ghost use Rattle.llb_wire.specs.Answer.{MemoryLast};
 ghost use Rattle.llb_cache.specs.Caches.{leases};
 ghost use Rattle.llb_model.specs.Kept.{store_of};
 ghost use Rattle.llb_model.specs.Leases.{HoldsAs};
-ghost use Rattle.llb_board.specs.Rules.{may_work, open_memory, step_memory, GivesOpen, open_of, open_with};
+ghost use Rattle.llb_state.specs.Rules.{step_memory};
+ghost use Rattle.llb_board.specs.Opening.{may_work, open_memory, GivesOpen, open_of, open_with};
 ghost use Rattle.llb_events.specs.Faults.{claim_memory, claim_may_want};
-ghost use Rattle.llb_board.specs.Rules.{returned, may_want_memory};
-ghost use Rattle.llb_board.specs.Rules.{claim_of, GivesStep, step_of, GivesSettle, settle_of};
+ghost use Rattle.llb_board.specs.Opening.{returned, may_want_memory};
+ghost use Rattle.llb_state.specs.Rules.{claim_of, GivesStep, step_of, GivesSettle, settle_of};
 ghost use Rattle.llb_events.specs.Faults.{GivesClaim};
-ghost use Rattle.llb_board.specs.Views.{event_of, claim_reply, step_reply, settle_reply, status_of, look, look_at, worker_look};
+ghost use Rattle.llb_state.specs.Views.{event_of, claim_reply, step_reply, settle_reply, status_of, look, look_at, worker_look};
 
-use crate::build::Build;
-use crate::choice::{all_settled, first_open, next_claim, next_event};
-use crate::events::Events;
 use crate::fault::OpenFault;
-use crate::fresh::opening;
-use crate::instances::{give_all_back, give_back, lease_for};
-use crate::job::Job;
-use crate::ready::{is_marked, is_ready, output_at, stand_at};
-use crate::stand::{Desk, Stand};
-use crate::step::{Begun, begin, claimable, desk_at, is_finished, leave, step_at};
 use llb_cache::Caches;
 use llb_events::{At, ClaimFault, Event, SettleFault, Settled, Status, StepFault, Stepped};
 use llb_links::Links;
 use llb_loader::{Graph, Locals};
 use llb_needs::wanted_by;
+use llb_state::{
+    Begun, Build, Desk, Events, Job, Stand, all_settled, begin, claimable, desk_at, first_open,
+    give_all_back, give_back, is_finished, is_marked, is_ready, lease_for, leave, next_claim,
+    next_event, opening, output_at, stand_at, step_at,
+};
 use llb_tree::Tree;
 use llb_wire::{Memory, Text};
 use std::alloc::Global;
@@ -78,8 +75,8 @@ impl Model for Board {
     ghost use Rattle.std.specs.Coded.{codes};
     ghost use Rattle.llb_tree.specs.Tree.{coded_tree};
     ghost use Rattle.llb_board.specs.Store.{coded_store};
-    ghost use Rattle.llb_board.specs.Board.{Seen};
-    ghost use Rattle.llb_board.specs.Room.{seen, IsTracked};
+    ghost use Rattle.llb_state.specs.Board.{Seen};
+    ghost use Rattle.llb_state.specs.Room.{seen, IsTracked};
 
     ghost Value = { Seen };
 

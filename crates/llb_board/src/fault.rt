@@ -1,9 +1,9 @@
 //! Why an opening and a landing are refused. A fault prints its number, and after it the name of a missing tree. What comes back from a
 //! refused call is in its fault.
 
-use crate::outcome::Outcome;
 use llb_cache::Caches;
 use llb_loader::{Graph, Locals};
+use llb_state::Outcome;
 use llb_wire::Text;
 use std::fmt;
 use thiserror::Error;

@@ -1,27 +1,15 @@
 //! An event taken back: what it displaced is on the board again.
 
-ghost use Rattle.std.specs.Prelude.{◌≡◌, ◌<◌, ◌+◌, ◌^◌, ℕ, get_or, [], Some, length, map, slice_get, slice_set};
-ghost use Rattle.std.specs.Bool.{OnTrue, OnFalse};
-ghost use Rattle.std.specs.List.{All};
-ghost use Rattle.std.specs.Option.{ForSome};
-ghost use Rattle.llb_model.specs.ByNumber.{by_number};
-ghost use Rattle.llb_model.specs.State.{next_stopped};
-ghost use Rattle.llb_board.specs.declared.stand.Desk.TheVariants as desk;
-ghost use Rattle.llb_board.specs.Room.{ready_made};
-ghost use Rattle.llb_board.specs.Undo.{Unclaim, Unstep, Resume, left_in, caches_in, undone, CanUndo};
-ghost use Rattle.llb_board.specs.Undoing.{desk_before, desk_leased, leases_before, caches_before, HasPlaceFor};
-ghost use Rattle.llb_links.specs.Links.{AreRaised, users_at};
-ghost use Rattle.llb_board.specs.Views.{at_of, leased_by, status_of};
+ghost use Rattle.std.specs.Prelude.{◌≡◌};
+ghost use Rattle.llb_board.specs.Undo.{Unclaim, Unstep, Resume, undone, CanUndo};
+ghost use Rattle.llb_state.specs.Undoing.{left_in, caches_in};
 
 use crate::board::Board;
-use crate::copying::lease_of;
-use crate::instances::give_back;
-use crate::ready::mark_stopped;
-use crate::stand::{Desk, Execution, Stand};
-use llb_cache::{Caches, Lease};
 use llb_execution::Mark;
-use llb_links::Links;
-use llb_loader::Vertex;
+use llb_state::{
+    Before, Desk, Execution, Stand, give_back, make_idle, mark_anew, open_anew, put_caches,
+    step_back,
+};
 use std::marker::Model;
 use std::mem;
 
@@ -44,17 +32,11 @@ pub(crate) enum Back {
     Resume(u32, Execution),
 }
 
-/// Caches as they were, and the leases of all workers.
-#[derive(Drop)]
-pub(crate) struct Before {
-    pub caches: Caches,
-    pub leases: Vec<Option<Lease>>,
-}
-
 impl Model for Undo {
     ghost use Rattle.std.specs.Coded.{codes};
     ghost use Rattle.llb_tree.specs.Tree.{coded_tree};
-    ghost use Rattle.llb_board.specs.Undo.{Displaced, back_in, caches_in};
+    ghost use Rattle.llb_board.specs.Undo.{Displaced, back_in};
+    ghost use Rattle.llb_state.specs.Undoing.{caches_in};
 
     ghost Value = { Displaced };
 
@@ -119,92 +101,5 @@ impl Board {
         open_anew(&mut self.links, v, had.is_done());
         self.first_open = self.first_open.min(v);
         self.events.take_back();
-    }
-}
-
-// A worker has nothing to do; the lease that it had comes out.
-fn make_idle(desks: &mut Vec<Desk>, w: u32) -> Option<Lease>
-    requires { w < length desks.old.items }
-    ensures idle { desks.new.items ≡ slice_set desks.old.items w desk.Idle }
-    ensures leased { slice_get (map leased_by desks.old.items) w ≡ Some result }
-{
-    let lease = lease_of(&desks[w as usize]);
-    desks[w as usize] = Desk::Idle;
-    lease
-}
-
-// A worker has done one micro-step less, and its view is as it was.
-fn step_back(desks: &mut Vec<Desk>, w: u32, mark: Mark)
-    requires { w < length desks.old.items }
-    ensures { desks.new.items ≡ slice_set desks.old.items w (desk_before mark (slice_get desks.old.items w)) }
-{
-    match &mut desks[w as usize] {
-        Desk::Idle => {}
-        Desk::Runs(_, execution) => {
-            execution.done = execution.done.saturating_sub(1);
-            execution.fault = None;
-            execution.view.put_back(mark);
-        }
-    }
-}
-
-// The caches are as they were, where they were kept, and each worker has the lease that it had.
-fn put_caches(desks: &mut Vec<Desk>, caches: &mut Caches, before: Option<Before>)
-    requires { ForSome before (λ c. HasPlaceFor c.leases.items (map at_of desks.old.items)) }
-    ensures workers { map at_of desks.new.items ≡ map at_of desks.old.items }
-    ensures made { map ready_made desks.new.items ≡ map ready_made desks.old.items }
-    ensures leases { map leased_by desks.new.items ≡ leases_before (caches_in before) (map leased_by desks.old.items) }
-    ensures caches { caches.new ≡ caches_before (caches_in before) caches.old }
-{
-    if let Some(before) = before {
-        put_leases(desks, &before.leases);
-        *caches = before.caches;
-    }
-}
-
-// Each worker has its lease.
-fn put_leases(desks: &mut Vec<Desk>, leases: &[Option<Lease>])
-    requires { HasPlaceFor leases.now (map at_of desks.old.items) }
-    ensures workers { map at_of desks.new.items ≡ map at_of desks.old.items }
-    ensures made { map ready_made desks.new.items ≡ map ready_made desks.old.items }
-    ensures leases { map leased_by desks.new.items ≡ leases.now }
-{
-    for w in 0..desks.len() {
-        put_lease(&mut desks[w], leases[w]);
-    }
-}
-
-// A worker that runs has this lease.
-fn put_lease(desk: &mut Desk, lease: Option<Lease>)
-    ensures { desk.new ≡ desk_leased lease desk.old }
-{
-    match desk {
-        Desk::Idle => {}
-        Desk::Runs(old, _) => *old = lease,
-    }
-}
-
-// Marks each vertex that has failed or is after one that has, where the marks may have changed.
-fn mark_anew(stop_marks: &mut Vec<bool>, stands: &[Stand], vertices: &[Vertex], changed: bool)
-    requires { length stop_marks.old.items ≡ length vertices.now }
-    ensures anew { OnTrue changed (stop_marks.new.items ≡ by_number (next_stopped (map status_of stands.now)) [] vertices.now) }
-    ensures same { OnFalse changed (stop_marks.new.items ≡ stop_marks.old.items) }
-{
-    if changed {
-        mark_stopped(stop_marks, stands, vertices);
-    }
-}
-
-// Each vertex that has an edge to one has an open input more, where that one was done.
-fn open_anew(links: &mut Links, v: u32, was_done: bool)
-    requires low { v < length links.old.users }
-    requires below { All (λ x. x < length links.old.counts) (users_at links.old v) }
-    requires few { (x : ℕ) → get_or links.old.counts x 0 + length (users_at links.old v) < 2 ^ 32 }
-    ensures users { links.new.users ≡ links.old.users }
-    ensures raised { OnTrue was_done (AreRaised (users_at links.old v) links.old.counts links.new.counts) }
-    ensures same { OnFalse was_done (links.new ≡ links.old) }
-{
-    if was_done {
-        links.count_up(v);
     }
 }

@@ -1,19 +1,18 @@
 //! An event with what undoes it, for whoever walks a run forwards and back.
 
 ghost use Rattle.std.specs.Prelude.{◌≡◌, [], false, option_map, slice_get, OnErr, IfOk, IfErr, Err};
-ghost use Rattle.llb_board.specs.Room.{needs_at};
-ghost use Rattle.llb_board.specs.Undo.{GivesWalk, walk_of, walk_memory, undone, CanUndo, Marks, MarksClaim, MarksStep, MarksSettle, caches_in};
+ghost use Rattle.llb_state.specs.Room.{needs_at};
+ghost use Rattle.llb_board.specs.Undo.{GivesWalk, walk_of, walk_memory, undone, CanUndo, Marks, MarksClaim, MarksStep, MarksSettle};
+ghost use Rattle.llb_state.specs.Undoing.{caches_in};
 ghost use Rattle.llb_board.specs.Walking.{KeepsIf};
-ghost use Rattle.llb_board.specs.Views.{event_of};
+ghost use Rattle.llb_state.specs.Views.{event_of};
 ghost use Rattle.llb_model.specs.Table.{Step, Settle};
 
 use crate::board::Board;
-use crate::build::Build;
-use crate::copying::{copied, copied_leases};
-use crate::stand::Desk;
-use crate::undo::{Back, Before, Undo};
+use crate::undo::{Back, Undo};
 use llb_events::{Event, Memory, SettleFault, Settled, StepFault, Stepped, WalkFault};
 use llb_needs::shows_cache;
+use llb_state::{Before, Build, Desk, copied, copied_leases};
 
 /// What an event answers.
 #[derive(Clone, Copy, Debug, PartialEq, Eq)]

@@ -15,7 +15,7 @@ use Rattle.llb_loader.specs.Faults.{is_memory}
 use Rattle.llb_loader.specs.Graph.{Numbered, IsGraph}
 use Rattle.llb_loader.specs.Locals.{Local}
 use Rattle.llb_loader.specs.Load.{IsGraphIn, IsRefusalIn}
-use Rattle.llb_board.specs.Board.{Seen}
+use Rattle.llb_state.specs.Board.{Seen}
 use Rattle.llb_commands.specs.declared.fault.ProgramFault.{ProgramFault}
 use Rattle.llb_commands.specs.declared.fault.ProgramFault.TheVariants.{Refused, Loading}
 use Rattle.llb_treetext.specs.TreeText.{tree_text}

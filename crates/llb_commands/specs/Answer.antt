@@ -16,7 +16,7 @@ use Rattle.llb_model.specs.Table.{Event, Reply}
 use Rattle.llb_model.specs.Run.{run, is_complete, StandsPlainly}
 use Rattle.llb_model.specs.Laws.{HasNoCaches}
 use Rattle.llb_treetext.specs.TreeText.{tree_text}
-use Rattle.llb_board.specs.Rules.{may_work}
+use Rattle.llb_board.specs.Opening.{may_work}
 use Rattle.llb_work.specs.Alone.{EndsInClaimOrder}
 use Rattle.llb_commands.specs.GraphText.{graph_text}
 

@@ -4,7 +4,7 @@ use Rattle.std.specs.Io.KnownBytes.{Keeps}
 use Rattle.llb_loader.specs.Graph.{Numbered}
 use Rattle.llb_loader.specs.Load.{IsGraphIn}
 use Rattle.llb_loader.specs.Locals.{Local}
-use Rattle.llb_board.specs.Board.{opened}
+use Rattle.llb_state.specs.Board.{opened}
 use Rattle.llb_stepper.specs.Stepping.{Stepping}
 use Rattle.llb_session.specs.Conversation.{Converses}
 use Rattle.llb_session.specs.declared.fault.SessionFault.{SessionFault}

@@ -41,11 +41,7 @@ pub struct Taking {
 }
 
 /// The caches that a vertex shows, or the first locked key that a lease has: then memory is taken for that key alone.
-pub fn wanted_by(
-    alloc: Global,
-    caches: &Caches,
-    vertex: &Vertex,
-) -> Result<Vec<Wanted>, ClaimFault>
+pub fn wanted_by(alloc: Global, caches: &Caches, vertex: &Vertex) -> Result<Vec<Wanted>, ClaimFault>
     requires seeds { HasEdges vertex.now }
     requires few { length (kind_mounts vertex.now.op.kind) < 2 ^ 32 }
     ensures gives { GivesClaim (λ ws. map need_of ws.items) result (unless_shut (needs_of vertex.now) (shut_key caches.now.out (needs_of vertex.now))) }

@@ -9,8 +9,8 @@ use Rattle.llb_model.specs.Run.{chosen}
 use Rattle.llb_model.specs.State.{State}
 use Rattle.llb_model.specs.Table.{Event, Claim, Step, Settle, Reply, Claimed, HasRead, Acted, HasMerged, HasRun, Faulted, SettledDone, SettledFailed}
 use Rattle.llb_model.specs.Table.{claim_grant, step_grant, settle_grant, table}
-use Rattle.llb_board.specs.Board.{Seen, ChosenIsGranted, after_event, recorded}
-use Rattle.llb_board.specs.Rules.{claim_fault, step_fault, settle_fault}
+use Rattle.llb_state.specs.Board.{Seen, ChosenIsGranted, after_event, recorded}
+use Rattle.llb_state.specs.Rules.{claim_fault, step_fault, settle_fault}
 use Rattle.llb_board.specs.Undo.{told, told_as, undone, walk_of, CanUndo}
 use Rattle.llb_events.specs.declared.fault.WalkFault.{WalkFault}
 use Rattle.llb_events.specs.declared.fault.WalkFault.TheVariants as walk

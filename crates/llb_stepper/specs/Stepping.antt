@@ -5,7 +5,7 @@ use Rattle.std.specs.List.{list_any}
 use Rattle.llb_model.specs.Table.{Event, Claim, Step, Settle, Reply, Claimed, HasRead, Acted, HasMerged, HasRun, Faulted, SettledDone, SettledFailed, table}
 use Rattle.llb_model.specs.State.{State}
 use Rattle.llb_model.specs.Run.{chosen}
-use Rattle.llb_board.specs.Board.{Seen, after_event}
+use Rattle.llb_state.specs.Board.{Seen, after_event}
 use Rattle.llb_stepper.specs.declared.stop.Break.{Break}
 use Rattle.llb_stepper.specs.declared.stop.Break.TheVariants as stop
 use Rattle.llb_stepper.specs.declared.stop.Stop.{Stop}

@@ -2,7 +2,7 @@
 use Rattle.std.proofs.Common.{◌≡◌, ℕ, ◌+◌, ◌≤◌, Bool, false, List, length, Option, Some, None, sym, ap, subst, ◌∙◌, arith}
 use Rattle.std.proofs.lemmas.Bool.{true≢false}
 use Rattle.std.specs.Prelude.{sum, replicate, IsTrue, ◌↔◌}
-use Rattle.llb_board.specs.Board.{Seen}
+use Rattle.llb_state.specs.Board.{Seen}
 use Rattle.llb_work.specs.Crew.{GoesOn, IsAfter, Counts}
 use Rattle.llb_work.specs.RunEnds.{Leads, is_foreign}
 use Rattle.llb_work.specs.declared.end.RunFault.{RunFault}

@@ -21,10 +21,10 @@ use Rattle.llb_model.specs.Laws.{AreChosen}
 use Rattle.llb_model.proofs.Lists.{inside as some_inside}
 use Rattle.llb_model.proofs.Runs.{run_none, run_first, run_more}
 use Rattle.llb_model.proofs.Alone.{Ascends, alone_step}
-use Rattle.llb_board.specs.Board.{Seen, ChosenIsGranted, after_event, recorded}
-use Rattle.llb_board.specs.Rules.{claim_of, claim_fault, GivesStep, step_of, step_fault, GivesSettle, settle_of, settle_fault}
+use Rattle.llb_state.specs.Board.{Seen, ChosenIsGranted, after_event, recorded}
+use Rattle.llb_state.specs.Rules.{claim_of, claim_fault, GivesStep, step_of, step_fault, GivesSettle, settle_of, settle_fault}
 use Rattle.llb_events.specs.Faults.{GivesClaim}
-use Rattle.llb_board.specs.Views.{event_of, step_reply, settle_reply}
+use Rattle.llb_state.specs.Views.{event_of, step_reply, settle_reply}
 use Rattle.llb_events.specs.declared.event.Event as event
 use Rattle.llb_events.specs.declared.event.Stepped.{Stepped}
 use Rattle.llb_events.specs.declared.event.Settled.{Settled}

@@ -3,12 +3,12 @@ use Rattle.std.proofs.Common.{◌≡◌, ℕ, [], ◌∷◌, ◌++◌, Result, O
 use Rattle.std.specs.Prelude.{IfOk, OnErr}
 use Rattle.llb_model.specs.Table.{Reply, Claim, Step, Settle}
 use Rattle.llb_model.specs.Landing.{landing}
-use Rattle.llb_board.specs.Board.{Seen}
-use Rattle.llb_board.specs.Jobs.{OutcomeValue}
+use Rattle.llb_state.specs.Board.{Seen}
+use Rattle.llb_state.specs.Jobs.{OutcomeValue}
 use Rattle.llb_board.specs.Landing.{Lands}
-use Rattle.llb_board.specs.Rules.{claim_of, GivesStep, step_of, GivesSettle, settle_of}
+use Rattle.llb_state.specs.Rules.{claim_of, GivesStep, step_of, GivesSettle, settle_of}
 use Rattle.llb_events.specs.Faults.{GivesClaim}
-use Rattle.llb_board.specs.Views.{step_reply, settle_reply}
+use Rattle.llb_state.specs.Views.{step_reply, settle_reply}
 use Rattle.llb_events.specs.declared.event.Stepped.{Stepped}
 use Rattle.llb_events.specs.declared.event.Settled.{Settled}
 use Rattle.llb_events.specs.declared.fault.ClaimFault.{ClaimFault}

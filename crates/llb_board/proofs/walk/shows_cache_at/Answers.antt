@@ -1,5 +1,5 @@
 use Rattle.std.proofs.Common.{sym}
-use Rattle.llb_board.proofs.Wanting.{graph_edges}
+use Rattle.llb_state.proofs.Wanting.{graph_edges}
 use Rattle.llb_board.proofs.walk.shows_cache_at.Goals as goal
 
 pub shows_cache-requires : goal.shows_cache-requires

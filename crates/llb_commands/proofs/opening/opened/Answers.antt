@@ -1,5 +1,5 @@
 use Rattle.std.proofs.Common.{inl, ap}
-use Rattle.llb_board.specs.Rules.{open_memory}
+use Rattle.llb_board.specs.Opening.{open_memory}
 use Rattle.llb_commands.proofs.Stepped.{missing_in, lacks}
 use Rattle.llb_commands.proofs.opening.opened.Goals as goal
 

@@ -1,5 +1,5 @@
 use Rattle.std.proofs.Common.{ap, length, ◌∙◌}
-use Rattle.llb_board.specs.Board.{Seen}
+use Rattle.llb_state.specs.Board.{Seen}
 use Rattle.llb_work.proofs.Afters.{after_itself}
 use Rattle.llb_work.proofs.Crews.{leads_nowhere}
 use Rattle.llb_work.proofs.crew.undone.Goals as goal

@@ -1,5 +1,5 @@
 use Rattle.std.proofs.Common.{ap, arith, length, refl}
-use Rattle.llb_board.specs.Board.{Seen}
+use Rattle.llb_state.specs.Board.{Seen}
 use Rattle.llb_work.proofs.Afters.{after_itself}
 use Rattle.llb_work.proofs.desk.make_desk.Goals as goal
 

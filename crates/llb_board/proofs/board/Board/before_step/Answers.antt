@@ -1,8 +1,8 @@
 use Rattle.std.proofs.Common.{◌≡◌, Some, length, ap, sym, rules, vec_len}
 use Rattle.std.specs.Prelude.{not, slice_get}
-use Rattle.llb_board.specs.Board.{Seen}
-use Rattle.llb_board.specs.Undo.{caches_in}
-use Rattle.llb_board.specs.declared.stand.Desk.TheVariants as desk
+use Rattle.llb_state.specs.Board.{Seen}
+use Rattle.llb_state.specs.Undoing.{caches_in}
+use Rattle.llb_state.specs.declared.stand.Desk.TheVariants as desk
 use Rattle.llb_board.proofs.Walks.{IsAt, marks_step, unasked}
 use Rattle.llb_board.proofs.board.Board.before_step.Goals as goal
 

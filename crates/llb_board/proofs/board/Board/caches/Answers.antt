@@ -1,9 +1,9 @@
 use Rattle.std.proofs.Common.{map, subst}
 use Rattle.llb_model.specs.Leases.{HoldsAs}
 use Rattle.llb_model.proofs.Leasing.{leased_holds_as}
-use Rattle.llb_board.specs.Board.{Seen}
-use Rattle.llb_board.specs.Room.{seen}
-use Rattle.llb_board.specs.Views.{leased_by}
+use Rattle.llb_state.specs.Board.{Seen}
+use Rattle.llb_state.specs.Room.{seen}
+use Rattle.llb_state.specs.Views.{leased_by}
 use Rattle.llb_board.proofs.board.Board.caches.Goals as goal
 
 pub returns-clause-leased : goal.returns-clause-leased

@@ -1,13 +1,14 @@
 use Rattle.std.proofs.Common.{◌≡◌, ◌∙◌, List, map, refl, sym, ap, subst, rules}
 use Rattle.std.specs.Prelude.{Bool, false, Some, IsTrue, slice_get}
 use Rattle.llb_model.specs.State.{Runs}
-use Rattle.llb_board.specs.Board.{Seen}
-use Rattle.llb_board.specs.Landing.{has_shared, CanLand, RunsAlone}
-use Rattle.llb_board.specs.Room.{seen}
-use Rattle.llb_board.specs.Views.{at_of, leased_by, execution_of}
-use Rattle.llb_board.specs.declared.stand.Desk.{Desk}
+use Rattle.llb_state.specs.Board.{Seen}
+use Rattle.llb_board.specs.Landing.{CanLand, RunsAlone}
+use Rattle.llb_state.specs.Jobs.{has_shared}
+use Rattle.llb_state.specs.Room.{seen}
+use Rattle.llb_state.specs.Views.{at_of, leased_by, execution_of}
+use Rattle.llb_state.specs.declared.stand.Desk.{Desk}
 use Rattle.llb_board.proofs.Landed.{runs_vertex}
-use Rattle.llb_board.proofs.Stepping.{held_within}
+use Rattle.llb_state.proofs.Stepping.{held_within}
 use Rattle.llb_board.proofs.board.Board.can_land.Goals as goal
 
 not_true : IsTrue false → ⊥

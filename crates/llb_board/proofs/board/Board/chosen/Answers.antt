@@ -1,7 +1,7 @@
 use Rattle.llb_model.proofs.Complete.{over_not_ready}
-use Rattle.llb_board.specs.Room.{seen}
-use Rattle.llb_board.proofs.Behind.{tells}
-use Rattle.llb_board.proofs.Sound.{consistent}
+use Rattle.llb_state.specs.Room.{seen}
+use Rattle.llb_state.proofs.Behind.{tells}
+use Rattle.llb_state.proofs.Sound.{consistent}
 use Rattle.llb_board.proofs.board.Board.chosen.Goals as goal
 
 pub next_claim-requires-clause-tells : goal.next_claim-requires-clause-tells

@@ -5,20 +5,20 @@ use Rattle.llb_model.specs.Program.{needs_of}
 use Rattle.llb_model.specs.State.{Waiting, ending_at}
 use Rattle.llb_model.specs.Table.{Claim}
 use Rattle.llb_model.proofs.Lists.{length_set}
-use Rattle.llb_board.specs.Begun.{begun_as}
+use Rattle.llb_state.specs.Begun.{begun_as}
 use Rattle.llb_needs.specs.Needs.{shut_key, unless_shut}
-use Rattle.llb_board.specs.Views.{status_of, state_of, claim_reply}
-use Rattle.llb_board.specs.Board.{Seen}
-use Rattle.llb_board.specs.Rules.{begun, claim_fault, claim_of}
+use Rattle.llb_state.specs.Views.{status_of, state_of, claim_reply}
+use Rattle.llb_state.specs.Board.{Seen}
+use Rattle.llb_state.specs.Rules.{begun, claim_fault, claim_of}
 use Rattle.llb_events.specs.Faults.{claim_memory, claim_may_want}
-use Rattle.llb_board.specs.Room.{seen}
-use Rattle.llb_board.specs.declared.stand.Desk.TheVariants as desk
-use Rattle.llb_board.specs.declared.stand.Stand.TheVariants as stand
-use Rattle.llb_board.proofs.Wanting.{graph_edges}
-use Rattle.llb_board.proofs.Behind.{linked_set, tells}
-use Rattle.llb_board.proofs.Calls.{CanClaim, can_claim, claim_held, claim_wants, claim_done}
+use Rattle.llb_state.specs.Room.{seen}
+use Rattle.llb_state.specs.declared.stand.Desk.TheVariants as desk
+use Rattle.llb_state.specs.declared.stand.Stand.TheVariants as stand
+use Rattle.llb_state.proofs.Wanting.{graph_edges}
+use Rattle.llb_state.proofs.Behind.{linked_set, tells}
+use Rattle.llb_state.proofs.Calls.{CanClaim, can_claim, claim_held, claim_wants, claim_done}
 use Rattle.llb_board.proofs.Claiming.{MayClaim, Did, data_of, same_held, few_out, differ, did}
-use Rattle.llb_board.proofs.Kept.{Data, has_room, claimed, recorded_as, still_over}
+use Rattle.llb_state.proofs.Kept.{Data, has_room, claimed, recorded_as, still_over}
 use Rattle.llb_board.proofs.board.Board.claim.Goals as goal
 use Rattle.llb_board.proofs.board.Board.claim.Goals.{In_ok-vertex, After-is_exclusive, In_ok-lease}
 

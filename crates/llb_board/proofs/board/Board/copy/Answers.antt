@@ -1,8 +1,8 @@
 use Rattle.std.proofs.Common.{◌≤◌, ◌∙◌, map, sym, ap, subst, arith}
 use Rattle.llb_model.specs.Room.{most_events}
 use Rattle.llb_model.specs.Program.{Build}
-use Rattle.llb_board.specs.Room.{ready_made}
-use Rattle.llb_board.specs.Views.{at_of, leased_by}
+use Rattle.llb_state.specs.Room.{ready_made}
+use Rattle.llb_state.specs.Views.{at_of, leased_by}
 use Rattle.llb_board.proofs.Copies.{Parts, tracked_same}
 use Rattle.llb_board.proofs.board.Board.copy.Goals as goal
 

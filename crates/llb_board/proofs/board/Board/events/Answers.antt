@@ -1,8 +1,8 @@
 use Rattle.std.proofs.Common.{◌≤◌, ◌+◌, length, subst}
 use Rattle.llb_model.specs.Room.{most_events, still_to_come}
 use Rattle.llb_model.proofs.Rooms.{run_has_few}
-use Rattle.llb_board.specs.Board.{Seen}
-use Rattle.llb_board.specs.Room.{seen}
+use Rattle.llb_state.specs.Board.{Seen}
+use Rattle.llb_state.specs.Room.{seen}
 use Rattle.llb_board.proofs.board.Board.events.Goals as goal
 
 pub returns-clause-bound : goal.returns-clause-bound

@@ -1,12 +1,12 @@
-use Rattle.std.proofs.Common.{◌++◌, sym, subst}
+use Rattle.std.proofs.Common.{◌≡◌, ◌++◌, sym, subst}
 use Rattle.llb_execution.specs.Parts.{left_with}
 use Rattle.llb_model.specs.Landing.{steps_by}
-use Rattle.llb_board.specs.Board.{Seen}
-use Rattle.llb_board.specs.Jobs.{OutcomeValue}
+use Rattle.llb_state.specs.Board.{Seen}
+use Rattle.llb_state.specs.Jobs.{OutcomeValue, IsOutcome}
 use Rattle.llb_board.specs.Landing.{CanLand, IsThrough}
-use Rattle.llb_board.specs.Room.{seen}
+use Rattle.llb_state.specs.Room.{seen}
 use Rattle.llb_board.proofs.Claiming.{data_of}
-use Rattle.llb_board.proofs.Kept.{Data, seen_as, kept_written}
+use Rattle.llb_state.proofs.Kept.{Data, seen_as, kept_written}
 use Rattle.llb_board.proofs.Landed.{HasDesk, has_desk, keeps, room, few_trees, through, leased_count, data_is}
 use Rattle.llb_board.proofs.board.Board.go_through.Goals as goal
 use Rattle.llb_board.proofs.board.Board.go_through.Goals.{After-put_left-lease}
@@ -15,15 +15,22 @@ before : After-put_left-lease → Data
 before c = let b = c.self.inside in data_of b.stands.items b.desks.items b.caches b.stop_marks.items
 
 outcome : After-put_left-lease → OutcomeValue
-outcome c = let o = c.outcome.inside in record { job = o.job; count = o.count; left = left_with o.view o.trees.items o.fault }
+outcome c = record { job = c.args.outcome.job; count = c.into_left.result.0; left = left_with c.into_left.result.1 c.into_left.result.2.items c.into_left.result.3 }
 
-desk_so : (c : After-put_left-lease) → HasDesk c.self.inside.build (before c) c.args.w c.outcome.inside.job
+-- the outcome's parts are the outcome
+outcome_is : (c : After-put_left-lease) → outcome c ≡ c.args.outcome
+unfolding outcome
+outcome_is c = λ i. record { job = c.args.outcome.job; count = c.into_left.ensures.count i; left = c.into_left.ensures.left i }
+
+whole : (c : After-put_left-lease) → IsOutcome (outcome c).job (outcome c).count (outcome c).left
+whole c = subst (λ (v : OutcomeValue). IsOutcome v.job v.count v.left) (sym (outcome_is c)) c.is_whole.ensures
+
+desk_so : (c : After-put_left-lease) → HasDesk c.self.inside.build (before c) c.args.w c.args.outcome.job
 unfolding before
 desk_so c =
     let b = c.self.inside in
-    has_desk b.build b.start.rows (before c) b.events.list c.args.w c.outcome.inside.job
-    (subst (λ (m : Seen). CanLand m c.args.w c.outcome.inside.job) (sym c.self.view_is)
-    (subst (λ (v : OutcomeValue). CanLand c.args.self.now c.args.w v.job) (sym c.outcome.view_is) c.requires))
+    has_desk b.build b.start.rows (before c) b.events.list c.args.w c.args.outcome.job
+    (subst (λ (m : Seen). CanLand m c.args.w c.args.outcome.job) (sym c.self.view_is) c.requires)
 
 pub write_back-requires-clause-count : goal.write_back-requires-clause-count
 unfolding before outcome
@@ -33,7 +40,7 @@ write_back-requires-clause-count c =
     let k = desk_so p in
     leased_count b.build b.start.rows (before p) b.events.list b.events.room c.args.w k.l k.own (outcome p) c.self.invariant.kept k.at
     c.is_exclusive.ensures.apart c.is_exclusive.ensures.there
-    c.vertices.ensures.graph k.run c.outcome.invariant c.put_left-lease.result c.put_left-lease.ensures.leased
+    c.vertices.ensures.graph k.run (whole p) c.put_left-lease.result c.put_left-lease.ensures.leased
 
 pub write_back-requires-clause-few : goal.write_back-requires-clause-few
 unfolding before outcome
@@ -43,7 +50,7 @@ write_back-requires-clause-few c =
     let k = desk_so p in
     few_trees b.build b.start.rows (before p) b.events.list b.events.room c.args.w k.l k.own (outcome p) c.self.invariant.kept k.at
     c.is_exclusive.ensures.apart c.is_exclusive.ensures.there
-    c.vertices.ensures.graph k.run c.outcome.invariant
+    c.vertices.ensures.graph k.run (whole p)
 
 pub record_steps-requires : goal.record_steps-requires
 unfolding before outcome
@@ -53,7 +60,7 @@ record_steps-requires c =
     let k = desk_so p in
     room b.build b.start.rows (before p) b.events.list b.events.room c.args.w k.l k.own (outcome p) c.self.invariant.kept k.at c.is_exclusive.ensures.apart
     c.is_exclusive.ensures.there
-    c.vertices.ensures.graph k.run c.outcome.invariant
+    c.vertices.ensures.graph k.run (whole p)
 
 pub invariant_of-self : goal.invariant_of-self
 unfolding before outcome
@@ -63,15 +70,15 @@ invariant_of-self c =
     let k = desk_so p in
     let is = data_is b.build b.start.rows (before p) b.events.list b.events.room c.args.w k.l k.own (outcome p) c.self.invariant.kept k.at
     c.is_exclusive.ensures.apart c.is_exclusive.ensures.there
-    c.vertices.ensures.graph k.run c.outcome.invariant c.put_left-lease.result c.put_left-lease.new.desks.items c.write_back.new.caches.rows
+    c.vertices.ensures.graph k.run (whole p) c.put_left-lease.result c.put_left-lease.new.desks.items c.write_back.new.caches.rows
     c.write_back.new.caches.out c.put_left-lease.ensures.leased
     c.put_left-lease.ensures.left c.write_back.ensures.rows c.write_back.ensures.out in
     record {
       kept = rw (c.record_steps.ensures.list, c.record_steps.ensures.room)
-          (kept_written b.build b.start.rows _ _ (b.events.list ++ steps_by c.args.w c.outcome.inside.count) b.events.room is
+          (kept_written b.build b.start.rows _ _ (b.events.list ++ steps_by c.args.w c.into_left.result.0) b.events.room is
           (keeps b.build b.start.rows (before p) b.events.list b.events.room c.args.w k.l k.own (outcome p) c.self.invariant.kept k.at
           c.is_exclusive.ensures.apart c.is_exclusive.ensures.there
-          c.vertices.ensures.graph k.run c.outcome.invariant));
+          c.vertices.ensures.graph k.run (whole p)));
       over = c.self.invariant.over;
       linked = c.self.invariant.linked;
     }
@@ -84,14 +91,14 @@ returns c =
     let k = desk_so p in
     let is = data_is b.build b.start.rows (before p) b.events.list b.events.room c.args.w k.l k.own (outcome p) c.self.invariant.kept k.at
     c.is_exclusive.ensures.apart c.is_exclusive.ensures.there
-    c.vertices.ensures.graph k.run c.outcome.invariant c.put_left-lease.result c.put_left-lease.new.desks.items c.write_back.new.caches.rows
+    c.vertices.ensures.graph k.run (whole p) c.put_left-lease.result c.put_left-lease.new.desks.items c.write_back.new.caches.rows
     c.write_back.new.caches.out c.put_left-lease.ensures.leased
     c.put_left-lease.ensures.left c.write_back.ensures.rows c.write_back.ensures.out in
     let new : Seen = seen b.build b.start.rows b.stands.items c.put_left-lease.new.desks.items c.write_back.new.caches.rows c.record_steps.new.events.list in
     let done = through b.build b.start.rows (before p) b.events.list b.events.room c.args.w k.l k.own (outcome p) c.self.invariant.kept k.at
     c.is_exclusive.ensures.apart c.is_exclusive.ensures.there
-    c.vertices.ensures.graph k.run c.outcome.invariant in
-    subst (λ (v : OutcomeValue). IsThrough c.args.self.now c.args.w v.count new) c.outcome.view_is
-    (subst (λ (m : Seen). IsThrough m c.args.w c.outcome.inside.count new) c.self.view_is
-    (subst (λ (n : Seen). IsThrough (seen_as b.build b.start.rows (before p) b.events.list) c.args.w c.outcome.inside.count n)
+    c.vertices.ensures.graph k.run (whole p) in
+    subst (λ (v : OutcomeValue). IsThrough c.args.self.now c.args.w v.count new) (outcome_is p)
+    (subst (λ (m : Seen). IsThrough m c.args.w c.into_left.result.0 new) c.self.view_is
+    (subst (λ (n : Seen). IsThrough (seen_as b.build b.start.rows (before p) b.events.list) c.args.w c.into_left.result.0 n)
     (λ i. seen_as b.build b.start.rows (sym is i) (sym c.record_steps.ensures.list i)) done))

@@ -2,9 +2,9 @@ use Rattle.std.proofs.Common.{List, map, sym, ap, subst, ◌∙◌}
 use Rattle.llb_cache.specs.Caches.{Row}
 use Rattle.llb_model.specs.Kept.{store_of}
 use Rattle.llb_model.specs.Leases.{AreLeased}
-use Rattle.llb_board.specs.Board.{Seen}
-use Rattle.llb_board.specs.Views.{at_of, leased_by}
-use Rattle.llb_board.specs.declared.stand.Desk.{Desk}
+use Rattle.llb_state.specs.Board.{Seen}
+use Rattle.llb_state.specs.Views.{at_of, leased_by}
+use Rattle.llb_state.specs.declared.stand.Desk.{Desk}
 use Rattle.llb_board.proofs.board.Board.into_parts.Goals as goal
 
 pub give_all_back-requires : goal.give_all_back-requires

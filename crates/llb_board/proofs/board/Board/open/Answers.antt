@@ -3,7 +3,7 @@ use Rattle.std.specs.Prelude.{Option, Some, None, is_some}
 use Rattle.llb_cache.specs.Caches.{CachesValue}
 use Rattle.llb_model.specs.Program.{Build}
 use Rattle.llb_model.specs.State.{missing_local}
-use Rattle.llb_board.specs.Rules.{open_unless, may_want_memory}
+use Rattle.llb_board.specs.Opening.{open_unless, may_want_memory}
 use Rattle.llb_board.proofs.board.Board.open.Goals as goal
 
 -- for the name of a local tree that is missing, memory may be wanted

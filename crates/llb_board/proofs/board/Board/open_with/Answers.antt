@@ -1,15 +1,15 @@
 use Rattle.std.proofs.Common.{◌≡◌, ◌∙◌, true, ap, sym, subst, map, length, arith}
 use Rattle.std.specs.Prelude.{Bool, Ok, Err, Result, if◌then◌else◌}
 use Rattle.llb_cache.specs.Caches.{CachesValue}
-use Rattle.llb_board.specs.Board.{Seen, opened}
-use Rattle.llb_board.specs.Rules.{may_work}
+use Rattle.llb_state.specs.Board.{Seen, opened}
+use Rattle.llb_board.specs.Opening.{may_work}
 use Rattle.llb_board.specs.declared.fault.OpenFault.{OpenFault}
 use Rattle.llb_board.specs.declared.fault.OpenFault.TheVariants.{Workers}
 use Rattle.llb_links.specs.Links.{IsLinked}
-use Rattle.llb_board.specs.OpenInputs.{done_in}
-use Rattle.llb_board.specs.Views.{status_of}
-use Rattle.llb_board.specs.declared.stand.Stand.TheVariants.{Waiting}
-use Rattle.llb_board.proofs.Behind.{linked_open}
+use Rattle.llb_state.specs.OpenInputs.{done_in}
+use Rattle.llb_state.specs.Views.{status_of}
+use Rattle.llb_state.specs.declared.stand.Stand.TheVariants.{Waiting}
+use Rattle.llb_state.proofs.Behind.{linked_open}
 use Rattle.llb_board.proofs.Opened.{map_replicate, kept_open, seen_open, some_work, few_work}
 use Rattle.llb_board.proofs.board.Board.open_with.Goals as goal
 

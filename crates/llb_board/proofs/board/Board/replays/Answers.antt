@@ -1,8 +1,8 @@
 use Rattle.std.proofs.Common.{subst}
 use Rattle.llb_model.specs.Laws.{IsReached}
-use Rattle.llb_board.specs.Board.{Seen}
-use Rattle.llb_board.specs.Room.{seen}
-use Rattle.llb_board.proofs.Sound.{reached}
+use Rattle.llb_state.specs.Board.{Seen}
+use Rattle.llb_state.specs.Room.{seen}
+use Rattle.llb_state.proofs.Sound.{reached}
 use Rattle.llb_board.proofs.board.Board.replays.Goals as goal
 
 pub returns-clause-reached : goal.returns-clause-reached

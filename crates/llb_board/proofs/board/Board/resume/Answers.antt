@@ -5,16 +5,17 @@ use Rattle.std.proofs.lemmas.Option.{slice_get-get_or}
 use Rattle.llb_model.specs.ByNumber.{by_number}
 use Rattle.llb_model.specs.State.{next_stopped, stopped}
 use Rattle.llb_model.proofs.Stopped.{stopped_length}
-use Rattle.llb_board.specs.Undo.{Resume, Displaced, left_in, caches_in, front, undone, CanUndo}
-use Rattle.llb_board.specs.Room.{IsTracked, seen}
-use Rattle.llb_board.specs.Views.{status_of}
-use Rattle.llb_board.specs.declared.stand.Stand.{Stand}
-use Rattle.llb_board.specs.declared.stand.Stand.TheVariants as stand
-use Rattle.llb_board.specs.declared.stand.Desk.TheVariants as desk
+use Rattle.llb_board.specs.Undo.{Resume, Displaced, undone, CanUndo}
+use Rattle.llb_state.specs.Undoing.{left_in, caches_in, front}
+use Rattle.llb_state.specs.Room.{IsTracked, seen}
+use Rattle.llb_state.specs.Views.{status_of}
+use Rattle.llb_state.specs.declared.stand.Stand.{Stand}
+use Rattle.llb_state.specs.declared.stand.Stand.TheVariants as stand
+use Rattle.llb_state.specs.declared.stand.Desk.TheVariants as desk
 use Rattle.llb_board.proofs.Claiming.{data_of}
 use Rattle.llb_board.proofs.Undone.{on_true, on_false, undone_is}
-use Rattle.llb_board.specs.OpenInputs.{done_in}
-use Rattle.llb_board.proofs.Behind.{low_user, users_counted, counts_fit, linked_resumed}
+use Rattle.llb_state.specs.OpenInputs.{done_in}
+use Rattle.llb_state.proofs.Behind.{low_user, users_counted, counts_fit, linked_resumed}
 use Rattle.llb_board.proofs.Undos.{tracked, over_written, low_vertex, low_graph, places_resumed, resume_leaves}
 use Rattle.llb_board.proofs.board.Board.resume.Goals as goal
 use Rattle.llb_board.proofs.board.Board.resume.Goals.{After-put_caches}

@@ -6,18 +6,18 @@ use Rattle.llb_model.specs.Outcome.{Ending, Done, Failed}
 use Rattle.llb_model.specs.Table.{Settle, settle_reply, settle_grant}
 use Rattle.llb_model.proofs.Lists.{length_set}
 use Rattle.llb_model.proofs.Stopped.{stopped_length}
-use Rattle.llb_board.specs.Views.{status_of, at_of, leased_by, state_of}
-use Rattle.llb_board.specs.Board.{Seen}
-use Rattle.llb_board.specs.Rules.{settle_fault, settle_of, left_at}
-use Rattle.llb_board.specs.Room.{AreOver, seen}
-use Rattle.llb_board.specs.declared.stand.Desk.TheVariants as desk
+use Rattle.llb_state.specs.Views.{status_of, at_of, leased_by, state_of}
+use Rattle.llb_state.specs.Board.{Seen}
+use Rattle.llb_state.specs.Rules.{settle_fault, settle_of, left_at}
+use Rattle.llb_state.specs.Room.{AreOver, seen}
+use Rattle.llb_state.specs.declared.stand.Desk.TheVariants as desk
 use Rattle.llb_links.specs.Links.{IsLinked}
-use Rattle.llb_board.specs.OpenInputs.{done_in}
-use Rattle.llb_board.proofs.Behind.{low_user, users_counted, all_counted, linked_set, linked_settled, spread_stops}
-use Rattle.llb_board.proofs.Lists.{map_set}
-use Rattle.llb_board.proofs.Calls.{CanSettle, settle_done}
+use Rattle.llb_state.specs.OpenInputs.{done_in}
+use Rattle.llb_state.proofs.Behind.{low_user, users_counted, all_counted, linked_set, linked_settled, spread_stops}
+use Rattle.llb_state.proofs.Lists.{map_set}
+use Rattle.llb_state.proofs.Calls.{CanSettle, settle_done}
 use Rattle.llb_board.proofs.Claiming.{data_of}
-use Rattle.llb_board.proofs.Kept.{Data, Keeps, state_as, seen_as, has_room, kept_written, recorded_as, whole_written, reply_failed, reply_done, marks_kept}
+use Rattle.llb_state.proofs.Kept.{Data, Keeps, state_as, seen_as, has_room, kept_written, recorded_as, whole_written, reply_failed, reply_done, marks_kept}
 use Rattle.llb_board.proofs.Settling.{after, ends, grants, running, low, low_graph, is_out, rows_stay, keeps, stay_over}
 use Rattle.llb_board.proofs.board.Board.settle.Goals as goal
 use Rattle.llb_board.proofs.board.Board.settle.Goals.{In_ok-v, After-spread, Else-failed}

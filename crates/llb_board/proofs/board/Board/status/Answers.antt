@@ -4,12 +4,12 @@ use Rattle.std.proofs.lemmas.Option.{slice_get_within}
 use Rattle.llb_model.specs.Outcome.{Done, Failed}
 use Rattle.llb_model.specs.State.{Status, Waiting, Running, Settled, start_from, is_ready, is_waiting, is_blocked}
 use Rattle.llb_model.proofs.Lists.{get_within}
-use Rattle.llb_board.specs.Board.{Seen}
+use Rattle.llb_state.specs.Board.{Seen}
 use Rattle.llb_links.specs.Links.{has_inputs}
-use Rattle.llb_board.specs.Room.{seen}
-use Rattle.llb_board.specs.Views.{status_of, look, look_at}
-use Rattle.llb_board.proofs.Behind.{tells, ready_so}
-use Rattle.llb_board.proofs.Sound.{consistent}
+use Rattle.llb_state.specs.Room.{seen}
+use Rattle.llb_state.specs.Views.{status_of, look, look_at}
+use Rattle.llb_state.proofs.Behind.{tells, ready_so}
+use Rattle.llb_state.proofs.Sound.{consistent}
 use Rattle.llb_board.proofs.board.Board.status.Goals as goal
 use Rattle.llb_board.proofs.board.Board.status.Goals.{After-look}
 

@@ -1,10 +1,10 @@
 use Rattle.std.proofs.Common.{◌≡◌, ◌++◌, ◌∷◌, [], length, sym, subst, take, drop, List, rules}
 use Rattle.llb_model.specs.Table.{Step}
-use Rattle.llb_board.specs.Views.{state_of, step_reply}
-use Rattle.llb_board.specs.Room.{IsKept, seen}
-use Rattle.llb_board.specs.declared.stand.Desk.{Desk}
-use Rattle.llb_board.proofs.Calls.{step_done}
-use Rattle.llb_board.proofs.Kept.{Data, has_room, kept_after, step_does, supplies_stepped, same_length, whole_written}
+use Rattle.llb_state.specs.Views.{state_of, step_reply}
+use Rattle.llb_state.specs.Room.{IsKept, seen}
+use Rattle.llb_state.specs.declared.stand.Desk.{Desk}
+use Rattle.llb_state.proofs.Calls.{step_done}
+use Rattle.llb_state.proofs.Kept.{Data, has_room, kept_after, step_does, supplies_stepped, same_length, whole_written}
 use Rattle.llb_board.proofs.board.Board.step.Goals as goal
 
 pub push_reserved-requires : goal.push_reserved-requires

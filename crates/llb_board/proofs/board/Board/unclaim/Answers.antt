@@ -2,10 +2,11 @@ use Rattle.std.proofs.Common.{◌≡◌, ◌∙◌, length, refl, sym, ap, subst
 use Rattle.std.specs.Prelude.{slice_set}
 use Rattle.std.proofs.Math.Nat.{min-le_left, min-le_right}
 use Rattle.llb_model.specs.State.{Running}
-use Rattle.llb_board.specs.Undo.{Unclaim, Displaced, caches_in, undone, CanUndo}
-use Rattle.llb_board.specs.Room.{seen}
-use Rattle.llb_board.specs.declared.stand.Stand.TheVariants as stand
-use Rattle.llb_board.proofs.Behind.{linked_set}
+use Rattle.llb_board.specs.Undo.{Unclaim, Displaced, undone, CanUndo}
+use Rattle.llb_state.specs.Undoing.{caches_in}
+use Rattle.llb_state.specs.Room.{seen}
+use Rattle.llb_state.specs.declared.stand.Stand.TheVariants as stand
+use Rattle.llb_state.proofs.Behind.{linked_set}
 use Rattle.llb_board.proofs.Claiming.{data_of}
 use Rattle.llb_board.proofs.Undone.{undone_is}
 use Rattle.llb_board.proofs.Undos.{tracked, over_written, low_w, low_v, lease_is_out, places_unclaimed, unclaim_leaves}

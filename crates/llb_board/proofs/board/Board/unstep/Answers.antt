@@ -1,6 +1,7 @@
 use Rattle.std.proofs.Common.{◌∙◌, sym, ap, subst}
-use Rattle.llb_board.specs.Undo.{Unstep, Displaced, caches_in, undone, CanUndo}
-use Rattle.llb_board.specs.Room.{seen}
+use Rattle.llb_board.specs.Undo.{Unstep, Displaced, undone, CanUndo}
+use Rattle.llb_state.specs.Undoing.{caches_in}
+use Rattle.llb_state.specs.Room.{seen}
 use Rattle.llb_board.proofs.Claiming.{data_of}
 use Rattle.llb_board.proofs.Undone.{undone_is}
 use Rattle.llb_board.proofs.Undos.{tracked, places_unstepped, unstep_leaves_so}

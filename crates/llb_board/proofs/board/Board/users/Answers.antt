@@ -1,9 +1,9 @@
 use Rattle.std.proofs.Common.{◌∙◌, map, ap}
-use Rattle.llb_board.specs.Board.{Seen}
+use Rattle.llb_state.specs.Board.{Seen}
 use Rattle.llb_links.specs.Links.{users_of}
-use Rattle.llb_board.specs.OpenInputs.{done_in}
-use Rattle.llb_board.specs.Views.{status_of}
-use Rattle.llb_board.proofs.Behind.{users_told}
+use Rattle.llb_state.specs.OpenInputs.{done_in}
+use Rattle.llb_state.specs.Views.{status_of}
+use Rattle.llb_state.proofs.Behind.{users_told}
 use Rattle.llb_board.proofs.board.Board.users.Goals as goal
 
 pub returns : goal.returns

@@ -1,5 +1,5 @@
 use Rattle.std.proofs.Common.{◌-◌, length, sym, ap, subst}
-use Rattle.llb_board.specs.Views.{event_of}
+use Rattle.llb_state.specs.Views.{event_of}
 use Rattle.llb_stepper.specs.Rules.{MeetsOn}
 use Rattle.llb_stepper.specs.Stepping.{Stepping}
 use Rattle.llb_stepper.proofs.Stops.{none_chosen, one_chosen, stops_chosen, done_since, chosen_as}

@@ -1,5 +1,5 @@
 use Rattle.std.proofs.Common.{◌-◌, map, get_or, subst}
-use Rattle.llb_board.specs.Views.{event_of}
+use Rattle.llb_state.specs.Views.{event_of}
 use Rattle.llb_events.specs.declared.event.Event.TheVariants as event
 use Rattle.llb_stepper.specs.Rules.{MeetsOn}
 use Rattle.llb_stepper.proofs.Stops.{begun, one_more, stops, done_since, refused_at, event_at}

@@ -1,0 +1,45 @@
+-- What opening a board answers: the board, or the first cause of a refusal with all that was handed in.
+use Rattle.std.specs.Prelude.{ℕ, nat_le, Bool, true, false, ◌&&◌, List, Option, Some, None, Result, Ok, Err, if◌then◌else◌}
+use Rattle.llb_wire.specs.Answer as answer
+use Rattle.llb_cache.specs.Caches.{CachesValue}
+use Rattle.llb_model.specs.Program.{Build}
+use Rattle.llb_model.specs.State.{missing_local}
+use Rattle.llb_state.specs.Board.{Seen, opened}
+use Rattle.llb_board.specs.declared.fault.OpenFault.{OpenFault}
+use Rattle.llb_board.specs.declared.fault.OpenFault.TheVariants as opening
+
+-- there may be 1 to 64 workers
+abbrev pub may_work : ℕ → Bool
+may_work workers = nat_le 1 workers && nat_le workers 64
+
+abbrev pub open_with : Build → CachesValue → ℕ → Result Seen OpenFault
+open_with b c workers = if may_work workers then Ok (opened b workers c.rows) else Err (opening.Workers b.graph b.locals c)
+
+-- first of all a local tree that is missing
+abbrev pub open_unless : Option (List ℕ) → Build → CachesValue → ℕ → Result Seen OpenFault
+open_unless (Some name) b c workers = Err (opening.MissingLocal name b.graph b.locals c)
+open_unless None b c workers = open_with b c workers
+
+abbrev pub open_of : Build → CachesValue → ℕ → Result Seen OpenFault
+open_of b c workers = open_unless (missing_local b.locals b.graph.vertices) b c workers
+
+-- where memory may be wanted: where nothing else stands in the way, or for the name of a local tree that is missing
+abbrev pub may_want_memory : Result Seen OpenFault → Bool
+may_want_memory (Ok b) = true
+may_want_memory (Err (opening.MissingLocal name g ts c)) = true
+may_want_memory (Err (opening.Workers g ts c)) = false
+may_want_memory (Err (opening.Memory g ts c)) = false
+
+-- the graph, the local trees and the caches that come back
+abbrev pub returned : OpenFault → Build × CachesValue
+returned (opening.Memory g ts c) = (record { graph = g; locals = ts }, c)
+returned (opening.Workers g ts c) = (record { graph = g; locals = ts }, c)
+returned (opening.MissingLocal name g ts c) = (record { graph = g; locals = ts }, c)
+
+abbrev pub open_memory : OpenFault → Bool
+open_memory (opening.Memory g ts c) = true
+open_memory (opening.Workers g ts c) = false
+open_memory (opening.MissingLocal name g ts c) = false
+
+abbrev pub GivesOpen : {X Y : Type 0} → (X → Y) → Result X OpenFault → Result Y OpenFault → Type 0
+GivesOpen = answer.Gives open_memory

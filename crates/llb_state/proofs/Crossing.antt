@@ -1,0 +1,90 @@
+-- The parts of a state may go to another thread. A search over all their fields at once is past its limit, so that each type has its own fact.
+use denote.Hole.{as_row}
+use denote.Param.Send.{IsSend, sendable, view_send}
+use denote.Param.SendFields.{as_row_send, variants_send, declared_send}
+use Rattle.std.proofs.Crossing.{crosses, Vec-send}
+use Rattle.std.specs.contracts.alloc.Global as heap
+use Rattle.std.specs.contracts.impls.GlobalAllocator.TheImpl.{ghosts}
+use Rattle.std.specs.contracts.vec.Vec as vec
+use Rattle.llb_wire.proofs.many.Many.TheSendSync as many_crosses
+use Rattle.llb_tree.specs.contracts.tree.Tree as tree
+use Rattle.llb_execution.proofs.Crossing.{tree_send, trees_send, view_crosses}
+use Rattle.llb_execution.specs.contracts.view.View as view
+use Rattle.llb_applet.proofs.setting.Setting.TheSendSync as setting_crosses
+use Rattle.llb_applet.specs.contracts.setting.Setting as setting
+use Rattle.llb_cache.proofs.caches.Lease.TheSendSync as lease_crosses
+use Rattle.llb_cache.proofs.need.Place.TheSendSync as place_crosses
+use Rattle.llb_cache.specs.contracts.need.Place as place
+use Rattle.llb_loader.proofs.graph.Graph.TheSendSync as graph_crosses
+use Rattle.llb_loader.specs.contracts.graph.Graph as graph
+use Rattle.llb_loader.specs.contracts.locals.Locals as locals
+use Rattle.llb_model.proofs.fault.VertexFault.TheSendSync as fault_crosses
+use Rattle.llb_state.specs.contracts.build.Build as build
+use Rattle.llb_state.specs.contracts.build.Build.TheInside as build_inside
+use Rattle.llb_state.specs.contracts.stand.Desk as desk
+use Rattle.llb_state.specs.contracts.stand.Execution as execution
+use Rattle.llb_state.specs.contracts.stand.Stand as stand
+use Rattle.llb_state.specs.contracts.events.Events as events
+
+setting_send : IsSend setting.the_row
+setting_send = setting_crosses.the_send
+
+places_send : IsSend (as_row (vec.the_field place.the_row heap.the_row ghosts))
+places_send = as_row_send (vec.the_field place.the_row heap.the_row ghosts) (Vec-send place.the_row place_crosses.the_send)
+
+execution_send : IsSend execution.the_row
+execution_send = declared_send execution.the_type (
+  search sendable,
+  (
+    search sendable,
+    (
+      search (crosses, sendable) depth 20,
+      (
+        as_row_send view.the_field view_crosses,
+        (
+          places_send,
+          (
+            as_row_send (vec.the_field tree.the_row heap.the_row ghosts) trees_send,
+            (setting_send, tt),
+          ),
+        ),
+      ),
+    ),
+  ),
+)
+
+desk_send : IsSend desk.the_row
+desk_send = variants_send desk.enum (tt, ((search (lease_crosses.the_send, crosses, sendable) depth 20, (execution_send, tt)), tt))
+
+graph_send : IsSend graph.the_row
+graph_send = graph_crosses.the_send
+
+locals_send : IsSend locals.the_row
+locals_send = search (tree_send, crosses, sendable) depth 60 fits 20000
+
+build_inside_send : IsSend build_inside.the_row
+build_inside_send = declared_send build_inside.the_type (as_row_send graph.the_field graph_send, (as_row_send locals.the_field locals_send, tt))
+
+pub build_send : IsSend build.the_row
+build_send = view_send build_inside.the_row _ _ _ _ build_inside_send
+
+stand_send : IsSend stand.the_row
+stand_send = variants_send stand.enum (
+  tt,
+  (
+    (search sendable, tt),
+    (
+      (search (many_crosses.the_send, tree_send, crosses, sendable) depth 20, tt),
+      ((search (fault_crosses.the_send, crosses, sendable) depth 20, tt), tt),
+    ),
+  ),
+)
+
+pub stands_send : IsSend (as_row (vec.the_field stand.the_row heap.the_row ghosts))
+stands_send = as_row_send (vec.the_field stand.the_row heap.the_row ghosts) (Vec-send stand.the_row stand_send)
+
+pub desks_send : IsSend (as_row (vec.the_field desk.the_row heap.the_row ghosts))
+desks_send = as_row_send (vec.the_field desk.the_row heap.the_row ghosts) (Vec-send desk.the_row desk_send)
+
+pub events_send : IsSend events.the_row
+events_send = search (crosses, sendable) depth 60 fits 20000

@@ -1,0 +1,27 @@
+-- What a claim begins, as the code has it.
+use Rattle.std.specs.Prelude.{List, replicate}
+use Rattle.llb_applet.specs.declared.setting.Setting.{Setting}
+use Rattle.llb_loader.specs.declared.graph.Vertex.{Vertex}
+use Rattle.llb_tree.specs.Tree.{TreeMap, empty_tree}
+use Rattle.llb_model.specs.Program as model
+use Rattle.llb_execution.specs.Parts.{kind_setting}
+use Rattle.llb_state.specs.Views.{execution_of, claim_reply}
+use Rattle.llb_state.specs.Rules as rules
+use Rattle.llb_state.specs.declared.step.Begun.{Begun}
+use Rattle.llb_state.specs.declared.step.Outfit.{Outfit}
+
+-- the worker's execution, the reply, and what is to be leased
+abbrev pub begun_as : Begun → rules.Begun
+begun_as b = record { execution = execution_of b.execution; reply = claim_reply b.job; needs = b.needs.items }
+
+-- what an execution has beside its view
+pub record Outfitted : Type 0 where
+  pub program : model.Program
+  pub outputs : List TreeMap
+  pub setting : Setting
+
+abbrev pub outfit_as : Outfit → Outfitted
+outfit_as o = record { program = o.program; outputs = o.outputs.items; setting = o.setting }
+
+abbrev pub outfit_of : Vertex → Outfitted
+outfit_of v = record { program = model.program_of v; outputs = replicate v.outputs empty_tree; setting = kind_setting v.op.kind }

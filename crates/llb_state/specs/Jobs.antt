@@ -1,0 +1,80 @@
+-- Jobs and their outcomes: what a worker takes away from a board, and what it brings back.
+use Rattle.std.specs.Prelude.{◌≡◌, ℕ, ◌+◌, ◌<◌, ◌^◌, Bool, true, false, map, length, Option, Some, None}
+use Rattle.std.specs.List.{All, list_any}
+use Rattle.llb_cache.specs.declared.key.Mode.{Mode}
+use Rattle.llb_cache.specs.declared.key.Mode.TheVariants.{Shared, Private, Locked}
+use Rattle.llb_model.specs.Caches.{Place, Store, Distinct, trees_at}
+use Rattle.llb_model.specs.declared.fault.VertexFault.{VertexFault}
+use Rattle.llb_model.specs.Program.{Build, Program, View, Work, Left}
+use Rattle.llb_model.specs.State.{Execution, program_in}
+use Rattle.llb_model.specs.Table.{Job}
+use Rattle.llb_model.specs.Landing.{AreLeft, further}
+use Rattle.llb_execution.specs.Parts.{mounts_in, shown_in, work_with}
+use Rattle.llb_state.specs.declared.stand.Desk.{Desk}
+use Rattle.llb_state.specs.declared.stand.Desk.TheVariants as desk
+
+-- the micro-steps of a program can be done on a work: its caches are shown by mounts that differ, each has a tree, and the micro-steps
+-- can be counted
+pub record IsWorkable (p : Program) (work : Work) : Type 0 where
+  pub apart : Distinct (shown_in work.own)
+  pub within : All (λ n. n < mounts_in work.own) (shown_in work.own)
+  pub count : length work.trees ≡ length (shown_in work.own)
+  pub few : length p.steps < 2 ^ 32
+
+-- a job, how many micro-steps were left to it, and what they left
+pub record OutcomeValue : Type 0 where
+  pub job : Job
+  pub count : ℕ
+  pub left : Left
+
+-- no micro-step of a job has faulted
+abbrev pub begun_on : Job → Left
+begun_on j = record { work = j.work; fault = None }
+
+-- that many micro-steps and no more are left to a job, and they leave this; it shows what the job shows
+pub record IsOutcome (j : Job) (count : ℕ) (left : Left) : Type 0 where
+  pub few : j.done + count < 2 ^ 32
+  pub all : AreLeft j.program.steps j.done (begun_on j) count
+  pub leaves : left ≡ further j.program.steps j.done (begun_on j) count
+  pub mounts : mounts_in left.work.own ≡ mounts_in j.work.own
+  pub shown : shown_in left.work.own ≡ shown_in j.work.own
+
+-- ---- what a worker has left to do
+
+abbrev pub is_shared : Mode → Bool
+is_shared Shared = true
+is_shared Private = false
+is_shared Locked = false
+
+-- an execution has an instance that others may have too
+abbrev pub has_shared : Execution → Bool
+has_shared x = list_any (λ (p : Place). is_shared p.key.mode) x.places
+
+-- what is left to a worker to do: the job that a claim of it would hand out now
+abbrev pub job_now : Build → Store → ℕ → Execution → Job
+job_now b store w x = record {
+  worker = w;
+  vertex = x.vertex;
+  program = program_in b x;
+  done = x.done;
+  work = work_with x.own (trees_at store x.places);
+  instances = map (λ (p : Place). p.number) x.places;
+}
+
+-- a job is a worker's, of the vertex that it runs, and no micro-step was done since
+pub record IsBegun (w : ℕ) (x : Execution) (job : Job) : Type 0 where
+  pub worker : job.worker ≡ w
+  pub vertex : job.vertex ≡ x.vertex
+  pub done : job.done ≡ x.done
+  pub clean : x.fault ≡ None
+
+-- a job is what the worker runs, by value, and no micro-step has faulted
+pub record IsRunOf (b : Build) (store : Store) (w : ℕ) (x : Execution) (job : Job) : Type 0 where
+  pub clean : x.fault ≡ None
+  pub same : job ≡ job_now b store w x
+
+-- the desk of a worker that has done that many micro-steps more, which left this
+abbrev pub desk_left : ℕ → Option VertexFault → View → Option Desk → Desk
+desk_left n fault view (Some (desk.Runs l x)) = desk.Runs l (record x { done = x.done + n; fault = fault; view = view })
+desk_left n fault view (Some desk.Idle) = desk.Idle
+desk_left n fault view None = desk.Idle

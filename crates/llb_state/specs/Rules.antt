@@ -1,0 +1,139 @@
+-- What each call answers: what the table gives, or the first cause of its refusal as a fault.
+use Rattle.std.specs.Prelude.{ℕ, Bool, true, false, List, Option, Some, None, Result, Ok, Err, if◌then◌else◌}
+use Rattle.llb_wire.specs.Answer as answer
+use Rattle.llb_loader.specs.declared.graph.Vertex.{Vertex}
+use Rattle.llb_tree.specs.Tree.{TreeMap}
+use Rattle.llb_cache.specs.declared.need.Need as cache_need
+use Rattle.llb_cache.specs.Caches.{CachesValue, Row}
+use Rattle.llb_model.specs.Caches.{Place, trees_at}
+use Rattle.llb_model.specs.Kept.{store_of}
+use Rattle.llb_model.specs.Leases.{asked, put_each}
+use Rattle.llb_model.specs.Program.{Build, MicroStep, Left, needs_of, start_with, step_on}
+use Rattle.llb_model.specs.State.{Status, Settled, At, Idle, Runs, Execution, program_in, is_finished, next_step, ending_from, begin_at}
+use Rattle.llb_model.specs.ClaimCause as no_claim
+use Rattle.llb_model.specs.ClaimCause.{ClaimCause}
+use Rattle.llb_model.specs.StepCause as no_step
+use Rattle.llb_model.specs.StepCause.{StepCause}
+use Rattle.llb_model.specs.SettleCause as no_settle
+use Rattle.llb_model.specs.SettleCause.{SettleCause}
+use Rattle.llb_model.specs.Table.{Claim, Step, Settle, Reply, Claimed, claim_grant, step_grant, settle_grant, execution_on, job_on, with_step, step_reply}
+use Rattle.llb_state.specs.Board.{Seen, recorded}
+use Rattle.llb_execution.specs.Parts.{work_with}
+use Rattle.llb_needs.specs.Needs.{places_taken}
+use Rattle.llb_events.specs.declared.fault.ClaimFault.{ClaimFault}
+use Rattle.llb_events.specs.declared.fault.ClaimFault.TheVariants as claim
+use Rattle.llb_events.specs.declared.fault.StepFault.{StepFault}
+use Rattle.llb_events.specs.declared.fault.StepFault.TheVariants as step
+use Rattle.llb_events.specs.declared.fault.SettleFault.{SettleFault}
+use Rattle.llb_events.specs.declared.fault.SettleFault.TheVariants as settle
+
+-- ---- what an event answers: what the table gives, with its cause as a fault
+
+-- a cause as a fault
+abbrev pub faulted : {A C F : Type 0} → (C → F) → Result A C → Result A F
+faulted fault (Ok x) = Ok x
+faulted fault (Err cause) = Err (fault cause)
+
+-- ---- what a claim answers, and what it begins
+
+abbrev pub claim_fault : ClaimCause → ClaimFault
+claim_fault no_claim.NoWorker = claim.NoWorker
+claim_fault no_claim.Busy = claim.Busy
+claim_fault no_claim.NoVertex = claim.NoVertex
+claim_fault no_claim.NotReady = claim.NotReady
+claim_fault (no_claim.Held key) = claim.Held key
+
+abbrev pub claim_of : Seen → ℕ → ℕ → Result (Seen × Reply) ClaimFault
+claim_of b w v = recorded b (Claim w v) claim_fault (claim_grant b.build b.state w v)
+
+-- inputs that are not all there are no trees to begin with
+abbrev pub or_not_ready : {A : Type 0} → Option A → Result A ClaimFault
+or_not_ready (Some x) = Ok x
+or_not_ready None = Err claim.NotReady
+
+-- what a claim begins: the worker's execution, the reply, and what is to be leased
+pub record Begun : Type 0 where
+  pub execution : Execution
+  pub reply : Reply
+  pub needs : List cache_need.Need
+
+-- on the trees of the inputs, and these instances
+abbrev pub begun_at : Build → CachesValue → ℕ → ℕ → Vertex → List TreeMap → List Place → Begun
+begun_at b c w v vertex trees ps = record {
+  execution = execution_on v (begin_at b (store_of c.rows) (start_with vertex trees) ps) ps;
+  reply = Claimed (job_on w v vertex (begin_at b (store_of c.rows) (start_with vertex trees) ps) ps);
+  needs = asked trees (needs_of vertex);
+}
+
+abbrev pub begun : Build → CachesValue → ℕ → ℕ → Vertex → Option (List TreeMap) → Result Begun ClaimFault
+begun b c w v vertex (Some trees) = Ok (begun_at b c w v vertex trees (places_taken c.out (needs_of vertex)))
+begun b c w v vertex None = Err claim.NotReady
+
+-- ---- what a step answers, and what its micro-step leaves
+
+abbrev pub step_fault : StepCause → StepFault
+step_fault no_step.NoWorker = step.NoWorker
+step_fault no_step.NotRunning = step.NotRunning
+step_fault no_step.NothingLeft = step.NothingLeft
+
+abbrev pub step_of : Seen → ℕ → Result (Seen × Reply) StepFault
+step_of b w = recorded b (Step w) step_fault (step_grant b.build b.state w)
+
+abbrev pub step_memory : StepFault → Bool
+step_memory step.Memory = true
+step_memory step.NoWorker = false
+step_memory step.NotRunning = false
+step_memory step.NothingLeft = false
+
+abbrev pub GivesStep : {X Y : Type 0} → (X → Y) → Result X StepFault → Result Y StepFault → Type 0
+GivesStep = answer.Gives step_memory
+
+-- what a micro-step leaves: the execution, the trees of its instances, and the reply
+pub record Worked : Type 0 where
+  pub execution : Execution
+  pub trees : List TreeMap
+  pub reply : Reply
+
+abbrev pub worked_to : Execution → MicroStep → Left → Worked
+worked_to x m left = record { execution = with_step x left; trees = left.work.trees; reply = step_reply x.done m left.fault }
+
+abbrev pub worked_by : Execution → List TreeMap → Option MicroStep → Result Worked StepFault
+worked_by x trees None = Err step.NothingLeft
+worked_by x trees (Some m) = Ok (worked_to x m (step_on x.done (Some m) (work_with x.own trees)))
+
+-- the next micro-step of an execution, whose instances have these trees
+abbrev pub worked : List MicroStep → Execution → List TreeMap → Result Worked StepFault
+worked steps x trees = worked_by x trees (next_step steps x)
+
+-- a micro-step over the lists of instances: what it leaves of them, and the rest
+abbrev pub Written : Type 0
+Written = Execution × List Row × Reply
+
+abbrev pub written_by : List Row → List Place → Result Worked StepFault → Result Written StepFault
+written_by rows ps (Ok w) = Ok (w.execution, put_each rows ps w.trees, w.reply)
+written_by rows ps (Err e) = Err e
+
+abbrev pub worked_in : Build → List Row → Execution → Result Written StepFault
+worked_in b rows x = written_by rows x.places (worked (program_in b x).steps x (trees_at (store_of rows) x.places))
+
+-- ---- what a settle answers, and what it leaves
+
+abbrev pub settle_fault : SettleCause → SettleFault
+settle_fault no_settle.NoWorker = settle.NoWorker
+settle_fault no_settle.NotRunning = settle.NotRunning
+settle_fault no_settle.NotFinished = settle.NotFinished
+
+abbrev pub settle_of : Seen → ℕ → Result (Seen × Reply) SettleFault
+settle_of b w = recorded b (Settle w) settle_fault (settle_grant b.build b.state w)
+
+abbrev pub settle_memory : SettleFault → Bool
+settle_memory e = false
+
+abbrev pub GivesSettle : {X Y : Type 0} → (X → Y) → Result X SettleFault → Result Y SettleFault → Type 0
+GivesSettle = answer.Gives settle_memory
+
+-- the vertex that a worker leaves, and how it stands then
+abbrev pub left_at : Build → Option At → Result (ℕ × Status) SettleFault
+left_at b None = Err settle.NoWorker
+left_at b (Some Idle) = Err settle.NotRunning
+left_at b (Some (Runs x)) = if is_finished (program_in b x).steps x then Ok (x.vertex, Settled (ending_from (program_in b x) x)) else Err settle.NotFinished

@@ -1,0 +1,121 @@
+//! Second owners of a state's parts: trees and views are shared as far as they can be.
+
+ghost use Rattle.std.specs.Prelude.{◌≡◌, map, IfOk};
+ghost use Rattle.llb_state.specs.Room.{ready_made};
+ghost use Rattle.llb_state.specs.Undoing.{left_in};
+ghost use Rattle.llb_state.specs.Views.{at_of, leased_by};
+
+use crate::stand::{Desk, Execution, Stand};
+use llb_cache::{Lease, Place};
+use llb_events::Memory;
+use llb_tree::Tree;
+use llb_wire::Many;
+use std::alloc::Global;
+
+/// The same at each vertex, in memory of its own.
+pub fn copied_stands(alloc: Global, stands: &[Stand]) -> Result<Vec<Stand>, Memory>
+    ensures { IfOk result (λ s. s.items ≡ stands.now) }
+{
+    let mut copies = Vec::new(alloc);
+    for stand in stands {
+        copies.push(copied_stand(alloc, stand)?)?;
+    }
+    Ok(copies)
+}
+
+fn copied_stand(alloc: Global, stand: &Stand) -> Result<Stand, Memory>
+    ensures { IfOk result (λ s. s ≡ stand.now) }
+{
+    match stand {
+        Stand::Waiting => Ok(Stand::Waiting),
+        Stand::Running(w) => Ok(Stand::Running(*w)),
+        Stand::Done(trees) => {
+            let trees = copied_trees(alloc, trees.as_slice())?;
+            Ok(Stand::Done(Many::new(trees)))
+        }
+        Stand::Failed(fault) => Ok(Stand::Failed(*fault)),
+    }
+}
+
+/// Second owners of trees.
+pub fn copied_trees(alloc: Global, trees: &[Tree]) -> Result<Vec<Tree>, Memory>
+    ensures { IfOk result (λ t. t.items ≡ trees.now) }
+{
+    let mut copies = Vec::new(alloc);
+    for tree in trees {
+        copies.push(tree.copy()?)?;
+    }
+    Ok(copies)
+}
+
+/// Workers that do the same, with the same leases.
+pub fn copied_desks(alloc: Global, desks: &[Desk]) -> Result<Vec<Desk>, Memory>
+    ensures workers { IfOk result (λ d. map at_of d.items ≡ map at_of desks.now) }
+    ensures leases { IfOk result (λ d. map leased_by d.items ≡ map leased_by desks.now) }
+    ensures made { IfOk result (λ d. map ready_made d.items ≡ map ready_made desks.now) }
+{
+    let mut copies = Vec::new(alloc);
+    for desk in desks {
+        copies.push(copied_desk(alloc, desk)?)?;
+    }
+    Ok(copies)
+}
+
+fn copied_desk(alloc: Global, desk: &Desk) -> Result<Desk, Memory>
+    ensures worker { IfOk result (λ d. at_of d ≡ at_of desk.now) }
+    ensures lease { IfOk result (λ d. leased_by d ≡ leased_by desk.now) }
+    ensures made { IfOk result (λ d. ready_made d ≡ ready_made desk.now) }
+{
+    match desk {
+        Desk::Idle => Ok(Desk::Idle),
+        Desk::Runs(lease, execution) => Ok(Desk::Runs(*lease, copied(alloc, execution)?)),
+    }
+}
+
+/// What a running worker has.
+pub fn copied(alloc: Global, execution: &Execution) -> Result<Execution, Memory>
+    ensures { IfOk result (λ x. left_in x ≡ left_in execution.now) }
+{
+    Ok(Execution {
+        vertex: execution.vertex,
+        done: execution.done,
+        fault: execution.fault,
+        view: execution.view.copy()?,
+        places: copied_places(alloc, &execution.places)?,
+        outputs: copied_trees(alloc, &execution.outputs)?,
+        setting: execution.setting.copy()?,
+    })
+}
+
+fn copied_places(alloc: Global, places: &[Place]) -> Result<Vec<Place>, Memory>
+    ensures { IfOk result (λ p. p.items ≡ places.now) }
+{
+    let mut copies = Vec::new(alloc);
+    for place in places {
+        let key = place.key.copy()?;
+        let number = place.number;
+        copies.push(Place { key, number })?;
+    }
+    Ok(copies)
+}
+
+/// The leases of all workers.
+pub fn copied_leases(alloc: Global, desks: &[Desk]) -> Result<Vec<Option<Lease>>, Memory>
+    ensures { IfOk result (λ l. l.items ≡ map leased_by desks.now) }
+{
+    let mut leases = Vec::new(alloc);
+    for desk in desks {
+        leases.push(lease_of(desk))?;
+    }
+    Ok(leases)
+}
+
+/// The lease of a worker that has one.
+pub fn lease_of(desk: &Desk) -> Option<Lease>
+    ensures { result ≡ leased_by desk.now }
+{
+    match desk {
+        Desk::Idle => None,
+        Desk::Runs(lease, _) => *lease,
+    }
+}

@@ -1,0 +1,39 @@
+//! How an execution ends: its fault, or its outputs in the places of the empty trees that it has for them.
+
+ghost use Rattle.std.specs.Prelude.{◌≡◌, map, option_map, replicate};
+ghost use Rattle.llb_tree.specs.Tree.{empty_tree};
+ghost use Rattle.llb_model.specs.Program.{program_at, outputs_of};
+ghost use Rattle.llb_model.specs.Outcome.{ended};
+ghost use Rattle.llb_model.specs.State.{Settled};
+ghost use Rattle.llb_state.specs.Views.{status_of};
+
+use crate::stand::{Execution, Stand};
+use llb_execution::View;
+use llb_loader::Vertex;
+use llb_tree::Tree;
+use llb_wire::Many;
+
+/// How an execution ends.
+pub fn end(execution: Execution, vertex: Option<&Vertex>) -> Stand
+    requires { execution.outputs.items ≡ replicate (program_at (option_map (λ v. v.now) vertex)).outputs empty_tree }
+    ensures { status_of result ≡ Settled (ended (program_at (option_map (λ v. v.now) vertex.entry)) execution.view execution.fault) }
+{
+    match execution.fault {
+        Some(fault) => Stand::Failed(fault),
+        None => {
+            let outputs = outputs(execution.view, execution.outputs, vertex);
+            Stand::Done(Many::new(outputs))
+        }
+    }
+}
+
+// The outputs of what all micro-steps left. Where there is no vertex there are none.
+fn outputs(view: View, outputs: Vec<Tree>, vertex: Option<&Vertex>) -> Vec<Tree>
+    requires { outputs.items ≡ replicate (program_at (option_map (λ v. v.now) vertex)).outputs empty_tree }
+    ensures { result.items ≡ outputs_of (program_at (option_map (λ v. v.now) vertex.entry)) view }
+{
+    match vertex {
+        Some(vertex) => view.into_outputs(outputs, vertex),
+        None => outputs,
+    }
+}

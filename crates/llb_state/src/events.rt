@@ -1,0 +1,100 @@
+//! The record of events: a list that grows by one event at a time, in room that was taken before.
+
+ghost use Rattle.std.specs.Prelude.{◌≡◌, ◌==◌, ◌≤◌, ◌<◌, ◌∷◌, ◌++◌, [], length, map, IfOk};
+ghost use Rattle.llb_state.specs.Undoing.{front};
+ghost use Rattle.llb_state.specs.Views.{event_of};
+
+use llb_events::{Event, Memory};
+use std::alloc::{AllocError, Global};
+use std::marker::Model;
+
+/// Events in their order. Contracts see the list of them, and how many there is room for.
+pub struct Events {
+    items: Vec<Event>,
+}
+
+// Written out, so that the crates above drop one by this one function.
+impl Drop for Events {
+    fn drop(self) {
+        let Events { items: _ } = self;
+    }
+}
+
+impl Model for Events {
+    ghost use Rattle.std.specs.Prelude.{map, vec_capacity};
+    ghost use Rattle.llb_state.specs.Events.{Recorded};
+    ghost use Rattle.llb_state.specs.Views.{event_of};
+
+    ghost Value = { Recorded };
+
+    ghost view = { λ e. record { list = map event_of e.items.items; room = vec_capacity e.items } };
+}
+
+impl Events {
+    /// None yet, with room for that many.
+    pub fn with_room(alloc: Global, room: usize) -> Result<Events, AllocError>
+        ensures none { IfOk result (λ e. e.list ≡ []) }
+        ensures room { IfOk result (λ e. room ≤ e.room) }
+    {
+        Ok(Events {
+            items: Vec::with_capacity(alloc, room)?,
+        })
+    }
+
+    /// One event more, for which there is room.
+    pub fn push_reserved(&mut self, event: Event)
+        requires { length self.old.list < self.old.room }
+        ensures list { self.new.list ≡ self.old.list ++ event_of event ∷ [] }
+        ensures room { self.new.room ≡ self.old.room }
+    {
+        self.items.push_reserved(event);
+    }
+
+    /// All but the last.
+    pub fn take_back(&mut self)
+        ensures list { self.new.list ≡ front self.old.list }
+        ensures room { self.new.room ≡ self.old.room }
+    {
+        let _last = self.items.pop();
+    }
+
+    /// The same events, with room for that many.
+    pub fn with_same(&self, alloc: Global, room: usize) -> Result<Events, Memory>
+        ensures list { IfOk result (λ e. e.list ≡ self.now.list) }
+        ensures room { IfOk result (λ e. room ≤ e.room) }
+    {
+        let mut items = Vec::with_capacity(alloc, room)?;
+        items.extend_from_slice(&self.items)?;
+        Ok(Events { items })
+    }
+
+    /// The events in their order.
+    pub fn as_slice(&self) -> &[Event]
+        ensures { map event_of result.now ≡ self.now.list }
+    {
+        self.items.as_slice()
+    }
+
+    /// How many there are.
+    pub fn len(&self) -> usize
+        ensures { result ≡ length self.now.list }
+    {
+        self.items.len()
+    }
+
+    /// Whether there are none.
+    pub fn is_empty(&self) -> bool
+        ensures { result ≡ (length self.now.list == 0) }
+    {
+        self.items.is_empty()
+    }
+
+    /// The same events in memory of their own; 141 where memory is refused.
+    pub fn copy(&self) -> Result<Events, Memory>
+        ensures { IfOk result (λ e. e.list ≡ self.now.list) }
+    {
+        Ok(Events {
+            items: self.items.clone()?,
+        })
+    }
+}

@@ -1,0 +1,103 @@
+//! The instances of caches that a worker has: their lease, their trees for a micro-step and after it, and the lease given back. A
+//! worker whose vertex shows no cache has no lease.
+
+ghost use Rattle.std.specs.Prelude.{◌≡◌, ◌≢◌, ◌<◌, ◌^◌, map, length, AllPairs, IfOk, IfErr, OnErr, true};
+ghost use Rattle.llb_cache.specs.Caches.{places_of, leases};
+ghost use Rattle.llb_cache.specs.Faults.{Gives};
+ghost use Rattle.llb_model.specs.Caches.{trees_at};
+ghost use Rattle.llb_model.specs.Kept.{store_of};
+ghost use Rattle.llb_model.specs.Leases.{AreLeased, put_each};
+ghost use Rattle.llb_state.specs.Caches.{tree_of, leased_places, IsOutIf, given_back, lease_if};
+ghost use Rattle.llb_state.specs.Views.{at_of, leased_by};
+ghost use Rattle.llb_state.specs.Rules.{step_memory};
+
+use crate::stand::Desk;
+use llb_cache::{Caches, Lease, LeaseFault, Need, Place};
+use llb_events::StepFault;
+use llb_tree::Tree;
+use llb_wire::Many;
+use std::alloc::Global;
+
+/// Copies of the trees of instances; of one that is not there the empty tree.
+pub fn contents(alloc: Global, caches: &Caches, places: &[Place]) -> Result<Vec<Tree>, StepFault>
+    ensures trees { IfOk result (λ ts. ts.items ≡ trees_at (store_of caches.now.rows) places.now) }
+    ensures memory { IfErr result (λ e. step_memory e ≡ true) }
+{
+    let mut trees = Vec::with_capacity(alloc, places.len())?;
+    for place in places {
+        trees.push_reserved(content(alloc, caches, place)?);
+    }
+    Ok(trees)
+}
+
+fn content(alloc: Global, caches: &Caches, place: &Place) -> Result<Tree, StepFault>
+    ensures tree { IfOk result (λ t. t ≡ tree_of (store_of caches.now.rows) place.now) }
+    ensures memory { IfErr result (λ e. step_memory e ≡ true) }
+{
+    match caches.instance(&place.key, place.number) {
+        Some(tree) => Ok(tree.copy()?),
+        None => Ok(Tree::empty(alloc)?),
+    }
+}
+
+/// A lease of these needs, none where there are none. Their keys differ, and none of them is held.
+pub fn lease_for(caches: &mut Caches, needs: Vec<Need>) -> Result<Option<Lease>, LeaseFault>
+    requires differ { AllPairs (λ n m. n.key ≢ m.key) needs.items }
+    requires few { leases caches.old.out < 65536 }
+    ensures gives { Gives (λ l. (l, caches.new)) result (lease_if caches.old needs.items) }
+    ensures err { OnErr result (caches.new ≡ caches.old) }
+{
+    if needs.is_empty() {
+        return Ok(None);
+    }
+    Ok(Some(caches.lease(Many::new(needs))?))
+}
+
+/// A lease that is out is given back, where there is one.
+pub fn give_back(caches: &mut Caches, lease: Option<Lease>)
+    requires { IsOutIf caches.old.out lease }
+    ensures { caches.new ≡ given_back caches.old lease }
+{
+    if let Some(lease) = lease {
+        caches.give_back(lease);
+    }
+}
+
+/// These trees take the places of those of a lease's instances; there are none without one.
+pub fn write_back(caches: &mut Caches, lease: Option<Lease>, trees: Vec<Tree>)
+    requires count { length trees.items ≡ length (leased_places caches.old.out lease) }
+    requires few { length trees.items < 2 ^ 32 }
+    ensures rows { caches.new.rows ≡ put_each caches.old.rows (leased_places caches.old.out lease) trees.items }
+    ensures out { caches.new.out ≡ caches.old.out }
+{
+    if let Some(lease) = lease {
+        write_all(caches, lease, trees);
+    }
+}
+
+// These trees take the places of those of a lease's instances.
+fn write_all(caches: &mut Caches, lease: Lease, trees: Vec<Tree>)
+    requires count { length trees.items ≡ length (places_of caches.old.out lease) }
+    requires few { length trees.items < 2 ^ 32 }
+    ensures rows { caches.new.rows ≡ put_each caches.old.rows (places_of caches.old.out lease) trees.items }
+    ensures out { caches.new.out ≡ caches.old.out }
+{
+    let mut need = 0;
+    for tree in trees {
+        caches.set_content(&lease, need, tree);
+        need += 1;
+    }
+}
+
+/// The leases of all workers are given back.
+pub fn give_all_back(caches: &mut Caches, desks: &[Desk])
+    requires { AreLeased caches.old.out (map at_of desks.now) (map leased_by desks.now) }
+    ensures rows { caches.new.rows ≡ caches.old.rows }
+    ensures none { leases caches.new.out ≡ 0 }
+{
+    for desk in desks {
+        if let Desk::Runs(lease, _) = desk {
+            give_back(caches, *lease);
+        }
+    }
+}

@@ -1,0 +1,35 @@
+//! The parts of a board's state and what changes one of them: what stands at each vertex, what each worker runs, its instances of caches,
+//! the record, jobs and what their work comes to. It knows of no board that keeps them together.
+#![tactic(auto)]
+
+mod build;
+mod choice;
+mod copying;
+mod ending;
+mod events;
+mod fresh;
+mod instances;
+mod job;
+mod landing;
+mod micro_step;
+mod outcome;
+mod ready;
+mod same;
+mod stand;
+mod step;
+mod undoing;
+
+pub use build::Build;
+pub use choice::{all_settled, first_open, next_claim, next_event};
+pub use copying::{copied, copied_desks, copied_leases, copied_stands};
+pub use events::Events;
+pub use fresh::{Fresh, opening, room};
+pub use instances::{give_all_back, give_back, lease_for, write_back};
+pub use job::Job;
+pub use landing::{has_shared, is_run_of, put_left, record_steps};
+pub use outcome::{Outcome, work};
+pub use ready::{is_marked, is_ready, output_at, stand_at};
+pub use same::{same_desks, same_events, same_stands};
+pub use stand::{Desk, Execution, Stand};
+pub use step::{Begun, begin, claimable, desk_at, is_finished, leave, step_at};
+pub use undoing::{Before, make_idle, mark_anew, open_anew, put_caches, step_back};

@@ -1,0 +1,113 @@
+//! The work of a job, away from every board: what all micro-steps that are left to it leave. It stands on the job alone.
+
+ghost use Rattle.std.specs.Prelude.{◌≡◌, IfOk, IsTrue, Err};
+ghost use Rattle.llb_execution.specs.Parts.{left_with};
+ghost use Rattle.llb_state.specs.Jobs.{IsOutcome};
+ghost use Rattle.llb_events.specs.declared.fault.WorkFault.TheVariants as work;
+
+use crate::copying::copied_trees;
+use crate::job::Job;
+use llb_events::{Gate, Memory, WorkFault};
+use llb_execution::{Further, View, do_further};
+use llb_model::VertexFault;
+use llb_tree::Tree;
+use std::alloc::Global;
+use std::marker::Model;
+
+/// What a job has come to: how many micro-steps were left to it, and the view, the trees of the instances of caches and the fault that
+/// they leave. Its type keeps that they are what the job's program leaves, so that no board has to ask.
+#[derive(Drop)]
+pub struct Outcome {
+    pub(crate) job: Job,
+    pub(crate) count: u32,
+    pub(crate) view: View,
+    pub(crate) trees: Vec<Tree>,
+    pub(crate) fault: Option<VertexFault>,
+}
+
+impl Model for Outcome {
+    ghost use Rattle.std.specs.Coded.{codes};
+    ghost use Rattle.llb_tree.specs.Tree.{coded_tree};
+    ghost use Rattle.llb_execution.specs.Parts.{left_with};
+    ghost use Rattle.llb_state.specs.Jobs.{OutcomeValue, IsOutcome};
+
+    ghost Value = { OutcomeValue };
+
+    ghost coded = { Prim.hlevel (codes, coded_tree) };
+
+    ghost view = { λ o. record { job = o.job; count = o.count; left = left_with o.view o.trees.items o.fault } };
+
+    ghost invariant = { λ o. IsOutcome o.job o.count (left_with o.view o.trees.items o.fault) };
+}
+
+impl Outcome {
+    /// The job as it was handed out.
+    pub fn job(&self) -> &Job
+        ensures { result.now ≡ self.now.job }
+    {
+        &self.job
+    }
+
+    /// It is what all micro-steps that are left to its job leave.
+    pub fn is_whole(&self)
+        ensures { IsOutcome self.now.job self.now.count self.now.left }
+    {
+        let _ = &self.fault;
+    }
+
+    /// How many micro-steps were left to it.
+    pub fn count(&self) -> u32
+        ensures { result ≡ self.now.count }
+    {
+        self.count
+    }
+
+    /// The fault of the last of them, where it had one.
+    pub fn fault(&self) -> Option<VertexFault>
+        ensures { result ≡ self.now.left.fault }
+    {
+        self.fault
+    }
+
+    /// What they left: how many they were, the view, the trees of the instances of caches, and the fault of the last of them.
+    pub fn into_left(self) -> (u32, View, Vec<Tree>, Option<VertexFault>)
+        ensures count { result.0 ≡ self.count }
+        ensures left { left_with result.1 result.2.items result.3 ≡ self.left }
+    {
+        let Outcome {
+            job: _job,
+            count,
+            view,
+            trees,
+            fault,
+        } = self;
+        (count, view, trees, fault)
+    }
+}
+
+/// Does all micro-steps that are left to a job, behind a gate. 143 where the gate stops the worker, which it does only where it may; 142
+/// where memory is refused. Then the job is gone. The view and the trees that are worked on are second owners of the job's.
+pub fn work<G: Gate>(alloc: Global, job: Job, gate: &G) -> Result<Outcome, WorkFault>
+    ensures job { IfOk result (λ o. o.job ≡ job) }
+    ensures stopped { result ≡ Err work.Stopped → IsTrue (G.may_stop job.worker job.vertex) }
+{
+    gate.pass(job.worker, job.vertex)?;
+    Ok(worked(alloc, job)?)
+}
+
+// All micro-steps that are left to a job.
+fn worked(alloc: Global, job: Job) -> Result<Outcome, Memory>
+    ensures { IfOk result (λ o. o.job ≡ job) }
+{
+    let mut view = job.view.copy()?;
+    let mut trees = copied_trees(alloc, job.trees.as_slice())?;
+    let further = do_further(alloc, &job.program, job.done, &mut view, &mut trees)?;
+    let Further { count, fault } = further;
+    Ok(Outcome {
+        job,
+        count,
+        view,
+        trees,
+        fault,
+    })
+}

@@ -1,0 +1,116 @@
+//! What an event changed, put back: what a worker has, the leases of all workers, the marks and the counts of open inputs.
+
+ghost use Rattle.std.specs.Prelude.{◌≡◌, ◌<◌, ◌+◌, ◌^◌, ℕ, get_or, [], Some, length, map, slice_get, slice_set};
+ghost use Rattle.std.specs.Bool.{OnTrue, OnFalse};
+ghost use Rattle.std.specs.List.{All};
+ghost use Rattle.std.specs.Option.{ForSome};
+ghost use Rattle.llb_model.specs.ByNumber.{by_number};
+ghost use Rattle.llb_model.specs.State.{next_stopped};
+ghost use Rattle.llb_state.specs.declared.stand.Desk.TheVariants as desk;
+ghost use Rattle.llb_state.specs.Room.{ready_made};
+ghost use Rattle.llb_state.specs.Undoing.{caches_in};
+ghost use Rattle.llb_state.specs.Undoing.{desk_before, desk_leased, leases_before, caches_before, HasPlaceFor};
+ghost use Rattle.llb_links.specs.Links.{AreRaised, users_at};
+ghost use Rattle.llb_state.specs.Views.{at_of, leased_by, status_of};
+
+use crate::copying::lease_of;
+use crate::ready::mark_stopped;
+use crate::stand::{Desk, Stand};
+use llb_cache::{Caches, Lease};
+use llb_execution::Mark;
+use llb_links::Links;
+use llb_loader::Vertex;
+
+/// Caches as they were, and the leases of all workers.
+#[derive(Drop)]
+pub struct Before {
+    pub caches: Caches,
+    pub leases: Vec<Option<Lease>>,
+}
+
+/// A worker has nothing to do; the lease that it had comes out.
+pub fn make_idle(desks: &mut Vec<Desk>, w: u32) -> Option<Lease>
+    requires { w < length desks.old.items }
+    ensures idle { desks.new.items ≡ slice_set desks.old.items w desk.Idle }
+    ensures leased { slice_get (map leased_by desks.old.items) w ≡ Some result }
+{
+    let lease = lease_of(&desks[w as usize]);
+    desks[w as usize] = Desk::Idle;
+    lease
+}
+
+/// A worker has done one micro-step less, and its view is as it was.
+pub fn step_back(desks: &mut Vec<Desk>, w: u32, mark: Mark)
+    requires { w < length desks.old.items }
+    ensures { desks.new.items ≡ slice_set desks.old.items w (desk_before mark (slice_get desks.old.items w)) }
+{
+    match &mut desks[w as usize] {
+        Desk::Idle => {}
+        Desk::Runs(_, execution) => {
+            execution.done = execution.done.saturating_sub(1);
+            execution.fault = None;
+            execution.view.put_back(mark);
+        }
+    }
+}
+
+/// The caches are as they were, where they were kept, and each worker has the lease that it had.
+pub fn put_caches(desks: &mut Vec<Desk>, caches: &mut Caches, before: Option<Before>)
+    requires { ForSome before (λ c. HasPlaceFor c.leases.items (map at_of desks.old.items)) }
+    ensures workers { map at_of desks.new.items ≡ map at_of desks.old.items }
+    ensures made { map ready_made desks.new.items ≡ map ready_made desks.old.items }
+    ensures leases { map leased_by desks.new.items ≡ leases_before (caches_in before) (map leased_by desks.old.items) }
+    ensures caches { caches.new ≡ caches_before (caches_in before) caches.old }
+{
+    if let Some(before) = before {
+        put_leases(desks, &before.leases);
+        *caches = before.caches;
+    }
+}
+
+// Each worker has its lease.
+fn put_leases(desks: &mut Vec<Desk>, leases: &[Option<Lease>])
+    requires { HasPlaceFor leases.now (map at_of desks.old.items) }
+    ensures workers { map at_of desks.new.items ≡ map at_of desks.old.items }
+    ensures made { map ready_made desks.new.items ≡ map ready_made desks.old.items }
+    ensures leases { map leased_by desks.new.items ≡ leases.now }
+{
+    for w in 0..desks.len() {
+        put_lease(&mut desks[w], leases[w]);
+    }
+}
+
+// A worker that runs has this lease.
+fn put_lease(desk: &mut Desk, lease: Option<Lease>)
+    ensures { desk.new ≡ desk_leased lease desk.old }
+{
+    match desk {
+        Desk::Idle => {}
+        Desk::Runs(old, _) => *old = lease,
+    }
+}
+
+/// Marks each vertex that has failed or is after one that has, where the marks may have changed.
+pub fn mark_anew(stop_marks: &mut Vec<bool>, stands: &[Stand], vertices: &[Vertex], changed: bool)
+    requires { length stop_marks.old.items ≡ length vertices.now }
+    ensures anew { OnTrue changed (stop_marks.new.items ≡ by_number (next_stopped (map status_of stands.now)) [] vertices.now) }
+    ensures same { OnFalse changed (stop_marks.new.items ≡ stop_marks.old.items) }
+{
+    if changed {
+        mark_stopped(stop_marks, stands, vertices);
+    }
+}
+
+/// Each vertex that has an edge to one has an open input more, where that one was done.
+pub fn open_anew(links: &mut Links, v: u32, was_done: bool)
+    requires low { v < length links.old.users }
+    requires below { All (λ x. x < length links.old.counts) (users_at links.old v) }
+    requires few { (x : ℕ) → get_or links.old.counts x 0 + length (users_at links.old v) < 2 ^ 32 }
+    ensures users { links.new.users ≡ links.old.users }
+    ensures raised { OnTrue was_done (AreRaised (users_at links.old v) links.old.counts links.new.counts) }
+    ensures same { OnFalse was_done (links.new ≡ links.old) }
+{
+    if was_done {
+        links.count_up(v);
+    }
+}
