@@ -15,7 +15,11 @@ before : After-put_left-lease → Data
 before c = let b = c.self.inside in data_of b.stands.items b.desks.items b.caches b.stop_marks.items
 
 outcome : After-put_left-lease → OutcomeValue
-outcome c = record { job = c.args.outcome.job; count = c.into_left.result.0; left = left_with c.into_left.result.1 c.into_left.result.2.items c.into_left.result.3 }
+outcome c = record {
+  job = c.args.outcome.job;
+  count = c.into_left.result.0;
+  left = left_with c.into_left.result.1 c.into_left.result.2.items c.into_left.result.3;
+}
 
 -- the outcome's parts are the outcome
 outcome_is : (c : After-put_left-lease) → outcome c ≡ c.args.outcome
