@@ -8,7 +8,6 @@ use Rattle.llb_model.specs.Caches.{Place, Store, content}
 use Rattle.llb_model.specs.State.{At, Idle, Runs, State}
 use Rattle.llb_cache.specs.declared.need.Need as cache_need
 use Rattle.llb_cache.specs.declared.fault.LeaseFault.{LeaseFault}
-use Rattle.llb_events.specs.declared.fault.ClaimFault.TheVariants as claim
 
 -- ---- instances
 
