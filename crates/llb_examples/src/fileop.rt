@@ -2,9 +2,9 @@
 
 use super::acts::acted;
 use super::stage::are_told;
-use super::told::{are_all_told, is_told, push_path, tree_text};
+use super::told::{are_all_told, is_told, push_path, say, tree_text};
 use llb_fileop::{ActFault, resolve};
-use llb_tree::{Tree, TreeFault};
+use llb_tree::Tree;
 use std::alloc::Global;
 use std::process::Abort;
 
@@ -248,24 +248,35 @@ fn files_and_directories_are_made_copied_and_removed(rt: HostRuntime) {
     are_told(&rt, rt.alloc(), STORIES);
 }
 
-// How long the text of a tree is in which a directory of that many names is made with its parents.
-fn depth(rt: &impl Abort, alloc: Global, names: usize) -> Result<usize, ActFault> {
-    let mut words = String::from_str(alloc, "mkdir | path \"").expect(rt, "memory");
+// The call that makes a directory of that many names with its parents.
+fn deep_call(rt: &impl Abort, alloc: Global, names: usize) -> String {
+    let mut call = String::from_str(alloc, "mkdir | path \"").expect(rt, "memory");
     for _ in 0..names {
-        words.push_str("/a").expect(rt, "memory");
+        say(rt, &mut call, "/a");
     }
-    words
-        .push_str("\" | mode 493 | makeParents true")
-        .expect(rt, "memory");
+    say(rt, &mut call, "\" | mode 493 | makeParents true");
+    call
+}
+
+// How long the text of the tree is that the call makes.
+fn depth(rt: &impl Abort, alloc: Global, names: usize) -> Option<usize> {
+    let call = deep_call(rt, alloc, names);
     let empty = Tree::empty(alloc).expect(rt, "memory");
-    let made = acted(rt, alloc, words.as_str(), &empty, None)?;
-    Ok(tree_text(alloc, &made)?.len())
+    let made = acted(rt, alloc, call.as_str(), &empty, None).ok()?;
+    Some(tree_text(alloc, &made).ok()?.len())
+}
+
+// The transcript of the call that is refused, and of the tree after it.
+fn refusal(rt: &impl Abort, alloc: Global, names: usize) -> String {
+    let mut told = String::from_str(alloc, "> act ").expect(rt, "memory");
+    say(rt, &mut told, deep_call(rt, alloc, names).as_str());
+    say(rt, &mut told, "\n51 26\n> tree\nd\n");
+    told
 }
 
 #[test]
 fn a_path_of_129_names_is_no_place(rt: HostRuntime) {
     // ` d` for each of 129 entries, and two bytes for each of 1 + 2 + .. + 128 names.
-    assert!(rt; depth(&rt, rt.alloc(), 128).ok() == Some(16_770));
-    let refused = depth(&rt, rt.alloc(), 129);
-    assert!(rt; matches!(refused, Err(ActFault::File(TreeFault::BadName))));
+    assert!(rt; depth(&rt, rt.alloc(), 128) == Some(16_770));
+    are_told(&rt, rt.alloc(), refusal(&rt, rt.alloc(), 129).as_str());
 }

@@ -3,7 +3,7 @@
 use super::entries::ENTRIES;
 use super::graphs::push_row;
 use super::stage::are_told;
-use super::told::{block, is_told};
+use super::told::{block, is_told, say_fault};
 use llb_asm::assemble;
 use llb_loader::{Graph, LoadFault, Row, link, load};
 use std::alloc::{AllocError, Global};
@@ -50,9 +50,18 @@ fn definitions_are_graphs_or_are_refused(rt: HostRuntime) {
     are_told(&rt, rt.alloc(), DEFINITIONS);
 }
 
+// What the refusal of a definition prints; nothing of a graph.
+fn refusal(rt: &impl Abort, alloc: Global, definition: &[u8]) -> String {
+    let mut text = String::new(alloc);
+    if let Err(fault) = load(alloc, definition) {
+        say_fault(rt, &mut text, &fault);
+    }
+    text
+}
+
 #[test]
 fn bytes_that_end_in_a_record_are_no_definition(rt: HostRuntime) {
-    assert!(rt; matches!(load(rt.alloc(), &[0x08]), Err(LoadFault::Definition(_))));
+    assert_eq!(rt; refusal(&rt, rt.alloc(), &[0x08]).as_str(), "81 1\n");
 }
 
 const ROWS: &str = "

@@ -1,8 +1,7 @@
 //! The trees of local sources by their names.
 
-use super::told::{dir, is_told, tree_of};
+use super::told::{dir, is_told, tree_of, tree_text};
 use llb_loader::{Locals, Memory};
-use llb_tree::Path;
 use llb_wire::Text;
 use std::alloc::Global;
 use std::process::Abort;
@@ -14,11 +13,12 @@ fn give(rt: &impl Abort, alloc: Global, locals: &mut Locals, name: &str, path: &
     locals.add(name, tree).expect(rt, "memory");
 }
 
-// Whether the tree of a name has a directory, where there is a tree.
-fn has(rt: &impl Abort, alloc: Global, locals: &Locals, name: &str, path: &str) -> Option<bool> {
-    let path = Path::read(alloc, path).expect(rt, "a path");
-    let tree = locals.get(name)?;
-    Some(tree.is_dir(&path))
+// The tree of a name by its entries, if there is one.
+fn told(rt: &impl Abort, alloc: Global, locals: &Locals, name: &str) -> String {
+    match locals.get(name) {
+        Some(tree) => tree_text(alloc, tree).expect(rt, "memory"),
+        None => String::from_str(alloc, "none").expect(rt, "memory"),
+    }
 }
 
 fn given(rt: &impl Abort, alloc: Global) -> Locals {
@@ -29,23 +29,19 @@ fn given(rt: &impl Abort, alloc: Global) -> Locals {
     locals
 }
 
-// A name, a directory, and whether the name's tree has it.
-const HAD: &[(&str, &str, Option<bool>)] = &[
-    ("a", "/one", Some(false)),
-    ("a", "/three", Some(true)),
-    ("b", "/two", Some(true)),
-    ("c", "/one", None),
-    ("", "/one", None),
+// A name, and the tree that it has.
+const HAD: &[(&str, &str)] = &[
+    ("a", " d d/three"),
+    ("b", " d d/two"),
+    ("c", "none"),
+    ("", "none"),
 ];
 
 #[test]
 fn a_name_has_the_tree_that_was_given_last(rt: HostRuntime) {
     let locals = given(&rt, rt.alloc());
-    for (name, path, wanted) in HAD {
-        assert!(rt;
-            has(&rt, rt.alloc(), &locals, name, path) == *wanted,
-            "{name} {path}"
-        );
+    for (name, wanted) in HAD {
+        assert_eq!(rt; told(&rt, rt.alloc(), &locals, name).as_str(), *wanted);
     }
 }
 
