@@ -17,5 +17,5 @@ pub mod Calls
 pub mod Sound
 pub mod Kept
 pub mod Stepping
-pub mod Undoing
+pub mod PutBack
 pub mod Alike

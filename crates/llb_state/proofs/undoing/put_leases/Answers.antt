@@ -3,7 +3,7 @@ use Rattle.std.specs.Prelude.{slice_set}
 use Rattle.std.proofs.lemmas.Option.{slice_get-get_or}
 use Rattle.llb_state.specs.Views.{at_of}
 use Rattle.llb_state.proofs.Lists.{length_map}
-use Rattle.llb_state.proofs.Undoing.{put_more}
+use Rattle.llb_state.proofs.PutBack.{put_more}
 use Rattle.llb_state.proofs.undoing.put_leases.Goals as goal
 
 pub loop-w-preserved : goal.loop-w-preserved

@@ -1,4 +1,4 @@
-use Rattle.llb_state.proofs.Undoing.{PutSoFar}
+use Rattle.llb_state.proofs.PutBack.{PutSoFar}
 use Rattle.llb_state.proofs.undoing.put_leases.Given as goal
 
 abbrev pub invariant-loop-w : goal.invariant-loop-w
