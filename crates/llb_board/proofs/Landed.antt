@@ -6,7 +6,7 @@ use Rattle.std.specs.Prelude.{if◌then◌else◌}
 use Rattle.std.specs.Result.{result_unwrap_or}
 use Rattle.std.proofs.lemmas.List.{length-replicate, append_assoc}
 use Rattle.std.proofs.lemmas.List.Sums.{fold-append}
-use Rattle.llb_cache.specs.Caches.{Row, Leases, AreApart, AreThere as AreAllThere}
+use Rattle.llb_cache.specs.Caches.{Row, Leases, AreApart}
 use Rattle.llb_loader.specs.Graph.{IsGraph}
 use Rattle.llb_tree.specs.Tree.{TreeMap}
 use Rattle.llb_model.specs.Caches.{Place, Store, Hold, Distinct, put_all, trees_at}
@@ -30,10 +30,9 @@ use Rattle.llb_model.proofs.Runs.{run_none, run_one, run_on}
 use Rattle.llb_model.proofs.Landing.{first_step, steps_as_block, after_again, further_keeps}
 use Rattle.llb_state.specs.Board.{Seen, Replays, kept_next, kept_along, opening_with, after_event, recorded}
 use Rattle.llb_state.specs.Caches.{written, places_at, rows_after, leased_places}
-use Rattle.llb_needs.specs.Needs.{number_of}
 use Rattle.llb_state.specs.Jobs.{OutcomeValue, IsOutcome, begun_on}
 use Rattle.llb_board.specs.Landing.{CanLand, IsThrough, Lands}
-use Rattle.llb_state.specs.Jobs.{job_now, IsBegun, IsRunOf, desk_left}
+use Rattle.llb_state.specs.Jobs.{job_now, IsRunOf, desk_left}
 use Rattle.llb_state.specs.Room.{Supplies, supplies_of, supplies_for, needs_at}
 use Rattle.llb_state.specs.Rules.{settle_fault, settle_of, GivesSettle}
 use Rattle.llb_state.specs.Views.{at_of, leased_by, execution_of, settle_reply}
@@ -307,29 +306,20 @@ has_desk b first d es w job can = by_desk (slice_get d.desks w) refl (sym (slice
       run = subst (λ (x : Execution). IsRunOf b (store_of d.rows) w x job) (sym (inside_at is)) can.own;
     }
 
--- a job with these parts is what a worker runs
-pub run_of : (b : Build) (store : Store) (w : ℕ) (x : Execution) (job : Job) → IsBegun w x job → job.program ≡ program_in b x → job.work.own ≡ x.own
-    → job.work.trees ≡ trees_at store x.places
-    → job.instances ≡ map number_of x.places → IsRunOf b store w x job
-run_of b store w x job begun program view trees instances = record {
-  clean = begun.clean;
-  same = λ i. record {
-    worker = begun.worker i;
-    vertex = begun.vertex i;
-    program = program i;
-    done = begun.done i;
-    work = record { own = view i; trees = trees i };
-    instances = instances i;
-  };
-}
-
-pub begun_of : (b : Build) (store : Store) (w : ℕ) (x : Execution) (job : Job) → IsRunOf b store w x job → IsBegun w x job
-begun_of b store w x job is = record {
-  worker = ap (λ (j : Job). j.worker) is.same;
-  vertex = ap (λ (j : Job). j.vertex) is.same;
-  done = ap (λ (j : Job). j.done) is.same;
-  clean = is.clean;
-}
+-- what a worker has done and what is left to it can be counted together
+pub few_steps : (b : Build) (first : List Row) (d : Data) (es : List Event) (w : ℕ) (o : OutcomeValue) (l : Option ℕ) (x : running.Execution)
+    → CanLand (seen_as b first d es) w o.job → IsOutcome o.job o.count o.left → slice_get d.desks w ≡ Some (desk.Runs l x)
+    → x.done + o.count < 2 ^ 32
+few_steps b first d es w o l x can is at =
+    let k = has_desk b first d es w o.job can in
+    let same : k.own ≡ x = own_inside (sym k.at ∙ at) in
+    let begun : o.job.done ≡ k.own.done = ap (λ (j : Job). j.done) k.run.same in
+    let done : k.own.done ≡ x.done = ap (λ (y : running.Execution). y.done) same in
+    let few = is.few in
+    omega (arith, few, begun, done)
+  where
+    own_inside : {l k : Option ℕ} {x y : running.Execution} → ◌≡◌ {A = Option Desk} (Some (desk.Runs l x)) (Some (desk.Runs k y)) → x ≡ y
+    own_inside e = cc
 
 -- ---- the block
 

@@ -12,14 +12,13 @@ use Rattle.llb_model.specs.Table as table
 use Rattle.llb_state.specs.Board.{Seen, Replays}
 use Rattle.llb_state.specs.Room.{supplies_for, mounts_at, needs_at}
 use Rattle.llb_state.specs.Rules.{claim_of, step_of, settle_of}
+use Rattle.llb_state.specs.Undoing.{Left, left_in, Before, front}
 use Rattle.llb_events.specs.declared.event.Stepped.TheVariants as stepped
 use Rattle.llb_events.specs.declared.event.Settled.TheVariants as settled
 use Rattle.llb_events.specs.declared.fault.WalkFault.{WalkFault}
 use Rattle.llb_events.specs.declared.fault.WalkFault.TheVariants as walk
-use Rattle.llb_state.specs.declared.stand.Execution as own
 use Rattle.llb_board.specs.declared.undo.Back as undo
 use Rattle.llb_board.specs.declared.undo.Back.TheVariants as back
-use Rattle.llb_state.specs.declared.undoing.Before as before
 use Rattle.llb_board.specs.declared.walk.Reply.{Reply}
 use Rattle.llb_board.specs.declared.walk.Reply.TheVariants as reply
 

@@ -1,4 +1,4 @@
-use Rattle.std.proofs.Common.{◌≡◌, ◌++◌, sym, subst}
+use Rattle.std.proofs.Common.{◌≡◌, ◌++◌, sym, subst, arith}
 use Rattle.llb_execution.specs.Parts.{left_with}
 use Rattle.llb_model.specs.Landing.{steps_by}
 use Rattle.llb_state.specs.Board.{Seen}
@@ -7,7 +7,7 @@ use Rattle.llb_board.specs.Landing.{CanLand, IsThrough}
 use Rattle.llb_state.specs.Room.{seen}
 use Rattle.llb_board.proofs.Claiming.{data_of}
 use Rattle.llb_state.proofs.Kept.{Data, seen_as, kept_written}
-use Rattle.llb_board.proofs.Landed.{HasDesk, has_desk, keeps, room, few_trees, through, leased_count, data_is}
+use Rattle.llb_board.proofs.Landed.{HasDesk, has_desk, few_steps, keeps, room, few_trees, through, leased_count, data_is}
 use Rattle.llb_board.proofs.board.Board.go_through.Goals as goal
 use Rattle.llb_board.proofs.board.Board.go_through.Goals.{After-put_left-lease}
 
@@ -17,14 +17,14 @@ before c = let b = c.self.inside in data_of b.stands.items b.desks.items b.cache
 outcome : After-put_left-lease → OutcomeValue
 outcome c = record {
   job = c.args.outcome.job;
-  count = c.into_left.result.0;
-  left = left_with c.into_left.result.1 c.into_left.result.2.items c.into_left.result.3;
+  count = c.into_left-count.result.0;
+  left = left_with c.into_left-count.result.1 c.into_left-count.result.2.items c.into_left-count.result.3;
 }
 
 -- the outcome's parts are the outcome
 outcome_is : (c : After-put_left-lease) → outcome c ≡ c.args.outcome
 unfolding outcome
-outcome_is c = λ i. record { job = c.args.outcome.job; count = c.into_left.ensures.count i; left = c.into_left.ensures.left i }
+outcome_is c = λ i. record { job = c.args.outcome.job; count = c.into_left-count.ensures.count i; left = c.into_left-count.ensures.left i }
 
 whole : (c : After-put_left-lease) → IsOutcome (outcome c).job (outcome c).count (outcome c).left
 whole c = subst (λ (v : OutcomeValue). IsOutcome v.job v.count v.left) (sym (outcome_is c)) c.is_whole.ensures
@@ -35,6 +35,15 @@ desk_so c =
     let b = c.self.inside in
     has_desk b.build b.start.rows (before c) b.events.list c.args.w c.args.outcome.job
     (subst (λ (m : Seen). CanLand m c.args.w c.args.outcome.job) (sym c.self.view_is) c.requires)
+
+pub put_left-lease-requires-clause-few : goal.put_left-lease-requires-clause-few
+put_left-lease-requires-clause-few c =
+    λ l x at.
+    let b = c.self.inside in
+    let few = few_steps b.build b.start.rows (data_of b.stands.items b.desks.items b.caches b.stop_marks.items) b.events.list c.args.w c.args.outcome l x
+    (subst (λ (m : Seen). CanLand m c.args.w c.args.outcome.job) (sym c.self.view_is) c.requires) c.is_whole.ensures at in
+    let count = c.into_left-count.ensures.count in
+    omega (arith, few, count)
 
 pub write_back-requires-clause-count : goal.write_back-requires-clause-count
 unfolding before outcome
@@ -79,7 +88,7 @@ invariant_of-self c =
     c.put_left-lease.ensures.left c.write_back.ensures.rows c.write_back.ensures.out in
     record {
       kept = rw (c.record_steps.ensures.list, c.record_steps.ensures.room)
-          (kept_written b.build b.start.rows _ _ (b.events.list ++ steps_by c.args.w c.into_left.result.0) b.events.room is
+          (kept_written b.build b.start.rows _ _ (b.events.list ++ steps_by c.args.w c.into_left-count.result.0) b.events.room is
           (keeps b.build b.start.rows (before p) b.events.list b.events.room c.args.w k.l k.own (outcome p) c.self.invariant.kept k.at
           c.is_exclusive.ensures.apart c.is_exclusive.ensures.there
           c.vertices.ensures.graph k.run (whole p)));
@@ -103,6 +112,6 @@ returns c =
     c.is_exclusive.ensures.apart c.is_exclusive.ensures.there
     c.vertices.ensures.graph k.run (whole p) in
     subst (λ (v : OutcomeValue). IsThrough c.args.self.now c.args.w v.count new) (outcome_is p)
-    (subst (λ (m : Seen). IsThrough m c.args.w c.into_left.result.0 new) c.self.view_is
-    (subst (λ (n : Seen). IsThrough (seen_as b.build b.start.rows (before p) b.events.list) c.args.w c.into_left.result.0 n)
+    (subst (λ (m : Seen). IsThrough m c.args.w c.into_left-count.result.0 new) c.self.view_is
+    (subst (λ (n : Seen). IsThrough (seen_as b.build b.start.rows (before p) b.events.list) c.args.w c.into_left-count.result.0 n)
     (λ i. seen_as b.build b.start.rows (sym is i) (sym c.record_steps.ensures.list i)) done))
