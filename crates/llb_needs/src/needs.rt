@@ -40,7 +40,8 @@ pub struct Taking {
     pub needs: Vec<Need>,
 }
 
-/// The caches that a vertex shows, or the first locked key that a lease has: then memory is taken for that key alone.
+/// The caches that a vertex shows, in the order of the mounts, or 135 with the first locked key that a lease has: then memory is taken
+/// for that key alone. 141 where memory is refused.
 pub fn wanted_by(alloc: Global, caches: &Caches, vertex: &Vertex) -> Result<Vec<Wanted>, ClaimFault>
     requires seeds { HasEdges vertex.now }
     requires few { length (kind_mounts vertex.now.op.kind) < 2 ^ 32 }
@@ -135,7 +136,7 @@ fn mode_of(sharing: i32) -> Mode
     }
 }
 
-/// The numbers of the mounts that show caches.
+/// The numbers of the mounts that show caches. 141 where memory is refused.
 pub fn mount_numbers(alloc: Global, wanted: &[Wanted]) -> Result<Vec<u32>, ClaimFault>
     ensures { GivesClaim (λ ns. ns.items) result (Ok (map mount_of (map need_of wanted.now))) }
 {
@@ -146,7 +147,7 @@ pub fn mount_numbers(alloc: Global, wanted: &[Wanted]) -> Result<Vec<u32>, Claim
     Ok(numbers)
 }
 
-/// What a claim of these caches takes, with the trees of the inputs. Out of memory alone refuses it.
+/// What a claim of these caches takes, with the trees of the inputs. 141 where memory is refused, and nothing else.
 pub fn taking_for(
     alloc: Global,
     caches: &Caches,

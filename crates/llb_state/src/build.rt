@@ -30,13 +30,14 @@ impl Model for Build {
 }
 
 impl Build {
+    /// Of a graph and the trees of its local sources.
     pub fn new(graph: Graph, locals: Locals) -> Build
         ensures { result ≡ record { graph = graph; locals = locals } }
     {
         Build { graph, locals }
     }
 
-    /// A second owner: the graph and the trees are shared.
+    /// A second owner: the graph and the trees are shared. 92 where memory is refused.
     pub fn copy(&self) -> Result<Build, Memory>
         ensures { IfOk result (λ b. b ≡ self.now) }
     {

@@ -12,7 +12,7 @@ use llb_tree::Tree;
 use llb_wire::Many;
 use std::alloc::Global;
 
-/// The same at each vertex, in memory of its own.
+/// The same at each vertex, in memory of its own. 141 where memory is refused.
 pub fn copied_stands(alloc: Global, stands: &[Stand]) -> Result<Vec<Stand>, Memory>
     ensures { IfOk result (λ s. s.items ≡ stands.now) }
 {
@@ -37,7 +37,7 @@ fn copied_stand(alloc: Global, stand: &Stand) -> Result<Stand, Memory>
     }
 }
 
-/// Second owners of trees.
+/// Second owners of trees. 141 where memory is refused.
 pub fn copied_trees(alloc: Global, trees: &[Tree]) -> Result<Vec<Tree>, Memory>
     ensures { IfOk result (λ t. t.items ≡ trees.now) }
 {
@@ -48,7 +48,7 @@ pub fn copied_trees(alloc: Global, trees: &[Tree]) -> Result<Vec<Tree>, Memory>
     Ok(copies)
 }
 
-/// Workers that do the same, with the same leases.
+/// Workers that do the same, with the same leases. 141 where memory is refused.
 pub fn copied_desks(alloc: Global, desks: &[Desk]) -> Result<Vec<Desk>, Memory>
     ensures workers { IfOk result (λ d. map at_of d.items ≡ map at_of desks.now) }
     ensures leases { IfOk result (λ d. map leased_by d.items ≡ map leased_by desks.now) }
@@ -72,7 +72,7 @@ fn copied_desk(alloc: Global, desk: &Desk) -> Result<Desk, Memory>
     }
 }
 
-/// What a running worker has.
+/// What a running worker has, in memory of its own. 141 where memory is refused.
 pub fn copied(alloc: Global, execution: &Execution) -> Result<Execution, Memory>
     ensures { IfOk result (λ x. left_in x ≡ left_in execution.now) }
 {
@@ -99,7 +99,7 @@ fn copied_places(alloc: Global, places: &[Place]) -> Result<Vec<Place>, Memory>
     Ok(copies)
 }
 
-/// The leases of all workers.
+/// The leases of all workers. 141 where memory is refused.
 pub fn copied_leases(alloc: Global, desks: &[Desk]) -> Result<Vec<Option<Lease>>, Memory>
     ensures { IfOk result (λ l. l.items ≡ map leased_by desks.now) }
 {

@@ -58,7 +58,7 @@ impl Events {
         let _last = self.items.pop();
     }
 
-    /// The same events, with room for that many.
+    /// The same events, with room for that many. 141 where memory is refused.
     pub fn with_same(&self, alloc: Global, room: usize) -> Result<Events, Memory>
         ensures list { IfOk result (λ e. e.list ≡ self.now.list) }
         ensures room { IfOk result (λ e. room ≤ e.room) }

@@ -27,7 +27,7 @@ pub struct Fresh {
     pub events: Events,
 }
 
-/// For a graph, caches and that many workers.
+/// For a graph, caches and that many workers. Out of memory alone refuses it.
 pub fn opening(alloc: Global, build: &Build, caches: &Caches, workers: u32) -> Result<Fresh, Memory>
     ensures stands { IfOk result (λ f. f.stands.items ≡ replicate (length build.now.graph.vertices) stand.Waiting) }
     ensures desks { IfOk result (λ f. f.desks.items ≡ replicate workers desk.Idle) }

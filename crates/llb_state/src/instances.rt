@@ -18,7 +18,7 @@ use llb_tree::Tree;
 use llb_wire::Many;
 use std::alloc::Global;
 
-/// Copies of the trees of instances; of one that is not there the empty tree.
+/// Copies of the trees of instances; of one that is not there the empty tree. 141 where memory is refused.
 pub fn contents(alloc: Global, caches: &Caches, places: &[Place]) -> Result<Vec<Tree>, StepFault>
     ensures trees { IfOk result (λ ts. ts.items ≡ trees_at (store_of caches.now.rows) places.now) }
     ensures memory { IfErr result (λ e. step_memory e ≡ true) }
@@ -40,7 +40,8 @@ fn content(alloc: Global, caches: &Caches, place: &Place) -> Result<Tree, StepFa
     }
 }
 
-/// A lease of these needs, none where there are none. Their keys differ, and none of them is held.
+/// A lease of these needs, none where there are none. Their keys differ. 111 with the first locked key that is held, 112 where memory is
+/// refused; then the caches are as they were.
 pub fn lease_for(caches: &mut Caches, needs: Vec<Need>) -> Result<Option<Lease>, LeaseFault>
     requires differ { AllPairs (λ n m. n.key ≢ m.key) needs.items }
     requires few { leases caches.old.out < 65536 }

@@ -1,5 +1,5 @@
-//! What a worker is to do: a vertex's program, and what it works on. All parts own their data. Only a claim makes one, and its type
-//! keeps that its micro-steps can be done.
+//! What a worker is to do: a vertex's program, and what it works on. All parts own their data. Only the beginning of a claim makes one,
+//! and its type keeps that its micro-steps can be done.
 
 ghost use Rattle.std.specs.Prelude.{◌≡◌};
 

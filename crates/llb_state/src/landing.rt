@@ -27,7 +27,7 @@ use llb_model::VertexFault;
 use llb_tree::Tree;
 use llb_wire::Same;
 
-/// Whether an instance is one of a shared cache.
+/// Whether an instance is one of a shared cache. Takes no memory.
 pub fn has_shared(places: &[Place]) -> bool
     ensures { result ≡ list_any (λ (p : model.Place). is_shared p.key.mode) places.now }
 {
@@ -115,7 +115,7 @@ fn has_numbers(places: &[Place], numbers: &[u32]) -> bool
     true
 }
 
-/// A worker has done that many micro-steps more, and this is what they left; its lease.
+/// A worker has done that many micro-steps more, and this is what they left; its lease. Takes no memory.
 pub fn put_left(
     desks: &mut Vec<Desk>,
     w: u32,

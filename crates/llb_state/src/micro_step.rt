@@ -17,7 +17,8 @@ use llb_model::VertexFault;
 use llb_tree::Tree;
 use std::alloc::Global;
 
-/// The next micro-step of an execution, whose instances of caches have these trees: it leaves others of them.
+/// The next micro-step of an execution, whose instances of caches have these trees: it leaves others of them. 137 where none is left,
+/// 141 where memory is refused; then the execution is as it was.
 pub fn step(
     alloc: Global,
     execution: &mut Execution,

@@ -47,7 +47,7 @@ pub fn is_ready(stands: &[Stand], links: &Links, v: u32) -> bool
     }
 }
 
-/// Copies of the trees that the edges lead to.
+/// Copies of the trees that the edges lead to; 134 where one is not there, 141 where memory is refused.
 pub fn gathered(alloc: Global, stands: &[Stand], inputs: &[Edge]) -> Result<Vec<Tree>, ClaimFault>
     ensures { GivesClaim (λ trees. trees.items) result (or_not_ready (inputs_from (ending_at (map status_of stands.now)) inputs.now)) }
 {
@@ -90,6 +90,7 @@ fn is_behind(before: &[bool], inputs: &[Edge]) -> bool
     false
 }
 
+/// Whether a vertex is marked; one past the marks is not.
 pub fn is_marked(before: &[bool], v: u32) -> bool
     ensures { result ≡ unwrap_or (slice_get before.now v) false }
 {

@@ -1,5 +1,5 @@
-//! What the board keeps: of each vertex what stands there, of each worker what it runs, with what it needs
-//! until its end. Nothing here is seen from outside.
+//! Of each vertex what stands there, and of each worker what it runs, with what it needs until its end. A board keeps these for itself:
+//! nothing of them is seen from outside it.
 
 ghost use Rattle.std.specs.Prelude.{◌≡◌, Some};
 ghost use Rattle.llb_model.specs.State.{ending_of, is_done, is_failed};
@@ -22,6 +22,7 @@ pub enum Stand {
 }
 
 impl Stand {
+    /// Whether its vertex has failed.
     pub fn has_failed(&self) -> bool
         ensures { result ≡ is_failed (ending_of (Some (status_of self.now))) }
     {
@@ -31,6 +32,7 @@ impl Stand {
         }
     }
 
+    /// Whether its vertex is done.
     pub fn is_done(&self) -> bool
         ensures { result ≡ is_done (ending_of (Some (status_of self.now))) }
     {

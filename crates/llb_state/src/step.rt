@@ -38,14 +38,14 @@ use llb_wire::Many;
 use std::alloc::Global;
 use std::mem;
 
-/// What a worker does.
+/// What a worker does, where there is one of that number.
 pub fn desk_at(desks: &[Desk], w: u32) -> Option<&Desk>
     ensures { option_map (λ d. at_of d.now) result ≡ slice_get (map at_of desks.now) w }
 {
     desks.get(w as usize)
 }
 
-/// The vertex that a worker may claim, or the first cause of a refusal. No memory.
+/// The vertex that a worker may claim, or the first cause of a refusal: 131, 132, 133, 134. No memory.
 pub fn claimable<'a>(
     build: &'a Build,
     stands: &[Stand],
@@ -108,7 +108,8 @@ pub struct Begun {
 }
 
 /// The job and the execution of a vertex before its first micro-step, which needs these caches: each has the trees of the inputs and
-/// the instances of caches that a lease will give, and the execution an empty tree for each output and where its commands run.
+/// the instances of caches that a lease will give, and the execution an empty tree for each output and where its commands run. 134 where
+/// an input is not there, 141 where memory is refused.
 pub fn begin(
     alloc: Global,
     build: &Build,
@@ -192,7 +193,8 @@ fn step_of(
     Ok(stepped)
 }
 
-/// The next micro-step of what a worker runs.
+/// The next micro-step of what a worker runs, on its instances of caches as they are, which are written at once. 131, 136, 137, 141; then
+/// nothing has changed.
 pub fn step_at(
     alloc: Global,
     build: &Build,
@@ -221,7 +223,7 @@ pub fn step_at(
 }
 
 /// A worker leaves what it runs, which is finished: the vertex, what stands there then, and the lease of its instances, where it has
-/// one. No memory.
+/// one. 131, 136, 138; no memory.
 pub fn leave(
     build: &Build,
     desks: &mut [Desk],
