@@ -6,7 +6,7 @@
 //! instance that a lease would have now, or `shut`. There are no caches after `new`.
 
 use super::stage::is_told_as;
-use super::told::{file, say, say_fault, say_number, tree_of};
+use super::told::{file, made, say, say_fault, say_number};
 use super::trees::word_and_rest;
 use llb_cache::{Caches, Key, Lease, LeaseFault, Many, Mode, Need, Seed};
 use llb_tree::{Path, Text, Tree};
@@ -48,7 +48,7 @@ fn marked(rt: &impl Abort, alloc: Global, name: &str) -> Tree {
     if name.is_empty() {
         return Tree::empty(alloc).expect(rt, "memory");
     }
-    tree_of(alloc, &[file(name, "")]).expect(rt, "memory")
+    made(rt, alloc, &[file(name, "")])
 }
 
 fn seed_of(rt: &impl Abort, alloc: Global, index: u32) -> Seed {

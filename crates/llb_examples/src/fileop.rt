@@ -2,19 +2,19 @@
 
 use super::acts::acted;
 use super::stage::are_told;
-use super::told::{are_all_told, is_told, push_path, say, tree_text};
-use llb_fileop::{ActFault, resolve};
+use super::told::{say, say_path, tree_text};
+use llb_fileop::resolve;
 use llb_tree::Tree;
 use std::alloc::Global;
 use std::process::Abort;
 
 // The path that a text leads to, and whether it ends in a slash.
-fn resolved(alloc: Global, text: &str) -> Result<String, ActFault> {
-    let (path, ends) = resolve(alloc, text)?;
+fn resolved(rt: &impl Abort, alloc: Global, text: &str) -> String {
+    let (path, ends) = resolve(alloc, text).expect(rt, "a path");
     let mut told = String::new(alloc);
-    push_path(&mut told, &path)?;
-    write!(told, " {ends}")?;
-    Ok(told)
+    say_path(rt, &mut told, &path);
+    say(rt, &mut told, if ends { " true" } else { " false" });
+    told
 }
 
 // Texts, their paths, and whether they end in a slash.
@@ -26,20 +26,11 @@ const TEXTS: &[(&str, &str)] = &[
     ("a/.", "/a false"),
 ];
 
-// The number of the first row that is answered otherwise; past the end where there is none.
-fn first_other_path(alloc: Global, rows: &[(&str, &str)]) -> usize {
-    for (at, (text, wanted)) in rows.iter().enumerate() {
-        if !is_told(alloc, resolved(alloc, text), wanted) {
-            return at;
-        }
-    }
-    rows.len()
-}
-
 #[test]
 fn a_text_leads_to_a_path_and_may_end_in_a_slash(rt: HostRuntime) {
-    let rows = TEXTS;
-    are_all_told(&rt, first_other_path(rt.alloc(), rows), rows.len());
+    for (text, wanted) in TEXTS {
+        assert_eq!(rt; resolved(&rt, rt.alloc(), text).as_str(), *wanted);
+    }
 }
 
 const STORIES: &str = r#"
@@ -263,7 +254,7 @@ fn depth(rt: &impl Abort, alloc: Global, names: usize) -> Option<usize> {
     let call = deep_call(rt, alloc, names);
     let empty = Tree::empty(alloc).expect(rt, "memory");
     let made = acted(rt, alloc, call.as_str(), &empty, None).ok()?;
-    Some(tree_text(alloc, &made).ok()?.len())
+    Some(tree_text(rt, alloc, &made).len())
 }
 
 // The transcript of the call that is refused, and of the tree after it.

@@ -1,13 +1,19 @@
 //! Patterns. A row is the text of a pattern and the text of a path.
 
-use super::told::are_all_told;
+use super::told::say;
 use llb_glob::{Pattern, PatternFault};
 use llb_tree::Path;
-use std::alloc::{AllocError, Global};
+use std::alloc::Global;
+use std::process::Abort;
 
-fn answer(alloc: Global, pattern: &str, path: &str) -> Result<bool, PatternFault> {
-    let pattern = Pattern::read(alloc, pattern)?;
-    let path = Path::read(alloc, path)?;
+fn read(alloc: Global, pattern: &str) -> Result<Pattern, PatternFault> {
+    Pattern::read(alloc, pattern)
+}
+
+// Whether the path of a text matches a pattern.
+fn answer(rt: &impl Abort, alloc: Global, pattern: &str, path: &str) -> Result<bool, PatternFault> {
+    let pattern = read(alloc, pattern)?;
+    let path = Path::read(alloc, path).expect(rt, "a path");
     Ok(pattern.matches(&path))
 }
 
@@ -58,40 +64,21 @@ const CASES: &[Case] = &[
     ("*\u{7f}", "/a", REFUSED),
 ];
 
-// The number of the first row that is answered otherwise; past the end where there is none.
-fn first_wrong(alloc: Global, rows: &[Case]) -> usize {
-    for (at, (pattern, path, wanted)) in rows.iter().enumerate() {
-        if answer(alloc, pattern, path) != *wanted {
-            return at;
-        }
-    }
-    rows.len()
-}
-
 #[test]
 fn a_path_matches_part_by_part_and_a_bad_pattern_is_refused(rt: HostRuntime) {
-    let rows = CASES;
-    are_all_told(&rt, first_wrong(rt.alloc(), rows), rows.len());
+    for (pattern, path, wanted) in CASES {
+        let answer = answer(&rt, rt.alloc(), pattern, path);
+        assert!(rt; answer == *wanted, "{pattern} {path}");
+    }
 }
 
-fn repeated(alloc: Global, text: &str, count: usize, rest: &str) -> Result<String, AllocError> {
+fn repeated(rt: &impl Abort, alloc: Global, text: &str, count: usize, rest: &str) -> String {
     let mut all = String::new(alloc);
     for _ in 0..count {
-        all.push_str(text)?;
+        say(rt, &mut all, text);
     }
-    all.push_str(rest)?;
-    Ok(all)
-}
-
-// A pattern and a path that are texts that many times over, and then a rest.
-fn long(
-    alloc: Global,
-    pattern: (&str, usize, &str),
-    path: (&str, usize),
-) -> Result<bool, PatternFault> {
-    let pattern = repeated(alloc, pattern.0, pattern.1, pattern.2)?;
-    let path = repeated(alloc, path.0, path.1, "")?;
-    answer(alloc, &pattern, &path)
+    say(rt, &mut all, rest);
+    all
 }
 
 // A text that many times over and then a rest, another one that many times over, and whether they match.
@@ -113,25 +100,20 @@ const LONG: &[Long] = &[
     ("*/", 129, "..", "a/", 128, REFUSED),
 ];
 
-// The number of the first row that is answered otherwise; past the end where there is none.
-fn first_other_long(alloc: Global, rows: &[Long]) -> usize {
-    for (at, (part, count, rest, name, times, wanted)) in rows.iter().enumerate() {
-        if long(alloc, (part, *count, rest), (name, *times)) != *wanted {
-            return at;
-        }
-    }
-    rows.len()
-}
-
 #[test]
 fn long_patterns_end(rt: HostRuntime) {
-    let rows = LONG;
-    are_all_told(&rt, first_other_long(rt.alloc(), rows), rows.len());
+    for (part, count, rest, name, times, wanted) in LONG {
+        let pattern = repeated(&rt, rt.alloc(), part, *count, rest);
+        let path = repeated(&rt, rt.alloc(), name, *times, "");
+        assert!(rt;
+            answer(&rt, rt.alloc(), &pattern, &path) == *wanted,
+            "{part} {count}"
+        );
+    }
 }
 
 fn has_no_parts(alloc: Global, text: &str) -> Result<bool, PatternFault> {
-    let pattern = Pattern::read(alloc, text)?;
-    Ok(pattern.has_no_parts())
+    Ok(read(alloc, text)?.has_no_parts())
 }
 
 #[test]

@@ -9,7 +9,7 @@
 
 use super::entries::{ENTRIES, PIECES, SPELLED};
 use super::plain_ops::PLAIN_ENTRIES;
-use super::told::{block, dir, file, push_tree, say, say_fault, say_number, tree_of};
+use super::told::{block, dir, file, made, say, say_fault, say_number, say_tree};
 use super::trees::word_and_rest;
 use llb_asm::assemble;
 use llb_loader::{Edge, Graph, LoadFault, Locals, Row, Vertex, link, load_owned};
@@ -170,7 +170,7 @@ fn linked_op(rt: &impl Abort, alloc: Global, pieces: &str) -> Result<Graph, Load
 // The local tree of that name: `q` has a file `/sub/f`, any other is empty.
 fn local_of(rt: &impl Abort, alloc: Global, name: &str) -> Tree {
     if name == "q" {
-        return tree_of(alloc, &[dir("/sub"), file("/sub/f", "hi")]).expect(rt, "memory");
+        return made(rt, alloc, &[dir("/sub"), file("/sub/f", "hi")]);
     }
     Tree::empty(alloc).expect(rt, "memory")
 }
@@ -189,7 +189,7 @@ pub(crate) fn locals_of(rt: &impl Abort, alloc: Global, names: &str) -> Locals {
 fn say_outputs(rt: &impl Abort, text: &mut String, trees: &[Tree]) {
     for tree in trees {
         say(rt, text, "|");
-        push_tree(text, tree).expect(rt, "memory");
+        say_tree(rt, text, tree);
     }
 }
 

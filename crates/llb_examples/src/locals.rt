@@ -1,6 +1,6 @@
 //! The trees of local sources by their names.
 
-use super::told::{dir, is_told, tree_of, tree_text};
+use super::told::{dir, is_told, made, tree_text};
 use llb_loader::{Locals, Memory};
 use llb_wire::Text;
 use std::alloc::Global;
@@ -8,7 +8,7 @@ use std::process::Abort;
 
 // Gives a tree with one directory.
 fn give(rt: &impl Abort, alloc: Global, locals: &mut Locals, name: &str, path: &str) {
-    let tree = tree_of(alloc, &[dir(path)]).expect(rt, "memory");
+    let tree = made(rt, alloc, &[dir(path)]);
     let name = Text::from_str(alloc, name).expect(rt, "memory");
     locals.add(name, tree).expect(rt, "memory");
 }
@@ -16,7 +16,7 @@ fn give(rt: &impl Abort, alloc: Global, locals: &mut Locals, name: &str, path: &
 // The tree of a name by its entries, if there is one.
 fn told(rt: &impl Abort, alloc: Global, locals: &Locals, name: &str) -> String {
     match locals.get(name) {
-        Some(tree) => tree_text(alloc, tree).expect(rt, "memory"),
+        Some(tree) => tree_text(rt, alloc, tree),
         None => String::from_str(alloc, "none").expect(rt, "memory"),
     }
 }

@@ -1,9 +1,10 @@
 //! A tree of a thousand files and its copies: changes of one are not in the others. Trees are told by their whole texts.
 
-use super::told::{dir, file, put, tree_of};
+use super::told::{dir, file, made, put, say};
 use super::treetext::printed;
 use llb_tree::{Tree, TreeFault};
-use std::alloc::{AllocError, Global};
+use std::alloc::Global;
+use std::process::Abort;
 use std::thread;
 use std::thread::Threads;
 
@@ -22,50 +23,51 @@ fn filled(alloc: Global, mut tree: Tree, content: &str) -> Result<Tree, TreeFaul
     Ok(tree)
 }
 
+fn copied(rt: &impl Abort, tree: &Tree) -> Tree {
+    tree.copy().expect(rt, "memory")
+}
+
 // The empty files `/d/000` to `/d/999`.
-fn many(alloc: Global) -> Result<Tree, TreeFault> {
-    filled(alloc, tree_of(alloc, &[dir("/d")])?, "")
+fn many(rt: &impl Abort, alloc: Global) -> Tree {
+    filled(alloc, made(rt, alloc, &[dir("/d")]), "").expect(rt, "memory")
 }
 
 // The text of such a tree, by the digits of the file 500 and those of all others.
-fn wanted(alloc: Global, others: &str, of_500: &str) -> Result<String, AllocError> {
-    let mut text = String::from_str(alloc, "d 0755 0 0 /\nd 0755 0 0 /d\n")?;
+fn wanted(rt: &impl Abort, alloc: Global, others: &str, of_500: &str) -> String {
+    let mut text = String::new(alloc);
+    say(rt, &mut text, "d 0755 0 0 /\nd 0755 0 0 /d\n");
     for at in 0..FILES {
         let digits = if at == 500 { of_500 } else { others };
-        write!(text, "f 0644 0 0 {digits} /d/{at:03}\n")?;
+        write!(text, "f 0644 0 0 {digits} /d/{at:03}\n").expect(rt, "memory");
     }
-    Ok(text)
+    text
 }
 
 // Whether a tree has that text.
-fn prints(alloc: Global, tree: &Tree, others: &str, of_500: &str) -> Result<bool, AllocError> {
-    let text = printed(alloc, tree)?;
-    let wanted = wanted(alloc, others, of_500)?;
-    Ok(text.as_slice() == wanted.as_bytes())
+fn prints(rt: &impl Abort, alloc: Global, tree: &Tree, others: &str, of_500: &str) -> bool {
+    let text = printed(alloc, tree).expect(rt, "memory");
+    text.as_slice() == wanted(rt, alloc, others, of_500).as_bytes()
 }
 
 // One file of a tree gets one byte, and the tree goes before its copy of before, or after it. Whether what is looked at then
 // has the text that it should: the tree another one in one line, and its copy the old one.
-fn one_byte(alloc: Global, first_goes: bool) -> Result<bool, TreeFault> {
-    let mut first = many(alloc)?;
-    let copied = first.copy()?;
-    put_file(alloc, &mut first, 500, "!")?;
+fn one_byte(rt: &impl Abort, alloc: Global, first_goes: bool) -> bool {
+    let mut first = many(rt, alloc);
+    let copied = copied(rt, &first);
+    put_file(alloc, &mut first, 500, "!").expect(rt, "memory");
     if first_goes {
         drop(first);
-        return Ok(prints(alloc, &copied, "-", "-")?);
+        return prints(rt, alloc, &copied, "-", "-");
     }
-    let kept = prints(alloc, &copied, "-", "-")?;
+    let kept = prints(rt, alloc, &copied, "-", "-");
     drop(copied);
-    Ok(kept && prints(alloc, &first, "-", "21")?)
+    kept && prints(rt, alloc, &first, "-", "21")
 }
 
 #[test]
 fn one_byte_in_one_of_a_thousand_files_is_not_in_the_copy(rt: HostRuntime) {
     for first_goes in [false, true] {
-        assert!(rt;
-            one_byte(rt.alloc(), first_goes) == Ok(true),
-            "{first_goes}"
-        );
+        assert!(rt; one_byte(&rt, rt.alloc(), first_goes), "{first_goes}");
     }
 }
 
@@ -85,17 +87,15 @@ fn filled_at_once(
 }
 
 // Whether the tree and what two threads made of it have their texts.
-fn threads_tell(rt: &impl Threads, alloc: Global) -> Result<bool, TreeFault> {
-    let tree = many(alloc)?;
-    let (one, other) = filled_at_once(rt, alloc, &tree)?;
-    Ok(
-        prints(alloc, &tree, "-", "-")?
-            && prints(alloc, &one, "31", "31")?
-            && prints(alloc, &other, "32", "32")?,
-    )
+fn all_print(rt: &impl Abort, alloc: Global, tree: &Tree, one: &Tree, other: &Tree) -> bool {
+    prints(rt, alloc, tree, "-", "-")
+        && prints(rt, alloc, one, "31", "31")
+        && prints(rt, alloc, other, "32", "32")
 }
 
 #[test]
 fn two_threads_change_two_copies(rt: HostRuntime) {
-    assert!(rt; threads_tell(&rt, rt.alloc()) == Ok(true));
+    let tree = many(&rt, rt.alloc());
+    let (one, other) = filled_at_once(&rt, rt.alloc(), &tree).expect(&rt, "memory");
+    assert!(rt; all_print(&rt, rt.alloc(), &tree, &one, &other));
 }

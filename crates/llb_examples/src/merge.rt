@@ -2,7 +2,7 @@
 
 use super::acts::over;
 use super::stage::are_told;
-use super::told::{Row, is_told, tree_of, tree_text};
+use super::told::{Row, is_told, made, tree_text};
 use llb_merge::Memory;
 use llb_tree::Tree;
 use std::alloc::Global;
@@ -117,30 +117,30 @@ const R: &[Row<'static>] = &[("/p", 0o755, 0, 0, None), ("/p/r", 0o644, 0, 0, So
 
 // The trees of rows one over the other.
 fn over_rows(rt: &impl Abort, alloc: Global, lower: &Tree, rows: &[Row<'_>]) -> Tree {
-    let upper = tree_of(alloc, rows).expect(rt, "memory");
+    let upper = made(rt, alloc, rows);
     over(rt, alloc, lower, &upper)
 }
 
 // The second tree with the third over it, over the first.
 fn upper_two_first(rt: &impl Abort, alloc: Global) -> Tree {
-    let second = tree_of(alloc, FILE).expect(rt, "memory");
+    let second = made(rt, alloc, FILE);
     let both = over_rows(rt, alloc, &second, R);
-    let first = tree_of(alloc, Q).expect(rt, "memory");
+    let first = made(rt, alloc, Q);
     over(rt, alloc, &first, &both)
 }
 
 fn lower_two_first(rt: &impl Abort, alloc: Global) -> Tree {
-    let first = tree_of(alloc, Q).expect(rt, "memory");
+    let first = made(rt, alloc, Q);
     over_rows(rt, alloc, &over_rows(rt, alloc, &first, FILE), R)
 }
 
 #[test]
 fn which_two_of_three_are_laid_first_makes_a_difference(rt: HostRuntime) {
     let alloc = rt.alloc();
-    let told = tree_text(alloc, &lower_two_first(&rt, alloc));
-    assert!(rt; is_told(alloc, told, " d d/p f/p/r=3"));
-    let told = tree_text(alloc, &upper_two_first(&rt, alloc));
-    assert!(rt; is_told(alloc, told, " d d/p f/p/q=1 f/p/r=3"));
+    let told = tree_text(&rt, alloc, &lower_two_first(&rt, alloc));
+    assert_eq!(rt; told.as_str(), " d d/p f/p/r=3");
+    let told = tree_text(&rt, alloc, &upper_two_first(&rt, alloc));
+    assert_eq!(rt; told.as_str(), " d d/p f/p/q=1 f/p/r=3");
 }
 
 #[test]

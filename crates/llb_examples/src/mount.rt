@@ -1,9 +1,10 @@
 //! Views. A mount is a row: its dest, its selector, whether it is read-only, and the name of the one file in its tree. A
 //! story is told in a line of text: the answer to each step, and then the mounts.
 
-use super::told::{are_all_told, file, is_told, push_path, tree_of};
+use super::told::{file, is_told, made, say, say_names, say_path};
 use llb_mount::{Many, Memory, Path, ReadOnly, Shown, Tree, View};
 use std::alloc::Global;
+use std::process::Abort;
 
 type Row = (&'static str, &'static str, bool, &'static str);
 
@@ -13,33 +14,39 @@ const THREE: &[Row] = &[
     ("/t/in", "/sub", true, "c"),
 ];
 
-fn shown(alloc: Global, row: &Row) -> Result<Shown, Memory> {
+fn path_of(rt: &impl Abort, alloc: Global, text: &str) -> Path {
+    Path::read(alloc, text).expect(rt, "a path")
+}
+
+fn shown(rt: &impl Abort, alloc: Global, row: &Row) -> Shown {
     let (dest, selector, readonly, name) = *row;
-    let dest = Path::read(alloc, dest)?;
-    let selector = Path::read(alloc, selector)?;
-    let tree = tree_of(alloc, &[file(name, "")])?;
-    Ok(Shown {
-        dest,
-        selector,
+    Shown {
+        dest: path_of(rt, alloc, dest),
+        selector: path_of(rt, alloc, selector),
         readonly,
-        tree,
-    })
+        tree: made(rt, alloc, &[file(name, "")]),
+    }
+}
+
+fn mounts_of(rt: &impl Abort, alloc: Global, rows: &[Row]) -> Vec<Shown> {
+    let mut mounts = Vec::new(alloc);
+    for row in rows {
+        mounts.push(shown(rt, alloc, row)).expect(rt, "memory");
+    }
+    mounts
+}
+
+fn view_with(rt: &impl Abort, mounts: Many<Shown>) -> View {
+    View::make(mounts).expect(rt, "memory")
 }
 
 // The view of the mounts, where they make one.
-fn view_of(alloc: Global, rows: &[Row]) -> Result<Option<View>, Memory> {
-    let mut mounts = Vec::new(alloc);
-    for row in rows {
-        mounts.push(shown(alloc, row)?)?;
-    }
+fn view_of(rt: &impl Abort, alloc: Global, rows: &[Row]) -> Option<View> {
+    let mounts = mounts_of(rt, alloc, rows);
     if !View::can_make(&mounts) {
-        return Ok(None);
+        return None;
     }
-    Ok(Some(View::make(Many::new(mounts))?))
-}
-
-fn makes_a_view(alloc: Global, rows: &[Row]) -> Result<bool, Memory> {
-    Ok(view_of(alloc, rows)?.is_some())
+    Some(view_with(rt, Many::new(mounts)))
 }
 
 // Mounts, and whether they make a view.
@@ -58,29 +65,17 @@ const VIEWS: &[(&[Row], bool)] = &[
     ),
 ];
 
-// The number of the first row that is answered otherwise; past the end where there is none.
-fn first_other_view(alloc: Global, rows: &[(&[Row], bool)]) -> usize {
-    for (at, (mounts, wanted)) in rows.iter().enumerate() {
-        if makes_a_view(alloc, mounts) != Ok(*wanted) {
-            return at;
-        }
-    }
-    rows.len()
-}
-
 #[test]
 fn one_mount_is_at_the_root_and_no_two_at_one_dest(rt: HostRuntime) {
-    let rows = VIEWS;
-    are_all_told(&rt, first_other_view(rt.alloc(), rows), rows.len());
+    for (rows, wanted) in VIEWS {
+        assert_eq!(rt; view_of(&rt, rt.alloc(), rows).is_some(), *wanted);
+    }
 }
 
 // Where the view of the mounts routes the path of a text.
-fn route(alloc: Global, rows: &[Row], text: &str) -> Result<Option<(u32, u32)>, Memory> {
-    let path = Path::read(alloc, text)?;
-    match view_of(alloc, rows)? {
-        Some(view) => Ok(Some(view.route(&path))),
-        None => Ok(None),
-    }
+fn route(rt: &impl Abort, alloc: Global, rows: &[Row], text: &str) -> Option<(u32, u32)> {
+    let view = view_of(rt, alloc, rows)?;
+    Some(view.route(&path_of(rt, alloc, text)))
 }
 
 // The root may be the last mount.
@@ -104,20 +99,12 @@ const ROUTES: &[(&[Row], &str, u32, u32)] = &[
     (TURNED, "/f", 2, 0),
 ];
 
-// The number of the first row that is answered otherwise; past the end where there is none.
-fn first_other_route(alloc: Global, rows: &[(&[Row], &str, u32, u32)]) -> usize {
-    for (at, (mounts, text, number, dropped)) in rows.iter().enumerate() {
-        if route(alloc, mounts, text) != Ok(Some((*number, *dropped))) {
-            return at;
-        }
-    }
-    rows.len()
-}
-
 #[test]
 fn a_path_is_routed_to_the_longest_dest(rt: HostRuntime) {
-    let rows = ROUTES;
-    are_all_told(&rt, first_other_route(rt.alloc(), rows), rows.len());
+    for (rows, text, number, dropped) in ROUTES {
+        let routed = route(&rt, rt.alloc(), rows, text);
+        assert_eq!(rt; routed, Some((*number, *dropped)));
+    }
 }
 
 // A step of a story: a tree is put into a mount by its number.
@@ -128,66 +115,60 @@ enum Step {
 }
 
 // The names of a tree's files, and a space.
-fn push_files(alloc: Global, text: &mut String, tree: &Tree) -> Result<(), Memory> {
-    let names = tree.list(&Path::root(alloc))?;
-    for name in names.as_slice() {
-        text.push_str(name.as_str())?;
-    }
-    text.push_str(" ")?;
-    Ok(())
+fn say_files(rt: &impl Abort, alloc: Global, text: &mut String, tree: &Tree) {
+    let names = tree.list(&Path::root(alloc)).expect(rt, "memory");
+    say_names(rt, text, "", names.as_slice());
+    say(rt, text, " ");
 }
 
 // What the mounts are: dest, `:` and selector, `!` where it is read-only, `=` and the files.
-fn push_mounts(alloc: Global, text: &mut String, view: &View) -> Result<(), Memory> {
+fn say_mounts(rt: &impl Abort, alloc: Global, text: &mut String, view: &View) {
     for i in 0..view.mounts().len() as u32 {
-        push_path(text, view.dest(i))?;
-        text.push_str(":")?;
-        push_path(text, view.selector(i))?;
-        text.push_str(if view.is_read_only(i) { "!=" } else { "=" })?;
-        push_files(alloc, text, view.tree_of(i))?;
+        say_path(rt, text, view.dest(i));
+        say(rt, text, ":");
+        say_path(rt, text, view.selector(i));
+        say(rt, text, if view.is_read_only(i) { "!=" } else { "=" });
+        say_files(rt, alloc, text, view.tree_of(i));
     }
-    Ok(())
 }
 
 // What a mount's tree is set to, or the fault and what comes back.
-fn push_set(alloc: Global, text: &mut String, answer: Result<(), ReadOnly>) -> Result<(), Memory> {
+fn say_set(rt: &impl Abort, alloc: Global, text: &mut String, answer: Result<(), ReadOnly>) {
     match answer {
-        Ok(()) => text.push_str("ok ")?,
+        Ok(()) => say(rt, text, "ok "),
         Err(fault) => {
-            let number = fault.to_string(alloc)?;
-            text.push_str(number.as_str())?;
-            push_files(alloc, text, &fault.tree)?;
+            write!(text, "{fault}").expect(rt, "memory");
+            say_files(rt, alloc, text, &fault.tree);
         }
     }
-    Ok(())
 }
 
-fn take_step(alloc: Global, text: &mut String, view: &mut View, step: Step) -> Result<(), Memory> {
+fn take_step(rt: &impl Abort, alloc: Global, text: &mut String, view: &mut View, step: Step) {
     let (Step::Set(mount, name) | Step::Swap(mount, name)) = step;
-    let tree = tree_of(alloc, &[file(name, "")])?;
-    if mount as usize >= view.mounts().len() {
-        return Ok(());
-    }
+    let tree = made(rt, alloc, &[file(name, "")]);
+    assert!(rt; (mount as usize) < view.mounts().len());
     match step {
-        Step::Set(..) => push_set(alloc, text, view.set_tree(mount, tree)),
-        Step::Swap(..) => push_files(alloc, text, &view.swap_tree(mount, tree)),
+        Step::Set(..) => say_set(rt, alloc, text, view.set_tree(mount, tree)),
+        Step::Swap(..) => say_files(rt, alloc, text, &view.swap_tree(mount, tree)),
+    }
+}
+
+fn take_steps(rt: &impl Abort, alloc: Global, text: &mut String, view: &mut View, steps: &[Step]) {
+    for step in steps {
+        take_step(rt, alloc, text, view, *step);
     }
 }
 
 // The story of the steps, and then a view of the mounts that a copy gives back, which was made before them.
-fn story(alloc: Global, steps: &[Step]) -> Result<String, Memory> {
+fn story(rt: &impl Abort, alloc: Global, steps: &[Step]) -> String {
     let mut text = String::new(alloc);
-    if let Some(mut view) = view_of(alloc, THREE)? {
-        let copy = view.copy()?;
-        for step in steps {
-            take_step(alloc, &mut text, &mut view, *step)?;
-        }
-        push_mounts(alloc, &mut text, &view)?;
-        text.push_str("| ")?;
-        let again = View::make(copy.into_mounts())?;
-        push_mounts(alloc, &mut text, &again)?;
-    }
-    Ok(text)
+    let mut view = view_of(rt, alloc, THREE).expect(rt, "a view");
+    let copy = view.copy().expect(rt, "memory");
+    take_steps(rt, alloc, &mut text, &mut view, steps);
+    say_mounts(rt, alloc, &mut text, &view);
+    say(rt, &mut text, "| ");
+    say_mounts(rt, alloc, &mut text, &view_with(rt, copy.into_mounts()));
+    text
 }
 
 const STORIES: &[(&[Step], &str)] = &[
@@ -207,20 +188,11 @@ const STORIES: &[(&[Step], &str)] = &[
     ),
 ];
 
-// The number of the first row that is answered otherwise; past the end where there is none.
-fn first_wrong(alloc: Global, rows: &[(&[Step], &str)]) -> usize {
-    for (at, (steps, wanted)) in rows.iter().enumerate() {
-        if !is_told(alloc, story(alloc, steps), wanted) {
-            return at;
-        }
-    }
-    rows.len()
-}
-
 #[test]
 fn a_tree_is_set_where_the_mount_is_not_read_only_and_exchanged_in_any(rt: HostRuntime) {
-    let rows = STORIES;
-    are_all_told(&rt, first_wrong(rt.alloc(), rows), rows.len());
+    for (steps, wanted) in STORIES {
+        assert_eq!(rt; story(&rt, rt.alloc(), steps).as_str(), *wanted);
+    }
 }
 
 #[test]

@@ -1,8 +1,9 @@
 //! The nodes of a tree, the walks over it, and the paths below which it fits.
 
-use super::told::{Row, are_all_told, is_told, push_node, push_path, push_tree, tree_of};
+use super::told::{Row, made, say, say_node, say_path, say_tree};
 use llb_tree::{Meta, Node, Path, Tree, TreeFault, Walk};
-use std::alloc::{AllocError, Global};
+use std::alloc::Global;
+use std::process::Abort;
 
 const NESTED: &[Row<'static>] = &[
     ("/a", 0o700, 1, 1, None),
@@ -15,43 +16,49 @@ const NESTED: &[Row<'static>] = &[
 
 const TWO: &[Row<'static>] = &[("/e", 0o755, 0, 0, None), ("/f", 0o644, 0, 0, Some("x"))];
 
+// The path of a child.
+fn path_below(rt: &impl Abort, alloc: Global, names: &str, name: &str) -> String {
+    let mut path = String::from_str(alloc, names).expect(rt, "memory");
+    say(rt, &mut path, "/");
+    say(rt, &mut path, name);
+    path
+}
+
 // The children of a node by their paths, the last one first.
 fn leave_children<'a>(
+    rt: &impl Abort,
     alloc: Global,
     left: &mut Vec<(String, &'a Node)>,
     names: &str,
     node: &'a Node,
-) -> Result<(), AllocError> {
+) {
     for child in node.children().iter().rev() {
-        let name = child.name().as_str();
-        let below = format!(in alloc; "{names}/{name}")?;
-        left.push((below, child.node()))?;
+        let below = path_below(rt, alloc, names, child.name().as_str());
+        left.push((below, child.node())).expect(rt, "memory");
     }
-    Ok(())
 }
 
 // What stands at each node, before what is below it.
-fn push_nodes(alloc: Global, text: &mut String, root: &Node) -> Result<(), AllocError> {
+fn say_nodes(rt: &impl Abort, alloc: Global, text: &mut String, root: &Node) {
     let mut left = Vec::new(alloc);
-    left.push((String::new(alloc), root))?;
+    left.push((String::new(alloc), root)).expect(rt, "memory");
     for _ in 0..u64::MAX {
         let Some((names, node)) = left.pop() else {
-            return Ok(());
+            return;
         };
-        push_node(text, names.as_str(), node)?;
-        leave_children(alloc, &mut left, names.as_str(), node)?;
+        say_node(rt, text, names.as_str(), node);
+        leave_children(rt, alloc, &mut left, names.as_str(), node);
     }
-    Ok(())
 }
 
 // What is told by the nodes, and after a bar by a walk.
-fn told(alloc: Global, rows: &[Row<'_>]) -> Result<String, TreeFault> {
-    let tree = tree_of(alloc, rows)?;
+fn told(rt: &impl Abort, alloc: Global, rows: &[Row<'_>]) -> String {
+    let tree = made(rt, alloc, rows);
     let mut text = String::new(alloc);
-    push_nodes(alloc, &mut text, tree.root())?;
-    text.push_str("|")?;
-    push_tree(&mut text, &tree)?;
-    Ok(text)
+    say_nodes(rt, alloc, &mut text, tree.root());
+    say(rt, &mut text, "|");
+    say_tree(rt, &mut text, &tree);
+    text
 }
 
 // Trees, and how the nodes and a walk tell them.
@@ -65,50 +72,41 @@ const TOLD: &[(&[Row<'static>], &str)] = &[
     ),
 ];
 
-// The number of the first row that is answered otherwise; past the end where there is none.
-fn first_wrong(alloc: Global, rows: &[(&[Row<'static>], &str)]) -> usize {
-    for (at, (entries, wanted)) in rows.iter().enumerate() {
-        if !is_told(alloc, told(alloc, entries), wanted) {
-            return at;
-        }
-    }
-    rows.len()
-}
-
 #[test]
 fn nodes_and_a_walk_tell_the_same_entries(rt: HostRuntime) {
-    let rows = TOLD;
-    are_all_told(&rt, first_wrong(rt.alloc(), rows), rows.len());
+    for (rows, wanted) in TOLD {
+        assert_eq!(rt; told(&rt, rt.alloc(), rows).as_str(), *wanted);
+    }
 }
 
 // Where a walk is.
-fn push_place(text: &mut String, walk: &Walk<'_>) -> Result<(), AllocError> {
+fn say_place(rt: &impl Abort, text: &mut String, walk: &Walk<'_>) {
     match walk.at() {
-        None => text.push_str("end")?,
-        Some((path, _)) => push_path(text, path)?,
+        None => say(rt, text, "end"),
+        Some((path, _)) => say_path(rt, text, path),
     }
-    text.push_str("|")
+    say(rt, text, "|");
 }
 
 // Goes on, `a` to the next entry and `s` after what is below.
-fn go(walk: &mut Walk<'_>, step: char) -> Result<(), TreeFault> {
+fn go(rt: &impl Abort, walk: &mut Walk<'_>, step: char) {
     match step {
-        'a' => walk.advance(),
-        _ => walk.skip(),
+        'a' => walk.advance().expect(rt, "memory"),
+        _ => walk.skip().expect(rt, "memory"),
     }
 }
 
 // Where the walk is at first, and after each step.
-fn walked(alloc: Global, rows: &[Row<'_>], steps: &str) -> Result<String, TreeFault> {
+fn walked(rt: &impl Abort, alloc: Global, rows: &[Row<'_>], steps: &str) -> String {
     let mut text = String::new(alloc);
-    let tree = tree_of(alloc, rows)?;
+    let tree = made(rt, alloc, rows);
     let mut walk = tree.walk();
-    push_place(&mut text, &walk)?;
+    say_place(rt, &mut text, &walk);
     for step in steps.chars() {
-        go(&mut walk, step)?;
-        push_place(&mut text, &walk)?;
+        go(rt, &mut walk, step);
+        say_place(rt, &mut text, &walk);
     }
-    Ok(text)
+    text
 }
 
 // Trees, the steps of a walk, and where it is.
@@ -128,47 +126,49 @@ const WALKED: &[(&[Row<'static>], &str, &str)] = &[
     (NESTED, "aaaaasa", "|/a|/a/b|/a-|/a-/c|/a-/c/d|/b|end|"),
 ];
 
-// The number of the first row that is answered otherwise; past the end where there is none.
-fn first_other_walk(alloc: Global, rows: &[(&[Row<'static>], &str, &str)]) -> usize {
-    for (at, (entries, steps, wanted)) in rows.iter().enumerate() {
-        if !is_told(alloc, walked(alloc, entries, steps), wanted) {
-            return at;
-        }
-    }
-    rows.len()
-}
-
 #[test]
 fn a_walk_goes_on_and_skips_and_stays_at_its_end(rt: HostRuntime) {
-    let rows = WALKED;
-    are_all_told(&rt, first_other_walk(rt.alloc(), rows), rows.len());
+    for (rows, steps, wanted) in WALKED {
+        assert_eq!(rt; walked(&rt, rt.alloc(), rows, steps).as_str(), *wanted);
+    }
 }
 
 // The path of the name `a` that many times over.
-fn deep_path(alloc: Global, names: usize) -> Result<Path, TreeFault> {
+fn deep_path(rt: &impl Abort, alloc: Global, names: usize) -> Path {
     let mut text = String::new(alloc);
     for _ in 0..names {
-        text.push_str("/a")?;
+        say(rt, &mut text, "/a");
     }
-    Path::read(alloc, text.as_str())
+    Path::read(alloc, text.as_str()).expect(rt, "a path")
 }
 
 // A directory at that path, in those that it needs.
-fn deep_tree(alloc: Global, names: usize) -> Result<Tree, TreeFault> {
-    let mut tree = Tree::empty(alloc)?;
+fn deep_tree(rt: &impl Abort, alloc: Global, names: usize) -> Tree {
+    let mut tree = Tree::empty(alloc).expect(rt, "memory");
     for at in 0..names {
-        tree.put_dir(&deep_path(alloc, at + 1)?, Meta::new_dir())?;
+        let path = deep_path(rt, alloc, at + 1);
+        tree.put_dir(&path, Meta::new_dir()).expect(rt, "memory");
     }
-    Ok(tree)
+    tree
+}
+
+fn cut_at(rt: &impl Abort, tree: &mut Tree, path: &Path) {
+    tree.remove(path).expect(rt, "what is there");
 }
 
 // Whether a tree of that many levels, of which those from a number on are gone again, fits below a path of that many names.
-fn fits(alloc: Global, levels: usize, cut: Option<usize>, names: usize) -> Result<(), TreeFault> {
-    let mut tree = deep_tree(alloc, levels)?;
+fn fits(
+    rt: &impl Abort,
+    alloc: Global,
+    levels: usize,
+    cut: Option<usize>,
+    names: usize,
+) -> Result<(), TreeFault> {
+    let mut tree = deep_tree(rt, alloc, levels);
     if let Some(cut) = cut {
-        tree.remove(&deep_path(alloc, cut)?)?;
+        cut_at(rt, &mut tree, &deep_path(rt, alloc, cut));
     }
-    tree.fits(&deep_path(alloc, names)?)
+    tree.fits(&deep_path(rt, alloc, names))
 }
 
 // The levels of a tree, those from which on they are gone, the names above, and whether it fits.
@@ -184,21 +184,10 @@ const DEPTHS: &[(usize, Option<usize>, usize, Result<(), TreeFault>)] = &[
     (128, Some(3), 127, Err(TreeFault::BadName)),
 ];
 
-// The number of the first row that is answered otherwise; past the end where there is none.
-fn first_other_depth(
-    alloc: Global,
-    rows: &[(usize, Option<usize>, usize, Result<(), TreeFault>)],
-) -> usize {
-    for (at, (levels, cut, names, wanted)) in rows.iter().enumerate() {
-        if fits(alloc, *levels, *cut, *names) != *wanted {
-            return at;
-        }
-    }
-    rows.len()
-}
-
 #[test]
 fn what_is_put_below_a_path_ends_at_128_names(rt: HostRuntime) {
-    let rows = DEPTHS;
-    are_all_told(&rt, first_other_depth(rt.alloc(), rows), rows.len());
+    for (levels, cut, names, wanted) in DEPTHS {
+        let answer = fits(&rt, rt.alloc(), *levels, *cut, *names);
+        assert_eq!(rt; answer, *wanted);
+    }
 }

@@ -1,11 +1,12 @@
 //! One tree laid over another in a way: told by the entries of what comes of it.
 
 use super::stage::are_told;
-use super::told::{Row, are_all_told, tree_of};
-use llb_merge::{Memory, lay, lay_onto, lay_over};
-use llb_tree::{Tree, TreeFault, Way};
+use super::told::{Row, made};
+use llb_merge::{lay, lay_onto, lay_over};
+use llb_tree::{Tree, Way};
 use llb_wire::Same;
 use std::alloc::Global;
+use std::process::Abort;
 
 const LOWER: &[Row<'static>] = &[
     ("/", 0o700, 1, 1, None),
@@ -175,44 +176,46 @@ fn files_hide_directories_are_one_and_a_way_keeps_and_gives(rt: HostRuntime) {
     are_told(&rt, rt.alloc(), LAID);
 }
 
+fn copied(rt: &impl Abort, tree: &Tree) -> Tree {
+    tree.copy().expect(rt, "memory")
+}
+
+fn overlaid(rt: &impl Abort, lower: Tree, way: &Way, upper: &Tree) -> Tree {
+    lower.overlaid(way, upper).expect(rt, "memory")
+}
+
 // Whether a tree that was laid over another, and a copy of the lower one, are what they were.
-fn both_stay(alloc: Global) -> Result<bool, TreeFault> {
-    let (lower, upper) = (tree_of(alloc, LOWER)?, tree_of(alloc, UPPER)?);
-    let Some(way) = Way::new(Some(0), Some(0), Some(0), false) else {
-        return Ok(false);
-    };
-    let _laid = lower.copy()?.overlaid(&way, &upper)?;
-    let (old_lower, old_upper) = (tree_of(alloc, LOWER)?, tree_of(alloc, UPPER)?);
-    Ok(lower.same(&old_lower) && upper.same(&old_upper))
+fn both_stay(rt: &impl Abort, alloc: Global) -> bool {
+    let (lower, upper) = (made(rt, alloc, LOWER), made(rt, alloc, UPPER));
+    let way = Way::new(Some(0), Some(0), Some(0), false).expect(rt, "a way");
+    let _laid = overlaid(rt, copied(rt, &lower), &way, &upper);
+    lower.same(&made(rt, alloc, LOWER)) && upper.same(&made(rt, alloc, UPPER))
 }
 
 #[test]
 fn what_is_laid_and_what_it_is_laid_over_stay(rt: HostRuntime) {
-    assert!(rt; both_stay(rt.alloc()) == Ok(true));
+    assert!(rt; both_stay(&rt, rt.alloc()));
 }
 
-fn is_tree_of(laid: &Result<Tree, Memory>, tree: &Tree) -> bool {
-    match laid {
-        Ok(laid) => laid.same(tree),
-        Err(_) => false,
-    }
+fn lent(rt: &impl Abort, alloc: Global, lower: &Tree, upper: &Tree) -> Tree {
+    lay(alloc, lower, upper).expect(rt, "memory")
+}
+
+fn handed_over(rt: &impl Abort, lower: Tree, upper: &Tree) -> Tree {
+    lay_onto(lower, upper).expect(rt, "memory")
+}
+
+fn in_place(rt: &impl Abort, mut lower: Tree, upper: &Tree) -> Tree {
+    lay_over(&mut lower, upper).expect(rt, "memory");
+    lower
 }
 
 // Whether a tree that another is laid over in place, and then one that is handed over, come to the same as one that is lent.
-fn lays_the_same(
-    alloc: Global,
-    lower: &[Row<'_>],
-    upper: &[Row<'_>],
-) -> Result<[bool; 2], TreeFault> {
-    let (first, mut second) = (tree_of(alloc, lower)?, tree_of(alloc, lower)?);
-    let upper = tree_of(alloc, upper)?;
-    let lent = lay(alloc, &first, &upper);
-    let in_place = lay_over(&mut second, &upper).is_ok() && is_tree_of(&lent, &second);
-    let handed = match lay_onto(first, &upper) {
-        Ok(laid) => is_tree_of(&lent, &laid),
-        Err(Memory) => false,
-    };
-    Ok([in_place, handed])
+fn lays_the_same(rt: &impl Abort, alloc: Global, lower: &[Row<'_>], upper: &[Row<'_>]) -> bool {
+    let (first, second) = (made(rt, alloc, lower), made(rt, alloc, lower));
+    let upper = made(rt, alloc, upper);
+    let wanted = lent(rt, alloc, &first, &upper);
+    in_place(rt, second, &upper).same(&wanted) && handed_over(rt, first, &upper).same(&wanted)
 }
 
 // Lower and upper trees.
@@ -223,34 +226,23 @@ const PAIRS: &[(&[Row<'static>], &[Row<'static>])] = &[
     (LOWER, &[]),
 ];
 
-// The number of the first row that is answered otherwise; past the end where there is none.
-fn first_other_pair(alloc: Global, rows: &[(&[Row<'static>], &[Row<'static>])]) -> usize {
-    for (at, (lower, upper)) in rows.iter().enumerate() {
-        if lays_the_same(alloc, lower, upper) != Ok([true, true]) {
-            return at;
-        }
-    }
-    rows.len()
-}
-
 #[test]
 fn a_lower_tree_is_lent_or_handed_over_or_laid_over_in_place(rt: HostRuntime) {
-    let rows = PAIRS;
-    are_all_told(&rt, first_other_pair(rt.alloc(), rows), rows.len());
+    for (lower, upper) in PAIRS {
+        assert!(rt; lays_the_same(&rt, rt.alloc(), lower, upper));
+    }
 }
 
 // Whether a way that keeps and gives comes to the same in place.
-fn way_in_place(alloc: Global) -> Result<bool, TreeFault> {
-    let (mut lower, upper) = (tree_of(alloc, LOWER)?, tree_of(alloc, UPPER)?);
-    let Some(way) = Way::new(Some(0o4640), None, Some(5), true) else {
-        return Ok(false);
-    };
-    let laid = lower.copy()?.overlaid(&way, &upper)?;
-    lower.overlay(&way, &upper)?;
-    Ok(lower.same(&laid))
+fn way_in_place(rt: &impl Abort, alloc: Global) -> bool {
+    let (mut lower, upper) = (made(rt, alloc, LOWER), made(rt, alloc, UPPER));
+    let way = Way::new(Some(0o4640), None, Some(5), true).expect(rt, "a way");
+    let laid = overlaid(rt, copied(rt, &lower), &way, &upper);
+    lower.overlay(&way, &upper).expect(rt, "memory");
+    lower.same(&laid)
 }
 
 #[test]
 fn a_way_comes_to_the_same_in_place(rt: HostRuntime) {
-    assert!(rt; way_in_place(rt.alloc()) == Ok(true));
+    assert!(rt; way_in_place(&rt, rt.alloc()));
 }

@@ -28,7 +28,7 @@ fn empty_stage(rt: &impl Abort, alloc: Global) -> Stage {
 }
 
 fn say_on_trees(rt: &impl Abort, alloc: Global, text: &mut String, trees: &mut Trees, call: &str) {
-    if let Err(fault) = answer(alloc, text, trees, call) {
+    if let Err(fault) = answer(rt, alloc, text, trees, call) {
         say_fault(rt, text, &fault);
     }
 }

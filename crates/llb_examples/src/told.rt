@@ -1,8 +1,8 @@
 //! Trees by their rows, and how they are told in a line of text: of each entry a `d` or an `f` and its path, its mode and owner where they
 //! are not those of a new one, and the content of a file after `=`.
 
-use llb_tree::{Bytes, Entry, Meta, Node, Path, Tree, TreeFault};
-use std::alloc::{AllocError, Global};
+use llb_tree::{Bytes, Entry, Meta, Name, Node, Path, Tree, TreeFault};
+use std::alloc::Global;
 use std::fmt::Display;
 use std::process::Abort;
 
@@ -39,6 +39,11 @@ pub(crate) fn tree_of(alloc: Global, rows: &[Row<'_>]) -> Result<Tree, TreeFault
         put(alloc, &mut tree, row)?;
     }
     Ok(tree)
+}
+
+// The tree of rows that are in their order.
+pub(crate) fn made(rt: &impl Abort, alloc: Global, rows: &[Row<'_>]) -> Tree {
+    tree_of(alloc, rows).expect(rt, "memory")
 }
 
 // Whether an answer is told so: the text that it is, or what its fault prints.
@@ -88,12 +93,11 @@ pub(crate) fn block<'a>(text: &'a str, wanted: &str) -> Option<&'a str> {
 }
 
 // A path by its names.
-pub(crate) fn push_path(text: &mut String, path: &Path) -> Result<(), AllocError> {
+pub(crate) fn say_path(rt: &impl Abort, text: &mut String, path: &Path) {
     for name in path.names() {
-        text.push_str("/")?;
-        text.push_str(name.as_str())?;
+        say(rt, text, "/");
+        say(rt, text, name.as_str());
     }
-    Ok(())
 }
 
 pub(crate) fn kind_of(entry: &Entry<'_>) -> &'static str {
@@ -103,97 +107,80 @@ pub(crate) fn kind_of(entry: &Entry<'_>) -> &'static str {
     }
 }
 
-fn push_meta(text: &mut String, meta: Meta, new: u16) -> Result<(), AllocError> {
+fn say_meta(rt: &impl Abort, text: &mut String, meta: Meta, new: u16) {
     let (mode, uid, gid) = (meta.mode(), meta.uid(), meta.gid());
-    if (mode, uid, gid) == (new, 0, 0) {
-        return Ok(());
+    if (mode, uid, gid) != (new, 0, 0) {
+        write!(text, "({mode:o} {uid}:{gid})").expect(rt, "memory");
     }
-    write!(text, "({mode:o} {uid}:{gid})")
 }
 
 // A content in one line: an end of line is told as `\n`.
-fn push_content(text: &mut String, content: &str) -> Result<(), AllocError> {
+fn say_content(rt: &impl Abort, text: &mut String, content: &str) {
     for (at, line) in content.split('\n').enumerate() {
         if at > 0 {
-            text.push_str("\\n")?;
+            say(rt, text, "\\n");
         }
-        text.push_str(line)?;
+        say(rt, text, line);
     }
-    Ok(())
 }
 
 // What stands after the path of a file.
-fn push_file(text: &mut String, meta: Meta, content: &[u8]) -> Result<(), AllocError> {
-    push_meta(text, meta, 0o644)?;
-    text.push_str("=")?;
-    push_content(text, str::from_utf8(content).unwrap_or("not UTF-8"))
+fn say_file(rt: &impl Abort, text: &mut String, meta: Meta, content: &[u8]) {
+    say_meta(rt, text, meta, 0o644);
+    say(rt, text, "=");
+    say_content(rt, text, str::from_utf8(content).unwrap_or("not UTF-8"));
 }
 
 // What stands after the path of an entry.
-pub(crate) fn push_rest(text: &mut String, entry: &Entry<'_>) -> Result<(), AllocError> {
+pub(crate) fn say_rest(rt: &impl Abort, text: &mut String, entry: &Entry<'_>) {
     match entry {
-        Entry::Dir(meta) => push_meta(text, *meta, 0o755),
-        Entry::File(meta, content) => push_file(text, *meta, content.as_slice()),
+        Entry::Dir(meta) => say_meta(rt, text, *meta, 0o755),
+        Entry::File(meta, content) => say_file(rt, text, *meta, content.as_slice()),
     }
 }
 
 /// What stands at a node, after its path.
-pub(crate) fn push_node(text: &mut String, names: &str, node: &Node) -> Result<(), AllocError> {
-    match node.entry() {
-        Entry::Dir(meta) => {
-            text.push_str(" d")?;
-            text.push_str(names)?;
-            push_meta(text, meta, 0o755)
-        }
-        Entry::File(meta, content) => {
-            text.push_str(" f")?;
-            text.push_str(names)?;
-            push_file(text, meta, content.as_slice())
-        }
-    }
+pub(crate) fn say_node(rt: &impl Abort, text: &mut String, names: &str, node: &Node) {
+    let entry = node.entry();
+    say(rt, text, kind_of(&entry));
+    say(rt, text, names);
+    say_rest(rt, text, &entry);
 }
 
-pub(crate) fn push_entry(
-    text: &mut String,
-    path: &Path,
-    entry: &Entry<'_>,
-) -> Result<(), AllocError> {
-    text.push_str(kind_of(entry))?;
-    push_path(text, path)?;
-    push_rest(text, entry)
+pub(crate) fn say_entry(rt: &impl Abort, text: &mut String, path: &Path, entry: &Entry<'_>) {
+    say(rt, text, kind_of(entry));
+    say_path(rt, text, path);
+    say_rest(rt, text, entry);
 }
 
 // The entries in their order.
-pub(crate) fn push_tree(text: &mut String, tree: &Tree) -> Result<(), TreeFault> {
+pub(crate) fn say_tree(rt: &impl Abort, text: &mut String, tree: &Tree) {
     let mut walk = tree.walk();
     for _ in 0..u64::MAX {
         let Some((path, entry)) = walk.at() else {
-            return Ok(());
+            return;
         };
-        push_entry(text, path, &entry)?;
-        walk.advance()?;
+        say_entry(rt, text, path, &entry);
+        walk.advance().expect(rt, "memory");
     }
-    Ok(())
 }
 
-pub(crate) fn tree_text(alloc: Global, tree: &Tree) -> Result<String, TreeFault> {
+pub(crate) fn tree_text(rt: &impl Abort, alloc: Global, tree: &Tree) -> String {
     let mut text = String::new(alloc);
-    push_tree(&mut text, tree)?;
-    Ok(text)
+    say_tree(rt, &mut text, tree);
+    text
 }
 
-pub(crate) fn push_looked(text: &mut String, tree: &Tree, path: &Path) -> Result<(), AllocError> {
+pub(crate) fn say_looked(rt: &impl Abort, text: &mut String, tree: &Tree, path: &Path) {
     match tree.get(path) {
-        None => text.push_str("none"),
-        Some(entry) => push_entry(text, path, &entry),
+        None => say(rt, text, "none"),
+        Some(entry) => say_entry(rt, text, path, &entry),
     }
 }
 
-pub(crate) fn push_list(text: &mut String, tree: &Tree, path: &Path) -> Result<(), TreeFault> {
-    let names = tree.list(path)?;
-    for name in names.as_slice() {
-        text.push_str(" ")?;
-        text.push_str(name.as_str())?;
+pub(crate) fn say_names(rt: &impl Abort, text: &mut String, before: &str, names: &[Name]) {
+    for name in names {
+        say(rt, text, before);
+        say(rt, text, name.as_str());
     }
-    Ok(())
 }

@@ -1,10 +1,11 @@
 //! Names, paths and trees.
 
 use super::stage::are_told;
-use super::told::{Row, are_all_told, file, is_told, push_path, tree_of};
+use super::told::{Row, file, made, say, say_path};
 use llb_tree::{Meta, Name, Path, Tree, TreeFault};
 use llb_wire::Same;
 use std::alloc::Global;
+use std::process::Abort;
 
 // The path of a text, read from another path where there is one.
 fn read(alloc: Global, start: Option<&str>, text: &str) -> Result<Path, TreeFault> {
@@ -14,11 +15,14 @@ fn read(alloc: Global, start: Option<&str>, text: &str) -> Result<Path, TreeFaul
     }
 }
 
-fn printed(alloc: Global, start: Option<&str>, text: &str) -> Result<String, TreeFault> {
-    let path = read(alloc, start, text)?;
+// The path by its names, or the fault.
+fn printed(rt: &impl Abort, alloc: Global, start: Option<&str>, text: &str) -> String {
     let mut printed = String::new(alloc);
-    push_path(&mut printed, &path)?;
-    Ok(printed)
+    match read(alloc, start, text) {
+        Ok(path) => say_path(rt, &mut printed, &path),
+        Err(fault) => write!(printed, "{fault}").expect(rt, "memory"),
+    }
+    printed
 }
 
 // Texts, and their paths, or 26.
@@ -49,30 +53,26 @@ const TEXTS: &[(Option<&str>, &str, &str)] = &[
     (Some("/a"), "b\n", "26"),
 ];
 
-// The number of the first row that is answered otherwise; past the end where there is none.
-fn first_other_path(alloc: Global, rows: &[(Option<&str>, &str, &str)]) -> usize {
-    for (at, (start, text, wanted)) in rows.iter().enumerate() {
-        if !is_told(alloc, printed(alloc, *start, text), wanted) {
-            return at;
-        }
-    }
-    rows.len()
-}
-
 #[test]
 fn a_text_is_read_part_by_part_from_the_root_or_a_path(rt: HostRuntime) {
-    let rows = TEXTS;
-    are_all_told(&rt, first_other_path(rt.alloc(), rows), rows.len());
+    for (start, text, wanted) in TEXTS {
+        assert_eq!(rt; printed(&rt, rt.alloc(), *start, text).as_str(), *wanted);
+    }
 }
 
-// How many names the path of a text has that is a part this many times over, and then a rest.
-fn names_of(alloc: Global, part: &str, count: usize, rest: &str) -> Result<usize, TreeFault> {
+// A part that many times over, and then a rest.
+fn repeated(rt: &impl Abort, alloc: Global, part: &str, count: usize, rest: &str) -> String {
     let mut text = String::new(alloc);
     for _ in 0..count {
-        text.push_str(part)?;
+        say(rt, &mut text, part);
     }
-    text.push_str(rest)?;
-    let path = Path::read(alloc, &text)?;
+    say(rt, &mut text, rest);
+    text
+}
+
+// How many names the path of a text has.
+fn names_of(alloc: Global, text: &str) -> Result<usize, TreeFault> {
+    let path = Path::read(alloc, text)?;
     Ok(path.names().len())
 }
 
@@ -88,27 +88,23 @@ const COUNTS: &[Counted] = &[
     ("/a", 128, "/c/..", Err(TreeFault::BadName)),
 ];
 
-// The number of the first row that is answered otherwise; past the end where there is none.
-fn first_other_count(alloc: Global, rows: &[Counted]) -> usize {
-    for (at, (part, count, rest, wanted)) in rows.iter().enumerate() {
-        if names_of(alloc, part, *count, rest) != *wanted {
-            return at;
-        }
-    }
-    rows.len()
-}
-
 #[test]
 fn a_name_has_255_bytes_and_a_path_128_names_at_most(rt: HostRuntime) {
-    let rows = COUNTS;
-    are_all_told(&rt, first_other_count(rt.alloc(), rows), rows.len());
+    for (part, count, rest, wanted) in COUNTS {
+        let text = repeated(&rt, rt.alloc(), part, *count, rest);
+        assert_eq!(rt; names_of(rt.alloc(), text.as_str()), *wanted);
+    }
+}
+
+fn path_of(rt: &impl Abort, alloc: Global, text: &str) -> Path {
+    Path::read(alloc, text).expect(rt, "a path")
 }
 
 // Whether a path is another one, and whether it stands before it.
-fn compared(alloc: Global, one: &str, other: &str) -> Result<(bool, bool), TreeFault> {
-    let path = Path::read(alloc, one)?;
-    let other = Path::read(alloc, other)?;
-    Ok((path.same(&other), path < other))
+fn compared(rt: &impl Abort, alloc: Global, one: &str, other: &str) -> (bool, bool) {
+    let path = path_of(rt, alloc, one);
+    let other = path_of(rt, alloc, other);
+    (path.same(&other), path < other)
 }
 
 // Two paths, whether they are the same, and whether the first stands before the second.
@@ -119,20 +115,11 @@ const ORDERED: &[(&str, &str, bool, bool)] = &[
     ("usr/bin", "bin/usr", false, false),
 ];
 
-// The number of the first row that is answered otherwise; past the end where there is none.
-fn first_other_order(alloc: Global, rows: &[(&str, &str, bool, bool)]) -> usize {
-    for (at, (one, other, same, before)) in rows.iter().enumerate() {
-        if compared(alloc, one, other) != Ok((*same, *before)) {
-            return at;
-        }
-    }
-    rows.len()
-}
-
 #[test]
 fn paths_are_in_order_name_by_name(rt: HostRuntime) {
-    let rows = ORDERED;
-    are_all_told(&rt, first_other_order(rt.alloc(), rows), rows.len());
+    for (one, other, same, before) in ORDERED {
+        assert_eq!(rt; compared(&rt, rt.alloc(), one, other), (*same, *before));
+    }
 }
 
 // Whether the copy of a name has the text of the name.
@@ -141,13 +128,19 @@ fn is_kept(alloc: Global, text: &str) -> Result<bool, TreeFault> {
     Ok(name.as_str() == text)
 }
 
+fn push(rt: &impl Abort, alloc: Global, path: &mut Path, name: &str) {
+    let name = Name::new(alloc, name).expect(rt, "a name");
+    path.push(name).expect(rt, "room");
+}
+
 // Whether the path /etc from its name, and its copy, are what it is read as.
-fn is_pushed(alloc: Global) -> Result<bool, TreeFault> {
+fn is_pushed(rt: &impl Abort, alloc: Global) -> bool {
     let mut path = Path::root(alloc);
-    path.push(Name::new(alloc, "etc")?)?;
+    push(rt, alloc, &mut path, "etc");
     path.reads_back();
-    let (copied, read) = (path.copy()?, Path::read(alloc, "/etc")?);
-    Ok(!path.is_root() && path.same(&read) && copied.same(&read))
+    let copied = path.copy().expect(rt, "memory");
+    let read = path_of(rt, alloc, "/etc");
+    !path.is_root() && path.same(&read) && copied.same(&read)
 }
 
 #[test]
@@ -156,28 +149,31 @@ fn names_and_paths_by_hand(rt: HostRuntime) {
         assert!(rt; Name::is_name(text) == wanted, "{text}");
     }
     let alloc = rt.alloc();
-    let answers = [is_kept(alloc, "etc"), is_kept(alloc, "."), is_pushed(alloc)];
-    assert!(rt; answers == [Ok(true), Err(TreeFault::BadName), Ok(true)]);
-    assert!(rt; Path::root(alloc).is_root());
+    let answers = [is_kept(alloc, "etc"), is_kept(alloc, ".")];
+    assert!(rt; answers == [Ok(true), Err(TreeFault::BadName)]);
+    assert!(rt; is_pushed(&rt, alloc) && Path::root(alloc).is_root());
 }
 
-// What a path of this many names answers to one more, and how many it has then.
-fn one_more(alloc: Global, count: usize) -> Result<(bool, usize), TreeFault> {
+fn path_with(rt: &impl Abort, alloc: Global, names: usize) -> Path {
     let mut path = Path::root(alloc);
-    for _ in 0..count {
-        path.push(Name::new(alloc, "a")?)?;
+    for _ in 0..names {
+        push(rt, alloc, &mut path, "a");
     }
-    match path.push(Name::new(alloc, "b")?) {
-        Err(TreeFault::Memory) => Err(TreeFault::Memory),
-        answer => Ok((answer.is_ok(), path.names().len())),
-    }
+    path
+}
+
+// Whether a path of this many names takes one more, and how many it has then.
+fn one_more(rt: &impl Abort, alloc: Global, count: usize) -> (bool, usize) {
+    let mut path = path_with(rt, alloc, count);
+    let name = Name::new(alloc, "b").expect(rt, "a name");
+    let is_taken = path.push(name).is_ok();
+    (is_taken, path.names().len())
 }
 
 #[test]
 fn a_path_takes_no_129th_name(rt: HostRuntime) {
-    let alloc = rt.alloc();
-    assert!(rt; one_more(alloc, 127) == Ok((true, 128)));
-    assert!(rt; one_more(alloc, 128) == Ok((false, 128)));
+    assert_eq!(rt; one_more(&rt, rt.alloc(), 127), (true, 128));
+    assert_eq!(rt; one_more(&rt, rt.alloc(), 128), (false, 128));
 }
 
 fn numbers(mode: u16) -> Option<(u16, u32, u32)> {
@@ -198,9 +194,9 @@ fn a_mode_is_at_most_4095(rt: HostRuntime) {
 }
 
 // Whether a directory is at a path.
-fn has_directory(alloc: Global, rows: &[Row<'_>], path: &str) -> Result<bool, TreeFault> {
-    let tree = tree_of(alloc, rows)?;
-    Ok(tree.is_dir(&Path::read(alloc, path)?))
+fn has_directory(rt: &impl Abort, alloc: Global, rows: &[Row<'_>], path: &str) -> bool {
+    let tree = made(rt, alloc, rows);
+    tree.is_dir(&path_of(rt, alloc, path))
 }
 
 #[test]
@@ -208,7 +204,7 @@ fn a_directory_is_told_from_a_file(rt: HostRuntime) {
     let rows = [("/a", 0o700, 7, 8, None), ("/a/b", 0o644, 7, 8, Some("x"))];
     for (path, wanted) in [("/b", false), ("/a", true), ("/a/b", false)] {
         assert!(rt;
-            has_directory(rt.alloc(), &rows, path) == Ok(wanted),
+            has_directory(&rt, rt.alloc(), &rows, path) == wanted,
             "{path}"
         );
     }
@@ -335,21 +331,25 @@ fn a_tree_is_changed_call_by_call(rt: HostRuntime) {
     are_told(&rt, rt.alloc(), STORIES);
 }
 
-// What a graft at a path of this many names answers, for a tree with one name.
-fn graft_depth(alloc: Global, count: usize) -> Result<(), TreeFault> {
-    let mut tree = Tree::empty(alloc)?;
-    let mut path = String::new(alloc);
-    for _ in 0..count {
-        path.push_str("/a")?;
-        tree.put_dir(&Path::read(alloc, path.as_str())?, Meta::new_dir())?;
+// A directory at a path of this many names, in those that it needs.
+fn deep_tree(rt: &impl Abort, alloc: Global, names: usize) -> Tree {
+    let mut tree = Tree::empty(alloc).expect(rt, "memory");
+    for at in 0..names {
+        let path = path_with(rt, alloc, at + 1);
+        tree.put_dir(&path, Meta::new_dir()).expect(rt, "memory");
     }
-    let other = tree_of(alloc, &[file("/b", "")])?;
-    tree.graft(&Path::read(alloc, path.as_str())?, &other)
+    tree
+}
+
+// What a graft at a path of this many names answers, for a tree with one name.
+fn graft_depth(rt: &impl Abort, alloc: Global, names: usize) -> Result<(), TreeFault> {
+    let mut tree = deep_tree(rt, alloc, names);
+    let other = made(rt, alloc, &[file("/b", "")]);
+    tree.graft(&path_with(rt, alloc, names), &other)
 }
 
 #[test]
 fn a_place_has_128_names_at_most(rt: HostRuntime) {
-    let alloc = rt.alloc();
-    assert!(rt; graft_depth(alloc, 127) == Ok(()));
-    assert!(rt; graft_depth(alloc, 128) == Err(TreeFault::BadName));
+    assert_eq!(rt; graft_depth(&rt, rt.alloc(), 127), Ok(()));
+    assert_eq!(rt; graft_depth(&rt, rt.alloc(), 128), Err(TreeFault::BadName));
 }

@@ -5,10 +5,11 @@
 //! `list PATH` and `tree` tell of this one. `copy` and `subtree PATH` make the other tree of this one, `below PATH` makes it an empty tree
 //! with this one at the path, and `swap` exchanges the two. A content that ends in `\n` ends in an end of line.
 
-use super::told::{push_list, push_looked, push_tree};
+use super::told::{say, say_looked, say_names, say_tree};
 use llb_tree::{Bytes, Meta, Path, Tree, TreeFault, Way};
 use std::alloc::{AllocError, Global};
 use std::mem;
+use std::process::Abort;
 
 #[derive(Drop)]
 pub(crate) struct Trees {
@@ -113,20 +114,28 @@ fn change(alloc: Global, trees: &mut Trees, name: &str, call: &str) -> Result<()
 }
 
 // What is told of a tree.
-fn tell(alloc: Global, text: &mut String, tree: &Tree, call: &str) -> Result<(), TreeFault> {
+fn tell(
+    rt: &impl Abort,
+    alloc: Global,
+    text: &mut String,
+    tree: &Tree,
+    call: &str,
+) -> Result<(), TreeFault> {
     let (name, path) = word_and_rest(call);
     let path = Path::read(alloc, path)?;
     tree.is_tree();
     match name {
-        "look" => push_looked(text, tree, &path)?,
-        "list" => push_list(text, tree, &path)?,
-        _ => push_tree(text, tree)?,
+        "look" => say_looked(rt, text, tree, &path),
+        "list" => say_names(rt, text, " ", tree.list(&path)?.as_slice()),
+        _ => say_tree(rt, text, tree),
     }
-    Ok(text.push_str("\n")?)
+    say(rt, text, "\n");
+    Ok(())
 }
 
 // What a call answers, or its fault.
 pub(crate) fn answer(
+    rt: &impl Abort,
     alloc: Global,
     text: &mut String,
     trees: &mut Trees,
@@ -134,7 +143,7 @@ pub(crate) fn answer(
 ) -> Result<(), TreeFault> {
     let (name, _) = word_and_rest(call);
     match name {
-        "look" | "list" | "tree" => tell(alloc, text, &trees.this, call),
+        "look" | "list" | "tree" => tell(rt, alloc, text, &trees.this, call),
         _ => change(alloc, trees, name, call),
     }
 }

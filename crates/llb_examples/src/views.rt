@@ -3,7 +3,7 @@
 //! the first that is not 0, and then each mount's tree after a bar; the mounts themselves stay as they are.
 
 use super::scripts::texts;
-use super::told::{push_tree, say, say_number};
+use super::told::{say, say_number, say_tree};
 use super::trees::{Trees, word_and_rest};
 use llb_applet::{Command, Many, Path, Script, Setting, View, read_script, run_command};
 use llb_mount::Shown;
@@ -78,7 +78,7 @@ fn say_statuses(
 fn say_trees(rt: &impl Abort, text: &mut String, mounts: &[Shown]) {
     for shown in mounts {
         say(rt, text, "|");
-        push_tree(text, &shown.tree).expect(rt, "memory");
+        say_tree(rt, text, &shown.tree);
     }
     say(rt, text, "\n");
 }
