@@ -1,6 +1,7 @@
 //! The assembler's calls, each once: what texts stand for and how entries are written is tried by the program (the tests of `asm` and `dis` in
 //! `llbm`).
 
+use super::told::is_so;
 use llb_asm::{assemble, disassemble, magnitude, one_answer, reads_back};
 use llb_ops::Entries;
 use llb_wire::Over;
@@ -25,10 +26,13 @@ fn disassembled(rt: &impl Abort, alloc: Global, entries: &Entries) -> Vec<u8> {
 fn entries_are_written_and_read_again(rt: HostRuntime) {
     let entries = assembled(&rt, rt.alloc());
     let text = disassembled(&rt, rt.alloc(), &entries);
-    assert!(rt; text.as_slice() == TEXT.as_bytes());
+    is_so(&rt, text.as_slice() == TEXT.as_bytes());
 }
 
 #[test]
 fn a_number_is_read_by_its_digits(rt: HostRuntime) {
-    assert!(rt; magnitude(b"007") == Some(7) && magnitude(b"+7").is_none());
+    is_so(
+        &rt,
+        magnitude(b"007") == Some(7) && magnitude(b"+7").is_none(),
+    );
 }

@@ -6,7 +6,7 @@
 //! instance that a lease would have now, or `shut`. There are no caches after `new`.
 
 use super::stage::is_told_as;
-use super::told::{file, made, say, say_fault, say_number};
+use super::told::{file, is_so, made, say, say_fault, say_number};
 use super::trees::word_and_rest;
 use llb_cache::{Caches, Key, Lease, LeaseFault, Many, Mode, Need, Seed};
 use llb_tree::{Path, Text, Tree};
@@ -449,5 +449,5 @@ fn a_copy_is_the_same(rt: HostRuntime) {
     let mut one = two_leases(&rt, rt.alloc());
     let mut other = copy_of(&rt, rt.alloc(), &one);
     let told = compared(&rt, rt.alloc(), &mut one, &mut other);
-    assert!(rt; told == [true, false, true, false]);
+    is_so(&rt, told == [true, false, true, false]);
 }

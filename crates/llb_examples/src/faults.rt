@@ -1,6 +1,6 @@
 //! What faults print: what stands after the word `fault` in a refusal.
 
-use super::told::are_all_told;
+use super::told::prints;
 use llb_applet::ScriptFault;
 use llb_glob::PatternFault;
 use llb_loader::{Feature, LoadFault, Rule};
@@ -10,22 +10,12 @@ use llb_tree::TreeFault;
 use llb_wire::{Memory, WireFault};
 use std::alloc::Global;
 use std::fmt::Display;
+use std::process::Abort;
 
-fn prints<T: Display>(alloc: Global, fault: &T, wanted: &str) -> bool {
-    match fault.to_string(alloc) {
-        Ok(text) => text.as_str() == wanted,
-        Err(_) => false,
+fn all_print<E: Display>(rt: &impl Abort, alloc: Global, rows: &[(E, &str)]) {
+    for (fault, wanted) in rows {
+        prints(rt, alloc, fault, wanted);
     }
-}
-
-// The number of the first fault that prints something else; past the end where there is none.
-fn first_wrong<T: Display>(alloc: Global, rows: &[(T, &str)]) -> usize {
-    for (at, (fault, wanted)) in rows.iter().enumerate() {
-        if !prints(alloc, fault, wanted) {
-            return at;
-        }
-    }
-    rows.len()
 }
 
 const WIRE: &[(WireFault, &str)] = &[
@@ -46,11 +36,9 @@ const MESSAGES: &[(OpFault, &str)] = &[
 #[test]
 fn faults_of_records_and_messages(rt: HostRuntime) {
     let alloc = rt.alloc();
-    let rows = WIRE;
-    are_all_told(&rt, first_wrong(alloc, rows), rows.len());
-    let rows = MESSAGES;
-    are_all_told(&rt, first_wrong(alloc, rows), rows.len());
-    assert!(rt; prints(alloc, &Memory, "5"));
+    all_print(&rt, alloc, WIRE);
+    all_print(&rt, alloc, MESSAGES);
+    prints(&rt, alloc, &Memory, "5");
 }
 
 const TREES: &[(TreeFault, &str)] = &[
@@ -76,12 +64,9 @@ const VERTICES: &[(VertexFault, &str)] = &[
 #[test]
 fn faults_of_trees_patterns_and_vertices(rt: HostRuntime) {
     let alloc = rt.alloc();
-    let rows = TREES;
-    are_all_told(&rt, first_wrong(alloc, rows), rows.len());
-    let rows = PATTERNS;
-    are_all_told(&rt, first_wrong(alloc, rows), rows.len());
-    let rows = VERTICES;
-    are_all_told(&rt, first_wrong(alloc, rows), rows.len());
+    all_print(&rt, alloc, TREES);
+    all_print(&rt, alloc, PATTERNS);
+    all_print(&rt, alloc, VERTICES);
 }
 
 // The refusal of that number.
@@ -115,21 +100,11 @@ const REFUSALS: &[&str] = &[
     "91",
 ];
 
-// The number of the first refusal that prints something else; past the end where there is none.
-fn first_other_refusal(alloc: Global, texts: &[&str]) -> usize {
-    for (at, wanted) in texts.iter().enumerate() {
-        if !prints(alloc, &refusal(at), wanted) {
-            return at;
-        }
-    }
-    texts.len()
-}
-
 #[test]
 fn refusals_of_a_definition(rt: HostRuntime) {
-    let alloc = rt.alloc();
-    let rows = REFUSALS;
-    are_all_told(&rt, first_other_refusal(alloc, rows), rows.len());
+    for (at, wanted) in REFUSALS.iter().enumerate() {
+        prints(&rt, rt.alloc(), &refusal(at), wanted);
+    }
 }
 
 const FEATURES: &[(Feature, &str)] = &[
@@ -146,23 +121,14 @@ const FEATURES: &[(Feature, &str)] = &[
     (Feature::CopyField, "88 10 CopyField"),
 ];
 
-// The number of the first feature that prints something else, as that of the row of its own number; past the end where there is none.
-fn first_other_feature(alloc: Global, rows: &[(Feature, &str)]) -> usize {
-    let mut row = 0u32;
-    for (at, (feature, wanted)) in rows.iter().enumerate() {
-        if !prints(alloc, &LoadFault::Unsupported(row, *feature), wanted) {
-            return at;
-        }
-        row = row.saturating_add(1);
-    }
-    rows.len()
-}
-
 #[test]
 fn features_by_their_names(rt: HostRuntime) {
-    let alloc = rt.alloc();
-    let rows = FEATURES;
-    are_all_told(&rt, first_other_feature(alloc, rows), rows.len());
+    let mut row = 0u32;
+    for (feature, wanted) in FEATURES {
+        let fault = LoadFault::Unsupported(row, *feature);
+        prints(&rt, rt.alloc(), &fault, wanted);
+        row = row.saturating_add(1);
+    }
 }
 
 // The rule of that number.
@@ -214,21 +180,12 @@ const RULES: &[&str] = &[
     "89 19 MergeInput",
 ];
 
-// The number of the first rule that prints something else, as that of the row of its own number; past the end where there is none.
-fn first_other_rule(alloc: Global, texts: &[&str]) -> usize {
-    let mut row = 0u32;
-    for (at, wanted) in texts.iter().enumerate() {
-        if !prints(alloc, &LoadFault::Invalid(row, rule(at)), wanted) {
-            return at;
-        }
-        row = row.saturating_add(1);
-    }
-    texts.len()
-}
-
 #[test]
 fn rules_by_their_names(rt: HostRuntime) {
-    let alloc = rt.alloc();
-    let rows = RULES;
-    are_all_told(&rt, first_other_rule(alloc, rows), rows.len());
+    let mut row = 0u32;
+    for (at, wanted) in RULES.iter().enumerate() {
+        let fault = LoadFault::Invalid(row, rule(at));
+        prints(&rt, rt.alloc(), &fault, wanted);
+        row = row.saturating_add(1);
+    }
 }

@@ -2,7 +2,7 @@
 
 use super::acts::acted;
 use super::stage::are_told;
-use super::told::{say, say_path, tree_text};
+use super::told::{is_same, is_so, say, say_path, tree_text};
 use llb_fileop::resolve;
 use llb_tree::Tree;
 use std::alloc::Global;
@@ -29,7 +29,7 @@ const TEXTS: &[(&str, &str)] = &[
 #[test]
 fn a_text_leads_to_a_path_and_may_end_in_a_slash(rt: HostRuntime) {
     for (text, wanted) in TEXTS {
-        assert_eq!(rt; resolved(&rt, rt.alloc(), text).as_str(), *wanted);
+        is_same(&rt, resolved(&rt, rt.alloc(), text).as_str(), wanted);
     }
 }
 
@@ -268,6 +268,6 @@ fn refusal(rt: &impl Abort, alloc: Global, names: usize) -> String {
 #[test]
 fn a_path_of_129_names_is_no_place(rt: HostRuntime) {
     // ` d` for each of 129 entries, and two bytes for each of 1 + 2 + .. + 128 names.
-    assert!(rt; depth(&rt, rt.alloc(), 128) == Some(16_770));
+    is_so(&rt, depth(&rt, rt.alloc(), 128) == Some(16_770));
     are_told(&rt, rt.alloc(), refusal(&rt, rt.alloc(), 129).as_str());
 }

@@ -1,6 +1,6 @@
 //! Patterns. A row is the text of a pattern and the text of a path.
 
-use super::told::say;
+use super::told::{holds, row_holds, say};
 use llb_glob::{Pattern, PatternFault};
 use llb_tree::Path;
 use std::alloc::Global;
@@ -68,7 +68,7 @@ const CASES: &[Case] = &[
 fn a_path_matches_part_by_part_and_a_bad_pattern_is_refused(rt: HostRuntime) {
     for (pattern, path, wanted) in CASES {
         let answer = answer(&rt, rt.alloc(), pattern, path);
-        assert!(rt; answer == *wanted, "{pattern} {path}");
+        holds(&rt, pattern, answer == *wanted);
     }
 }
 
@@ -105,10 +105,8 @@ fn long_patterns_end(rt: HostRuntime) {
     for (part, count, rest, name, times, wanted) in LONG {
         let pattern = repeated(&rt, rt.alloc(), part, *count, rest);
         let path = repeated(&rt, rt.alloc(), name, *times, "");
-        assert!(rt;
-            answer(&rt, rt.alloc(), &pattern, &path) == *wanted,
-            "{part} {count}"
-        );
+        let answer = answer(&rt, rt.alloc(), &pattern, &path);
+        row_holds(&rt, *count, answer == *wanted);
     }
 }
 
@@ -119,6 +117,6 @@ fn has_no_parts(alloc: Global, text: &str) -> Result<bool, PatternFault> {
 #[test]
 fn a_pattern_may_have_no_parts(rt: HostRuntime) {
     for (text, wanted) in [("/a\\/..", true), ("*", false)] {
-        assert!(rt; has_no_parts(rt.alloc(), text) == Ok(wanted), "{text}");
+        holds(&rt, text, has_no_parts(rt.alloc(), text) == Ok(wanted));
     }
 }

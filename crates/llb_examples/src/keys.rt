@@ -1,7 +1,7 @@
 //! Keys of caches: what is the same key, and what faults tell of one.
 
 use super::cache::{A, B, P, Row, S, key_of};
-use super::told::is_told;
+use super::told::{holds, prints, row_holds};
 use llb_cache::{Key, KeyRef, LeaseFault, Memory, Mode};
 use std::alloc::Global;
 use std::process::Abort;
@@ -24,7 +24,7 @@ fn is_made_again(rt: &impl Abort, alloc: Global, row: &Row<'_>) -> bool {
 #[test]
 fn a_key_that_borrows_its_texts_makes_the_key(rt: HostRuntime) {
     for row in [A, P, ("", Mode::Shared, None, "")] {
-        assert!(rt; is_made_again(&rt, rt.alloc(), &row), "{row:?}");
+        holds(&rt, row.0, is_made_again(&rt, rt.alloc(), &row));
     }
 }
 
@@ -40,7 +40,8 @@ fn a_key_is_the_same_as_its_copy(rt: HostRuntime) {
     let rows = [A, B, P, S];
     for (i, row) in rows.iter().enumerate() {
         for (j, other) in rows.iter().enumerate() {
-            assert!(rt; compared(&rt, rt.alloc(), row, other) == (true, i == j));
+            let answer = compared(&rt, rt.alloc(), row, other);
+            row_holds(&rt, i, answer == (true, i == j));
         }
     }
 }
@@ -49,7 +50,7 @@ fn a_key_is_the_same_as_its_copy(rt: HostRuntime) {
 fn a_fault_prints_its_number_and_the_key_by_its_id(rt: HostRuntime) {
     let alloc = rt.alloc();
     let held = LeaseFault::Held(key_of(&rt, alloc, &A));
-    assert!(rt; is_told(alloc, Err(held), "111 a"));
-    assert!(rt; is_told(alloc, Err(LeaseFault::Memory), "112"));
-    assert!(rt; is_told(alloc, Err(Memory), "112"));
+    prints(&rt, alloc, &held, "111 a");
+    prints(&rt, alloc, &LeaseFault::Memory, "112");
+    prints(&rt, alloc, &Memory, "112");
 }

@@ -3,10 +3,10 @@
 use super::entries::ENTRIES;
 use super::graphs::push_row;
 use super::stage::are_told;
-use super::told::{block, is_told, say_fault};
+use super::told::{block, is_same, say_fault};
 use llb_asm::assemble;
-use llb_loader::{Graph, LoadFault, Row, link, load};
-use std::alloc::{AllocError, Global};
+use llb_loader::{Graph, Row, link, load};
+use std::alloc::Global;
 use std::process::Abort;
 
 const DEFINITIONS: &str = "
@@ -61,7 +61,7 @@ fn refusal(rt: &impl Abort, alloc: Global, definition: &[u8]) -> String {
 
 #[test]
 fn bytes_that_end_in_a_record_are_no_definition(rt: HostRuntime) {
-    assert_eq!(rt; refusal(&rt, rt.alloc(), &[0x08]).as_str(), "81 1\n");
+    is_same(&rt, refusal(&rt, rt.alloc(), &[0x08]).as_str(), "81 1\n");
 }
 
 const ROWS: &str = "
@@ -147,27 +147,22 @@ fn chain(rt: &impl Abort, alloc: Global, count: u32) -> Vec<Row> {
     rows
 }
 
-// How many vertices there are, the digest text of the first, and the vertex of the result.
-fn ends_told(alloc: Global, graph: &Graph) -> Result<String, AllocError> {
-    let (count, last) = (graph.vertices().len(), graph.result().vertex);
-    match graph.vertices().first() {
-        Some(vertex) => {
-            let first = vertex.digest.as_str();
-            format!(in alloc; "{count} {first} {last}")
-        }
-        None => String::from_str(alloc, "none"),
-    }
+fn linked(rt: &impl Abort, alloc: Global, rows: &[Row]) -> Graph {
+    assert!(rt; rows.len() <= 65_536);
+    link(alloc, rows).expect(rt, "a graph")
 }
 
-fn chain_told(rt: &impl Abort, alloc: Global, count: u32) -> Result<String, LoadFault> {
-    let rows = chain(rt, alloc, count);
-    assert!(rt; rows.len() <= 65_536);
-    let graph = link(alloc, &rows)?;
-    Ok(ends_told(alloc, &graph)?)
+// How many vertices there are, the digest text of the first, and the vertex of the result.
+fn ends_told(rt: &impl Abort, alloc: Global, graph: &Graph) -> String {
+    let (count, last) = (graph.vertices().len(), graph.result().vertex);
+    let vertex = graph.vertices().first().expect(rt, "a vertex");
+    let first = vertex.digest.as_str();
+    format!(in alloc; "{count} {first} {last}").expect(rt, "memory")
 }
 
 #[test]
 fn a_long_chain_is_numbered_from_its_end(rt: HostRuntime) {
-    let told = chain_told(&rt, rt.alloc(), 4_000);
-    assert!(rt; is_told(rt.alloc(), told, "4000 3999 3999"));
+    let graph = linked(&rt, rt.alloc(), &chain(&rt, rt.alloc(), 4_000));
+    let told = ends_told(&rt, rt.alloc(), &graph);
+    is_same(&rt, told.as_str(), "4000 3999 3999");
 }

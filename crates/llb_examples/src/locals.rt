@@ -1,6 +1,6 @@
 //! The trees of local sources by their names.
 
-use super::told::{dir, is_told, made, tree_text};
+use super::told::{dir, is_same, is_so, made, prints, tree_text};
 use llb_loader::{Locals, Memory};
 use llb_wire::Text;
 use std::alloc::Global;
@@ -41,16 +41,16 @@ const HAD: &[(&str, &str)] = &[
 fn a_name_has_the_tree_that_was_given_last(rt: HostRuntime) {
     let locals = given(&rt, rt.alloc());
     for (name, wanted) in HAD {
-        assert_eq!(rt; told(&rt, rt.alloc(), &locals, name).as_str(), *wanted);
+        is_same(&rt, told(&rt, rt.alloc(), &locals, name).as_str(), wanted);
     }
 }
 
 #[test]
 fn no_name_has_a_tree_at_first(rt: HostRuntime) {
-    assert!(rt; Locals::new(rt.alloc()).get("a").is_none());
+    is_so(&rt, Locals::new(rt.alloc()).get("a").is_none());
 }
 
 #[test]
 fn want_of_memory_prints_its_number(rt: HostRuntime) {
-    assert!(rt; is_told(rt.alloc(), Err(Memory), "92"));
+    prints(&rt, rt.alloc(), &Memory, "92");
 }

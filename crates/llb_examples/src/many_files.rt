@@ -1,6 +1,6 @@
 //! A tree of a thousand files and its copies: changes of one are not in the others. Trees are told by their whole texts.
 
-use super::told::{dir, file, made, put, say};
+use super::told::{dir, file, is_so, made, put, say};
 use super::treetext::printed;
 use llb_tree::{Tree, TreeFault};
 use std::alloc::Global;
@@ -67,7 +67,7 @@ fn one_byte(rt: &impl Abort, alloc: Global, first_goes: bool) -> bool {
 #[test]
 fn one_byte_in_one_of_a_thousand_files_is_not_in_the_copy(rt: HostRuntime) {
     for first_goes in [false, true] {
-        assert!(rt; one_byte(&rt, rt.alloc(), first_goes), "{first_goes}");
+        is_so(&rt, one_byte(&rt, rt.alloc(), first_goes));
     }
 }
 
@@ -97,5 +97,5 @@ fn all_print(rt: &impl Abort, alloc: Global, tree: &Tree, one: &Tree, other: &Tr
 fn two_threads_change_two_copies(rt: HostRuntime) {
     let tree = many(&rt, rt.alloc());
     let (one, other) = filled_at_once(&rt, rt.alloc(), &tree).expect(&rt, "memory");
-    assert!(rt; all_print(&rt, rt.alloc(), &tree, &one, &other));
+    is_so(&rt, all_print(&rt, rt.alloc(), &tree, &one, &other));
 }

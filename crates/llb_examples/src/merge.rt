@@ -2,7 +2,7 @@
 
 use super::acts::over;
 use super::stage::are_told;
-use super::told::{Row, is_told, made, tree_text};
+use super::told::{Row, is_same, made, prints, tree_text};
 use llb_merge::Memory;
 use llb_tree::Tree;
 use std::alloc::Global;
@@ -138,12 +138,12 @@ fn lower_two_first(rt: &impl Abort, alloc: Global) -> Tree {
 fn which_two_of_three_are_laid_first_makes_a_difference(rt: HostRuntime) {
     let alloc = rt.alloc();
     let told = tree_text(&rt, alloc, &lower_two_first(&rt, alloc));
-    assert_eq!(rt; told.as_str(), " d d/p f/p/r=3");
+    is_same(&rt, told.as_str(), " d d/p f/p/r=3");
     let told = tree_text(&rt, alloc, &upper_two_first(&rt, alloc));
-    assert_eq!(rt; told.as_str(), " d d/p f/p/q=1 f/p/r=3");
+    is_same(&rt, told.as_str(), " d d/p f/p/q=1 f/p/r=3");
 }
 
 #[test]
 fn want_of_memory_prints_its_number(rt: HostRuntime) {
-    assert!(rt; is_told(rt.alloc(), Err(Memory), "55"));
+    prints(&rt, rt.alloc(), &Memory, "55");
 }

@@ -1,7 +1,7 @@
 //! Views. A mount is a row: its dest, its selector, whether it is read-only, and the name of the one file in its tree. A
 //! story is told in a line of text: the answer to each step, and then the mounts.
 
-use super::told::{file, is_told, made, say, say_names, say_path};
+use super::told::{file, holds, is_same, made, prints, row_holds, say, say_names, say_path};
 use llb_mount::{Many, Memory, Path, ReadOnly, Shown, Tree, View};
 use std::alloc::Global;
 use std::process::Abort;
@@ -67,8 +67,9 @@ const VIEWS: &[(&[Row], bool)] = &[
 
 #[test]
 fn one_mount_is_at_the_root_and_no_two_at_one_dest(rt: HostRuntime) {
-    for (rows, wanted) in VIEWS {
-        assert_eq!(rt; view_of(&rt, rt.alloc(), rows).is_some(), *wanted);
+    for (at, (rows, wanted)) in VIEWS.iter().enumerate() {
+        let view = view_of(&rt, rt.alloc(), rows);
+        row_holds(&rt, at, view.is_some() == *wanted);
     }
 }
 
@@ -103,7 +104,7 @@ const ROUTES: &[(&[Row], &str, u32, u32)] = &[
 fn a_path_is_routed_to_the_longest_dest(rt: HostRuntime) {
     for (rows, text, number, dropped) in ROUTES {
         let routed = route(&rt, rt.alloc(), rows, text);
-        assert_eq!(rt; routed, Some((*number, *dropped)));
+        holds(&rt, text, routed == Some((*number, *dropped)));
     }
 }
 
@@ -191,11 +192,11 @@ const STORIES: &[(&[Step], &str)] = &[
 #[test]
 fn a_tree_is_set_where_the_mount_is_not_read_only_and_exchanged_in_any(rt: HostRuntime) {
     for (steps, wanted) in STORIES {
-        assert_eq!(rt; story(&rt, rt.alloc(), steps).as_str(), *wanted);
+        is_same(&rt, story(&rt, rt.alloc(), steps).as_str(), wanted);
     }
 }
 
 #[test]
 fn want_of_memory_prints_its_number(rt: HostRuntime) {
-    assert!(rt; is_told(rt.alloc(), Err(Memory), "62"));
+    prints(&rt, rt.alloc(), &Memory, "62");
 }

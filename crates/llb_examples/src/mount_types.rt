@@ -1,5 +1,6 @@
 //! The types of mounts, by their numbers in a definition.
 
+use super::told::is_so;
 use llb_loader::MountType;
 
 #[test]
@@ -11,5 +12,5 @@ fn the_types_of_mounts_are_numbered_from_0(rt: HostRuntime) {
         MountType::Cache.number(),
         MountType::Tmpfs.number(),
     ];
-    assert!(rt; numbers == [0, 1, 2, 3, 4]);
+    is_so(&rt, numbers == [0, 1, 2, 3, 4]);
 }

@@ -1,6 +1,6 @@
 //! Entries and definitions. What an op is, its canonical bytes show; and of each message once its fields.
 
-use super::told::are_all_told;
+use super::told::{holds, is_so, row_holds};
 use llb_ops::{
     Action, ActionKind, Entries, ExecOp, FileOp, Kind, MessageName, Mount, Op, OpFault, SourceOp,
     definition_is_read_again, entry_has_fields, field_named, field_numbered, fields_of,
@@ -125,20 +125,11 @@ const ENTRIES: &[(&[u8], Result<&[u8], OpFault>)] = &[
     (b"\x22\x01\x80\x0A\x02\x08\x00", Err(OpFault::WrongWireType)),
 ];
 
-// The number of the first row that is answered otherwise; past the end where there is none.
-fn first_wrong(alloc: Global, rows: &[(&[u8], Result<&[u8], OpFault>)]) -> usize {
-    for (at, (entry, wanted)) in rows.iter().enumerate() {
-        if !is_answer(rewritten(alloc, entry), *wanted) {
-            return at;
-        }
-    }
-    rows.len()
-}
-
 #[test]
 fn entries_are_written_in_their_canonical_bytes_or_the_first_fault_is_answered(rt: HostRuntime) {
-    let rows = ENTRIES;
-    are_all_told(&rt, first_wrong(rt.alloc(), rows), rows.len());
+    for (at, (entry, wanted)) in ENTRIES.iter().enumerate() {
+        row_holds(&rt, at, is_answer(rewritten(rt.alloc(), entry), *wanted));
+    }
 }
 
 // An entry of this many empty inputs.
@@ -158,8 +149,8 @@ fn is_kept(alloc: Global, count: u32) -> Result<bool, OpFault> {
 
 #[test]
 fn a_field_is_repeated_1024_times_at_most(rt: HostRuntime) {
-    assert!(rt; is_kept(rt.alloc(), 1024) == Ok(true));
-    assert!(rt; is_kept(rt.alloc(), 1025) == Err(OpFault::OverLimit));
+    is_so(&rt, is_kept(rt.alloc(), 1024) == Ok(true));
+    is_so(&rt, is_kept(rt.alloc(), 1025) == Err(OpFault::OverLimit));
 }
 
 fn makes_a(action: &Action) -> bool {
@@ -264,20 +255,12 @@ const MESSAGES: &[(&[u8], &str, &str, usize)] = &[
     (RUNS_TRUE, "runs", "/a", 18),
 ];
 
-// The number of the first row that is answered otherwise; past the end where there is none.
-fn first_other_op(alloc: Global, rows: &[(&[u8], &str, &str, usize)]) -> usize {
-    for (at, (entry, does, on, kept)) in rows.iter().enumerate() {
-        if seen(alloc, entry) != Some((*does, *on, *kept)) {
-            return at;
-        }
-    }
-    rows.len()
-}
-
 #[test]
 fn messages_are_read_field_by_field(rt: HostRuntime) {
-    let rows = MESSAGES;
-    are_all_told(&rt, first_other_op(rt.alloc(), rows), rows.len());
+    for (entry, does, on, kept) in MESSAGES {
+        let seen = seen(rt.alloc(), entry);
+        holds(&rt, does, seen == Some((*does, *on, *kept)));
+    }
 }
 
 fn copied(op: &Op) -> &'static str {
@@ -298,7 +281,7 @@ fn copy_seen(alloc: Global, entry: &[u8]) -> &'static str {
 #[test]
 fn a_file_op_has_an_equal_second_owner(rt: HostRuntime) {
     for (entry, does) in [(MAKES_A, "makes /a"), (COPY, "copies /f")] {
-        assert!(rt; copy_seen(rt.alloc(), entry) == does, "{entry:?}");
+        holds(&rt, does, copy_seen(rt.alloc(), entry) == does);
     }
 }
 
@@ -321,20 +304,12 @@ const DEFINITIONS: &[(&[u8], Result<&[u8], OpFault>)] = &[
     (b"\x0A\x01", Err(OpFault::Wire(WireFault::Truncated))),
 ];
 
-// The number of the first row that is answered otherwise; past the end where there is none.
-fn first_other_definition(alloc: Global, rows: &[(&[u8], Result<&[u8], OpFault>)]) -> usize {
-    for (at, (definition, wanted)) in rows.iter().enumerate() {
-        if !is_answer(definition_rewritten(alloc, definition), *wanted) {
-            return at;
-        }
-    }
-    rows.len()
-}
-
 #[test]
 fn a_definition_keeps_its_entries_and_skips_other_fields(rt: HostRuntime) {
-    let rows = DEFINITIONS;
-    are_all_told(&rt, first_other_definition(rt.alloc(), rows), rows.len());
+    for (at, (definition, wanted)) in DEFINITIONS.iter().enumerate() {
+        let written = definition_rewritten(rt.alloc(), definition);
+        row_holds(&rt, at, is_answer(written, *wanted));
+    }
 }
 
 // The entry at a place of a definition.
@@ -355,7 +330,7 @@ fn a_definition_is_its_two_entries(rt: HostRuntime) {
         Ok(entries) => are_both(&entries),
         Err(_) => false,
     };
-    assert!(rt; both && BOTH.len() == 129);
+    is_so(&rt, both && BOTH.len() == 129);
 }
 
 // Whether the field of that number is the one of that name.
@@ -377,7 +352,7 @@ fn a_field_is_found_by_its_number_and_by_its_name(rt: HostRuntime) {
         (MessageName::Mount, 19, "TmpfsOpt"),
     ];
     for (message, number, name) in rows {
-        assert!(rt; is_field(message, number, name), "{name}");
+        holds(&rt, name, is_field(message, number, name));
     }
 }
 
@@ -386,5 +361,5 @@ fn an_input_has_two_fields(rt: HostRuntime) {
     let unknown = field_numbered(MessageName::Input, 3).is_none();
     let unnamed = field_named(MessageName::Input, b"digests").is_none();
     let count = fields_of(MessageName::Input).len();
-    assert!(rt; unknown && unnamed && count == 2);
+    is_so(&rt, unknown && unnamed && count == 2);
 }

@@ -1,7 +1,7 @@
 //! One tree laid over another in a way: told by the entries of what comes of it.
 
 use super::stage::are_told;
-use super::told::{Row, made};
+use super::told::{Row, is_so, made, row_holds};
 use llb_merge::{lay, lay_onto, lay_over};
 use llb_tree::{Tree, Way};
 use llb_wire::Same;
@@ -37,9 +37,9 @@ fn a_way_has_a_mode_of_at_most_4095(rt: HostRuntime) {
         (Some(4096), false),
         (Some(u16::MAX), false),
     ];
-    for (mode, wanted) in rows {
-        let made = Way::new(mode, Some(u32::MAX), None, true).is_some();
-        assert!(rt; made == wanted, "{mode:?}");
+    for (at, (mode, wanted)) in rows.iter().enumerate() {
+        let made = Way::new(*mode, Some(u32::MAX), None, true);
+        row_holds(&rt, at, made.is_some() == *wanted);
     }
 }
 
@@ -194,7 +194,7 @@ fn both_stay(rt: &impl Abort, alloc: Global) -> bool {
 
 #[test]
 fn what_is_laid_and_what_it_is_laid_over_stay(rt: HostRuntime) {
-    assert!(rt; both_stay(&rt, rt.alloc()));
+    is_so(&rt, both_stay(&rt, rt.alloc()));
 }
 
 fn lent(rt: &impl Abort, alloc: Global, lower: &Tree, upper: &Tree) -> Tree {
@@ -228,8 +228,8 @@ const PAIRS: &[(&[Row<'static>], &[Row<'static>])] = &[
 
 #[test]
 fn a_lower_tree_is_lent_or_handed_over_or_laid_over_in_place(rt: HostRuntime) {
-    for (lower, upper) in PAIRS {
-        assert!(rt; lays_the_same(&rt, rt.alloc(), lower, upper));
+    for (at, (lower, upper)) in PAIRS.iter().enumerate() {
+        row_holds(&rt, at, lays_the_same(&rt, rt.alloc(), lower, upper));
     }
 }
 
@@ -244,5 +244,5 @@ fn way_in_place(rt: &impl Abort, alloc: Global) -> bool {
 
 #[test]
 fn a_way_comes_to_the_same_in_place(rt: HostRuntime) {
-    assert!(rt; way_in_place(&rt, rt.alloc()));
+    is_so(&rt, way_in_place(&rt, rt.alloc()));
 }

@@ -2,7 +2,7 @@
 
 use super::graphs::evaluated;
 use super::stage::are_told;
-use super::told::is_told;
+use super::told::{is_so, prints};
 use llb_plain::{Outcomes, PlainFault};
 use std::alloc::Global;
 use std::process::Abort;
@@ -59,8 +59,8 @@ fn a_graph_has_the_outcomes_of_its_vertices_or_is_refused(rt: HostRuntime) {
 #[test]
 fn a_fault_prints_its_number_and_its_argument(rt: HostRuntime) {
     let alloc = rt.alloc();
-    assert!(rt; is_told(alloc, Err(PlainFault::HasCache(7)), "102 7"));
-    assert!(rt; is_told(alloc, Err(PlainFault::Memory), "103"));
+    prints(&rt, alloc, &PlainFault::HasCache(7), "102 7");
+    prints(&rt, alloc, &PlainFault::Memory, "103");
 }
 
 // Whether the vertex of that number is there, with output 0 and no output 1.
@@ -84,7 +84,10 @@ fn found(rt: &impl Abort, alloc: Global, names: &str, given: &str) -> [bool; 4] 
 #[test]
 fn an_outcome_and_an_output_are_found_by_their_numbers(rt: HostRuntime) {
     let given = "A = MAKES_XA; D = D_ON_A; T = NAMES_D";
-    assert!(rt; found(&rt, rt.alloc(), "", given) == [false; 4]);
+    is_so(&rt, found(&rt, rt.alloc(), "", given) == [false; 4]);
     let given = "P = SOURCE_P; Q = SOURCE_Q; D = P_Q; T = NAMES_D";
-    assert!(rt; found(&rt, rt.alloc(), "p q", given) == [true, true, false, false]);
+    is_so(
+        &rt,
+        found(&rt, rt.alloc(), "p q", given) == [true, true, false, false],
+    );
 }

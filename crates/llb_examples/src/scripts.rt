@@ -1,36 +1,42 @@
 //! Scripts that are read. One is told by how many commands it has, and the mode of the first where that is a `chmod`; or by its fault.
 
-use super::told::{are_all_told, is_told};
+use super::told::{is_same, prints};
 use llb_applet::{Command, Memory, Script, ScriptFault, Text, read_script};
-use std::alloc::{AllocError, Global};
+use std::alloc::Global;
+use std::process::Abort;
 
-pub(crate) fn texts(alloc: Global, words: &[&str]) -> Result<Vec<Text>, AllocError> {
-    let mut texts = Vec::new(alloc);
-    for word in words {
-        texts.push(Text::new(String::from_str(alloc, word)?))?;
-    }
-    Ok(texts)
+fn text_of(rt: &impl Abort, alloc: Global, word: &str) -> Text {
+    Text::from_str(alloc, word).expect(rt, "memory")
 }
 
-fn script_text(alloc: Global, script: &Script) -> Result<String, AllocError> {
+pub(crate) fn texts(rt: &impl Abort, alloc: Global, words: &[&str]) -> Vec<Text> {
+    let mut texts = Vec::new(alloc);
+    for word in words {
+        texts.push(text_of(rt, alloc, word)).expect(rt, "memory");
+    }
+    texts
+}
+
+// How many commands a script has, and the mode of the first where that is a `chmod`.
+fn say_script(rt: &impl Abort, text: &mut String, script: &Script) {
     let count = script.commands().len();
-    match script.commands().first() {
-        Some(Command::Chmod { mode, .. }) => {
-            let bits = mode.bits();
-            format!(in alloc; "{count} {bits:o}")
-        }
-        _ => count.to_string(alloc),
+    write!(text, "{count}").expect(rt, "memory");
+    if let Some(Command::Chmod { mode, .. }) = script.commands().first() {
+        let bits = mode.bits();
+        write!(text, " {bits:o}").expect(rt, "memory");
     }
 }
 
 // What is told of the script that these words are.
-fn told(alloc: Global, words: &[&str]) -> Result<String, ScriptFault> {
-    let args = texts(alloc, words)?;
-    if args.is_empty() {
-        return Ok(String::from_str(alloc, "no words")?);
+fn told(rt: &impl Abort, alloc: Global, words: &[&str]) -> String {
+    let args = texts(rt, alloc, words);
+    let mut text = String::new(alloc);
+    assert!(rt; !args.is_empty());
+    match read_script(alloc, &args) {
+        Ok(script) => say_script(rt, &mut text, &script),
+        Err(fault) => write!(text, "{fault}").expect(rt, "memory"),
     }
-    let script = read_script(alloc, &args)?;
-    Ok(script_text(alloc, &script)?)
+    text
 }
 
 // Texts after `/bin/sh -c`.
@@ -93,20 +99,12 @@ const TEXTS: &[(&str, &str)] = &[
     ("chmod 0 /a", "1 0"),
 ];
 
-// The number of the first row that is answered otherwise; past the end where there is none.
-fn first_other_text(alloc: Global, rows: &[(&str, &str)]) -> usize {
-    for (at, (text, wanted)) in rows.iter().enumerate() {
-        if !is_told(alloc, told(alloc, &["/bin/sh", "-c", *text]), wanted) {
-            return at;
-        }
-    }
-    rows.len()
-}
-
 #[test]
 fn a_text_is_calls_of_applets_with_two_ampersands_between(rt: HostRuntime) {
-    let rows = TEXTS;
-    are_all_told(&rt, first_other_text(rt.alloc(), rows), rows.len());
+    for (text, wanted) in TEXTS {
+        let told = told(&rt, rt.alloc(), &["/bin/sh", "-c", *text]);
+        is_same(&rt, told.as_str(), wanted);
+    }
 }
 
 const WORDS: &[(&[&str], &str)] = &[
@@ -123,36 +121,24 @@ const WORDS: &[(&[&str], &str)] = &[
     (&["rm", "/a"], "1"),
 ];
 
-// The number of the first row that is answered otherwise; past the end where there is none.
-fn first_other_words(alloc: Global, rows: &[(&[&str], &str)]) -> usize {
-    for (at, (words, wanted)) in rows.iter().enumerate() {
-        if !is_told(alloc, told(alloc, words), wanted) {
-            return at;
-        }
-    }
-    rows.len()
-}
-
 #[test]
 fn other_arguments_are_one_call_of_any_words(rt: HostRuntime) {
-    let rows = WORDS;
-    are_all_told(&rt, first_other_words(rt.alloc(), rows), rows.len());
+    for (words, wanted) in WORDS {
+        is_same(&rt, told(&rt, rt.alloc(), words).as_str(), wanted);
+    }
 }
 
 // The fault of a word that names no applet.
-fn no_applet(alloc: Global) -> ScriptFault {
-    match Text::from_str(alloc, "apk") {
-        Ok(word) => ScriptFault::NoApplet(word),
-        Err(_) => ScriptFault::Memory,
-    }
+fn no_applet(rt: &impl Abort, alloc: Global) -> ScriptFault {
+    ScriptFault::NoApplet(text_of(rt, alloc, "apk"))
 }
 
 #[test]
 fn a_fault_prints_its_number_and_its_argument(rt: HostRuntime) {
     let alloc = rt.alloc();
-    assert!(rt; is_told(alloc, Err(no_applet(alloc)), "71 apk"));
-    assert!(rt; is_told(alloc, Err(ScriptFault::Usage(3)), "72 3"));
-    assert!(rt; is_told(alloc, Err(ScriptFault::ShellSyntax(12)), "73 12"));
-    assert!(rt; is_told(alloc, Err(ScriptFault::Memory), "74"));
-    assert!(rt; is_told(alloc, Err(Memory), "75"));
+    prints(&rt, alloc, &no_applet(&rt, alloc), "71 apk");
+    prints(&rt, alloc, &ScriptFault::Usage(3), "72 3");
+    prints(&rt, alloc, &ScriptFault::ShellSyntax(12), "73 12");
+    prints(&rt, alloc, &ScriptFault::Memory, "74");
+    prints(&rt, alloc, &Memory, "75");
 }

@@ -1,7 +1,7 @@
 //! Trees that share what they have in common: an edit of one, done or refused, leaves the other as it was.
 
 use super::stage::are_told;
-use super::told::{Row, tree_of};
+use super::told::{Row, is_so, tree_of};
 use super::trees::edit;
 use llb_tree::TreeFault;
 use llb_wire::Same;
@@ -188,9 +188,9 @@ fn a_refused_edit_leaves_a_shared_tree_as_it_was(rt: HostRuntime) {
     let mut is_refused = false;
     for one in EDITS {
         match is_whole(rt.alloc(), one) {
-            Ok(whole) => assert!(rt; whole),
+            Ok(whole) => is_so(&rt, whole),
             Err(fault) => {
-                assert!(rt; fault == TreeFault::Memory && !is_refused);
+                is_so(&rt, fault == TreeFault::Memory && !is_refused);
                 is_refused = true;
             }
         }

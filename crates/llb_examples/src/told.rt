@@ -46,24 +46,31 @@ pub(crate) fn made(rt: &impl Abort, alloc: Global, rows: &[Row<'_>]) -> Tree {
     tree_of(alloc, rows).expect(rt, "memory")
 }
 
-// Whether an answer is told so: the text that it is, or what its fault prints.
-pub(crate) fn is_told<E: Display + Drop>(
-    alloc: Global,
-    answer: Result<String, E>,
-    wanted: &str,
-) -> bool {
-    match answer {
-        Ok(text) => text.as_str() == wanted,
-        Err(fault) => match fault.to_string(alloc) {
-            Ok(text) => text.as_str() == wanted,
-            Err(_) => false,
-        },
-    }
+// Ends the test where what is told is not what is wanted; the failure shows both.
+pub(crate) fn is_same(rt: &impl Abort, told: &str, wanted: &str) {
+    assert_eq!(rt; told, wanted);
 }
 
-// Ends the test where the first row of a table that is told otherwise is not past its end.
-pub(crate) fn are_all_told(rt: &impl Abort, first_wrong: usize, rows: usize) {
-    assert_eq!(rt; first_wrong, rows);
+// Ends the test where a fault, or another value, prints something else.
+pub(crate) fn prints<E: Display>(rt: &impl Abort, alloc: Global, fault: &E, wanted: &str) {
+    let mut text = String::new(alloc);
+    write!(text, "{fault}").expect(rt, "memory");
+    is_same(rt, text.as_str(), wanted);
+}
+
+// Ends the test where a row does not hold; the failure names it.
+pub(crate) fn holds(rt: &impl Abort, row: &str, is_so: bool) {
+    assert!(rt; is_so, "{row}");
+}
+
+// Ends the test where the row of a number does not hold; the failure names it.
+pub(crate) fn row_holds(rt: &impl Abort, row: usize, is_so: bool) {
+    assert!(rt; is_so, "row {row}");
+}
+
+// Ends the test where something does not hold.
+pub(crate) fn is_so(rt: &impl Abort, holds: bool) {
+    assert!(rt; holds);
 }
 
 pub(crate) fn say(rt: &impl Abort, text: &mut String, more: &str) {

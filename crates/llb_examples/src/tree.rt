@@ -1,7 +1,7 @@
 //! Names, paths and trees.
 
 use super::stage::are_told;
-use super::told::{Row, file, made, say, say_path};
+use super::told::{Row, file, holds, is_same, is_so, made, row_holds, say, say_path};
 use llb_tree::{Meta, Name, Path, Tree, TreeFault};
 use llb_wire::Same;
 use std::alloc::Global;
@@ -56,7 +56,7 @@ const TEXTS: &[(Option<&str>, &str, &str)] = &[
 #[test]
 fn a_text_is_read_part_by_part_from_the_root_or_a_path(rt: HostRuntime) {
     for (start, text, wanted) in TEXTS {
-        assert_eq!(rt; printed(&rt, rt.alloc(), *start, text).as_str(), *wanted);
+        is_same(&rt, printed(&rt, rt.alloc(), *start, text).as_str(), wanted);
     }
 }
 
@@ -92,7 +92,8 @@ const COUNTS: &[Counted] = &[
 fn a_name_has_255_bytes_and_a_path_128_names_at_most(rt: HostRuntime) {
     for (part, count, rest, wanted) in COUNTS {
         let text = repeated(&rt, rt.alloc(), part, *count, rest);
-        assert_eq!(rt; names_of(rt.alloc(), text.as_str()), *wanted);
+        let names = names_of(rt.alloc(), text.as_str());
+        row_holds(&rt, *count, names == *wanted);
     }
 }
 
@@ -118,7 +119,8 @@ const ORDERED: &[(&str, &str, bool, bool)] = &[
 #[test]
 fn paths_are_in_order_name_by_name(rt: HostRuntime) {
     for (one, other, same, before) in ORDERED {
-        assert_eq!(rt; compared(&rt, rt.alloc(), one, other), (*same, *before));
+        let answer = compared(&rt, rt.alloc(), one, other);
+        holds(&rt, one, answer == (*same, *before));
     }
 }
 
@@ -146,12 +148,12 @@ fn is_pushed(rt: &impl Abort, alloc: Global) -> bool {
 #[test]
 fn names_and_paths_by_hand(rt: HostRuntime) {
     for (text, wanted) in [("...", true), ("..", false), ("a/b", false)] {
-        assert!(rt; Name::is_name(text) == wanted, "{text}");
+        holds(&rt, text, Name::is_name(text) == wanted);
     }
     let alloc = rt.alloc();
     let answers = [is_kept(alloc, "etc"), is_kept(alloc, ".")];
-    assert!(rt; answers == [Ok(true), Err(TreeFault::BadName)]);
-    assert!(rt; is_pushed(&rt, alloc) && Path::root(alloc).is_root());
+    is_so(&rt, answers == [Ok(true), Err(TreeFault::BadName)]);
+    is_so(&rt, is_pushed(&rt, alloc) && Path::root(alloc).is_root());
 }
 
 fn path_with(rt: &impl Abort, alloc: Global, names: usize) -> Path {
@@ -172,8 +174,8 @@ fn one_more(rt: &impl Abort, alloc: Global, count: usize) -> (bool, usize) {
 
 #[test]
 fn a_path_takes_no_129th_name(rt: HostRuntime) {
-    assert_eq!(rt; one_more(&rt, rt.alloc(), 127), (true, 128));
-    assert_eq!(rt; one_more(&rt, rt.alloc(), 128), (false, 128));
+    is_so(&rt, one_more(&rt, rt.alloc(), 127) == (true, 128));
+    is_so(&rt, one_more(&rt, rt.alloc(), 128) == (false, 128));
 }
 
 fn numbers(mode: u16) -> Option<(u16, u32, u32)> {
@@ -189,7 +191,7 @@ fn a_mode_is_at_most_4095(rt: HostRuntime) {
         (4096, None),
     ];
     for (mode, wanted) in rows {
-        assert!(rt; numbers(mode) == wanted, "{mode}");
+        row_holds(&rt, usize::from(mode), numbers(mode) == wanted);
     }
 }
 
@@ -203,9 +205,10 @@ fn has_directory(rt: &impl Abort, alloc: Global, rows: &[Row<'_>], path: &str) -
 fn a_directory_is_told_from_a_file(rt: HostRuntime) {
     let rows = [("/a", 0o700, 7, 8, None), ("/a/b", 0o644, 7, 8, Some("x"))];
     for (path, wanted) in [("/b", false), ("/a", true), ("/a/b", false)] {
-        assert!(rt;
+        holds(
+            &rt,
+            path,
             has_directory(&rt, rt.alloc(), &rows, path) == wanted,
-            "{path}"
         );
     }
 }
@@ -350,6 +353,9 @@ fn graft_depth(rt: &impl Abort, alloc: Global, names: usize) -> Result<(), TreeF
 
 #[test]
 fn a_place_has_128_names_at_most(rt: HostRuntime) {
-    assert_eq!(rt; graft_depth(&rt, rt.alloc(), 127), Ok(()));
-    assert_eq!(rt; graft_depth(&rt, rt.alloc(), 128), Err(TreeFault::BadName));
+    is_so(&rt, graft_depth(&rt, rt.alloc(), 127) == Ok(()));
+    is_so(
+        &rt,
+        graft_depth(&rt, rt.alloc(), 128) == Err(TreeFault::BadName),
+    );
 }

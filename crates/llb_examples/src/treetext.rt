@@ -1,10 +1,11 @@
 //! The text of a tree: written, named by its digest, and read. A text is read and written again, or its fault printed.
 
-use super::told::{are_all_told, file, is_told, tree_of};
-use llb_tree::{Tree, TreeFault};
+use super::told::{file, holds, is_same, is_so, made, prints, say};
+use llb_tree::Tree;
 use llb_treetext::{TextFault, one_answer, print_tree, read_tree, reads_back, tree_digest};
-use llb_wire::{Over, Same};
+use llb_wire::{Over, Same, Text};
 use std::alloc::{AllocError, Global};
+use std::process::Abort;
 
 // The text of a tree, as it is printed.
 pub(crate) fn printed(alloc: Global, tree: &Tree) -> Result<Vec<u8>, AllocError> {
@@ -17,18 +18,21 @@ pub(crate) fn printed(alloc: Global, tree: &Tree) -> Result<Vec<u8>, AllocError>
 }
 
 // What a text is read as, printed again; or the fault.
-fn answer(alloc: Global, text: &str) -> Result<String, AllocError> {
+fn answer(rt: &impl Abort, alloc: Global, text: &str) -> String {
     one_answer(text.as_bytes());
+    let mut told = String::new(alloc);
     match read_tree(alloc, text.as_bytes()) {
-        Err(fault) => fault.to_string(alloc),
+        Err(fault) => write!(told, "{fault}").expect(rt, "memory"),
         Ok(tree) => {
-            let again = printed(alloc, &tree)?;
-            match str::from_utf8(again.as_slice()) {
-                Ok(again) => String::from_str(alloc, again),
-                Err(_) => Ok(String::new(alloc)),
-            }
+            let again = printed(alloc, &tree).expect(rt, "memory");
+            say(
+                rt,
+                &mut told,
+                str::from_utf8(again.as_slice()).unwrap_or(""),
+            );
         }
     }
+    told
 }
 
 // Texts of trees.
@@ -40,20 +44,11 @@ const TEXTS: &[&str] = &[
     "d 7777 4294967295 10 /\nd 0000 0 0 /a b\nf 4755 1 2 00ff0a /a b/ c\nd 0755 0 0 /a b-\n",
 ];
 
-// The number of the first row that is answered otherwise; past the end where there is none.
-fn first_other_text(alloc: Global, rows: &[&str]) -> usize {
-    for (at, text) in rows.iter().enumerate() {
-        if !is_told(alloc, answer(alloc, text), text) {
-            return at;
-        }
-    }
-    rows.len()
-}
-
 #[test]
 fn a_text_is_read_as_the_tree_whose_text_it_is(rt: HostRuntime) {
-    let rows = TEXTS;
-    are_all_told(&rt, first_other_text(rt.alloc(), rows), rows.len());
+    for text in TEXTS {
+        is_same(&rt, answer(&rt, rt.alloc(), text).as_str(), text);
+    }
 }
 
 // Texts, and the faults of their first faulty lines.
@@ -83,20 +78,11 @@ const FAULTY: &[(&str, &str)] = &[
     ),
 ];
 
-// The number of the first row that is answered otherwise; past the end where there is none.
-fn first_other_fault(alloc: Global, rows: &[(&str, &str)]) -> usize {
-    for (at, (text, wanted)) in rows.iter().enumerate() {
-        if !is_told(alloc, answer(alloc, text), wanted) {
-            return at;
-        }
-    }
-    rows.len()
-}
-
 #[test]
 fn the_first_faulty_line_has_its_first_fault(rt: HostRuntime) {
-    let rows = FAULTY;
-    are_all_told(&rt, first_other_fault(rt.alloc(), rows), rows.len());
+    for (text, wanted) in FAULTY {
+        is_same(&rt, answer(&rt, rt.alloc(), text).as_str(), wanted);
+    }
 }
 
 // A fault, and that of a text.
@@ -123,47 +109,42 @@ const LATE: &[(&str, TextFault)] = &[
     ),
 ];
 
-// The number of the first row that is answered otherwise; past the end where there is none.
-fn first_other_late_fault(alloc: Global, rows: &[(&str, TextFault)]) -> usize {
-    for (at, (text, wanted)) in rows.iter().enumerate() {
-        if !same_fault(alloc, text, *wanted) {
-            return at;
-        }
-    }
-    rows.len()
-}
-
 // No allocation is made here: the answers stay the same where each one fails.
 #[test]
 fn a_late_fault_is_told_without_memory(rt: HostRuntime) {
-    let rows = LATE;
-    are_all_told(&rt, first_other_late_fault(rt.alloc(), rows), rows.len());
+    for (text, wanted) in LATE {
+        holds(&rt, text, same_fault(rt.alloc(), text, *wanted));
+    }
 }
 
 // A root, that many files, and then a path below the last of them.
-fn long_text(alloc: Global, files: usize) -> Result<String, AllocError> {
-    let mut text = String::from_str(alloc, "d 0755 0 0 /\n")?;
+fn long_text(rt: &impl Abort, alloc: Global, files: usize) -> String {
+    let mut text = String::new(alloc);
+    say(rt, &mut text, "d 0755 0 0 /\n");
     for at in 0..files {
-        write!(text, "f 0644 0 0 {at:04} /{at:04}\n")?;
+        write!(text, "f 0644 0 0 {at:04} /{at:04}\n").expect(rt, "memory");
     }
-    text.push_str("f 0644 0 0 - /0999/f\n")?;
-    Ok(text)
-}
-
-fn long_answer(alloc: Global, files: usize) -> Result<String, AllocError> {
-    let text = long_text(alloc, files)?;
-    answer(alloc, text.as_str())
+    say(rt, &mut text, "f 0644 0 0 - /0999/f\n");
+    text
 }
 
 #[test]
 fn the_last_line_of_many_is_faulty(rt: HostRuntime) {
-    assert!(rt; is_told(rt.alloc(), long_answer(rt.alloc(), 1000), "33 1002"));
+    let text = long_text(&rt, rt.alloc(), 1000);
+    is_same(
+        &rt,
+        answer(&rt, rt.alloc(), text.as_str()).as_str(),
+        "33 1002",
+    );
 }
 
-// The text of a good root, and then of one line.
-fn second_line(alloc: Global, line: &str) -> Result<String, AllocError> {
-    let text = format!(in alloc; "d 0755 0 0 /\n{line}\n")?;
-    answer(alloc, text.as_str())
+// What is answered of the text of a good root, and then of one line.
+fn second_line(rt: &impl Abort, alloc: Global, line: &str) -> String {
+    let mut text = String::new(alloc);
+    say(rt, &mut text, "d 0755 0 0 /\n");
+    say(rt, &mut text, line);
+    say(rt, &mut text, "\n");
+    answer(rt, alloc, text.as_str())
 }
 
 // Lines that are none of a tree, each after the root.
@@ -193,49 +174,39 @@ const MISSPELLED: &[&str] = &[
     "",
 ];
 
-// The number of the first row that is answered otherwise; past the end where there is none.
-fn first_that_is_read(alloc: Global, rows: &[&str]) -> usize {
-    for (at, line) in rows.iter().enumerate() {
-        if !is_told(alloc, second_line(alloc, line), "31 2") {
-            return at;
-        }
-    }
-    rows.len()
-}
-
 #[test]
 fn only_the_written_spelling_is_read(rt: HostRuntime) {
-    let rows = MISSPELLED;
-    are_all_told(&rt, first_that_is_read(rt.alloc(), rows), rows.len());
+    for line in MISSPELLED {
+        let told = second_line(&rt, rt.alloc(), line);
+        holds(&rt, line, told.as_str() == "31 2");
+    }
 }
 
 // Whether a tree that is printed is read as the same tree.
-fn is_read_back(alloc: Global) -> Result<bool, TreeFault> {
-    let tree = tree_of(alloc, &[("/a", 0o700, 1, 2, None), file("/a/b", "hi")])?;
+fn is_read_back(rt: &impl Abort, alloc: Global) -> bool {
+    let tree = made(rt, alloc, &[("/a", 0o700, 1, 2, None), file("/a/b", "hi")]);
     reads_back(&tree);
-    let text = printed(alloc, &tree)?;
+    let text = printed(alloc, &tree).expect(rt, "memory");
     match read_tree(alloc, text.as_slice()) {
-        Ok(read) => Ok(read.same(&tree)),
-        Err(_) => Ok(false),
+        Ok(read) => read.same(&tree),
+        Err(_) => false,
     }
 }
 
 #[test]
 fn what_is_printed_is_read_back(rt: HostRuntime) {
-    assert!(rt; is_read_back(rt.alloc()) == Ok(true));
+    is_so(&rt, is_read_back(&rt, rt.alloc()));
 }
 
-fn digest(alloc: Global) -> Result<String, TextFault> {
-    match Tree::empty(alloc) {
-        Ok(tree) => Ok(tree_digest(alloc, &tree)?.into_string()),
-        Err(_) => Err(TextFault::Memory),
-    }
+fn digest(rt: &impl Abort, alloc: Global) -> Text {
+    let tree = Tree::empty(alloc).expect(rt, "memory");
+    tree_digest(alloc, &tree).expect(rt, "memory")
 }
 
 #[test]
 fn a_digest_is_that_of_the_text(rt: HostRuntime) {
     let wanted = "sha256:5de211d85590268925259f8c7cd45d229b00372355255c350a38752ed1c86a47";
-    assert!(rt; is_told(rt.alloc(), digest(rt.alloc()), wanted));
+    is_same(&rt, digest(&rt, rt.alloc()).as_str(), wanted);
 }
 
 #[test]
@@ -247,6 +218,6 @@ fn a_fault_prints_its_number_and_the_line(rt: HostRuntime) {
         (TextFault::Memory, "34"),
     ];
     for (fault, wanted) in rows {
-        assert!(rt; is_told(rt.alloc(), Err(fault), wanted), "{wanted}");
+        prints(&rt, rt.alloc(), &fault, wanted);
     }
 }

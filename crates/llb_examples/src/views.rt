@@ -45,13 +45,13 @@ fn view_of(rt: &impl Abort, alloc: Global, mounts: &[Shown]) -> View {
 
 fn setting_of(rt: &impl Abort, alloc: Global, cwd: &str) -> Setting {
     let cwd = Path::read(alloc, cwd).expect(rt, "a path");
-    let env = texts(alloc, &["A=1", "B", ""]).expect(rt, "memory");
+    let env = texts(rt, alloc, &["A=1", "B", ""]);
     let env = Many::new(env);
     Setting { cwd, env }.copy().expect(rt, "memory")
 }
 
 fn script_of(rt: &impl Abort, alloc: Global, text: &str) -> Script {
-    let args = texts(alloc, &["/bin/sh", "-c", text]).expect(rt, "memory");
+    let args = texts(rt, alloc, &["/bin/sh", "-c", text]);
     assert!(rt; !args.is_empty());
     let script = read_script(alloc, &args).expect(rt, "a script");
     script.copy().expect(rt, "memory")

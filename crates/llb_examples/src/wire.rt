@@ -1,14 +1,14 @@
 //! The wire: numbers, records, texts and lists, and writers that fail.
 
-use super::told::are_all_told;
+use super::told::{holds, is_same, is_so, prints, row_holds};
 use llb_wire::{
-    Bytes, Failed, Field, Many, Memory, Over, Same, Sink, Text, Wire, WireFault, is_hex,
-    next_record, push_hex, read_hex, text_of_digest, varint, write_all, write_record, write_varint,
+    Bytes, Failed, Field, Many, Over, Same, Sink, Text, Wire, WireFault, is_hex, next_record,
+    push_hex, read_hex, text_of_digest, varint, write_all, write_record, write_varint,
 };
 use std::alloc::Global;
 use std::io;
 use std::io::{ErrorKind, Write};
-use std::test::Fail;
+use std::process::Abort;
 
 // The number at a place, and where it ends. A place past the end has none.
 fn number(bytes: &[u8], at: usize) -> Option<Result<(u64, usize), WireFault>> {
@@ -47,20 +47,11 @@ const NUMBERS: &[Numbered] = &[
     (&[0x08, 0x96, 0x01], 1, Ok((150, 3))),
 ];
 
-// The number of the first row that is answered otherwise; past the end where there is none.
-fn first_other_number(rows: &[Numbered]) -> usize {
-    for (at, (bytes, at_byte, wanted)) in rows.iter().enumerate() {
-        if number(bytes, *at_byte) != Some(*wanted) {
-            return at;
-        }
-    }
-    rows.len()
-}
-
 #[test]
 fn a_number_has_at_most_ten_bytes(rt: HostRuntime) {
-    let rows = NUMBERS;
-    are_all_told(&rt, first_other_number(rows), rows.len());
+    for (at, (bytes, at_byte, wanted)) in NUMBERS.iter().enumerate() {
+        row_holds(&rt, at, number(bytes, *at_byte) == Some(*wanted));
+    }
 }
 
 // The record at a place. A place past the end has none.
@@ -115,22 +106,12 @@ const RECORDS: &[(&[u8], Field)] = &[
     ),
 ];
 
-// The number of the first row that is answered otherwise; past the end where there is none.
-fn first_other_record(rows: &[(&[u8], Field)]) -> usize {
-    for (at, (bytes, wanted)) in rows.iter().enumerate() {
-        if record(bytes, 0) != Some(Ok(Some(*wanted))) {
-            return at;
-        }
-    }
-    rows.len()
-}
-
 #[test]
 fn a_record_is_its_number_its_wire_type_and_its_payload(rt: HostRuntime) {
-    let rows = RECORDS;
-    are_all_told(&rt, first_other_record(rows), rows.len());
-    let ended = record(&[0x08, 0x96, 0x01], 3) == Some(Ok(None));
-    assert!(rt; ended);
+    for (at, (bytes, wanted)) in RECORDS.iter().enumerate() {
+        row_holds(&rt, at, record(bytes, 0) == Some(Ok(Some(*wanted))));
+    }
+    is_so(&rt, record(&[0x08, 0x96, 0x01], 3) == Some(Ok(None)));
 }
 
 // Bytes, and the first fault of the record at their prefix.
@@ -144,88 +125,93 @@ const FAULTY: &[(&[u8], WireFault)] = &[
     (&[0x80, 0x80, 0x80, 0x80, 0x10], WireFault::BadField),
 ];
 
-// The number of the first row that is answered otherwise; past the end where there is none.
-fn first_other_fault(rows: &[(&[u8], WireFault)]) -> usize {
-    for (at, (bytes, wanted)) in rows.iter().enumerate() {
-        if record(bytes, 0) != Some(Err(*wanted)) {
-            return at;
-        }
-    }
-    rows.len()
-}
-
 #[test]
 fn a_record_has_its_first_fault(rt: HostRuntime) {
-    let rows = FAULTY;
-    are_all_told(&rt, first_other_fault(rows), rows.len());
+    for (at, (bytes, wanted)) in FAULTY.iter().enumerate() {
+        row_holds(&rt, at, record(bytes, 0) == Some(Err(*wanted)));
+    }
+}
+
+fn write_one(
+    rt: &impl Abort,
+    out: &mut Vec<u8>,
+    number: u32,
+    wire: Wire,
+    value: u64,
+    bytes: &[u8],
+) {
+    write_record(number, wire, value, bytes, out).expect(rt, "memory");
 }
 
 // A number, and after it four records.
-fn spelled(alloc: Global) -> Result<Vec<u8>, Memory> {
+fn spelled(rt: &impl Abort, alloc: Global) -> Vec<u8> {
     let mut out = Vec::new(alloc);
-    write_varint(300, &mut out)?;
-    write_record(1, Wire::Varint, 150, &[], &mut out)?;
-    write_record(2, Wire::Len, 0, b"hi", &mut out)?;
-    write_record(1, Wire::I64, 0x0807_0605_0403_0201, &[], &mut out)?;
-    write_record(1, Wire::I32, 0x0403_0201, &[], &mut out)?;
-    Ok(out)
+    write_varint(300, &mut out).expect(rt, "memory");
+    write_one(rt, &mut out, 1, Wire::Varint, 150, &[]);
+    write_one(rt, &mut out, 2, Wire::Len, 0, b"hi");
+    write_one(rt, &mut out, 1, Wire::I64, 0x0807_0605_0403_0201, &[]);
+    write_one(rt, &mut out, 1, Wire::I32, 0x0403_0201, &[]);
+    out
 }
 
 #[test]
-fn shortest_spellings_are_written(rt: HostRuntime) -> Result<(), Fail> {
+fn shortest_spellings_are_written(rt: HostRuntime) {
     let wanted = [
         0xAC, 0x02, 0x08, 0x96, 0x01, 0x12, 0x02, 0x68, 0x69, 0x09, 1, 2, 3, 4, 5, 6, 7, 8, 0x0D,
         1, 2, 3, 4,
     ];
-    let out = spelled(rt.alloc())?;
-    assert!(rt; out.as_slice() == wanted.as_slice());
-    Ok(())
+    is_so(
+        &rt,
+        spelled(&rt, rt.alloc()).as_slice() == wanted.as_slice(),
+    );
+}
+
+fn vec_of(rt: &impl Abort, alloc: Global, bytes: &[u8]) -> Vec<u8> {
+    Vec::from_slice(alloc, bytes).expect(rt, "memory")
+}
+
+fn bytes_of(rt: &impl Abort, alloc: Global, bytes: &[u8]) -> Bytes {
+    Bytes::from_slice(alloc, bytes).expect(rt, "memory")
+}
+
+fn text_of(rt: &impl Abort, alloc: Global, text: &str) -> Text {
+    Text::from_str(alloc, text).expect(rt, "memory")
 }
 
 // Whether a byte string's copy and the vector that it gives back are these bytes.
-fn keeps_bytes(alloc: Global, bytes: &[u8], other: &[u8]) -> Result<bool, Memory> {
-    let kept = Bytes::from_slice(alloc, bytes)?;
+fn keeps_bytes(rt: &impl Abort, alloc: Global, bytes: &[u8], other: &[u8]) -> bool {
+    let kept = bytes_of(rt, alloc, bytes);
     kept.is_bytes();
-    let copied = kept.copy()?;
-    let apart = Bytes::new(Vec::from_slice(alloc, other)?);
+    let copied = kept.copy().expect(rt, "memory");
+    let apart = Bytes::new(vec_of(rt, alloc, other));
     let told = kept.same(&copied) && !kept.same(&apart) && kept.as_slice() == bytes;
-    Ok(told && copied.into_vec().as_slice() == bytes)
+    told && copied.into_vec().as_slice() == bytes
 }
 
 // The same of a text.
-fn keeps_text(alloc: Global, text: &str, other: &str) -> Result<bool, Memory> {
-    let kept = Text::from_str(alloc, text)?;
-    let copied = kept.copy()?;
-    let apart = Text::new(String::from_str(alloc, other)?);
+fn keeps_text(rt: &impl Abort, alloc: Global, text: &str, other: &str) -> bool {
+    let kept = text_of(rt, alloc, text);
+    let copied = kept.copy().expect(rt, "memory");
+    let apart = Text::new(String::from_str(alloc, other).expect(rt, "memory"));
     let told = kept.same(&copied) && !kept.same(&apart) && kept.as_str() == text;
-    Ok(told && copied.into_string().as_str() == text)
+    told && copied.into_string().as_str() == text
 }
 
-fn printed(alloc: Global, text: &str) -> Result<String, Memory> {
-    let kept = Text::from_str(alloc, text)?;
-    Ok(kept.to_string(alloc)?)
-}
-
-fn keeps_items(alloc: Global, items: &[u8]) -> Result<bool, Memory> {
-    let many = Many::new(Vec::from_slice(alloc, items)?);
+fn keeps_items(rt: &impl Abort, alloc: Global, items: &[u8]) -> bool {
+    let many = Many::new(vec_of(rt, alloc, items));
     let told = many.len() == items.len() && many.is_empty() == items.is_empty();
     let seen = many.as_slice() == items;
-    let back = many.into_vec();
-    Ok(told && seen && back.as_slice() == items)
+    told && seen && many.into_vec().as_slice() == items
 }
 
 #[test]
-fn texts_byte_strings_and_lists_own_what_they_were_given(rt: HostRuntime) -> Result<(), Fail> {
+fn texts_byte_strings_and_lists_own_what_they_were_given(rt: HostRuntime) {
     let alloc = rt.alloc();
-    let kept = [
-        keeps_bytes(alloc, b"ab", b"b"),
-        keeps_text(alloc, "é", "e"),
-        keeps_items(alloc, &[3, 4]),
-        keeps_items(alloc, &[]),
-    ];
-    assert!(rt; kept == [Ok(true), Ok(true), Ok(true), Ok(true)]);
-    assert!(rt; printed(alloc, "é")?.as_str() == "é");
-    Ok(())
+    is_so(&rt, keeps_bytes(&rt, alloc, b"ab", b"b"));
+    is_so(&rt, keeps_text(&rt, alloc, "é", "e"));
+    is_so(&rt, keeps_items(&rt, alloc, &[3, 4]));
+    is_so(&rt, keeps_items(&rt, alloc, &[]));
+    prints(&rt, alloc, &text_of(&rt, alloc, "é"), "é");
 }
 
 // A writer that takes one byte a write, and fails after that many.
@@ -264,7 +250,10 @@ fn a_writer_of_one_byte_a_write_gets_all(rt: HostRuntime) {
     let mut sink = Over::new(&mut writer);
     let all = write_all(&mut sink, b"hello") == Ok(());
     let none = sink.write(b"") == Ok(0) && !sink.failed;
-    assert!(rt; all && none && writer.held.as_slice() == b"hello".as_slice());
+    is_so(
+        &rt,
+        all && none && writer.held.as_slice() == b"hello".as_slice(),
+    );
 }
 
 #[test]
@@ -278,42 +267,41 @@ fn a_writer_that_fails_at_its_kth_write_leaves_a_front(rt: HostRuntime) {
         let failed = write_all(&mut sink, b"hello") == Err(Failed) && sink.failed;
         sink.out.room = 9;
         let fails_again = sink.write(b"x") == Err(Failed);
-        assert!(rt;
+        row_holds(
+            &rt,
+            room,
             failed && fails_again && writer.held.len() == room,
-            "{room} bytes"
         );
     }
 }
 
 // Whether bytes are written as that text, which is read as the bytes.
-fn is_written_so(alloc: Global, bytes: &[u8], wanted: &str) -> Result<bool, Memory> {
+fn is_written_so(rt: &impl Abort, alloc: Global, bytes: &[u8], wanted: &str) -> bool {
     let mut text = String::new(alloc);
-    push_hex(alloc, &mut text, bytes)?;
-    match read_hex(alloc, wanted)? {
-        None => Ok(false),
-        Some(read) => Ok(text.as_str() == wanted && read.as_slice() == bytes),
-    }
+    push_hex(alloc, &mut text, bytes).expect(rt, "memory");
+    let read = read_hex(alloc, wanted).expect(rt, "memory");
+    let read = read.expect(rt, "bytes");
+    text.as_str() == wanted && read.as_slice() == bytes
 }
 
 #[test]
 fn bytes_are_written_in_hexadecimal(rt: HostRuntime) {
     let rows: [(&[u8], &str); 3] = [(&[], "-"), (&[0], "00"), (&[0xAB, 1], "ab01")];
     for (bytes, text) in rows {
-        let same = is_written_so(rt.alloc(), bytes, text) == Ok(true);
-        assert!(rt; same && is_hex(text), "{text}");
+        let same = is_written_so(&rt, rt.alloc(), bytes, text);
+        holds(&rt, text, same && is_hex(text));
     }
     for text in ["", "a", "AB", "g0", "-a", "--"] {
-        assert!(rt; !is_hex(text), "{text}");
+        holds(&rt, text, !is_hex(text));
     }
 }
 
-fn is_digest(alloc: Global, wanted: &str) -> Result<bool, Memory> {
-    let text = text_of_digest(alloc, &[0x5D; 32])?;
-    Ok(text.as_str() == wanted)
+fn digest_text(rt: &impl Abort, alloc: Global) -> Text {
+    text_of_digest(alloc, &[0x5D; 32]).expect(rt, "memory")
 }
 
 #[test]
 fn a_digest_has_its_algorithm_in_front(rt: HostRuntime) {
     let wanted = "sha256:5d5d5d5d5d5d5d5d5d5d5d5d5d5d5d5d5d5d5d5d5d5d5d5d5d5d5d5d5d5d5d5d";
-    assert!(rt; is_digest(rt.alloc(), wanted) == Ok(true));
+    is_same(&rt, digest_text(&rt, rt.alloc()).as_str(), wanted);
 }
