@@ -3,7 +3,7 @@
 use super::calls;
 use super::calls::{are_done, copy_of};
 use super::runs::{IN_A_ROW, TWO_FILES};
-use super::sessions::are_all_told;
+use super::told::row_holds;
 use super::written::board_of;
 use llb_board::Board;
 use std::alloc::Global;
@@ -47,20 +47,12 @@ fn are_same(rt: &impl Abort, alloc: Global, one: &Side, other: &Side) -> bool {
     calls::are_same(&board_at(rt, alloc, one), &board_at(rt, alloc, other))
 }
 
-// The number of the first pair of which something else holds; past the end where there is none.
-fn first_wrong(rt: &impl Abort, alloc: Global, pairs: &[(Side, Side, bool)]) -> usize {
-    for (at, (one, other, wanted)) in pairs.iter().enumerate() {
-        if are_same(rt, alloc, one, other) != *wanted {
-            return at;
-        }
-    }
-    pairs.len()
-}
-
 #[test]
 fn boards_are_the_same_by_all_that_they_hold(rt: HostRuntime) {
-    let rows = PAIRS;
-    are_all_told(&rt, first_wrong(&rt, rt.alloc(), rows), rows.len());
+    for (at, (one, other, wanted)) in PAIRS.iter().enumerate() {
+        let same = are_same(&rt, rt.alloc(), one, other);
+        row_holds(&rt, at, same == *wanted);
+    }
 }
 
 // Boards, and events that are then done on them and not on their copies.
@@ -89,17 +81,10 @@ fn copied(rt: &impl Abort, alloc: Global, side: &Side, events: &str) -> [bool; 3
     ]
 }
 
-fn first_other_copy(rt: &impl Abort, alloc: Global, rows: &[(Side, &str)]) -> usize {
-    for (at, (side, events)) in rows.iter().enumerate() {
-        if copied(rt, alloc, side, events) != [true, false, true] {
-            return at;
-        }
-    }
-    rows.len()
-}
-
 #[test]
 fn a_copy_stays_where_the_board_was(rt: HostRuntime) {
-    let rows = COPIED;
-    are_all_told(&rt, first_other_copy(&rt, rt.alloc(), rows), rows.len());
+    for (at, (side, events)) in COPIED.iter().enumerate() {
+        let copied = copied(&rt, rt.alloc(), side, events);
+        row_holds(&rt, at, copied == [true, false, true]);
+    }
 }

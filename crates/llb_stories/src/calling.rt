@@ -1,5 +1,6 @@
 //! The callers that docs/CALLING.md shows.
 
+use super::told::{is_same, is_so};
 use super::written::{board_of, graph_from};
 use llb_asm::assemble;
 use llb_board::{Board, Settled};
@@ -76,7 +77,7 @@ const LOCAL: &str = "== p\nd 0755 0 0 /\nf 0644 0 0 6869 /a\n";
 fn kinds_are_told_of_an_assembled_text(rt: HostRuntime) {
     let definition = assembled(rt.alloc(), A_FILE.as_bytes()).expect(&rt, "a definition");
     let kinds = kinds_in(rt.alloc(), definition.as_slice()).expect(&rt, "a graph");
-    assert_eq!(rt; kinds.as_str(), "file\n");
+    is_same(&rt, kinds.as_str(), "file\n");
 }
 
 #[test]
@@ -85,18 +86,18 @@ fn the_text_of_a_result_is_that_of_the_local_tree(rt: HostRuntime) {
     let name = Text::from_str(rt.alloc(), "p").expect(&rt, "memory");
     let graph = graph_from(&rt, rt.alloc(), DEFINITION);
     let text = result_text(rt.alloc(), graph, name, tree).expect(&rt, "a result");
-    assert!(rt; text.as_slice() == TREE.as_bytes());
+    is_so(&rt, text.as_slice() == TREE.as_bytes());
 }
 
 #[test]
 fn a_board_is_driven_by_hand(rt: HostRuntime) {
     let mut board = board_of(&rt, rt.alloc(), DEFINITION, LOCAL, 1);
-    assert!(rt; by_hand(&mut board, 0) == Some(Settled::Done(0)));
+    is_so(&rt, by_hand(&mut board, 0) == Some(Settled::Done(0)));
 }
 
 #[test]
 fn a_run_is_looked_at_and_taken_back(rt: HostRuntime) {
     let board = board_of(&rt, rt.alloc(), DEFINITION, LOCAL, 1);
     let mut stepper = Stepper::new(rt.alloc(), board);
-    assert!(rt; looked_at(&mut stepper) == Some(2));
+    is_so(&rt, looked_at(&mut stepper) == Some(2));
 }

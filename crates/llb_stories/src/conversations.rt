@@ -2,7 +2,8 @@
 //! answered before the next is waited for.
 
 use super::runs::ONE_FILE;
-use super::sessions::{LIMIT, READS, are_all_told};
+use super::sessions::{LIMIT, READS};
+use super::told::{is_so, row_holds};
 use super::written::board_of;
 use llb_session::{SessionFault, converse};
 use llb_stepper::Stepper;
@@ -67,23 +68,12 @@ fn ended(
     }
 }
 
-// The number of the first conversation that prints something else; past the end where there is none.
-fn first_wrong(rt: &impl Abort, alloc: Global, rows: &[(&str, &str)]) -> usize {
-    for (at, (commands, wanted)) in rows.iter().enumerate() {
-        if !matches!(
-            ended(rt, alloc, commands, (LIMIT, READS), wanted),
-            Some(Ok(()))
-        ) {
-            return at;
-        }
-    }
-    rows.len()
-}
-
 #[test]
 fn lines_are_answered_up_to_the_end(rt: HostRuntime) {
-    let rows = CONVERSATIONS;
-    are_all_told(&rt, first_wrong(&rt, rt.alloc(), rows), rows.len());
+    for (at, (commands, wanted)) in CONVERSATIONS.iter().enumerate() {
+        let end = ended(&rt, rt.alloc(), commands, (LIMIT, READS), wanted);
+        row_holds(&rt, at, number_of(end) == Some(0));
+    }
 }
 
 const TWICE: &str = "next\nnext\n";
@@ -106,20 +96,12 @@ fn number_of(end: Option<Result<(), SessionFault>>) -> Option<u32> {
     }
 }
 
-// The number of the first row of bounds that a session ends otherwise within.
-fn first_other_end(rt: &impl Abort, alloc: Global, rows: &[(usize, u64, &str, u32)]) -> usize {
-    for (at, (limit, reads, wanted, number)) in rows.iter().enumerate() {
-        if number_of(ended(rt, alloc, TWICE, (*limit, *reads), wanted)) != Some(*number) {
-            return at;
-        }
-    }
-    rows.len()
-}
-
 #[test]
 fn lines_within_the_bounds_are_answered(rt: HostRuntime) {
-    let rows = BOUNDS;
-    are_all_told(&rt, first_other_end(&rt, rt.alloc(), rows), rows.len());
+    for (at, (limit, reads, wanted, number)) in BOUNDS.iter().enumerate() {
+        let end = ended(&rt, rt.alloc(), TWICE, (*limit, *reads), wanted);
+        row_holds(&rt, at, number_of(end) == Some(*number));
+    }
 }
 
 // A reader that gives a byte a read, and those of a line only once the lines before it are answered.
@@ -188,5 +170,8 @@ fn each_line_is_answered_before_the_next_is_waited_for(rt: HostRuntime) {
     let wanted = "1 claim 0 0 -> file 1\n2 step 0 -> acted 0\nback 1\n";
     let mut stepper = on_one_file(&rt, rt.alloc());
     let commands = "next\nbreak fail\nnext\nback\n";
-    assert!(rt; is_conversation(rt.alloc(), &mut stepper, commands, wanted));
+    is_so(
+        &rt,
+        is_conversation(rt.alloc(), &mut stepper, commands, wanted),
+    );
 }

@@ -1,6 +1,7 @@
 //! Two workers, each in a thread of its own: a gate that holds each until the other has come.
 
 use super::runs::TWO_FILES;
+use super::told::is_so;
 use super::written::board_of;
 use llb_board::{Event, Gate, Status, Stopped};
 use llb_work::{RunEnd, RunFault, run_workers};
@@ -92,7 +93,7 @@ fn two_workers_are_at_work_together(rt: HostRuntime) {
     let gate = Meet::new();
     let board = board_of(&rt, rt.alloc(), TWO_FILES, "", 2);
     let end = run_workers(&rt, rt.alloc(), board, &gate);
-    assert!(rt; told(&end, &gate) == Some((3, 7, 3)));
+    is_so(&rt, told(&end, &gate) == Some((3, 7, 3)));
 }
 
 // Whether the run was stopped right after its claim of vertex 0.
@@ -106,5 +107,5 @@ fn is_stopped(end: &RunEnd) -> bool {
 fn a_worker_alone_waits_for_nobody_and_is_stopped(rt: HostRuntime) {
     let board = board_of(&rt, rt.alloc(), TWO_FILES, "", 1);
     let end = run_workers(&rt, rt.alloc(), board, &Meet::new());
-    assert!(rt; is_stopped(&end));
+    is_so(&rt, is_stopped(&end));
 }

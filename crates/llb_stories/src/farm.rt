@@ -2,6 +2,7 @@
 
 use super::calls::{are_same, breaks_at, goes_back, replayed};
 use super::runs::TWO_FILES;
+use super::told::{is_so, row_holds};
 use super::written::{board_from, board_of, push_entries};
 use llb_board::{Board, Event, Gate, Stopped};
 use llb_stepper::{Break, Stepper, Stop};
@@ -113,7 +114,7 @@ fn sixty_four_workers_are_at_work_together(rt: HostRuntime) {
     push_merge(&rt, &mut text, 64);
     let board = board_from(&rt, rt.alloc(), text.as_str(), 64);
     let end = run_workers(&rt, rt.alloc(), board, &gate);
-    assert!(rt; matches!(counts(&end, 64), Some((258, 3..))));
+    is_so(&rt, matches!(counts(&end, 64), Some((258, 3..))));
 }
 
 // Whether the merge alone is a user of either file, and nothing of the merge.
@@ -127,7 +128,7 @@ fn have_users(board: &Board) -> bool {
 #[test]
 fn users_are_those_that_have_an_edge_to_a_vertex(rt: HostRuntime) {
     let board = board_of(&rt, rt.alloc(), TWO_FILES, "", 2);
-    assert!(rt; have_users(&board));
+    is_so(&rt, have_users(&board));
 }
 
 // Whether two boards have one tree as the result.
@@ -158,7 +159,7 @@ fn any_number_of_workers_leaves_one_tree(rt: HostRuntime) {
     let alone = run_alone(board_of(&rt, rt.alloc(), TWO_FILES, "", 1));
     for workers in [1, 2, 3, 64] {
         let made = made_by(&rt, rt.alloc(), &alone.board, workers);
-        assert!(rt; made == Some(10), "{workers} workers");
+        row_holds(&rt, workers as usize, made == Some(10));
     }
 }
 
@@ -186,7 +187,7 @@ fn a_record_of_threads_is_walked(rt: HostRuntime) {
         at_break: true,
     };
     let walk = walked(&mut Stepper::new(alloc, board), left.events().as_slice());
-    assert!(rt; walk == Some((stop, 5)));
+    is_so(&rt, walk == Some((stop, 5)));
 }
 
 const ON_CACHES: &str =
@@ -205,8 +206,8 @@ fn on_caches(rt: &impl Abort, alloc: Global) -> Board {
 fn a_record_of_threads_on_caches_is_replayed(rt: HostRuntime) {
     let alloc = rt.alloc();
     let end = run_workers(&rt, alloc, on_caches(&rt, alloc), &Open);
-    assert!(rt; end.fault.is_none());
+    is_so(&rt, end.fault.is_none());
     let mut stepper = Stepper::new(alloc, on_caches(&rt, alloc));
     let stop = replayed(&mut stepper, end.board.events().as_slice());
-    assert!(rt; stop.is_some() && are_same(stepper.board(), &end.board));
+    is_so(&rt, stop.is_some() && are_same(stepper.board(), &end.board));
 }

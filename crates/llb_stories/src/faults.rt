@@ -1,7 +1,7 @@
 //! What faults of calls on a board print: what stands after the word `fault` in a refusal, and those of an opening.
 
 use super::runs::IN_A_ROW;
-use super::sessions::are_all_told;
+use super::told::prints;
 use super::written::{graph_from, key_of};
 use llb_board::{ClaimFault, OpenFault, SettleFault, StepFault};
 use llb_cache::{Caches, Mode};
@@ -9,22 +9,12 @@ use llb_loader::{Graph, Locals};
 use llb_wire::Text;
 use std::alloc::Global;
 use std::fmt::Display;
+use std::process::Abort;
 
-pub(crate) fn prints<T: Display>(alloc: Global, fault: &T, wanted: &str) -> bool {
-    match fault.to_string(alloc) {
-        Ok(text) => text.as_str() == wanted,
-        Err(_) => false,
+fn all_print<E: Display>(rt: &impl Abort, alloc: Global, rows: &[(E, &str)]) {
+    for (fault, wanted) in rows {
+        prints(rt, alloc, fault, wanted);
     }
-}
-
-// The number of the first fault that prints something else; past the end where there is none.
-fn first_wrong<T: Display>(alloc: Global, rows: &[(T, &str)]) -> usize {
-    for (at, (fault, wanted)) in rows.iter().enumerate() {
-        if !prints(alloc, fault, wanted) {
-            return at;
-        }
-    }
-    rows.len()
 }
 
 // The refusal of a claim of that number, but for that of a held key.
@@ -39,16 +29,6 @@ fn claim_fault(at: usize) -> ClaimFault {
 }
 
 const CLAIMS: &[&str] = &["131", "132", "133", "134", "141"];
-
-// The number of the first of them that prints something else; past the end where there is none.
-fn first_other_claim(alloc: Global, texts: &[&str]) -> usize {
-    for (at, wanted) in texts.iter().enumerate() {
-        if !prints(alloc, &claim_fault(at), wanted) {
-            return at;
-        }
-    }
-    texts.len()
-}
 
 const STEPS: &[(StepFault, &str)] = &[
     (StepFault::NoWorker, "131"),
@@ -65,26 +45,25 @@ const SETTLES: &[(SettleFault, &str)] = &[
 
 #[test]
 fn faults_of_claims(rt: HostRuntime) {
-    let rows = CLAIMS;
-    are_all_told(&rt, first_other_claim(rt.alloc(), rows), rows.len());
+    for (at, wanted) in CLAIMS.iter().enumerate() {
+        prints(&rt, rt.alloc(), &claim_fault(at), wanted);
+    }
 }
 
 #[test]
 fn faults_of_steps(rt: HostRuntime) {
-    let rows = STEPS;
-    are_all_told(&rt, first_wrong(rt.alloc(), rows), rows.len());
+    all_print(&rt, rt.alloc(), STEPS);
 }
 
 #[test]
 fn faults_of_settles(rt: HostRuntime) {
-    let rows = SETTLES;
-    are_all_told(&rt, first_wrong(rt.alloc(), rows), rows.len());
+    all_print(&rt, rt.alloc(), SETTLES);
 }
 
 #[test]
 fn a_locked_cache_that_is_held(rt: HostRuntime) {
     let key = key_of(&rt, rt.alloc(), &("go-mod", Mode::Locked, None));
-    assert!(rt; prints(rt.alloc(), &ClaimFault::Held(key), "135 go-mod"));
+    prints(&rt, rt.alloc(), &ClaimFault::Held(key), "135 go-mod");
 }
 
 fn workers_fault(alloc: Global, graph: Graph) -> OpenFault {
@@ -102,18 +81,18 @@ fn missing_fault(alloc: Global, name: Text, graph: Graph) -> OpenFault {
 #[test]
 fn a_refused_number_of_workers_prints_122(rt: HostRuntime) {
     let fault = workers_fault(rt.alloc(), graph_from(&rt, rt.alloc(), IN_A_ROW));
-    assert!(rt; prints(rt.alloc(), &fault, "122"));
+    prints(&rt, rt.alloc(), &fault, "122");
 }
 
 #[test]
 fn an_opening_out_of_memory_prints_123(rt: HostRuntime) {
     let fault = memory_fault(rt.alloc(), graph_from(&rt, rt.alloc(), IN_A_ROW));
-    assert!(rt; prints(rt.alloc(), &fault, "123"));
+    prints(&rt, rt.alloc(), &fault, "123");
 }
 
 #[test]
 fn a_missing_local_tree_prints_121_and_its_name(rt: HostRuntime) {
     let name = Text::from_str(rt.alloc(), "src").expect(&rt, "memory");
     let fault = missing_fault(rt.alloc(), name, graph_from(&rt, rt.alloc(), IN_A_ROW));
-    assert!(rt; prints(rt.alloc(), &fault, "121 src"));
+    prints(&rt, rt.alloc(), &fault, "121 src");
 }

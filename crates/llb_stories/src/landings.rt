@@ -2,7 +2,7 @@
 
 use super::calls::{are_done, landed, worked};
 use super::runs::TWO_FILES;
-use super::sessions::are_all_told;
+use super::told::{is_so, row_holds};
 use super::written::board_of;
 use llb_board::{Board, Event, Gate, Outcome, Status, Stopped};
 use std::alloc::Global;
@@ -77,26 +77,22 @@ const COUNTS: &[(&str, (u32, bool))] = &[
     (SECOND_COMMAND_FAILS, (2, true)),
 ];
 
-fn first_other_count(rt: &impl Abort, alloc: Global, rows: &[(&str, (u32, bool))]) -> usize {
-    for (at, (definition, wanted)) in rows.iter().enumerate() {
-        if counted(rt, alloc, definition, 0, &Passes) != Ok(*wanted) {
-            return at;
-        }
-    }
-    rows.len()
-}
-
 #[test]
 fn an_outcome_counts_what_was_left_up_to_a_fault(rt: HostRuntime) {
-    let rows = COUNTS;
-    are_all_told(&rt, first_other_count(&rt, rt.alloc(), rows), rows.len());
+    for (at, (definition, wanted)) in COUNTS.iter().enumerate() {
+        let counted = counted(&rt, rt.alloc(), definition, 0, &Passes);
+        row_holds(&rt, at, counted == Ok(*wanted));
+    }
 }
 
 #[test]
 fn a_gate_stops_whom_it_does_not_let_work(rt: HostRuntime) {
     let alloc = rt.alloc();
-    assert!(rt; counted(&rt, alloc, TWO_FILES, 0, &Stops) == Err(143));
-    assert!(rt; counted(&rt, alloc, TWO_FILES, 1, &Stops) == Ok((1, false)));
+    is_so(&rt, counted(&rt, alloc, TWO_FILES, 0, &Stops) == Err(143));
+    is_so(
+        &rt,
+        counted(&rt, alloc, TWO_FILES, 1, &Stops) == Ok((1, false)),
+    );
 }
 
 // What an outcome of vertex 0 is worked out on by worker 0, the board that it is brought to, what was done there, who brings it, and the
@@ -125,19 +121,11 @@ fn brought(rt: &impl Abort, alloc: Global, row: &Landing) -> u32 {
     landed(&mut board, row.3, outcome.ok().expect(rt, "an outcome"))
 }
 
-fn first_wrong(rt: &impl Abort, alloc: Global, rows: &[Landing]) -> usize {
-    for (at, row) in rows.iter().enumerate() {
-        if brought(rt, alloc, row) != row.4 {
-            return at;
-        }
-    }
-    rows.len()
-}
-
 #[test]
 fn an_outcome_lands_where_its_worker_has_just_that_to_do(rt: HostRuntime) {
-    let rows = LANDINGS;
-    are_all_told(&rt, first_wrong(&rt, rt.alloc(), rows), rows.len());
+    for (at, row) in LANDINGS.iter().enumerate() {
+        row_holds(&rt, at, brought(&rt, rt.alloc(), row) == row.4);
+    }
 }
 
 // Whether the outcome of a board lands on it as the steps that are left and the settle.
@@ -164,7 +152,7 @@ fn a_landing_is_the_steps_that_are_left_and_the_settle(rt: HostRuntime) {
     let mut board = board_of(&rt, rt.alloc(), TWO_FILES, "", 2);
     let outcome = worked(rt.alloc(), &mut board, 0, 0, &Passes);
     let outcome = outcome.ok().expect(&rt, "an outcome");
-    assert!(rt; is_a_block(&mut board, outcome) == [true; 3]);
+    is_so(&rt, is_a_block(&mut board, outcome) == [true; 3]);
 }
 
 #[test]
@@ -172,5 +160,5 @@ fn an_outcome_does_not_land_once_a_step_was_done(rt: HostRuntime) {
     let mut board = board_of(&rt, rt.alloc(), TWO_FILES, "", 2);
     let outcome = worked(rt.alloc(), &mut board, 0, 0, &Passes);
     let outcome = outcome.ok().expect(&rt, "an outcome");
-    assert!(rt; is_late(&mut board, outcome) == [true; 3]);
+    is_so(&rt, is_late(&mut board, outcome) == [true; 3]);
 }

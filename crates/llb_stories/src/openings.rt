@@ -2,11 +2,9 @@
 
 use super::calls::{are_done, opened};
 use super::definitions::OLD_AND_F;
-use super::faults::prints;
 use super::instances::{K_LOCKED, K_SHARED};
 use super::runs::D_ON_SECOND;
-use super::sessions::are_all_told;
-use super::told::is_answered;
+use super::told::{is_answered, is_so, prints, row_holds};
 use super::written::{CacheRow, board_of, graph_from, locals_of, needs_of};
 use llb_board::{Board, OpenFault};
 use llb_cache::{Caches, Many};
@@ -47,19 +45,12 @@ fn given_back(rt: &impl Abort, alloc: Global, workers: u32) -> Option<usize> {
     }
 }
 
-fn first_wrong(rt: &impl Abort, alloc: Global, rows: &[(u32, Option<usize>)]) -> usize {
-    for (at, (workers, wanted)) in rows.iter().enumerate() {
-        if given_back(rt, alloc, *workers) != *wanted {
-            return at;
-        }
-    }
-    rows.len()
-}
-
 #[test]
 fn a_number_of_workers_other_than_1_to_64_gives_the_graph_back(rt: HostRuntime) {
-    let rows = WORKERS;
-    are_all_told(&rt, first_wrong(&rt, rt.alloc(), rows), rows.len());
+    for (workers, wanted) in WORKERS {
+        let back = given_back(&rt, rt.alloc(), *workers);
+        row_holds(&rt, *workers as usize, back == *wanted);
+    }
 }
 
 const MERGES: &str = "SOURCE_P; SOURCE_Q; MERGES_0_1_EMPTY; RESULT_2";
@@ -72,43 +63,37 @@ const MISSING: &[(&str, &str)] = &[
     ("== q\nd 0755 0 0 /\n== p\nd 0755 0 0 /\n", "122"),
 ];
 
-fn is_missing(rt: &impl Abort, alloc: Global, given: &str, wanted: &str) -> bool {
+// Why a board of no worker is not opened on these local trees.
+fn unopened(rt: &impl Abort, alloc: Global, given: &str) -> OpenFault {
     let graph = graph_from(rt, alloc, MERGES);
     let locals = locals_of(rt, alloc, given);
-    match opened(rt, alloc, graph, locals, Caches::new(alloc), 0) {
-        Ok(_) => false,
-        Err(fault) => prints(alloc, &fault, wanted),
-    }
-}
-
-fn first_other_name(rt: &impl Abort, alloc: Global, rows: &[(&str, &str)]) -> usize {
-    for (at, (given, wanted)) in rows.iter().enumerate() {
-        if !is_missing(rt, alloc, given, wanted) {
-            return at;
-        }
-    }
-    rows.len()
+    let answer = opened(rt, alloc, graph, locals, Caches::new(alloc), 0);
+    answer.err().expect(rt, "a fault")
 }
 
 #[test]
 fn the_least_source_without_a_tree_is_named_first(rt: HostRuntime) {
-    let rows = MISSING;
-    are_all_told(&rt, first_other_name(&rt, rt.alloc(), rows), rows.len());
+    for (given, wanted) in MISSING {
+        prints(&rt, rt.alloc(), &unopened(&rt, rt.alloc(), given), wanted);
+    }
 }
 
 #[test]
 fn a_board_gives_back_what_it_was_opened_with(rt: HostRuntime) {
     let board = board_of(&rt, rt.alloc(), MERGES, OLD_AND_F, 1);
     let (graph, locals, _) = board.into_parts();
-    assert!(rt; graph.vertices().len() == 3 && locals.get("q").is_some());
+    is_so(
+        &rt,
+        graph.vertices().len() == 3 && locals.get("q").is_some(),
+    );
 }
 
 #[test]
 fn a_record_is_copied(rt: HostRuntime) {
     let mut board = board_of(&rt, rt.alloc(), D_ON_SECOND, "", 1);
-    assert!(rt; are_done(&mut board, "claim 0 0"));
+    is_so(&rt, are_done(&mut board, "claim 0 0"));
     let record = board.events().copy().ok().expect(&rt, "memory");
-    assert!(rt; record.len() == 1);
+    is_so(&rt, record.len() == 1);
 }
 
 // The caches of a board that is left after some events.
@@ -136,8 +121,14 @@ fn in_order(rt: &impl Abort, alloc: Global, rows: &[CacheRow]) -> Caches {
 fn keys_stand_in_the_order_of_the_first_claims(rt: HostRuntime) {
     let definition = "locked: true; shared: true; MERGES_0_1; RESULT_2";
     let caches = left(&rt, rt.alloc(), definition, "claim 0 1\nclaim 1 0");
-    assert!(rt; caches.same(&in_order(&rt, rt.alloc(), &[K_SHARED, K_LOCKED])));
-    assert!(rt; !caches.same(&in_order(&rt, rt.alloc(), &[K_LOCKED, K_SHARED])));
+    is_so(
+        &rt,
+        caches.same(&in_order(&rt, rt.alloc(), &[K_SHARED, K_LOCKED])),
+    );
+    is_so(
+        &rt,
+        !caches.same(&in_order(&rt, rt.alloc(), &[K_LOCKED, K_SHARED])),
+    );
 }
 
 // What is answered on a board with the caches of one that was left in the middle.
@@ -176,7 +167,7 @@ fn a_board_that_is_left_in_the_middle_gives_its_caches_to_the_next(rt: HostRunti
     let caches = left(&rt, alloc, definition, "claim 0 0\nstep 0");
     let board = opened_with(&rt, alloc, definition, caches, 2);
     let mut board = board.ok().expect(&rt, "a board");
-    assert!(rt; is_answered(&rt, alloc, &mut board, BEHIND));
+    is_so(&rt, is_answered(&rt, alloc, &mut board, BEHIND));
 }
 
 // Whether these caches come back with a refused number of workers.
@@ -194,5 +185,5 @@ fn a_board_without_workers_gives_the_caches_back(rt: HostRuntime) {
     let caches = left(&rt, alloc, definition, "claim 0 0\nstep 0");
     let copy = caches.copy().ok().expect(&rt, "memory");
     let fault = opened_with(&rt, alloc, definition, copy, 0).err();
-    assert!(rt; has_caches(&fault.expect(&rt, "a fault"), &caches));
+    is_so(&rt, has_caches(&fault.expect(&rt, "a fault"), &caches));
 }

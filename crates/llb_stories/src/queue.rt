@@ -3,6 +3,7 @@
 ghost use Rattle.llb_ready.specs.Hands.{SamePart};
 ghost use Rattle.llb_ready.specs.Passes.{IsReadyPassOf, hand_of};
 
+use super::told::{is_same, is_so};
 use llb_ready::{Full, ReadyFault, ReadyPass, ReadyQueue};
 use std::sync::Wait;
 
@@ -39,8 +40,8 @@ fn a_queue_of_two_gives_back_a_third_number_and_is_then_emptied_in_order(rt: Hos
                 take(&rt, &queue, &mut pass),
             ];
             queue.close(pass);
-            assert!(rt; puts == [Ok(()), Ok(()), Err(Full(9))]);
-            assert!(rt; takes == [Some(7), Some(8), None]);
+            is_so(&rt, puts == [Ok(()), Ok(()), Err(Full(9))]);
+            is_so(&rt, takes == [Some(7), Some(8), None]);
         }
     }
 }
@@ -61,8 +62,8 @@ fn two_halves_put_and_take_and_come_together_again(rt: HostRuntime) {
             ];
             let whole = queue.join(first, second);
             queue.close(whole);
-            assert!(rt; puts == [Ok(()), Err(Full(6))]);
-            assert!(rt; takes == [Some(5), None]);
+            is_so(&rt, puts == [Ok(()), Err(Full(6))]);
+            is_so(&rt, takes == [Some(5), None]);
         }
     }
 }
@@ -71,6 +72,6 @@ fn two_halves_put_and_take_and_come_together_again(rt: HostRuntime) {
 fn faults_of_a_queue_print_their_numbers(rt: HostRuntime) {
     match format!(in rt.alloc(); "{}; {}", ReadyFault::Memory, Full(9)) {
         Err(_) => panic!(rt; "no memory"),
-        Ok(text) => assert_eq!(rt; text.as_str(), "145; 146 9"),
+        Ok(text) => is_same(&rt, text.as_str(), "145; 146 9"),
     }
 }

@@ -53,8 +53,3 @@ pub(crate) fn are_stories(rt: &impl Abort, alloc: Global, told: &str) {
         assert!(rt; is_told(rt, alloc, &mut stepper, lines), "{head}");
     }
 }
-
-// Ends the test where the first row of a table that is told otherwise is not past its end.
-pub(crate) fn are_all_told(rt: &impl Abort, first_wrong: usize, rows: usize) {
-    assert_eq!(rt; first_wrong, rows);
-}

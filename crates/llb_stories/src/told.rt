@@ -13,6 +13,7 @@ use llb_tree::Tree;
 use llb_treetext::print_tree;
 use llb_wire::Over;
 use std::alloc::Global;
+use std::fmt::Display;
 use std::process::Abort;
 
 fn say(rt: &impl Abort, text: &mut String, more: &str) {
@@ -137,6 +138,28 @@ fn transcript(rt: &impl Abort, alloc: Global, board: &mut Board, told: &str) -> 
         say_line(rt, &mut text, board, line.trim());
     }
     text
+}
+
+// Ends the test where something does not hold.
+pub(crate) fn is_so(rt: &impl Abort, holds: bool) {
+    assert!(rt; holds);
+}
+
+// Ends the test where the row of a number does not hold; the failure names it.
+pub(crate) fn row_holds(rt: &impl Abort, row: usize, is_so: bool) {
+    assert!(rt; is_so, "row {row}");
+}
+
+// Ends the test where what is told is not what is wanted; the failure shows both.
+pub(crate) fn is_same(rt: &impl Abort, told: &str, wanted: &str) {
+    assert_eq!(rt; told, wanted);
+}
+
+// Ends the test where a fault prints something else.
+pub(crate) fn prints<E: Display>(rt: &impl Abort, alloc: Global, fault: &E, wanted: &str) {
+    let mut text = String::new(alloc);
+    write!(text, "{fault}").expect(rt, "memory");
+    is_same(rt, text.as_str(), wanted);
 }
 
 // Whether the calls of a transcript answer on a board what stands after them.

@@ -5,8 +5,7 @@ ghost use Rattle.std.specs.Prelude.{◌≡◌};
 use super::caches::WRITES_AND_FAILS;
 use super::calls::{are_done, are_same, breaks_at, copy_of, goes_back, is_event_done, replayed};
 use super::runs::{FAILS_FIRST, IN_A_ROW, TWO_FILES};
-use super::sessions::are_all_told;
-use super::told::is_answered;
+use super::told::{is_answered, is_so, row_holds};
 use super::written::board_of;
 use llb_board::{At, Board, Event, Status};
 use llb_stepper::{Break, Stepper, Stop};
@@ -75,19 +74,12 @@ fn is_walked(rt: &impl Abort, alloc: Global, definition: &str, ended: &str) -> [
     ]
 }
 
-fn first_wrong(rt: &impl Abort, alloc: Global, rows: &[(&str, &str)]) -> usize {
-    for (at, (definition, ended)) in rows.iter().enumerate() {
-        if is_walked(rt, alloc, definition, ended) != [true; 4] {
-            return at;
-        }
-    }
-    rows.len()
-}
-
 #[test]
 fn a_run_that_is_walked_is_taken_back(rt: HostRuntime) {
-    let rows = WALKED;
-    are_all_told(&rt, first_wrong(&rt, rt.alloc(), rows), rows.len());
+    for (at, (definition, ended)) in WALKED.iter().enumerate() {
+        let walked = is_walked(&rt, rt.alloc(), definition, ended);
+        row_holds(&rt, at, walked == [true; 4]);
+    }
 }
 
 // What the walk of an event that is refused prints.
@@ -104,8 +96,11 @@ fn is_refused(alloc: Global, board: &mut Board, event: Event, wanted: &str) -> b
 #[test]
 fn a_walk_is_refused_as_the_event_is(rt: HostRuntime) {
     let mut board = board_of(&rt, rt.alloc(), IN_A_ROW, "", 2);
-    assert!(rt; are_done(&mut board, "claim 0 0\nstep 0"));
-    assert!(rt; is_refused(rt.alloc(), &mut board, Event::Claim(0, 1), "132"));
+    is_so(&rt, are_done(&mut board, "claim 0 0\nstep 0"));
+    is_so(
+        &rt,
+        is_refused(rt.alloc(), &mut board, Event::Claim(0, 1), "132"),
+    );
 }
 
 // The record of two workers on two files and both of them.
@@ -145,5 +140,8 @@ fn is_replayed(stepper: &mut Stepper) -> [bool; 3] {
 #[test]
 fn a_record_is_replayed_up_to_a_breakpoint(rt: HostRuntime) {
     let board = board_of(&rt, rt.alloc(), TWO_FILES, "", 2);
-    assert!(rt; is_replayed(&mut Stepper::new(rt.alloc(), board)) == [true; 3]);
+    is_so(
+        &rt,
+        is_replayed(&mut Stepper::new(rt.alloc(), board)) == [true; 3],
+    );
 }
