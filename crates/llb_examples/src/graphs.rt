@@ -22,7 +22,11 @@ use std::process::Abort;
 
 fn push_mount(rt: &impl Abort, text: &mut String, input: &str, words: &str) {
     let (dest, names) = word_and_rest(words);
-    write!(text, "mounts {{\ninput {input}\ndest \"{dest}\"\n").expect(rt, "memory");
+    say(rt, text, "mounts {\ninput ");
+    say(rt, text, input);
+    say(rt, text, "\ndest \"");
+    say(rt, text, dest);
+    say(rt, text, "\"\n");
     for name in names.split(' ') {
         say(rt, text, block(PIECES, name).unwrap_or(""));
     }
@@ -34,7 +38,10 @@ fn push_piece(rt: &impl Abort, text: &mut String, piece: &str) {
     match block(PIECES, piece) {
         Some(lines) => say(rt, text, lines),
         None if first.parse::<i64>().is_ok() => push_mount(rt, text, first, rest),
-        None => write!(text, "{piece}\n").expect(rt, "memory"),
+        None => {
+            say(rt, text, piece);
+            say(rt, text, "\n");
+        }
     }
 }
 
@@ -109,15 +116,21 @@ fn say_edge(rt: &impl Abort, text: &mut String, edge: Edge) {
     say_number(rt, text, edge.index);
 }
 
-fn say_vertex(rt: &impl Abort, text: &mut String, vertex: &Vertex) {
-    say(rt, text, vertex.digest.as_str());
+// The name of its local source, or how many commands it has.
+fn say_kind(rt: &impl Abort, text: &mut String, vertex: &Vertex) {
     if let Some(name) = vertex.local_name() {
-        write!(text, " local {name}").expect(rt, "memory");
+        say(rt, text, " local ");
+        say(rt, text, name);
     }
     if let Some(script) = &vertex.script {
-        let commands = script.commands().len();
-        write!(text, " runs {commands}").expect(rt, "memory");
+        say(rt, text, " runs ");
+        say_number(rt, text, script.commands().len() as u32);
     }
+}
+
+fn say_vertex(rt: &impl Abort, text: &mut String, vertex: &Vertex) {
+    say(rt, text, vertex.digest.as_str());
+    say_kind(rt, text, vertex);
     say(rt, text, " ");
     say_number(rt, text, vertex.steps);
     say(rt, text, " ");

@@ -36,17 +36,13 @@ fn mounts_of(rt: &impl Abort, alloc: Global, rows: &[Row]) -> Vec<Shown> {
     mounts
 }
 
-fn view_with(rt: &impl Abort, mounts: Many<Shown>) -> View {
-    View::make(mounts).expect(rt, "memory")
-}
-
 // The view of the mounts, where they make one.
 fn view_of(rt: &impl Abort, alloc: Global, rows: &[Row]) -> Option<View> {
     let mounts = mounts_of(rt, alloc, rows);
     if !View::can_make(&mounts) {
         return None;
     }
-    Some(view_with(rt, Many::new(mounts)))
+    Some(View::make(Many::new(mounts)).expect(rt, "memory"))
 }
 
 // Mounts, and whether they make a view.
@@ -168,7 +164,8 @@ fn story(rt: &impl Abort, alloc: Global, steps: &[Step]) -> String {
     take_steps(rt, alloc, &mut text, &mut view, steps);
     say_mounts(rt, alloc, &mut text, &view);
     say(rt, &mut text, "| ");
-    say_mounts(rt, alloc, &mut text, &view_with(rt, copy.into_mounts()));
+    let again = View::make(copy.into_mounts()).expect(rt, "memory");
+    say_mounts(rt, alloc, &mut text, &again);
     text
 }
 

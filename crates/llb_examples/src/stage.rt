@@ -4,7 +4,7 @@
 
 use super::acts::{lay_down, say_act};
 use super::graphs::say_graph_call;
-use super::told::{say, say_fault};
+use super::told::{is_same, is_so, say, say_fault};
 use super::trees::{Trees, answer, word_and_rest};
 use super::views::{put_mount, say_run};
 use llb_mount::Shown;
@@ -71,10 +71,10 @@ pub(crate) fn is_told_as(rt: &impl Abort, text: &str, told: &str) {
     for line in told.lines() {
         let line = line.trim();
         if !line.is_empty() && !line.starts_with("# ") {
-            assert_eq!(rt; lines.next().unwrap_or("nothing").trim(), line);
+            is_same(rt, lines.next().unwrap_or("nothing").trim(), line);
         }
     }
-    assert!(rt; lines.next().is_none());
+    is_so(rt, lines.next().is_none());
 }
 
 // Ends the test at the first line of a transcript that is told otherwise.

@@ -132,25 +132,14 @@ fn a_record_has_its_first_fault(rt: HostRuntime) {
     }
 }
 
-fn write_one(
-    rt: &impl Abort,
-    out: &mut Vec<u8>,
-    number: u32,
-    wire: Wire,
-    value: u64,
-    bytes: &[u8],
-) {
-    write_record(number, wire, value, bytes, out).expect(rt, "memory");
-}
-
 // A number, and after it four records.
 fn spelled(rt: &impl Abort, alloc: Global) -> Vec<u8> {
     let mut out = Vec::new(alloc);
     write_varint(300, &mut out).expect(rt, "memory");
-    write_one(rt, &mut out, 1, Wire::Varint, 150, &[]);
-    write_one(rt, &mut out, 2, Wire::Len, 0, b"hi");
-    write_one(rt, &mut out, 1, Wire::I64, 0x0807_0605_0403_0201, &[]);
-    write_one(rt, &mut out, 1, Wire::I32, 0x0403_0201, &[]);
+    write_record(1, Wire::Varint, 150, &[], &mut out).expect(rt, "memory");
+    write_record(2, Wire::Len, 0, b"hi", &mut out).expect(rt, "memory");
+    write_record(1, Wire::I64, 0x0807_0605_0403_0201, &[], &mut out).expect(rt, "memory");
+    write_record(1, Wire::I32, 0x0403_0201, &[], &mut out).expect(rt, "memory");
     out
 }
 
