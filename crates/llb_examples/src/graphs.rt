@@ -123,8 +123,8 @@ fn say_kind(rt: &impl Abort, text: &mut String, vertex: &Vertex) {
         say(rt, text, name);
     }
     if let Some(script) = &vertex.script {
-        say(rt, text, " runs ");
-        say_number(rt, text, script.commands().len() as u32);
+        let commands = script.commands().len();
+        write!(text, " runs {commands}").expect(rt, "memory");
     }
 }
 
