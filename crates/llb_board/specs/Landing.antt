@@ -1,5 +1,5 @@
 -- What a landing answers: the block of the micro-steps and the settle that are left to a worker, or the first cause that stands in its way.
-use Rattle.std.specs.Prelude.{◌≡◌, ℕ, ◌+◌, true, false, List, [], ◌∷◌, ◌++◌, Some, None, slice_get, is_ok}
+use Rattle.std.specs.Prelude.{◌≡◌, ℕ, true, false, List, [], ◌∷◌, ◌++◌, Some, None, slice_get, is_ok}
 use Rattle.llb_model.specs.State.{Execution, Idle, Runs}
 use Rattle.llb_model.specs.Table.{Job, Reply, settle_grant}
 use Rattle.llb_model.specs.Run.{run}

@@ -1,6 +1,6 @@
 //! An event with what undoes it, for whoever walks a run forwards and back.
 
-ghost use Rattle.std.specs.Prelude.{◌≡◌, [], false, option_map, slice_get, OnErr, IfOk, IfErr, Err};
+ghost use Rattle.std.specs.Prelude.{◌≡◌, ◌==◌, false, not, length, option_map, slice_get, OnErr, IfOk, IfErr, Err};
 ghost use Rattle.llb_state.specs.Room.{needs_at};
 ghost use Rattle.llb_board.specs.Undo.{GivesWalk, walk_of, walk_memory, undone, CanUndo, Marks, MarksClaim, MarksStep, MarksSettle};
 ghost use Rattle.llb_state.specs.Undoing.{caches_in};
@@ -146,7 +146,7 @@ fn desk_of(desks: &[Desk], w: u32) -> Option<&Desk>
 
 // Whether the vertex of a number shows a cache.
 fn shows_cache_at(build: &Build, v: u32) -> bool
-    ensures { result ≡ false → needs_at (slice_get build.now.graph.vertices v) ≡ [] }
+    ensures { result ≡ not (length (needs_at (slice_get build.now.graph.vertices v)) == 0) }
 {
     match build.vertex(v) {
         Some(vertex) => shows_cache(vertex),

@@ -1,6 +1,6 @@
 //! Patterns. A row is the text of a pattern and the text of a path.
 
-use super::told::{holds, row_holds, say};
+use super::told::{holds, repeated, row_holds};
 use llb_glob::{Pattern, PatternFault};
 use llb_tree::Path;
 use std::alloc::Global;
@@ -70,15 +70,6 @@ fn a_path_matches_part_by_part_and_a_bad_pattern_is_refused(rt: HostRuntime) {
         let answer = answer(&rt, rt.alloc(), pattern, path);
         holds(&rt, pattern, answer == *wanted);
     }
-}
-
-fn repeated(rt: &impl Abort, alloc: Global, text: &str, count: usize, rest: &str) -> String {
-    let mut all = String::new(alloc);
-    for _ in 0..count {
-        say(rt, &mut all, text);
-    }
-    say(rt, &mut all, rest);
-    all
 }
 
 // A text that many times over and then a rest, another one that many times over, and whether they match.

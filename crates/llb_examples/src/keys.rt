@@ -1,10 +1,18 @@
 //! Keys of caches: what is the same key, and what faults tell of one.
 
-use super::cache::{A, B, P, Row, S, key_of};
-use super::told::{holds, prints, row_holds};
+use super::leases::{Row, key_of};
+use super::told::{prints, row_holds};
 use llb_cache::{Key, KeyRef, LeaseFault, Memory, Mode};
 use std::alloc::Global;
 use std::process::Abort;
+
+const A: Row<'static> = ("a", Mode::Locked, None, "");
+
+const B: Row<'static> = ("b", Mode::Locked, None, "");
+
+const P: Row<'static> = ("p", Mode::Private, Some(0), "f");
+
+const S: Row<'static> = ("s", Mode::Shared, None, "");
 
 // The same key, from one that borrows its texts.
 fn again(rt: &impl Abort, alloc: Global, row: &Row<'_>) -> Key {
@@ -17,27 +25,16 @@ fn again(rt: &impl Abort, alloc: Global, row: &Row<'_>) -> Key {
     key.to_key(alloc).expect(rt, "memory")
 }
 
-fn is_made_again(rt: &impl Abort, alloc: Global, row: &Row<'_>) -> bool {
-    key_of(rt, alloc, row).same(&again(rt, alloc, row))
-}
-
-#[test]
-fn a_key_that_borrows_its_texts_makes_the_key(rt: HostRuntime) {
-    for row in [A, P, ("", Mode::Shared, None, "")] {
-        holds(&rt, row.0, is_made_again(&rt, rt.alloc(), &row));
-    }
-}
-
 // Whether a key's copy is the key, and whether it is the other key.
 fn compared(rt: &impl Abort, alloc: Global, row: &Row<'_>, other: &Row<'_>) -> (bool, bool) {
-    let (key, other) = (key_of(rt, alloc, row), key_of(rt, alloc, other));
+    let (key, other) = (key_of(rt, alloc, row), again(rt, alloc, other));
     let copy = key.copy().expect(rt, "memory");
     (copy.same(&key), copy.same(&other))
 }
 
 #[test]
-fn a_key_is_the_same_as_its_copy(rt: HostRuntime) {
-    let rows = [A, B, P, S];
+fn a_key_is_the_same_as_its_copy_and_as_one_that_borrowed_its_texts(rt: HostRuntime) {
+    let rows = [A, B, P, S, ("", Mode::Shared, None, "")];
     for (i, row) in rows.iter().enumerate() {
         for (j, other) in rows.iter().enumerate() {
             let answer = compared(&rt, rt.alloc(), row, other);

@@ -1,9 +1,7 @@
-//! Worked examples of each library but `llb_board`, and each public call once: tests, and nothing else. The values are
-//! written out from the rules by hand.
+//! Worked examples of the libraries below the board, by their calls: tests, and nothing else. What the program tells of them is tried by its
+//! transcripts (`crates/llbm/src/tests`). The values are written out from the rules by hand.
 #![tactic(auto)]
 
-#[cfg(test)]
-mod acts;
 #[cfg(test)]
 mod applet;
 #[cfg(test)]
@@ -11,11 +9,7 @@ mod asm;
 #[cfg(test)]
 mod cache;
 #[cfg(test)]
-mod cache_mounts;
-#[cfg(test)]
 mod entries;
-#[cfg(test)]
-mod execs;
 #[cfg(test)]
 mod faults;
 #[cfg(test)]
@@ -23,15 +17,11 @@ mod fileop;
 #[cfg(test)]
 mod glob;
 #[cfg(test)]
-mod graphs;
-#[cfg(test)]
 mod keys;
 #[cfg(test)]
+mod leases;
+#[cfg(test)]
 mod loader;
-#[cfg(test)]
-mod loader_ops;
-#[cfg(test)]
-mod locals;
 #[cfg(test)]
 mod many_files;
 #[cfg(test)]
@@ -46,12 +36,6 @@ mod nodes;
 mod ops;
 #[cfg(test)]
 mod overlay;
-#[cfg(test)]
-mod plain;
-#[cfg(test)]
-mod plain_ops;
-#[cfg(test)]
-mod scripts;
 #[cfg(test)]
 mod sharing;
 #[cfg(test)]

@@ -1,5 +1,6 @@
 //! A tree of a thousand files and its copies: changes of one are not in the others. Trees are told by their whole texts.
 
+use super::overlay::copied;
 use super::told::{dir, file, is_so, made, put, say};
 use super::treetext::printed;
 use llb_tree::{Tree, TreeFault};
@@ -21,10 +22,6 @@ fn filled(alloc: Global, mut tree: Tree, content: &str) -> Result<Tree, TreeFaul
         put_file(alloc, &mut tree, at, content)?;
     }
     Ok(tree)
-}
-
-fn copied(rt: &impl Abort, tree: &Tree) -> Tree {
-    tree.copy().expect(rt, "memory")
 }
 
 // The empty files `/d/000` to `/d/999`.

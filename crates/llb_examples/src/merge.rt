@@ -1,119 +1,30 @@
-//! One tree laid over another.
+//! One tree laid over another: three of them, and what is known of any two. What merges of inputs give is tried by the program (`layers` in
+//! `llbm`).
 
-use super::acts::over;
-use super::stage::are_told;
+use super::overlay::lent;
 use super::told::{Row, is_same, made, prints, tree_text};
-use llb_merge::Memory;
+use llb_merge::{Memory, at_each_path, over_itself, over_the_empty_tree, under_the_empty_tree};
 use llb_tree::Tree;
 use std::alloc::Global;
 use std::process::Abort;
-
-const FOLDS: &str = "
-    # A file hides what was below its path for good.
-    > new
-    > dir /p
-    > file /p/q 644 0:0 1
-    > lay
-    > swap
-    > tree
-    d d/p f/p/q=1
-
-    > new
-    > dir /p
-    > file /p/q 644 0:0 1
-    > lay
-    > file /p 644 0:0 2
-    > lay
-    > swap
-    > tree
-    d f/p=2
-
-    > new
-    > dir /p
-    > file /p/q 644 0:0 1
-    > lay
-    > file /p 644 0:0 2
-    > lay
-    > dir /p
-    > file /p/r 644 0:0 3
-    > lay
-    > swap
-    > tree
-    d d/p f/p/r=3
-
-    > new
-    > dir /p
-    > file /p/q 644 0:0 1
-    > lay
-    > dir /p
-    > file /p/r 644 0:0 3
-    > lay
-    > swap
-    > tree
-    d d/p f/p/q=1 f/p/r=3
-
-    # The upper entry stands, and neighbours of both stay.
-    > new
-    > dir / 700 0:0
-    > dir /a 700 0:0
-    > file /a/x 600 0:0 low
-    > file /a/y 600 0:0 low
-    > file /c 600 0:0 low
-    > dir /z 700 0:0
-    > lay
-    > dir /a
-    > file /a/x 644 0:0 up
-    > dir /b
-    > dir /c
-    > file /c/d 644 0:0 up
-    > lay
-    > swap
-    > tree
-    d d/a f/a/x=up f/a/y(600 0:0)=low d/b d/c f/c/d=up d/z(700 0:0)
-
-    > new
-    > dir / 700 0:0
-    > dir /a 700 0:0
-    > file /a/x 600 0:0 low
-    > file /a/y 600 0:0 low
-    > file /c 600 0:0 low
-    > dir /z 700 0:0
-    > lay
-    > dir / 700 0:0
-    > dir /a 700 0:0
-    > file /a/x 600 0:0 low
-    > file /a/y 600 0:0 low
-    > file /c 600 0:0 low
-    > dir /z 700 0:0
-    > lay
-    > swap
-    > tree
-    d(700 0:0) d/a(700 0:0) f/a/x(600 0:0)=low f/a/y(600 0:0)=low f/c(600 0:0)=low d/z(700 0:0)
-
-    > new
-    > dir / 700 0:0
-    > dir /a 700 0:0
-    > file /a/x 600 0:0 low
-    > file /a/y 600 0:0 low
-    > file /c 600 0:0 low
-    > dir /z 700 0:0
-    > lay
-    > lay
-    > swap
-    > tree
-    d d/a(700 0:0) f/a/x(600 0:0)=low f/a/y(600 0:0)=low f/c(600 0:0)=low d/z(700 0:0)
-    ";
-
-#[test]
-fn a_file_hides_what_was_below_and_the_upper_entry_stands(rt: HostRuntime) {
-    are_told(&rt, rt.alloc(), FOLDS);
-}
 
 const Q: &[Row<'static>] = &[("/p", 0o755, 0, 0, None), ("/p/q", 0o644, 0, 0, Some("1"))];
 
 const FILE: &[Row<'static>] = &[("/p", 0o644, 0, 0, Some("2"))];
 
 const R: &[Row<'static>] = &[("/p", 0o755, 0, 0, None), ("/p/r", 0o644, 0, 0, Some("3"))];
+
+fn laws(lower: &Tree, upper: &Tree) {
+    at_each_path(lower, upper);
+    over_itself(lower);
+    over_the_empty_tree(lower);
+    under_the_empty_tree(lower);
+}
+
+fn over(rt: &impl Abort, alloc: Global, lower: &Tree, upper: &Tree) -> Tree {
+    laws(lower, upper);
+    lent(rt, alloc, lower, upper)
+}
 
 // The trees of rows one over the other.
 fn over_rows(rt: &impl Abort, alloc: Global, lower: &Tree, rows: &[Row<'_>]) -> Tree {

@@ -2,6 +2,7 @@
 //! story is told in a line of text: the answer to each step, and then the mounts.
 
 use super::told::{file, holds, is_same, made, prints, row_holds, say, say_names, say_path};
+use super::tree::path_of;
 use llb_mount::{Many, Memory, Path, ReadOnly, Shown, Tree, View};
 use std::alloc::Global;
 use std::process::Abort;
@@ -13,10 +14,6 @@ const THREE: &[Row] = &[
     ("/t", "/", false, "b"),
     ("/t/in", "/sub", true, "c"),
 ];
-
-fn path_of(rt: &impl Abort, alloc: Global, text: &str) -> Path {
-    Path::read(alloc, text).expect(rt, "a path")
-}
 
 fn shown(rt: &impl Abort, alloc: Global, row: &Row) -> Shown {
     let (dest, selector, readonly, name) = *row;

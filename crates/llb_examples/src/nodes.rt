@@ -1,7 +1,8 @@
 //! The nodes of a tree, the walks over it, and the paths below which it fits.
 
 use super::told::{Row, is_same, made, row_holds, say, say_node, say_path, say_tree};
-use llb_tree::{Meta, Node, Path, Tree, TreeFault, Walk};
+use super::tree::{deep_tree, path_with};
+use llb_tree::{Node, Path, Tree, TreeFault, Walk};
 use std::alloc::Global;
 use std::process::Abort;
 
@@ -133,25 +134,6 @@ fn a_walk_goes_on_and_skips_and_stays_at_its_end(rt: HostRuntime) {
     }
 }
 
-// The path of the name `a` that many times over.
-fn deep_path(rt: &impl Abort, alloc: Global, names: usize) -> Path {
-    let mut text = String::new(alloc);
-    for _ in 0..names {
-        say(rt, &mut text, "/a");
-    }
-    Path::read(alloc, text.as_str()).expect(rt, "a path")
-}
-
-// A directory at that path, in those that it needs.
-fn deep_tree(rt: &impl Abort, alloc: Global, names: usize) -> Tree {
-    let mut tree = Tree::empty(alloc).expect(rt, "memory");
-    for at in 0..names {
-        let path = deep_path(rt, alloc, at + 1);
-        tree.put_dir(&path, Meta::new_dir()).expect(rt, "memory");
-    }
-    tree
-}
-
 fn cut_at(rt: &impl Abort, tree: &mut Tree, path: &Path) {
     tree.remove(path).expect(rt, "what is there");
 }
@@ -166,9 +148,9 @@ fn fits(
 ) -> Result<(), TreeFault> {
     let mut tree = deep_tree(rt, alloc, levels);
     if let Some(cut) = cut {
-        cut_at(rt, &mut tree, &deep_path(rt, alloc, cut));
+        cut_at(rt, &mut tree, &path_with(rt, alloc, cut));
     }
-    tree.fits(&deep_path(rt, alloc, names))
+    tree.fits(&path_with(rt, alloc, names))
 }
 
 // The levels of a tree, those from which on they are gone, the names above, and whether it fits.

@@ -1,24 +1,23 @@
-//! Entries and definitions. What an op is, its canonical bytes show; and of each message once its fields.
+//! Entries and definitions. What an op is, its canonical bytes show; the fields of each message the program tells (`messages` in `llbm`).
 
 use super::told::{holds, is_so, row_holds};
 use llb_ops::{
-    Action, ActionKind, Entries, ExecOp, FileOp, Kind, MessageName, Mount, Op, OpFault, SourceOp,
-    definition_is_read_again, entry_has_fields, field_named, field_numbered, fields_of,
-    op_is_read_again, read_definition, read_op, rows_are_apart, write_definition, write_op,
+    Entries, FileOp, Kind, MessageName, Op, OpFault, definition_is_read_again, entry_has_fields,
+    field_named, field_numbered, fields_of, op_is_read_again, read_definition, read_op,
+    rows_are_apart, write_definition, write_op,
 };
-use llb_wire::{Bytes, Memory, WireFault};
+use llb_wire::{Bytes, Memory, Same, WireFault};
 use std::alloc::Global;
 
 // A file `/a` of mode 0644 with the content `hi`, made on the empty tree.
-const MAKES_A: &[u8] = b"\x22\x30\x12\x2E\x08\xFF\xFF\xFF\xFF\xFF\xFF\xFF\xFF\xFF\x01\x10\
+pub(crate) const MAKES_A: &[u8] =
+    b"\x22\x30\x12\x2E\x08\xFF\xFF\xFF\xFF\xFF\xFF\xFF\xFF\xFF\x01\x10\
     \xFF\xFF\xFF\xFF\xFF\xFF\xFF\xFF\xFF\x01\x2A\x16\x0A\x02/a\x10\xA4\x03\x1A\x02hi\x28\
     \xFF\xFF\xFF\xFF\xFF\xFF\xFF\xFF\xFF\x01";
 
 // The entry that names the first output of that one.
 const NAMES_A: &[u8] = b"\x0A\x49\x0A\x47\
     sha256:e00d65597895790f7dc26dbf724a411bd83c8e15881ab3eea18ea75095782dab";
-
-const DIGEST_OF_A: &str = "sha256:e00d65597895790f7dc26dbf724a411bd83c8e15881ab3eea18ea75095782dab";
 
 // The definition of both.
 const BOTH: &[u8] = b"\x0A\x32\
@@ -42,7 +41,7 @@ const MOUNT: &[u8] = b"\x12\x25\x12\x23\x08\x01\x12\x02/s\x1A\x02/d\x20\x02\x28\
     \x9A\x01\x02\x08\x05\xA2\x01\x05\x0A\x01k\x10\x02\xAA\x01\x00\xB2\x01\x00";
 
 // A copy of `/f` to `/d/` with mode and timestamp -1 and a field 14.
-const COPY: &[u8] = b"\x22\x27\x12\x25\x10\x01\x22\x21\x0A\x02/f\x12\x03/d/\x20\
+pub(crate) const COPY: &[u8] = b"\x22\x27\x12\x25\x10\x01\x22\x21\x0A\x02/f\x12\x03/d/\x20\
     \xFF\xFF\xFF\xFF\xFF\xFF\xFF\xFF\xFF\x01\x58\xFF\xFF\xFF\xFF\xFF\xFF\xFF\xFF\xFF\x01\x70\x01";
 
 // `/bin/sh -c true` with one variable and a root mount, in `/`, on the entry above; after it a platform and constraints.
@@ -153,136 +152,25 @@ fn a_field_is_repeated_1024_times_at_most(rt: HostRuntime) {
     is_so(&rt, is_kept(rt.alloc(), 1025) == Err(OpFault::OverLimit));
 }
 
-fn makes_a(action: &Action) -> bool {
-    let numbers = (action.input, action.secondary_input, action.output) == (-1, -1, 0);
-    match &action.kind {
-        Some(ActionKind::MkFile(made)) => {
-            let told = (made.mode, made.timestamp) == (420, -1) && made.owner.is_none();
-            let texts = made.path.as_str() == "/a" && made.body.as_slice() == b"hi".as_slice();
-            numbers && told && texts
-        }
-        _ => false,
-    }
-}
-
-fn copies_f(action: &Action) -> bool {
-    let numbers = (action.input, action.secondary_input, action.output) == (0, 1, 0);
-    match &action.kind {
-        Some(ActionKind::Copy(copy)) => {
-            let told = (copy.mode, copy.timestamp) == (-1, -1);
-            let texts = copy.src.as_str() == "/f" && copy.dest.as_str() == "/d/";
-            numbers && told && texts && copy.extra.as_slice() == [0x70, 0x01].as_slice()
-        }
-        _ => false,
-    }
-}
-
-// A file op of a single action in words.
-fn file_told(file: &FileOp) -> &'static str {
-    match file.actions.as_slice() {
-        [action] if makes_a(action) => "makes /a",
-        [action] if copies_f(action) => "copies /f",
-        _ => "another file op",
-    }
-}
-
-// The second owner of a file op in words.
-fn copy_told(file: &FileOp) -> &'static str {
+// Whether a file op and its copy are equal.
+fn is_copied(file: &FileOp) -> bool {
     match file.copy() {
-        Ok(copied) => file_told(&copied),
-        Err(_) => "no memory",
+        Ok(copy) => copy.same(file),
+        Err(_) => false,
     }
 }
 
-fn source_told(source: &SourceOp) -> &'static str {
-    if source.identifier.as_str() == "local://a" && source.attrs.as_map().len() == 2 {
-        "local://a"
-    } else {
-        "another source"
-    }
-}
-
-fn is_whole(mount: &Mount) -> bool {
-    let numbers = (mount.input, mount.output, mount.mount_type) == (1, 2, 3) && mount.readonly;
-    let texts = mount.selector.as_str() == "/s" && mount.dest.as_str() == "/d";
-    let tmpfs = matches!(&mount.tmpfs_opt, Some(opt) if opt.size == 5);
-    let cache = matches!(&mount.cache_opt, Some(opt) if opt.sharing == 2);
-    numbers && texts && tmpfs && cache && mount.extra.as_slice().len() == 6
-}
-
-fn exec_told(exec: &ExecOp) -> &'static str {
-    match exec.mounts.as_slice() {
-        [mount] if is_whole(mount) => "mounts",
-        [_] if exec.meta.is_some() => "runs",
-        _ => "another exec",
-    }
-}
-
-fn input_told(op: &Op) -> &'static str {
-    match op.inputs.as_slice() {
-        [] => "nothing",
-        [input] if input.index == 0 && input.digest.as_str() == DIGEST_OF_A => "/a",
-        _ => "other inputs",
-    }
-}
-
-// An op in words: what it does, what on, and how many bytes it keeps.
-fn told(op: &Op) -> (&'static str, &'static str, usize) {
-    let does = match &op.kind {
-        Some(Kind::File(file)) => file_told(file),
-        Some(Kind::Source(source)) => source_told(source.get()),
-        Some(Kind::Exec(exec)) => exec_told(exec.get()),
-        Some(_) => "another op",
-        None => "nothing",
-    };
-    (does, input_told(op), op.extra.as_slice().len())
-}
-
-fn seen(alloc: Global, entry: &[u8]) -> Option<(&'static str, &'static str, usize)> {
+fn has_copy(alloc: Global, entry: &[u8]) -> bool {
     match read_op(alloc, entry) {
-        Ok(op) => Some(told(&op)),
-        Err(_) => None,
-    }
-}
-
-// Entries, what their ops do, what on, and how many bytes they keep.
-const MESSAGES: &[(&[u8], &str, &str, usize)] = &[
-    (MAKES_A, "makes /a", "nothing", 0),
-    (NAMES_A, "nothing", "/a", 0),
-    (SOURCE, "local://a", "nothing", 0),
-    (MOUNT, "mounts", "nothing", 0),
-    (COPY, "copies /f", "nothing", 0),
-    (RUNS_TRUE, "runs", "/a", 18),
-];
-
-#[test]
-fn messages_are_read_field_by_field(rt: HostRuntime) {
-    for (entry, does, on, kept) in MESSAGES {
-        let seen = seen(rt.alloc(), entry);
-        holds(&rt, does, seen == Some((*does, *on, *kept)));
-    }
-}
-
-fn copied(op: &Op) -> &'static str {
-    match &op.kind {
-        Some(Kind::File(file)) => copy_told(file),
-        _ => "no file op",
-    }
-}
-
-// What the second owner of an entry's file op does.
-fn copy_seen(alloc: Global, entry: &[u8]) -> &'static str {
-    match read_op(alloc, entry) {
-        Ok(op) => copied(&op),
-        Err(_) => "no op",
+        Ok(op) => matches!(&op.kind, Some(Kind::File(file)) if is_copied(file)),
+        Err(_) => false,
     }
 }
 
 #[test]
 fn a_file_op_has_an_equal_second_owner(rt: HostRuntime) {
-    for (entry, does) in [(MAKES_A, "makes /a"), (COPY, "copies /f")] {
-        holds(&rt, does, copy_seen(rt.alloc(), entry) == does);
-    }
+    is_so(&rt, has_copy(rt.alloc(), MAKES_A));
+    is_so(&rt, has_copy(rt.alloc(), COPY));
 }
 
 fn definition_law(entries: &Entries) {
@@ -310,27 +198,6 @@ fn a_definition_keeps_its_entries_and_skips_other_fields(rt: HostRuntime) {
         let written = definition_rewritten(rt.alloc(), definition);
         row_holds(&rt, at, is_answer(written, *wanted));
     }
-}
-
-// The entry at a place of a definition.
-fn is_entry(entries: &Entries, at: usize, wanted: &[u8]) -> bool {
-    match entries.as_slice().get(at) {
-        Some(entry) => entry.as_slice() == wanted,
-        None => false,
-    }
-}
-
-fn are_both(entries: &Entries) -> bool {
-    entries.len() == 2 && is_entry(entries, 0, MAKES_A) && is_entry(entries, 1, NAMES_A)
-}
-
-#[test]
-fn a_definition_is_its_two_entries(rt: HostRuntime) {
-    let both = match read_definition(rt.alloc(), BOTH) {
-        Ok(entries) => are_both(&entries),
-        Err(_) => false,
-    };
-    is_so(&rt, both && BOTH.len() == 129);
 }
 
 // Whether the field of that number is the one of that name.

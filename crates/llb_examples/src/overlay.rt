@@ -176,7 +176,7 @@ fn files_hide_directories_are_one_and_a_way_keeps_and_gives(rt: HostRuntime) {
     are_told(&rt, rt.alloc(), LAID);
 }
 
-fn copied(rt: &impl Abort, tree: &Tree) -> Tree {
+pub(crate) fn copied(rt: &impl Abort, tree: &Tree) -> Tree {
     tree.copy().expect(rt, "memory")
 }
 
@@ -197,7 +197,7 @@ fn what_is_laid_and_what_it_is_laid_over_stay(rt: HostRuntime) {
     is_so(&rt, both_stay(&rt, rt.alloc()));
 }
 
-fn lent(rt: &impl Abort, alloc: Global, lower: &Tree, upper: &Tree) -> Tree {
+pub(crate) fn lent(rt: &impl Abort, alloc: Global, lower: &Tree, upper: &Tree) -> Tree {
     lay(alloc, lower, upper).expect(rt, "memory")
 }
 

@@ -1,9 +1,7 @@
 //! Calls on the libraries as transcripts. A line with `> ` first is a call, and the lines after it are what it answers, or its fault; one
-//! with `# ` first says what the next calls show. On the stage are two trees (`trees`, `acts`) and the mounts of a view (`views`), none of
-//! them after `new`; calls on graphs (`graphs`) stand by themselves.
+//! with `# ` first says what the next calls show. On the stage are two trees (`trees`) and the mounts of a view (`views`), none of them after
+//! `new`.
 
-use super::acts::{lay_down, say_act};
-use super::graphs::say_graph_call;
 use super::told::{is_same, is_so, say, say_fault};
 use super::trees::{Trees, answer, word_and_rest};
 use super::views::{put_mount, say_run};
@@ -38,11 +36,8 @@ fn say_call(rt: &impl Abort, alloc: Global, text: &mut String, stage: &mut Stage
     let Stage { trees, mounts } = stage;
     match name {
         "new" => *stage = empty_stage(rt, alloc),
-        "act" => say_act(rt, alloc, text, trees, words),
-        "lay" => lay_down(rt, alloc, trees),
         "mount" => put_mount(rt, alloc, trees, mounts, words),
         "run" => say_run(rt, alloc, text, mounts.as_slice(), words),
-        "link" | "op" | "load" | "evaluate" => say_graph_call(rt, alloc, text, name, words),
         _ => say_on_trees(rt, alloc, text, trees, call),
     }
 }

@@ -86,6 +86,22 @@ pub(crate) fn say_fault<E: Display>(rt: &impl Abort, text: &mut String, fault: &
     write!(text, "{fault}\n").expect(rt, "memory");
 }
 
+// A part that many times over, and then a rest.
+pub(crate) fn repeated(
+    rt: &impl Abort,
+    alloc: Global,
+    part: &str,
+    count: usize,
+    rest: &str,
+) -> String {
+    let mut text = String::new(alloc);
+    for _ in 0..count {
+        say(rt, &mut text, part);
+    }
+    say(rt, &mut text, rest);
+    text
+}
+
 // The lines after the one with `== ` and the name; what stands there after `: ` is told to the reader.
 pub(crate) fn block<'a>(text: &'a str, wanted: &str) -> Option<&'a str> {
     for block in text.split("== ") {

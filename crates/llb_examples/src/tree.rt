@@ -1,7 +1,7 @@
 //! Names, paths and trees.
 
 use super::stage::are_told;
-use super::told::{Row, file, holds, is_same, is_so, made, row_holds, say, say_path};
+use super::told::{Row, file, holds, is_same, is_so, made, repeated, row_holds, say_path};
 use llb_tree::{Meta, Name, Path, Tree, TreeFault};
 use llb_wire::Same;
 use std::alloc::Global;
@@ -60,16 +60,6 @@ fn a_text_is_read_part_by_part_from_the_root_or_a_path(rt: HostRuntime) {
     }
 }
 
-// A part that many times over, and then a rest.
-fn repeated(rt: &impl Abort, alloc: Global, part: &str, count: usize, rest: &str) -> String {
-    let mut text = String::new(alloc);
-    for _ in 0..count {
-        say(rt, &mut text, part);
-    }
-    say(rt, &mut text, rest);
-    text
-}
-
 // How many names the path of a text has.
 fn names_of(alloc: Global, text: &str) -> Result<usize, TreeFault> {
     let path = Path::read(alloc, text)?;
@@ -97,7 +87,7 @@ fn a_name_has_255_bytes_and_a_path_128_names_at_most(rt: HostRuntime) {
     }
 }
 
-fn path_of(rt: &impl Abort, alloc: Global, text: &str) -> Path {
+pub(crate) fn path_of(rt: &impl Abort, alloc: Global, text: &str) -> Path {
     Path::read(alloc, text).expect(rt, "a path")
 }
 
@@ -156,7 +146,8 @@ fn names_and_paths_by_hand(rt: HostRuntime) {
     is_so(&rt, is_pushed(&rt, alloc) && Path::root(alloc).is_root());
 }
 
-fn path_with(rt: &impl Abort, alloc: Global, names: usize) -> Path {
+// The path of the name `a` that many times over.
+pub(crate) fn path_with(rt: &impl Abort, alloc: Global, names: usize) -> Path {
     let mut path = Path::root(alloc);
     for _ in 0..names {
         push(rt, alloc, &mut path, "a");
@@ -335,7 +326,7 @@ fn a_tree_is_changed_call_by_call(rt: HostRuntime) {
 }
 
 // A directory at a path of this many names, in those that it needs.
-fn deep_tree(rt: &impl Abort, alloc: Global, names: usize) -> Tree {
+pub(crate) fn deep_tree(rt: &impl Abort, alloc: Global, names: usize) -> Tree {
     let mut tree = Tree::empty(alloc).expect(rt, "memory");
     for at in 0..names {
         let path = path_with(rt, alloc, at + 1);

@@ -2,10 +2,9 @@
 //! after them makes it so. `run CWD TEXT` runs the script of a text on a view of such mounts, and answers the statuses of its commands, up to
 //! the first that is not 0, and then each mount's tree after a bar; the mounts themselves stay as they are.
 
-use super::scripts::texts;
 use super::told::{say, say_number, say_tree};
 use super::trees::{Trees, word_and_rest};
-use llb_applet::{Command, Many, Path, Script, Setting, View, read_script, run_command};
+use llb_applet::{Command, Many, Path, Script, Setting, Text, View, read_script, run_command};
 use llb_mount::Shown;
 use llb_tree::Tree;
 use std::alloc::Global;
@@ -41,6 +40,15 @@ fn view_of(rt: &impl Abort, alloc: Global, mounts: &[Shown]) -> View {
     }
     assert!(rt; View::can_make(&copies));
     View::make(Many::new(copies)).expect(rt, "a view")
+}
+
+fn texts(rt: &impl Abort, alloc: Global, words: &[&str]) -> Vec<Text> {
+    let mut texts = Vec::new(alloc);
+    for word in words {
+        let text = Text::from_str(alloc, word).expect(rt, "memory");
+        texts.push(text).expect(rt, "memory");
+    }
+    texts
 }
 
 fn setting_of(rt: &impl Abort, alloc: Global, cwd: &str) -> Setting {

@@ -230,38 +230,28 @@ impl Write for Narrow {
     }
 }
 
-#[test]
-fn a_writer_of_one_byte_a_write_gets_all(rt: HostRuntime) {
+// How many bytes of `hello` a writer of that room has, whether it is told that it failed, and then whether writing nothing is done, and
+// whether one more byte is refused where there is room again.
+fn written(alloc: Global, room: usize) -> (usize, [bool; 3]) {
     let mut writer = Narrow {
-        room: 9,
-        held: Vec::new(rt.alloc()),
+        room,
+        held: Vec::new(alloc),
     };
     let mut sink = Over::new(&mut writer);
-    let all = write_all(&mut sink, b"hello") == Ok(());
-    let none = sink.write(b"") == Ok(0) && !sink.failed;
-    is_so(
-        &rt,
-        all && none && writer.held.as_slice() == b"hello".as_slice(),
-    );
+    let failed = write_all(&mut sink, b"hello") == Err(Failed) && sink.failed;
+    let nothing = !sink.failed && sink.write(b"") == Ok(0);
+    sink.out.room = 9;
+    let refused = sink.write(b"x") == Err(Failed);
+    (writer.held.len(), [failed, nothing, refused])
 }
 
 #[test]
-fn a_writer_that_fails_at_its_kth_write_leaves_a_front(rt: HostRuntime) {
+fn a_writer_of_one_byte_a_write_gets_all_or_a_prefix(rt: HostRuntime) {
     for room in 0..5 {
-        let mut writer = Narrow {
-            room,
-            held: Vec::new(rt.alloc()),
-        };
-        let mut sink = Over::new(&mut writer);
-        let failed = write_all(&mut sink, b"hello") == Err(Failed) && sink.failed;
-        sink.out.room = 9;
-        let fails_again = sink.write(b"x") == Err(Failed);
-        row_holds(
-            &rt,
-            room,
-            failed && fails_again && writer.held.len() == room,
-        );
+        let wanted = (room, [true, false, true]);
+        row_holds(&rt, room, written(rt.alloc(), room) == wanted);
     }
+    is_so(&rt, written(rt.alloc(), 9) == (6, [false, true, false]));
 }
 
 // Whether bytes are written as that text, which is read as the bytes.

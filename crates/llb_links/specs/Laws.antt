@@ -1,5 +1,5 @@
 -- What follows of links, for whoever rests on them: who the users of a vertex are, what a vertex that is done changes, and when a count is 0.
-use Rattle.std.proofs.Common.{◌≡◌, ◌≢◌, ℕ, zero, suc, ◌+◌, ◌-◌, ◌<◌, ◌≤◌, Bool, true, false, List, [], ◌∷◌, length, get_or, refl, sym, ap, subst, ◌∙◌, arith}
+use Rattle.std.proofs.Common.{◌≡◌, ◌≢◌, ℕ, zero, suc, ◌+◌, ◌<◌, ◌≤◌, Bool, true, false, List, [], ◌∷◌, length, get_or, refl, sym, ap, subst, ◌∙◌, arith}
 use Rattle.std.proofs.Common.{inl, inr}
 use Rattle.std.specs.Prelude.{All, Some, slice_get, if◌then◌else◌, ◌||◌, ◌&&◌, ◌==◌, not}
 use Rattle.std.specs.List.{list_all}

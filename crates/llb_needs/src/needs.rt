@@ -1,7 +1,7 @@
 //! The caches that a vertex shows, and what its claim takes of them: the instances, the trees that they begin with, and the needs
 //! of a lease. Stands on the mounts of a vertex and on caches, which it only reads.
 
-ghost use Rattle.std.specs.Prelude.{◌≡◌, ◌<◌, ◌^◌, [], Ok, IfErr, true, false, map, length, option_map, unwrap_or};
+ghost use Rattle.std.specs.Prelude.{◌≡◌, ◌==◌, ◌<◌, ◌^◌, Ok, IfErr, true, false, not, map, length, option_map, unwrap_or};
 ghost use Rattle.llb_loader.specs.Mounts.{key_of, seed_of};
 ghost use Rattle.llb_loader.specs.Rules.{kind_mounts};
 ghost use Rattle.llb_model.specs.Caches.{content};
@@ -58,7 +58,7 @@ pub fn wanted_by(alloc: Global, caches: &Caches, vertex: &Vertex) -> Result<Vec<
 /// Whether a vertex shows a cache. No memory.
 pub fn shows_cache(vertex: &Vertex) -> bool
     requires { HasEdges vertex.now }
-    ensures { result ≡ false → needs_of vertex.now ≡ [] }
+    ensures { result ≡ not (length (needs_of vertex.now) == 0) }
 {
     for mount in mounts_of(&vertex.op.kind) {
         if key_shown(vertex, mount).is_some() {

@@ -1,6 +1,6 @@
 //! Stories of runs whose executions mount a cache: who may have it at which time, and what they see in it.
 
-use super::sessions::are_stories;
+use super::sessions::{Way, are_stories};
 
 pub(crate) const WRITES_AND_FAILS: &str = "locked: write /c/a x && false; RESULT_0";
 
@@ -260,10 +260,10 @@ const NOT_LOCKED: &str = "
 
 #[test]
 fn a_locked_cache_is_had_by_one_at_a_time(rt: HostRuntime) {
-    are_stories(&rt, rt.alloc(), LOCKED);
+    are_stories(&rt, rt.alloc(), Way::Session, LOCKED);
 }
 
 #[test]
 fn private_and_shared_caches_are_had_by_many(rt: HostRuntime) {
-    are_stories(&rt, rt.alloc(), NOT_LOCKED);
+    are_stories(&rt, rt.alloc(), Way::Session, NOT_LOCKED);
 }

@@ -1,8 +1,7 @@
 //! The entries of the definitions that the stories are about, in the assembler's text, each after a line with its name and what it is. An
 //! entry is named by its place in its definition, `%0` for the first, so each stands at the places that its name or its line tells.
 
-pub(crate) const ENTRIES: &str = concat!(
-    r#"
+pub(crate) const ENTRIES: &str = r#"
 == MAKES_A: a file `/a` with the content `hi` on nothing
 op {
     file {
@@ -214,225 +213,79 @@ op {
         }
     }
 }
-== COPIES_BY_A_TMPFS: three commands on the first entry at `/`, a tmpfs at `/t`, and `/sub` of the second at `/t/in`; outputs are the first mount and the last
-op {
-    inputs {
-        digest %0
-    }
-    inputs {
-        digest %1
-    }
-    exec {
-        meta {
-            args "/bin/sh"
-            args "-c"
-            args "cp /t/in/f /t/x && cp /t/x /y && write /t/in/g k"
-            cwd "/"
-        }
-        mounts {
-            dest "/"
-        }
-        mounts {
-            dest "/t"
-            output -1
-            mountType 4
-        }
-        mounts {
-            input 1
-            selector "/sub"
-            dest "/t/in"
-            output 1
-        }
-    }
-}
-== OUTPUTS_TURNED: a command on the empty tree at `/`, which is output 0, and on the second entry at `/in`, which is output 1 and read-only
-op {
-    inputs {
-        digest %0
-    }
-    inputs {
-        digest %1
-    }
-    exec {
-        meta {
-            args "/bin/sh"
-            args "-c"
-            args "write /x k"
-            cwd "/"
-        }
-        mounts {
-            input 1
-            dest "/in"
-            output 1
-            readonly true
-        }
-        mounts {
-            input -1
-            dest "/"
-        }
-    }
-}
-== FAILS_AT_1: a command on the first entry that is done, one that ends with status 1, and one after it; the second entry is not looked at
-op {
-    inputs {
-        digest %0
-    }
-    inputs {
-        digest %1
-    }
-    exec {
-        meta {
-            args "/bin/sh"
-            args "-c"
-            args "write /x k && false && write /y k"
-            cwd "/"
-        }
-        mounts {
-            dest "/"
-        }
-    }
-}
-== MAKES_OUT: a directory `/out` on nothing (the graph of `examples/execution.text`)
+== MAKES_PQ: a directory `/p`, and in it a file `/p/q` with the content `1`
 op {
     file {
         actions {
             input -1
-            secondaryInput -1
+            output -1
             mkdir {
-                path "/out"
+                path "/p"
                 mode 493
+            }
+        }
+        actions {
+            mkfile {
+                path "/p/q"
+                mode 420
+                data 31
             }
         }
     }
 }
-== WORKS_IN_OUT: seven commands in `/out` of the second entry, with the texts of the source at `/src` and a tmpfs at `/tmp`
+== MAKES_P: a file `/p` with the content `2`
 op {
+    file {
+        actions {
+            input -1
+            mkfile {
+                path "/p"
+                mode 420
+                data 32
+            }
+        }
+    }
+}
+== MAKES_PR: a directory `/p`, and in it a file `/p/r` with the content `3`
+op {
+    file {
+        actions {
+            input -1
+            output -1
+            mkdir {
+                path "/p"
+                mode 493
+            }
+        }
+        actions {
+            mkfile {
+                path "/p/r"
+                mode 420
+                data 33
+            }
+        }
+    }
+}
+== MERGES_0_1_2: the first three entries laid over one another
+op {
+    inputs {
+        digest %0
+    }
     inputs {
         digest %1
     }
     inputs {
-        digest %0
+        digest %2
     }
-    exec {
-        meta {
-            args "/bin/sh"
-            args "-c"
-            args "mkdir -p bin && concat bin/all /src/head /src/tail && sha256 bin/all /tmp/digest && cp /tmp/digest bin/digest"#,
-    r#" && chmod 0444 bin/all && envfile env && test -f bin/all"
-            env "LANG=C"
-            cwd "/out"
+    merge {
+        inputs {
         }
-        mounts {
-            dest "/"
-        }
-        mounts {
+        inputs {
             input 1
-            selector "/text"
-            dest "/src"
-            output -1
-            readonly true
         }
-        mounts {
-            input -1
-            dest "/tmp"
-            output -1
-            mountType 4
+        inputs {
+            input 2
         }
     }
 }
-== IN_TWO_WAYS: one ID in two ways: locked at `/c`, and shared at `/e`
-op {
-    exec {
-        meta {
-            args "/bin/sh"
-            args "-c"
-            args "write /c/a x && write /e/b y"
-            cwd "/"
-        }
-        mounts {
-            input -1
-            dest "/"
-        }
-        mounts {
-            input -1
-            dest "/c"
-            output -1
-            mountType 3
-            cacheOpt {
-                ID "k"
-                sharing 2
-            }
-        }
-        mounts {
-            input -1
-            dest "/e"
-            output -1
-            mountType 3
-            cacheOpt {
-                ID "k"
-            }
-        }
-    }
-}
-== IN_TWO_WAYS_SEEN: the same, with a listing of each
-op {
-    exec {
-        meta {
-            args "/bin/sh"
-            args "-c"
-            args "write /c/a x && write /e/b y && listing /c /locked && listing /e /shared"
-            cwd "/"
-        }
-        mounts {
-            input -1
-            dest "/"
-        }
-        mounts {
-            input -1
-            dest "/c"
-            output -1
-            mountType 3
-            cacheOpt {
-                ID "k"
-                sharing 2
-            }
-        }
-        mounts {
-            input -1
-            dest "/e"
-            output -1
-            mountType 3
-            cacheOpt {
-                ID "k"
-            }
-        }
-    }
-}
-"#
-);
-
-// The local tree `p` has a file `/old`, and `q` a file `/f`.
-pub(crate) const OLD_AND_F: &str = "== p
-d 0755 0 0 /
-f 0644 0 0 6869 /old
-== q
-d 0755 0 0 /
-f 0644 0 0 6869 /f
-";
-
-// `p` is empty, and `q` has a directory `/sub` with a file `/sub/f`.
-pub(crate) const EMPTY_AND_SUB: &str = "== p
-d 0755 0 0 /
-== q
-d 0755 0 0 /
-d 0755 0 0 /sub
-f 0644 0 0 6869 /sub/f
-";
-
-// The tree of `examples/source.tree`.
-pub(crate) const SOURCE_TREE: &str = "== source
-d 0755 0 0 /
-d 0755 0 0 /text
-f 0644 0 0 68656c6c6f2c0a /text/head
-f 0644 0 0 776f726c640a /text/tail
-";
+"#;

@@ -1,6 +1,6 @@
 //! Stories of calls on boards: where the workers are, and which instances of caches there are, with what in them.
 
-use super::told::are_stories_of_calls;
+use super::sessions::{Way, are_stories};
 use super::written::CacheRow;
 use llb_cache::Mode;
 
@@ -294,15 +294,15 @@ const NOT_LOCKED: &str = "
 
 #[test]
 fn a_worker_is_told_by_its_vertex_and_its_steps(rt: HostRuntime) {
-    are_stories_of_calls(&rt, rt.alloc(), WORKERS);
+    are_stories(&rt, rt.alloc(), Way::Calls, WORKERS);
 }
 
 #[test]
 fn a_locked_key_has_one_instance(rt: HostRuntime) {
-    are_stories_of_calls(&rt, rt.alloc(), LOCKED);
+    are_stories(&rt, rt.alloc(), Way::Calls, LOCKED);
 }
 
 #[test]
 fn private_keys_have_many_instances_and_shared_ones_one(rt: HostRuntime) {
-    are_stories_of_calls(&rt, rt.alloc(), NOT_LOCKED);
+    are_stories(&rt, rt.alloc(), Way::Calls, NOT_LOCKED);
 }

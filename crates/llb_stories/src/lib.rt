@@ -17,6 +17,8 @@ mod crew;
 #[cfg(test)]
 mod definitions;
 #[cfg(test)]
+mod execution_definitions;
+#[cfg(test)]
 mod executions;
 #[cfg(test)]
 mod farm;
@@ -27,7 +29,11 @@ mod instances;
 #[cfg(test)]
 mod landings;
 #[cfg(test)]
+mod local_trees;
+#[cfg(test)]
 mod openings;
+#[cfg(test)]
+mod plain;
 #[cfg(test)]
 mod queue;
 #[cfg(test)]

@@ -1,11 +1,12 @@
-//! What the opening of a board takes and gives back, and what a board that is left gives to the next.
+//! What the opening of a board takes and gives back, and what a board that is left gives to the next. Which local tree is missing the program
+//! tells (`run` in `llbm`).
 
 use super::calls::{are_done, opened};
-use super::definitions::OLD_AND_F;
 use super::instances::{K_LOCKED, K_SHARED};
+use super::local_trees::OLD_AND_F;
 use super::runs::D_ON_SECOND;
-use super::told::{is_answered, is_so, prints, row_holds};
-use super::written::{CacheRow, board_of, graph_from, locals_of, needs_of};
+use super::told::{is_answered, is_so, row_holds};
+use super::written::{CacheRow, board_of, graph_from, needs_of};
 use llb_board::{Board, OpenFault};
 use llb_cache::{Caches, Many};
 use llb_loader::Locals;
@@ -54,29 +55,6 @@ fn a_number_of_workers_other_than_1_to_64_gives_the_graph_back(rt: HostRuntime) 
 }
 
 const MERGES: &str = "SOURCE_P; SOURCE_Q; MERGES_0_1_EMPTY; RESULT_2";
-
-// Local trees, and why a board of no worker is not opened: the one that is missing comes before the number of workers.
-const MISSING: &[(&str, &str)] = &[
-    ("", "121 p"),
-    ("== q\nd 0755 0 0 /\n", "121 p"),
-    ("== p\nd 0755 0 0 /\n== p\nd 0755 0 0 /\n", "121 q"),
-    ("== q\nd 0755 0 0 /\n== p\nd 0755 0 0 /\n", "122"),
-];
-
-// Why a board of no worker is not opened on these local trees.
-fn unopened(rt: &impl Abort, alloc: Global, given: &str) -> OpenFault {
-    let graph = graph_from(rt, alloc, MERGES);
-    let locals = locals_of(rt, alloc, given);
-    let answer = opened(rt, alloc, graph, locals, Caches::new(alloc), 0);
-    answer.err().expect(rt, "a fault")
-}
-
-#[test]
-fn the_least_source_without_a_tree_is_named_first(rt: HostRuntime) {
-    for (given, wanted) in MISSING {
-        prints(&rt, rt.alloc(), &unopened(&rt, rt.alloc(), given), wanted);
-    }
-}
 
 #[test]
 fn a_board_gives_back_what_it_was_opened_with(rt: HostRuntime) {

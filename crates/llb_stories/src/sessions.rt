@@ -1,7 +1,9 @@
-//! Stories on boards as transcripts of sessions. A line with `@ ` first opens a board (`written`); one with `> ` first is a command, and the
-//! lines after it are what it prints; one with `# ` first says what the story shows. Each line is read without what stands before and
-//! after it.
+//! Stories as transcripts, most of them of sessions on boards. A line with `@ ` first opens a board (`written`); one with `> ` first is a
+//! command, and the lines after it are what it prints; one with `# ` first says what the story shows. Each line is read without what stands
+//! before and after it. Stories of calls (`told`) and of plain outcomes (`plain`) have the same form.
 
+use super::plain::are_outcomes;
+use super::told::is_answered;
 use super::written::board_in;
 use llb_session::converse;
 use llb_stepper::Stepper;
@@ -44,12 +46,37 @@ pub(crate) fn is_told(rt: &impl Abort, alloc: Global, stepper: &mut Stepper, tol
     out.as_slice() == wanted(rt, alloc, told).as_bytes()
 }
 
+// How a story is told: by the commands of a session, by calls on a board, or by its plain outcomes.
+#[derive(Clone, Copy)]
+pub(crate) enum Way {
+    Session,
+    Calls,
+    Outcomes,
+}
+
+fn is_session(rt: &impl Abort, alloc: Global, head: &str, lines: &str) -> bool {
+    let mut stepper = Stepper::new(alloc, board_in(rt, alloc, head));
+    is_told(rt, alloc, &mut stepper, lines)
+}
+
+fn are_calls(rt: &impl Abort, alloc: Global, head: &str, lines: &str) -> bool {
+    let mut board = board_in(rt, alloc, head);
+    is_answered(rt, alloc, &mut board, lines)
+}
+
+fn is_story(rt: &impl Abort, alloc: Global, way: Way, head: &str, lines: &str) -> bool {
+    match way {
+        Way::Session => is_session(rt, alloc, head, lines),
+        Way::Calls => are_calls(rt, alloc, head, lines),
+        Way::Outcomes => are_outcomes(rt, alloc, head, lines),
+    }
+}
+
 // Ends the test at the first story that goes otherwise than it is told.
-pub(crate) fn are_stories(rt: &impl Abort, alloc: Global, told: &str) {
+pub(crate) fn are_stories(rt: &impl Abort, alloc: Global, way: Way, told: &str) {
     let (_, stories) = told.split_once("@ ").expect(rt, "a story");
     for story in stories.split("@ ") {
         let (head, lines) = story.split_once('\n').expect(rt, "a line");
-        let mut stepper = Stepper::new(alloc, board_in(rt, alloc, head));
-        assert!(rt; is_told(rt, alloc, &mut stepper, lines), "{head}");
+        assert!(rt; is_story(rt, alloc, way, head, lines), "{head}");
     }
 }

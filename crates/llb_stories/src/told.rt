@@ -6,7 +6,7 @@
 use super::calls::{event_in, is_event_done};
 use super::instances::{K_LOCKED, K_PRIVATE, K_SEEDED, K_SHARED};
 use super::sessions::wanted;
-use super::written::{CacheRow, board_in, key_of};
+use super::written::{CacheRow, key_of};
 use llb_board::laws::headline;
 use llb_board::{At, Board, Event, Job};
 use llb_tree::Tree;
@@ -55,7 +55,7 @@ fn bytes_of(rt: &impl Abort, alloc: Global, tree: &Tree) -> Vec<u8> {
     bytes
 }
 
-fn say_tree(rt: &impl Abort, text: &mut String, tree: &Tree) {
+pub(crate) fn say_tree(rt: &impl Abort, text: &mut String, tree: &Tree) {
     let bytes = bytes_of(rt, *text.allocator(), tree);
     say(
         rt,
@@ -166,14 +166,4 @@ pub(crate) fn prints<E: Display>(rt: &impl Abort, alloc: Global, fault: &E, want
 pub(crate) fn is_answered(rt: &impl Abort, alloc: Global, board: &mut Board, told: &str) -> bool {
     let text = transcript(rt, alloc, board, told);
     text.as_str() == wanted(rt, alloc, told).as_str()
-}
-
-// Ends the test at the first story whose calls are answered otherwise than it is told.
-pub(crate) fn are_stories_of_calls(rt: &impl Abort, alloc: Global, told: &str) {
-    let (_, stories) = told.split_once("@ ").expect(rt, "a story");
-    for story in stories.split("@ ") {
-        let (head, lines) = story.split_once('\n').expect(rt, "a line");
-        let mut board = board_in(rt, alloc, head);
-        assert!(rt; is_answered(rt, alloc, &mut board, lines), "{head}");
-    }
 }

@@ -1,10 +1,12 @@
 //! Boards over what is written: definitions by their entries, local trees by their texts, and keys of caches by rows.
 //!
-//! Entries are separated by `; `. One is a name of `definitions`, or a script on the empty tree at `/` and the cache `k` at `/c`, after the
-//! way in which the cache is shared: `locked: SCRIPT`, `private: SCRIPT` or `shared: SCRIPT`. A new instance begins empty, or, where the way
-//! is followed by ` on 0`, with what the first entry gives.
+//! Entries are separated by `; `. One is a name of `definitions` or `execution_definitions`, or a script on the empty tree at `/` and the
+//! cache `k` at `/c`, after the way in which the cache is shared: `locked: SCRIPT`, `private: SCRIPT` or `shared: SCRIPT`. A new instance
+//! begins empty, or, where the way is followed by ` on 0`, with what the first entry gives.
 
-use super::definitions::{EMPTY_AND_SUB, ENTRIES, OLD_AND_F, SOURCE_TREE};
+use super::definitions::ENTRIES;
+use super::execution_definitions::EXECUTIONS;
+use super::local_trees::{EMPTY_AND_SUB, EMPTY_P, OLD_AND_F, SOURCE_TREE};
 use llb_asm::assemble;
 use llb_board::Board;
 use llb_cache::{Caches, Key, Mode, Need, Seed};
@@ -62,12 +64,16 @@ fn push_on_cache(rt: &impl Abort, text: &mut String, way: &str, script: &str) {
     .expect(rt, "memory");
 }
 
+fn entry_named(name: &str) -> &'static str {
+    block(ENTRIES, name)
+        .or(block(EXECUTIONS, name))
+        .unwrap_or("no entry\n")
+}
+
 fn push_entry(rt: &impl Abort, text: &mut String, entry: &str) {
     match entry.split_once(": ") {
         Some((way, script)) => push_on_cache(rt, text, way, script),
-        None => text
-            .push_str(block(ENTRIES, entry).unwrap_or("no entry\n"))
-            .expect(rt, "memory"),
+        None => text.push_str(entry_named(entry)).expect(rt, "memory"),
     }
 }
 
@@ -136,8 +142,10 @@ pub(crate) fn board_of(
     board_on(rt, alloc, graph, locals_of(rt, alloc, given), workers)
 }
 
-fn locals_named(name: &str) -> &'static str {
+/// The text of the local trees of that name; none where there is none.
+pub(crate) fn locals_named(name: &str) -> &'static str {
     match name {
+        "EMPTY_P" => EMPTY_P,
         "OLD_AND_F" => OLD_AND_F,
         "EMPTY_AND_SUB" => EMPTY_AND_SUB,
         "SOURCE_TREE" => SOURCE_TREE,

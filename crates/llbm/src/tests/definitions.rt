@@ -325,8 +325,6 @@ op {
 == EMPTY: An entry without inputs and without a kind.
 op {
 }
-== FIELD_ZERO: Bytes whose first field has the number 0.
-raw 00
 == RESULT_0: The terminal: the result is the first output of the first entry.
 op {
   inputs {
@@ -358,6 +356,13 @@ op {
     index 1
   }
 }
+== RESULT_1_1: The second output of the second entry.
+op {
+  inputs {
+    digest %1
+    index 1
+  }
+}
 == RESULT_0_BELOW: An output before the first of the first entry.
 op {
   inputs {
@@ -376,6 +381,12 @@ op {
 op {
   inputs {
     digest "sha256:e00d65597895790f7dc26dbf724a411bd83c8e15881ab3eea18ea75095782dab"
+  }
+}
+== RESULT_D: The same of the directory `/d` on that file.
+op {
+  inputs {
+    digest "sha256:1c2a10577ca56d180f4da06c2e049e66a5718dbb2896086aa8880c0dca30152f"
   }
 }
 == RESULT_OF_NONE: A result by the digest of no entry.

@@ -7,21 +7,21 @@ use llb_loader::Locals;
 
 const RUNS: &str = "
     # The bytes of a mkfile action become the printed tree.
-    > run < MAKES_A RESULT_0
+    > run < MAKES_A; RESULT_0
     d 0755 0 0 /
     f 0644 0 0 6869 /a
 
     # A missing parent fails the vertex.
-    > run < MAKES_XA RESULT_0
+    > run < MAKES_XA; RESULT_0
     ! failed 0 action 0 fault 21
     status 1
 
     # The order of entries is free.
-    > run < D_ON_A MAKES_A RESULT_0
+    > run < D_ON_A; MAKES_A; RESULT_0
     d 0755 0 0 /
     f 0644 0 0 6869 /a
     d 0755 0 0 /d
-    > run < MAKES_A D_ON_0 RESULT_1
+    > run < MAKES_A; D_ON_0; RESULT_1
     d 0755 0 0 /
     f 0644 0 0 6869 /a
     d 0755 0 0 /d
@@ -33,7 +33,7 @@ const RUNS: &str = "
     > run < MAKES_A
     ! fault 83
     status 2
-    > run < MAKES_A MAKES_A
+    > run < MAKES_A; MAKES_A
     ! fault 83
     status 2
 
@@ -43,48 +43,48 @@ const RUNS: &str = "
     status 2
 
     # An index of no output is refused.
-    > run < MAKES_A RESULT_0_1
+    > run < MAKES_A; RESULT_0_1
     ! fault 90 1 0
     status 2
-    > run < MAKES_A RESULT_0_BELOW
+    > run < MAKES_A; RESULT_0_BELOW
     ! fault 90 1 0
     status 2
 
     # A diff op is refused where it is reached.
-    > run < DIFF RESULT_0
+    > run < DIFF; RESULT_0
     ! fault 88 0 DiffOp
     status 2
-    > run < DIFF MAKES_A RESULT_1
+    > run < DIFF; MAKES_A; RESULT_1
     d 0755 0 0 /
     f 0644 0 0 6869 /a
 
     # A digest that names nothing is refused.
-    > run < MAKES_A RESULT_OF_NONE
+    > run < MAKES_A; RESULT_OF_NONE
     ! fault 86 1 0
     status 2
-    > run < MAKES_A EMPTY
+    > run < MAKES_A; EMPTY
     ! fault 85
     status 2
 
     # Rules and unreadable entries are refused.
-    > run < FIELD_ZERO RESULT_A
+    > run < FIELD_ZERO; RESULT_A
     ! fault 82 0 3
     status 2
-    > run < NO_ACTIONS RESULT_0
+    > run < NO_ACTIONS; RESULT_0
     ! fault 89 0 NoActions
     status 2
-    > run < ON_NO_INPUT RESULT_0
+    > run < ON_NO_INPUT; RESULT_0
     ! fault 89 0 ActionInput
     status 2
 
     # A file hides for good what is below it.
-    > run < P_WITH_Q FILE_P P_WITH_R LAYERS RESULT_3
+    > run < P_WITH_Q; FILE_P; P_WITH_R; LAYERS; RESULT_3
     d 0755 0 0 /
     d 0755 0 0 /p
     f 0644 0 0 33 /p/r
 
     # A source of an image is refused.
-    > run < IMAGE RESULT_0
+    > run < IMAGE; RESULT_0
     ! fault 88 0 Source
     status 2
     ";
@@ -96,38 +96,38 @@ fn definitions_are_run_or_refused(rt: HostRuntime) {
 
 const LOCALS: &str = "
     # A file op changes one local tree by another.
-    > run p=P q=Q < SOURCE_P SOURCE_Q CHANGES_0_BY_1 RESULT_2
+    > run p=P q=Q < SOURCE_P; SOURCE_Q; CHANGES_0_BY_1; RESULT_2
     d 0755 0 0 /
     d 0755 0 0 /d
     f 0644 0 0 6869 /d/f
 
     # The least source without a tree is named.
-    > run p=P < SOURCE_P SOURCE_Q CHANGES_0_BY_1 RESULT_2
+    > run p=P < SOURCE_P; SOURCE_Q; CHANGES_0_BY_1; RESULT_2
     ! fault 121 q
     status 2
-    > run < SOURCE_P SOURCE_Q CHANGES_0_BY_1 RESULT_2
+    > run < SOURCE_P; SOURCE_Q; CHANGES_0_BY_1; RESULT_2
     ! fault 121 p
     status 2
 
     # A file that is not there, and one that is no tree.
-    > run p=P q=NONE < SOURCE_P SOURCE_Q CHANGES_0_BY_1 RESULT_2
+    > run p=P q=NONE < SOURCE_P; SOURCE_Q; CHANGES_0_BY_1; RESULT_2
     ! fault 181
     status 3
-    > run p=LATE q=NONE < SOURCE_P SOURCE_Q CHANGES_0_BY_1 RESULT_2
+    > run p=LATE q=NONE < SOURCE_P; SOURCE_Q; CHANGES_0_BY_1; RESULT_2
     ! fault 32 2
     status 2
-    > run p=EMPTY q=NONE < SOURCE_P SOURCE_Q CHANGES_0_BY_1 RESULT_2
+    > run p=EMPTY q=NONE < SOURCE_P; SOURCE_Q; CHANGES_0_BY_1; RESULT_2
     ! fault 31 1
     status 2
-    > run p=LOOSE < SOURCE_P RESULT_0
+    > run p=LOOSE < SOURCE_P; RESULT_0
     ! fault 33 2
     status 2
-    > run p=LOOSE p=P < SOURCE_P RESULT_0
+    > run p=LOOSE p=P < SOURCE_P; RESULT_0
     ! fault 33 2
     status 2
 
     # Of two trees under one name the later holds, and a name that no source has does no harm.
-    > run p=P x=Y p=Q < SOURCE_P RESULT_0
+    > run p=P x=Y p=Q < SOURCE_P; RESULT_0
     d 0755 0 0 /
     f 0644 0 0 6869 /f
     ";
@@ -139,38 +139,38 @@ fn local_sources_have_the_trees_of_their_files(rt: HostRuntime) {
 
 const EXECUTED: &str = "
     # Each output of an execution is the whole tree of its mount.
-    > run x=X y=Y < SOURCE_X SOURCE_Y COPIES RESULT_2
+    > run x=X y=Y < SOURCE_X; SOURCE_Y; COPIES; RESULT_2
     d 0755 0 0 /
     f 0644 0 0 6869 /y
-    > run x=X y=Y < SOURCE_X SOURCE_Y COPIES RESULT_2_1
+    > run x=X y=Y < SOURCE_X; SOURCE_Y; COPIES; RESULT_2_1
     d 0755 0 0 /
     d 0755 0 0 /sub
     f 0644 0 0 6869 /sub/f
     f 0644 0 0 6b0a /sub/g
 
     # A command that ends with another status fails the vertex.
-    > run < FALSE RESULT_0
+    > run < FALSE; RESULT_0
     ! failed 0 command 0 status 1
     status 1
 
     # Words that are no script are refused.
-    > run < NO_APPLET RESULT_0
+    > run < NO_APPLET; RESULT_0
     ! fault 89 0 Script 71 nope
     status 2
-    > run < WRONG_WORDS RESULT_0
+    > run < WRONG_WORDS; RESULT_0
     ! fault 89 0 Script 72 1
     status 2
-    > run < BAD_BYTE RESULT_0
+    > run < BAD_BYTE; RESULT_0
     ! fault 89 0 Script 73 5
     status 2
 
     # A vertex with a cache fails, and the one after it is blocked.
-    > run < WRITES_AND_FAILS D_ON_0 RESULT_1
+    > run < WRITES_AND_FAILS; D_ON_0; RESULT_1
     ! failed 0 command 1 status 1
     status 1
 
     # A cache keeps what an earlier vertex wrote.
-    > run < WRITES COPIES_FROM_CACHE RESULT_1
+    > run < WRITES; COPIES_FROM_CACHE; RESULT_1
     d 0755 0 0 /
     f 0644 0 0 780a /b
     ";
@@ -183,49 +183,49 @@ fn executions_are_run_or_refused(rt: HostRuntime) {
 // The definition has 129 bytes and its tree 32.
 const DEVICES: &str = "
     # A reader of one byte a read is read to its end, and a writer of one byte a write gets all.
-    > [200 reads, 100 writes] run < MAKES_A RESULT_0
+    > [200 reads, 100 writes] run < MAKES_A; RESULT_0
     d 0755 0 0 /
     f 0644 0 0 6869 /a
-    > [200 reads, 32 writes] run < MAKES_A RESULT_0
+    > [200 reads, 32 writes] run < MAKES_A; RESULT_0
     d 0755 0 0 /
     f 0644 0 0 6869 /a
 
     # A reader that fails at some read gives no text.
-    > [0 reads] run < MAKES_A RESULT_0
+    > [0 reads] run < MAKES_A; RESULT_0
     ! fault 181
     status 3
-    > [1 reads] run < MAKES_A RESULT_0
+    > [1 reads] run < MAKES_A; RESULT_0
     ! fault 181
     status 3
-    > [52 reads] run < MAKES_A RESULT_0
+    > [52 reads] run < MAKES_A; RESULT_0
     ! fault 181
     status 3
-    > [128 reads] run < MAKES_A RESULT_0
+    > [128 reads] run < MAKES_A; RESULT_0
     ! fault 181
     status 3
-    > [129 reads] run < MAKES_A RESULT_0
+    > [129 reads] run < MAKES_A; RESULT_0
     ! fault 181
     status 3
 
     # A writer that fails at some write gets a prefix.
-    > [0 writes] run < MAKES_A RESULT_0
+    > [0 writes] run < MAKES_A; RESULT_0
     ! fault 35
     status 3
-    > [1 writes] run < MAKES_A RESULT_0
+    > [1 writes] run < MAKES_A; RESULT_0
     d
     (and no end of line)
     ! fault 35
     status 3
-    > [12 writes] run < MAKES_A RESULT_0
+    > [12 writes] run < MAKES_A; RESULT_0
     d 0755 0 0 /
     (and no end of line)
     ! fault 35
     status 3
-    > [13 writes] run < MAKES_A RESULT_0
+    > [13 writes] run < MAKES_A; RESULT_0
     d 0755 0 0 /
     ! fault 35
     status 3
-    > [31 writes] run < MAKES_A RESULT_0
+    > [31 writes] run < MAKES_A; RESULT_0
     d 0755 0 0 /
     f 0644 0 0 6869 /a
     (and no end of line)
@@ -233,18 +233,18 @@ const DEVICES: &str = "
     status 3
 
     # One that fails at its end is a failed write.
-    > [100 writes, 1 end] run < MAKES_A RESULT_0
+    > [100 writes, 1 end] run < MAKES_A; RESULT_0
     d 0755 0 0 /
     f 0644 0 0 6869 /a
     ! fault 35
     status 3
 
     # A told line that is not out is a failed write.
-    > [5 told] run < FIELD_ZERO RESULT_A
+    > [5 told] run < FIELD_ZERO; RESULT_A
     ! fault
     (and no end of line)
     status 3
-    > [5 told] run < MAKES_XA RESULT_0
+    > [5 told] run < MAKES_XA; RESULT_0
     ! faile
     (and no end of line)
     status 3
@@ -257,31 +257,31 @@ fn devices_that_fail_end_a_run(rt: HostRuntime) {
 
 const MANY: &str = "
     # Several workers print what one prints.
-    > run --workers 2 < MAKES_A RESULT_0
+    > run --workers 2 < MAKES_A; RESULT_0
     d 0755 0 0 /
     f 0644 0 0 6869 /a
-    > run --workers 64 < MAKES_A RESULT_0
+    > run --workers 64 < MAKES_A; RESULT_0
     d 0755 0 0 /
     f 0644 0 0 6869 /a
-    > run --workers 2 < MAKES_XA RESULT_0
+    > run --workers 2 < MAKES_XA; RESULT_0
     ! failed 0 action 0 fault 21
     status 1
-    > run --workers 64 < MAKES_XA RESULT_0
+    > run --workers 64 < MAKES_XA; RESULT_0
     ! failed 0 action 0 fault 21
     status 1
-    > run --workers 2 < D_ON_A MAKES_A RESULT_0
+    > run --workers 2 < D_ON_A; MAKES_A; RESULT_0
     d 0755 0 0 /
     f 0644 0 0 6869 /a
     d 0755 0 0 /d
-    > run --workers 64 < D_ON_A MAKES_A RESULT_0
+    > run --workers 64 < D_ON_A; MAKES_A; RESULT_0
     d 0755 0 0 /
     f 0644 0 0 6869 /a
     d 0755 0 0 /d
-    > run --workers 2 < P_WITH_Q FILE_P P_WITH_R LAYERS RESULT_3
+    > run --workers 2 < P_WITH_Q; FILE_P; P_WITH_R; LAYERS; RESULT_3
     d 0755 0 0 /
     d 0755 0 0 /p
     f 0644 0 0 33 /p/r
-    > run --workers 64 < P_WITH_Q FILE_P P_WITH_R LAYERS RESULT_3
+    > run --workers 64 < P_WITH_Q; FILE_P; P_WITH_R; LAYERS; RESULT_3
     d 0755 0 0 /
     d 0755 0 0 /p
     f 0644 0 0 33 /p/r
@@ -299,13 +299,13 @@ fn many_workers_print_what_one_prints(rt: HostRuntime) {
 }
 
 const NO_WORKERS: &str = "
-    > run --workers 0 < MAKES_A RESULT_0
+    > run --workers 0 < MAKES_A; RESULT_0
     ! fault 122
     status 2
-    > run --workers 65 < MAKES_A RESULT_0
+    > run --workers 65 < MAKES_A; RESULT_0
     ! fault 122
     status 2
-    > run --workers 4294967295 < MAKES_A RESULT_0
+    > run --workers 4294967295 < MAKES_A; RESULT_0
     ! fault 122
     status 2
 
@@ -313,8 +313,22 @@ const NO_WORKERS: &str = "
     > run --workers 0
     ! fault 83
     status 2
-    > run --workers 3 < SOURCE_P RESULT_0
+    > run --workers 3 < SOURCE_P; RESULT_0
     ! fault 121 p
+    status 2
+
+    # The least source without a tree is named.
+    > run --workers 0 < SOURCE_P; SOURCE_Q; INPUT_0 | INPUT_1 | LAYS_TWO; RESULT
+    ! fault 121 p
+    status 2
+    > run --workers 0 q=Q < SOURCE_P; SOURCE_Q; INPUT_0 | INPUT_1 | LAYS_TWO; RESULT
+    ! fault 121 p
+    status 2
+    > run --workers 0 p=P p=P < SOURCE_P; SOURCE_Q; INPUT_0 | INPUT_1 | LAYS_TWO; RESULT
+    ! fault 121 q
+    status 2
+    > run --workers 0 q=Q p=P < SOURCE_P; SOURCE_Q; INPUT_0 | INPUT_1 | LAYS_TWO; RESULT
+    ! fault 122
     status 2
     ";
 
@@ -326,7 +340,7 @@ fn a_number_of_workers_that_is_none_is_told_after_the_definition(rt: HostRuntime
 #[test]
 fn one_worker_runs_in_the_thread_of_the_call(rt: HostRuntime) {
     let alloc = rt.alloc();
-    let bytes = definition_of(&rt, alloc, "MAKES_A RESULT_0");
+    let bytes = definition_of(&rt, alloc, "MAKES_A; RESULT_0");
     let mut input = bytes.as_slice();
     let (mut out, mut err) = (Vec::new(alloc), Vec::new(alloc));
     let status = run_over(alloc, &mut input, &mut out, &mut err, Locals::new(alloc));

@@ -4,35 +4,44 @@ use super::told::is_told;
 
 const GRAPHS: &str = "
     # Both orders of entries show one graph.
-    > show < D_ON_A MAKES_A RESULT_0
+    > show < D_ON_A; MAKES_A; RESULT_0
     0 file steps 1 outputs 1 inputs -
     1 file steps 1 outputs 1 inputs 0.0
     result 1.0
-    > show < MAKES_A D_ON_0 RESULT_1
+    > show < MAKES_A; D_ON_0; RESULT_1
     0 file steps 1 outputs 1 inputs -
     1 file steps 1 outputs 1 inputs 0.0
     result 1.0
 
+    # An entry is named by the digest of its bytes, wherever it stands.
+    > show < D_ON_A; MAKES_A; RESULT_D
+    0 file steps 1 outputs 1 inputs -
+    1 file steps 1 outputs 1 inputs 0.0
+    result 1.0
+    > show < RESULT_A; MAKES_A; RESULT_A
+    0 file steps 1 outputs 1 inputs -
+    result 0.0
+
     # Inputs are shown in the order of the op.
-    > show < TWO_OUTPUTS TAKES_BOTH RESULT_1
+    > show < TWO_OUTPUTS; TAKES_BOTH; RESULT_1
     0 file steps 2 outputs 2 inputs -
     1 file steps 2 outputs 1 inputs 0.1 0.0
     result 1.0
-    > show < MAKES_A MAKES_B D_ON_1 RESULT_2
+    > show < MAKES_A; MAKES_B; D_ON_1; RESULT_2
     0 file steps 1 outputs 1 inputs -
     1 file steps 1 outputs 1 inputs -
     2 file steps 1 outputs 1 inputs 0.0 1.0
     result 2.0
 
     # An execution is shown with its commands and outputs.
-    > show < SOURCE_X SOURCE_Y COPIES RESULT_2
+    > show < SOURCE_X; SOURCE_Y; COPIES; RESULT_2
     0 source steps 1 outputs 1 inputs -
     1 source steps 1 outputs 1 inputs -
     2 exec steps 3 outputs 2 inputs 0.0 1.0
     result 2.0
 
     # A graph whose run fails is shown.
-    > show < MAKES_XA D_ON_0 RESULT_1
+    > show < MAKES_XA; D_ON_0; RESULT_1
     0 file steps 1 outputs 1 inputs -
     1 file steps 1 outputs 1 inputs 0.0
     result 1.0
@@ -44,11 +53,28 @@ const GRAPHS: &str = "
     > show < =0a
     ! fault 81 1
     status 2
-    > show < FIELD_ZERO RESULT_A
+    > show < FIELD_ZERO; RESULT_A
     ! fault 82 0 3
     status 2
-    > show < MAKES_A RESULT_0_1
+    > show < MAKES_A; RESULT_0_1
     ! fault 90 1 0
+    status 2
+
+    # An entry that is no op: a record that is cut, a long number, a wire type that there is not and one that the field has not, and no text.
+    > show < CUT; RESULT
+    ! fault 82 0 1
+    status 2
+    > show < LONG_NUMBER; RESULT
+    ! fault 82 0 2
+    status 2
+    > show < NO_WIRE_TYPE; RESULT
+    ! fault 82 0 4
+    status 2
+    > show < WRONG_WIRE_TYPE; RESULT
+    ! fault 82 0 11
+    status 2
+    > show < NOT_UTF8; RESULT
+    ! fault 82 0 12
     status 2
     ";
 
@@ -60,53 +86,53 @@ fn graphs_are_shown_or_refused(rt: HostRuntime) {
 // The text has 81 bytes, 34 of them in its first line and 36 in its second.
 const DEVICES: &str = "
     # A reader that fails at some read shows nothing.
-    > [0 reads] show < MAKES_A D_ON_0 RESULT_1
+    > [0 reads] show < MAKES_A; D_ON_0; RESULT_1
     ! fault 181
     status 3
-    > [1 reads] show < MAKES_A D_ON_0 RESULT_1
+    > [1 reads] show < MAKES_A; D_ON_0; RESULT_1
     ! fault 181
     status 3
-    > [129 reads] show < MAKES_A D_ON_0 RESULT_1
+    > [129 reads] show < MAKES_A; D_ON_0; RESULT_1
     ! fault 181
     status 3
 
     # A writer that fails at some write gets a prefix.
-    > [0 writes] show < MAKES_A D_ON_0 RESULT_1
+    > [0 writes] show < MAKES_A; D_ON_0; RESULT_1
     ! fault 182
     status 3
-    > [1 writes] show < MAKES_A D_ON_0 RESULT_1
+    > [1 writes] show < MAKES_A; D_ON_0; RESULT_1
     0
     (and no end of line)
     ! fault 182
     status 3
-    > [33 writes] show < MAKES_A D_ON_0 RESULT_1
+    > [33 writes] show < MAKES_A; D_ON_0; RESULT_1
     0 file steps 1 outputs 1 inputs -
     (and no end of line)
     ! fault 182
     status 3
-    > [34 writes] show < MAKES_A D_ON_0 RESULT_1
+    > [34 writes] show < MAKES_A; D_ON_0; RESULT_1
     0 file steps 1 outputs 1 inputs -
     ! fault 182
     status 3
-    > [71 writes] show < MAKES_A D_ON_0 RESULT_1
+    > [71 writes] show < MAKES_A; D_ON_0; RESULT_1
     0 file steps 1 outputs 1 inputs -
     1 file steps 1 outputs 1 inputs 0.0
     r
     (and no end of line)
     ! fault 182
     status 3
-    > [80 writes] show < MAKES_A D_ON_0 RESULT_1
+    > [80 writes] show < MAKES_A; D_ON_0; RESULT_1
     0 file steps 1 outputs 1 inputs -
     1 file steps 1 outputs 1 inputs 0.0
     result 1.0
     (and no end of line)
     ! fault 182
     status 3
-    > [81 writes] show < MAKES_A D_ON_0 RESULT_1
+    > [81 writes] show < MAKES_A; D_ON_0; RESULT_1
     0 file steps 1 outputs 1 inputs -
     1 file steps 1 outputs 1 inputs 0.0
     result 1.0
-    > [81 writes, 1 end] show < MAKES_A D_ON_0 RESULT_1
+    > [81 writes, 1 end] show < MAKES_A; D_ON_0; RESULT_1
     0 file steps 1 outputs 1 inputs -
     1 file steps 1 outputs 1 inputs 0.0
     result 1.0

@@ -6,7 +6,7 @@ use llb_commands::step_over;
 use llb_loader::Locals;
 
 const SESSION: &str = "
-    > step FILE < MAKES_A RESULT_0 | break settle 0; go; back; status; next; tree 0 0; quit
+    > step FILE < MAKES_A; RESULT_0 | break settle 0; go; back; status; next; tree 0 0; quit
     1 claim 0 0 -> file 1
     2 step 0 -> acted 0
     3 settle 0 -> 0 done
@@ -30,21 +30,21 @@ const REFUSED: &str = "
     > step FILE --workers 0 < =0a | next
     ! fault 81 1
     status 2
-    > step FILE --workers 0 < SOURCE_P RESULT_0 | next
+    > step FILE --workers 0 < SOURCE_P; RESULT_0 | next
     ! fault 121 p
     status 2
-    > step FILE --workers 1 < SOURCE_P RESULT_0 | next
+    > step FILE --workers 1 < SOURCE_P; RESULT_0 | next
     ! fault 121 p
     status 2
-    > step FILE --workers 0 < MAKES_A RESULT_0 | next
+    > step FILE --workers 0 < MAKES_A; RESULT_0 | next
     ! fault 122
     status 2
-    > step FILE --workers 65 < MAKES_A RESULT_0 | next
+    > step FILE --workers 65 < MAKES_A; RESULT_0 | next
     ! fault 122
     status 2
 
     # The file of the definition is not there.
-    > step NONE < MAKES_A RESULT_0 | next
+    > step NONE < MAKES_A; RESULT_0 | next
     ! fault 181
     status 3
     ";
@@ -57,7 +57,7 @@ fn a_definition_that_is_refused_has_no_session(rt: HostRuntime) {
 #[test]
 fn a_refused_command_ends_nothing(rt: HostRuntime) {
     let alloc = rt.alloc();
-    let bytes = definition_of(&rt, alloc, "MAKES_XA RESULT_0");
+    let bytes = definition_of(&rt, alloc, "MAKES_XA; RESULT_0");
     let mut file = bytes.as_slice();
     let mut lines = b"back\nnext\nclaim 0 0\nnext \n\xff\ngo\nstatus\ntree 0 0\nnext".as_slice();
     let (mut out, mut err) = (Vec::new(alloc), Vec::new(alloc));
@@ -73,27 +73,27 @@ fn a_refused_command_ends_nothing(rt: HostRuntime) {
 // The first two commands have 18 bytes, and all of them 49.
 const COMMANDS: &str = "
     # Commands that fail have their whole lines answered.
-    > [0 reads] step FILE < MAKES_A RESULT_0 | break settle 0; go; back; status; next; tree 0 0; quit
+    > [0 reads] step FILE < MAKES_A; RESULT_0 | break settle 0; go; back; status; next; tree 0 0; quit
     ! fault 181
     status 3
-    > [17 reads] step FILE < MAKES_A RESULT_0 | break settle 0; go; back; status; next; tree 0 0; quit
+    > [17 reads] step FILE < MAKES_A; RESULT_0 | break settle 0; go; back; status; next; tree 0 0; quit
     ! fault 181
     status 3
-    > [18 reads] step FILE < MAKES_A RESULT_0 | break settle 0; go; back; status; next; tree 0 0; quit
+    > [18 reads] step FILE < MAKES_A; RESULT_0 | break settle 0; go; back; status; next; tree 0 0; quit
     1 claim 0 0 -> file 1
     2 step 0 -> acted 0
     3 settle 0 -> 0 done
     stop
     ! fault 181
     status 3
-    > [22 reads] step FILE < MAKES_A RESULT_0 | break settle 0; go; back; status; next; tree 0 0; quit
+    > [22 reads] step FILE < MAKES_A; RESULT_0 | break settle 0; go; back; status; next; tree 0 0; quit
     1 claim 0 0 -> file 1
     2 step 0 -> acted 0
     3 settle 0 -> 0 done
     stop
     ! fault 181
     status 3
-    > [60 reads] step FILE < MAKES_A RESULT_0 | break settle 0; go; back; status; next; tree 0 0; quit
+    > [60 reads] step FILE < MAKES_A; RESULT_0 | break settle 0; go; back; status; next; tree 0 0; quit
     1 claim 0 0 -> file 1
     2 step 0 -> acted 0
     3 settle 0 -> 0 done
@@ -112,21 +112,21 @@ fn commands_that_fail_have_their_whole_lines_answered(rt: HostRuntime) {
 
 const ANSWERS: &str = "
     # A writer that fails has a prefix of the answers.
-    > [0 writes] step FILE < MAKES_A RESULT_0 | break settle 0; go; back; status; next; tree 0 0; quit
+    > [0 writes] step FILE < MAKES_A; RESULT_0 | break settle 0; go; back; status; next; tree 0 0; quit
     ! fault 182
     status 3
-    > [1 writes] step FILE < MAKES_A RESULT_0 | break settle 0; go; back; status; next; tree 0 0; quit
+    > [1 writes] step FILE < MAKES_A; RESULT_0 | break settle 0; go; back; status; next; tree 0 0; quit
     1
     (and no end of line)
     ! fault 182
     status 3
-    > [40 writes] step FILE < MAKES_A RESULT_0 | break settle 0; go; back; status; next; tree 0 0; quit
+    > [40 writes] step FILE < MAKES_A; RESULT_0 | break settle 0; go; back; status; next; tree 0 0; quit
     1 claim 0 0 -> file 1
     2 step 0 -> acted
     (and no end of line)
     ! fault 182
     status 3
-    > [80 writes] step FILE < MAKES_A RESULT_0 | break settle 0; go; back; status; next; tree 0 0; quit
+    > [80 writes] step FILE < MAKES_A; RESULT_0 | break settle 0; go; back; status; next; tree 0 0; quit
     1 claim 0 0 -> file 1
     2 step 0 -> acted 0
     3 settle 0 -> 0 done

@@ -1,16 +1,16 @@
 //! The program as transcripts. A line with `> ` first is a call, and the lines after it are what the call writes, what it tells (`! ` first),
 //! and its status where that is not 0. One with `# ` first says what the next calls show. A call is the program's words; after ` < ` the
-//! names of the entries that it reads as a definition, or `=` and the bytes in hexadecimal, or `@` and the name of a text, or `$` and a
-//! text in which `|` ends a line; after ` | ` the commands of a session, each ended by `;`. The file `FILE` is the definition, too. What
-//! `asm` writes is told in hexadecimal.
+//! entries that it reads as a definition (`written`), or `=` and the bytes in hexadecimal, or `@` and the name of a text, or `$` and a
+//! text in which `|` ends a line; of a session then, after ` | `, its commands, each ended by `;`. The file `FILE` is the definition, too,
+//! and the other files are those of `local_trees`. What `asm` writes is told in hexadecimal.
 //!
 //! In brackets before the words stands what bounds the devices: how many reads and writes of a byte each are done, how many bytes of the
 //! told line are taken (`told`), and whether the writer fails at its end (`1 end`).
 
 use super::assembling::TEXTS;
-use super::definitions::ENTRIES;
 use super::devices::{Narrow, Ran, Slow};
-use super::execution_definitions::EXECUTIONS;
+use super::local_trees::FILES;
+use super::written::{block, push_entries};
 use llb_asm::assemble;
 use llb_commands::{Line, Sources, command_of, locals_of, perform, source_refusal, words_refusal};
 use llb_loader::Locals;
@@ -24,42 +24,6 @@ use std::sync::Wait;
 use std::thread::Threads;
 
 const MANY: usize = 1 << 20;
-
-// The trees of local sources, and texts that are no trees, by the names of their files.
-const FILES: &str = "
-== P
-d 0755 0 0 /
-f 0600 1 1 - /old
-== Q
-d 0755 0 0 /
-f 0644 0 0 6869 /f
-== X
-d 0755 0 0 /
-== Y
-d 0755 0 0 /
-d 0755 0 0 /sub
-f 0644 0 0 6869 /sub/f
-== LATE
-d 0755 0 0 /
-d 0755 0 0 /
-== LOOSE
-d 0755 0 0 /
-f 0644 0 0 - /a/b
-== EMPTY
-";
-
-// The lines after the one with `== ` and the name.
-fn block<'a>(text: &'a str, wanted: &str) -> Option<&'a str> {
-    for block in text.split("== ") {
-        if let Some((head, lines)) = block.split_once('\n') {
-            let (name, _) = head.split_once(':').unwrap_or((head, ""));
-            if name == wanted {
-                return Some(lines);
-            }
-        }
-    }
-    None
-}
 
 // The files of a call: its definition, and the local sources.
 #[derive(Clone, Copy)]
@@ -100,7 +64,11 @@ fn call_in(line: &str) -> Call<'_> {
         None => ("", line),
     };
     let (words, rest) = rest.split_once(" < ").unwrap_or((rest, ""));
-    let (entries, commands) = rest.split_once(" | ").unwrap_or((rest, ""));
+    let (entries, commands) = if words.starts_with("step ") {
+        rest.split_once(" | ").unwrap_or((rest, ""))
+    } else {
+        (rest, "")
+    };
     Call {
         bounds,
         words,
@@ -131,7 +99,7 @@ fn lines_ended(rt: &impl Abort, alloc: Global, text: &str) -> Bytes {
     Bytes::new(lines)
 }
 
-/// The definition of the entries with these names, or the bytes that are spelled.
+/// The definition of the entries that are written, or the bytes that are spelled.
 pub(crate) fn definition_of(rt: &impl Abort, alloc: Global, entries: &str) -> Bytes {
     if let Some(digits) = entries.strip_prefix("=") {
         return read_hex(alloc, digits)
@@ -146,10 +114,7 @@ pub(crate) fn definition_of(rt: &impl Abort, alloc: Global, entries: &str) -> By
         return Bytes::from_slice(alloc, text.as_bytes()).expect(rt, "memory");
     }
     let mut text = String::new(alloc);
-    for name in entries.split(' ') {
-        let entry = block(ENTRIES, name).or(block(EXECUTIONS, name));
-        text.push_str(entry.unwrap_or("")).expect(rt, "memory");
-    }
+    push_entries(rt, &mut text, entries);
     let entries = assemble(alloc, text.as_bytes()).expect(rt, "entries");
     write_definition(alloc, &entries).expect(rt, "memory")
 }

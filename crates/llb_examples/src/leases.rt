@@ -1,0 +1,272 @@
+//! Caches, as transcripts. A line with `> ` first is a call, and the lines after it are what it answers; one with `# ` first says what the
+//! next calls show. A need is the ID and the way of its key, the index of its seed or `-`, and the name of the one file in its tree, where it
+//! has one. `lease NEED, ..` answers the number of the lease and of the instance of each need, or the fault; `see LEASE NEED` the name of the
+//! file in what a lease has there, which `set LEASE NEED NAME` changes, and `back LEASE` gives a lease back; leases are named by their place
+//! among those granted. `count NEED` answers how many instances a key has, how many leases are out, and each instance's file; `next NEED` the
+//! instance that a lease would have now, or `shut`. There are no caches after `new`.
+
+use super::told::{file, made, row_holds, say, say_fault, say_number};
+use super::trees::word_and_rest;
+use llb_cache::{Caches, Key, Lease, LeaseFault, Many, Mode, Need, Seed};
+use llb_tree::{Path, Text, Tree};
+use std::alloc::Global;
+use std::process::Abort;
+
+pub(crate) type Row<'a> = (&'a str, Mode, Option<u32>, &'a str);
+
+#[derive(Drop)]
+struct Stage {
+    caches: Caches,
+    leases: Vec<Lease>,
+}
+
+fn empty_stage(alloc: Global) -> Stage {
+    Stage {
+        caches: Caches::new(alloc),
+        leases: Vec::new(alloc),
+    }
+}
+
+fn mode_of(way: &str) -> Mode {
+    match way {
+        "locked" => Mode::Locked,
+        "private" => Mode::Private,
+        _ => Mode::Shared,
+    }
+}
+
+fn row_of(need: &str) -> Row<'_> {
+    let (id, rest) = word_and_rest(need);
+    let (way, rest) = word_and_rest(rest);
+    let (seed, name) = word_and_rest(rest);
+    (id, mode_of(way), seed.parse::<u32>().ok(), name)
+}
+
+// The tree with an empty file of that name, or with none.
+fn marked(rt: &impl Abort, alloc: Global, name: &str) -> Tree {
+    if name.is_empty() {
+        return Tree::empty(alloc).expect(rt, "memory");
+    }
+    made(rt, alloc, &[file(name, "")])
+}
+
+fn seed_of(rt: &impl Abort, alloc: Global, index: u32) -> Seed {
+    let digest = Text::from_str(alloc, "sha256:00").expect(rt, "memory");
+    Seed { digest, index }
+}
+
+pub(crate) fn key_of(rt: &impl Abort, alloc: Global, row: &Row<'_>) -> Key {
+    let (id, mode, index, _) = *row;
+    let id = Text::from_str(alloc, id).expect(rt, "memory");
+    let seed = match index {
+        Some(index) => Some(seed_of(rt, alloc, index)),
+        None => None,
+    };
+    Key { id, seed, mode }
+}
+
+fn needs_of(rt: &impl Abort, alloc: Global, words: &str) -> Vec<Need> {
+    let mut needs = Vec::new(alloc);
+    for need in words.split(", ") {
+        if !need.is_empty() {
+            let row = row_of(need);
+            let key = key_of(rt, alloc, &row);
+            let tree = marked(rt, alloc, row.3);
+            needs.push(Need { key, tree }).expect(rt, "memory");
+        }
+    }
+    needs
+}
+
+// The names of a tree's files, or `-`.
+fn say_files(rt: &impl Abort, alloc: Global, text: &mut String, tree: &Tree) {
+    let names = tree.list(&Path::root(alloc)).expect(rt, "memory");
+    for name in names.as_slice() {
+        say(rt, text, name.as_str());
+    }
+    if names.as_slice().is_empty() {
+        say(rt, text, "-");
+    }
+}
+
+// ---- the calls, each in a function without clauses: a story compares values, and what a call promises besides need not be carried through it
+
+// None where two needs have one key.
+fn leased(caches: &mut Caches, needs: Vec<Need>) -> Option<Result<Lease, LeaseFault>> {
+    if !caches.can_lease(&needs) {
+        return None;
+    }
+    Some(caches.lease(Many::new(needs)))
+}
+
+fn instance_of(caches: &Caches, lease: Lease, need: u32) -> Option<u32> {
+    if (need as usize) < caches.needs(lease) {
+        return Some(caches.instance_of(&lease, need));
+    }
+    None
+}
+
+fn content(caches: &Caches, lease: Lease, need: u32) -> Option<&Tree> {
+    if (need as usize) < caches.needs(lease) {
+        return Some(caches.content(&lease, need));
+    }
+    None
+}
+
+fn is_set(caches: &mut Caches, lease: Lease, need: u32, tree: Tree) -> bool {
+    if (need as usize) < caches.needs(lease) {
+        caches.set_content(&lease, need, tree);
+        return true;
+    }
+    false
+}
+
+fn is_given_back(caches: &mut Caches, lease: Lease) -> bool {
+    if caches.is_out(lease) {
+        caches.give_back(lease);
+        return true;
+    }
+    false
+}
+
+fn instance<'a>(caches: &'a Caches, key: &Key, number: u32) -> Option<&'a Tree> {
+    caches.instance(key, number)
+}
+
+fn instances(caches: &Caches, key: &Key) -> u32 {
+    caches.instances(key)
+}
+
+// None where a lease of the key would be refused.
+fn next_instance(caches: &Caches, key: &Key) -> Option<u32> {
+    if caches.is_shut(&key.by_ref()) {
+        return None;
+    }
+    Some(caches.next_instance(key))
+}
+
+// ---- what they answer
+
+// The number of a lease, and of the instance of each of its needs.
+fn say_lease(rt: &impl Abort, text: &mut String, caches: &Caches, lease: Lease) {
+    say_number(rt, text, lease.number());
+    say(rt, text, ":");
+    for need in 0..4 {
+        if let Some(number) = instance_of(caches, lease, need) {
+            say_number(rt, text, number);
+        }
+    }
+    say(rt, text, "\n");
+}
+
+fn ask(rt: &impl Abort, alloc: Global, text: &mut String, stage: &mut Stage, words: &str) {
+    match leased(&mut stage.caches, needs_of(rt, alloc, words)) {
+        None => say(rt, text, "twice\n"),
+        Some(Ok(lease)) => {
+            stage.leases.push(lease).expect(rt, "memory");
+            say_lease(rt, text, &stage.caches, lease);
+        }
+        Some(Err(fault)) => say_fault(rt, text, &fault),
+    }
+}
+
+fn say_instances(rt: &impl Abort, alloc: Global, text: &mut String, caches: &Caches, key: &Key) {
+    for number in 0..4 {
+        if let Some(tree) = instance(caches, key, number) {
+            say(rt, text, " ");
+            say_files(rt, alloc, text, tree);
+        }
+    }
+}
+
+fn say_count(rt: &impl Abort, alloc: Global, text: &mut String, caches: &Caches, need: &str) {
+    let key = key_of(rt, alloc, &row_of(need));
+    say_number(rt, text, instances(caches, &key));
+    say(rt, text, "/");
+    say_number(rt, text, caches.leases());
+    say_instances(rt, alloc, text, caches, &key);
+    say(rt, text, "\n");
+}
+
+// The instance that a lease of the key would have now, or that it would be refused.
+fn say_next(rt: &impl Abort, alloc: Global, text: &mut String, caches: &Caches, need: &str) {
+    let key = key_of(rt, alloc, &row_of(need));
+    match next_instance(caches, &key) {
+        Some(number) => say_number(rt, text, number),
+        None => say(rt, text, "shut"),
+    }
+    say(rt, text, "\n");
+}
+
+// The lease at a place, the number of a need, and what stands after both.
+fn lease_at<'a>(rt: &impl Abort, stage: &Stage, words: &'a str) -> (Lease, u32, &'a str) {
+    let (place, rest) = word_and_rest(words);
+    let (need, name) = word_and_rest(rest);
+    let place = place.parse::<usize>().unwrap_or(0);
+    let lease = stage.leases.get(place).copied().expect(rt, "a lease");
+    (lease, need.parse::<u32>().unwrap_or(0), name)
+}
+
+fn see(rt: &impl Abort, alloc: Global, text: &mut String, stage: &Stage, words: &str) {
+    let (lease, need, _) = lease_at(rt, stage, words);
+    let tree = content(&stage.caches, lease, need).expect(rt, "a need");
+    say_files(rt, alloc, text, tree);
+    say(rt, text, "\n");
+}
+
+fn set(rt: &impl Abort, alloc: Global, stage: &mut Stage, words: &str) {
+    let (lease, need, name) = lease_at(rt, stage, words);
+    let tree = marked(rt, alloc, name);
+    assert!(rt; is_set(&mut stage.caches, lease, need, tree));
+}
+
+fn give_back(rt: &impl Abort, stage: &mut Stage, words: &str) {
+    let (lease, _, _) = lease_at(rt, stage, words);
+    assert!(rt; is_given_back(&mut stage.caches, lease));
+}
+
+fn say_call(rt: &impl Abort, alloc: Global, text: &mut String, stage: &mut Stage, call: &str) {
+    let (name, words) = word_and_rest(call);
+    match name {
+        "new" => *stage = empty_stage(alloc),
+        "lease" => ask(rt, alloc, text, stage, words),
+        "see" => see(rt, alloc, text, stage, words),
+        "set" => set(rt, alloc, stage, words),
+        "back" => give_back(rt, stage, words),
+        "count" => say_count(rt, alloc, text, &stage.caches, words),
+        _ => say_next(rt, alloc, text, &stage.caches, words),
+    }
+}
+
+fn say_line(rt: &impl Abort, alloc: Global, text: &mut String, stage: &mut Stage, line: &str) {
+    if let Some(call) = line.strip_prefix("> ") {
+        say(rt, text, line);
+        say(rt, text, "\n");
+        say_call(rt, alloc, text, stage, call);
+    }
+}
+
+pub(crate) fn transcript(rt: &impl Abort, alloc: Global, told: &str) -> String {
+    let mut text = String::new(alloc);
+    let mut stage = empty_stage(alloc);
+    for line in told.lines() {
+        say_line(rt, alloc, &mut text, &mut stage, line.trim());
+    }
+    text
+}
+
+// The caches after some calls, a line each.
+fn caches_after(rt: &impl Abort, alloc: Global, calls: &str) -> Caches {
+    let mut text = String::new(alloc);
+    let mut stage = empty_stage(alloc);
+    for call in calls.lines() {
+        say_call(rt, alloc, &mut text, &mut stage, call);
+    }
+    stage.caches
+}
+
+// Whether a copy of the caches after some calls is what the caches are after others.
+pub(crate) fn are_same(rt: &impl Abort, alloc: Global, calls: &str, others: &str) -> bool {
+    let copy = caches_after(rt, alloc, calls).copy().expect(rt, "memory");
+    copy.same(&caches_after(rt, alloc, others))
+}

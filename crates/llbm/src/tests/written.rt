@@ -1,0 +1,124 @@
+//! Definitions as calls have them: entries with `; ` between them.
+//!
+//! An entry is a name of `definitions`, `execution_definitions` or `spelled`, or what stands between the braces of an op, in pieces with
+//! ` | ` between them. A piece is a name of `pieces`, or a line of the assembler's text, or a mount: its input, its dest, and the names of
+//! pieces that stand after these. `RESULT` is the terminal on the entry before it. `act KIND | FIELD | ..` is an op with that one action on
+//! what the entry before it gives, whose second tree is what the first entry gives; and `sh TEXT` an execution of that text at the root on
+//! what the entry before it gives, or on nothing.
+
+use super::definitions::ENTRIES;
+use super::execution_definitions::EXECUTIONS;
+use super::pieces::PIECES;
+use super::spelled::SPELLED;
+use std::process::Abort;
+
+/// The lines after the one with `== ` and the name; what stands there after `:` is told to the reader.
+pub(crate) fn block<'a>(text: &'a str, wanted: &str) -> Option<&'a str> {
+    for block in text.split("== ") {
+        if let Some((head, lines)) = block.split_once('\n') {
+            let (name, _) = head.split_once(':').unwrap_or((head, ""));
+            if name == wanted {
+                return Some(lines);
+            }
+        }
+    }
+    None
+}
+
+fn push(rt: &impl Abort, text: &mut String, more: &str) {
+    text.push_str(more).expect(rt, "memory");
+}
+
+fn push_line(rt: &impl Abort, text: &mut String, line: &str) {
+    push(rt, text, line);
+    push(rt, text, "\n");
+}
+
+fn push_mount(rt: &impl Abort, text: &mut String, input: &str, words: &str) {
+    let (dest, names) = words.split_once(' ').unwrap_or((words, ""));
+    write!(text, "mounts {{\ninput {input}\ndest \"{dest}\"\n").expect(rt, "memory");
+    for name in names.split(' ') {
+        push(rt, text, block(PIECES, name).unwrap_or(""));
+    }
+    push(rt, text, "}\n");
+}
+
+fn push_piece(rt: &impl Abort, text: &mut String, piece: &str) {
+    let (first, rest) = piece.split_once(' ').unwrap_or((piece, ""));
+    match block(PIECES, piece) {
+        Some(lines) => push(rt, text, lines),
+        None if first.parse::<i64>().is_ok() => push_mount(rt, text, first, rest),
+        None => push_line(rt, text, piece),
+    }
+}
+
+fn push_pieces(rt: &impl Abort, text: &mut String, pieces: &str) {
+    for piece in pieces.split(" | ") {
+        push_piece(rt, text, piece);
+    }
+}
+
+fn push_op(rt: &impl Abort, text: &mut String, pieces: &str) {
+    push(rt, text, "op {\n");
+    push_pieces(rt, text, pieces);
+    push(rt, text, "}\n");
+}
+
+fn push_act(rt: &impl Abort, text: &mut String, before: usize, action: &str) {
+    let (kind, fields) = action.split_once(" | ").unwrap_or((action, ""));
+    write!(text, "op {{\ninputs {{\ndigest %{before}\n}}\n").expect(rt, "memory");
+    push(rt, text, "inputs {\ndigest %0\n}\n");
+    push(rt, text, "file {\nactions {\nsecondaryInput 1\n");
+    push(rt, text, kind);
+    push(rt, text, " {\n");
+    push_pieces(rt, text, fields);
+    push(rt, text, "}\n}\n}\n}\n");
+}
+
+// On nothing where no entry stands before it.
+fn push_script(rt: &impl Abort, text: &mut String, before: Option<usize>, script: &str) {
+    push(rt, text, "op {\n");
+    if let Some(before) = before {
+        write!(text, "inputs {{\ndigest %{before}\n}}\n").expect(rt, "memory");
+    }
+    let input = if before.is_some() { "0" } else { "-1" };
+    push(rt, text, "exec {\nmeta {\nargs \"/bin/sh\"\nargs \"-c\"\n");
+    write!(text, "args \"{script}\"\n}}\n").expect(rt, "memory");
+    push_mount(rt, text, input, "/");
+    push(rt, text, "}\n}\n");
+}
+
+fn push_result(rt: &impl Abort, text: &mut String, before: usize) {
+    write!(text, "op {{\ninputs {{\ndigest %{before}\n}}\n}}\n").expect(rt, "memory");
+}
+
+fn entry_named(name: &str) -> Option<&'static str> {
+    block(ENTRIES, name)
+        .or(block(EXECUTIONS, name))
+        .or(block(SPELLED, name))
+}
+
+// The text of an entry that has no name, at its place.
+fn push_made(rt: &impl Abort, text: &mut String, at: usize, entry: &str) {
+    let before = at.saturating_sub(1);
+    let (word, rest) = entry.split_once(' ').unwrap_or((entry, ""));
+    match word {
+        "RESULT" => push_result(rt, text, before),
+        "act" => push_act(rt, text, before, rest),
+        "sh" => push_script(rt, text, at.checked_sub(1), rest),
+        _ => push_op(rt, text, entry),
+    }
+}
+
+/// Puts the text of the entries at the end; none where nothing is written.
+pub(crate) fn push_entries(rt: &impl Abort, text: &mut String, entries: &str) {
+    if entries.is_empty() {
+        return;
+    }
+    for (at, entry) in entries.split("; ").enumerate() {
+        match entry_named(entry) {
+            Some(lines) => push(rt, text, lines),
+            None => push_made(rt, text, at, entry),
+        }
+    }
+}
