@@ -1,6 +1,6 @@
 //! Leases of caches, as transcripts (`leases`), and caches that are compared.
 
-use super::leases::{are_same, transcript};
+use super::leases::{is_copy, transcript};
 use super::stage::is_told_as;
 use super::told::row_holds;
 
@@ -153,12 +153,15 @@ const SET: &str = "lease a locked -, p private 0 f\nlease s shared -\nset 0 1 g"
 
 const BACK: &str = "lease a locked -, p private 0 f\nlease s shared -\nset 0 1 g\nback 1";
 
+// What is done on the caches of each of these once they are copied.
+const MORE: [&str; 3] = ["set 0 1 h", "back 0", "lease s shared -"];
+
 #[test]
-fn caches_are_the_same_by_all_that_they_hold(rt: HostRuntime) {
+fn a_copy_is_what_the_caches_were(rt: HostRuntime) {
     let calls = [LEASED, SET, BACK];
-    for (i, one) in calls.iter().enumerate() {
+    for (i, (one, more)) in calls.iter().zip(MORE).enumerate() {
         for (j, other) in calls.iter().enumerate() {
-            let same = are_same(&rt, rt.alloc(), one, other);
+            let same = is_copy(&rt, rt.alloc(), one, more, other);
             row_holds(&rt, i, same == (i == j));
         }
     }

@@ -255,18 +255,30 @@ pub(crate) fn transcript(rt: &impl Abort, alloc: Global, told: &str) -> String {
     text
 }
 
-// The caches after some calls, a line each.
-fn caches_after(rt: &impl Abort, alloc: Global, calls: &str) -> Caches {
+// Does some calls, a line each.
+fn go_on(rt: &impl Abort, alloc: Global, stage: &mut Stage, calls: &str) {
     let mut text = String::new(alloc);
-    let mut stage = empty_stage(alloc);
     for call in calls.lines() {
-        say_call(rt, alloc, &mut text, &mut stage, call);
+        say_call(rt, alloc, &mut text, stage, call);
     }
-    stage.caches
 }
 
-// Whether a copy of the caches after some calls is what the caches are after others.
-pub(crate) fn are_same(rt: &impl Abort, alloc: Global, calls: &str, others: &str) -> bool {
-    let copy = caches_after(rt, alloc, calls).copy().expect(rt, "memory");
-    copy.same(&caches_after(rt, alloc, others))
+fn stage_after(rt: &impl Abort, alloc: Global, calls: &str) -> Stage {
+    let mut stage = empty_stage(alloc);
+    go_on(rt, alloc, &mut stage, calls);
+    stage
+}
+
+// Whether a copy of the caches after some calls is, once more calls were done on the caches, what they are after others.
+pub(crate) fn is_copy(
+    rt: &impl Abort,
+    alloc: Global,
+    calls: &str,
+    more: &str,
+    others: &str,
+) -> bool {
+    let mut stage = stage_after(rt, alloc, calls);
+    let copy = stage.caches.copy().expect(rt, "memory");
+    go_on(rt, alloc, &mut stage, more);
+    copy.same(&stage_after(rt, alloc, others).caches)
 }

@@ -80,6 +80,28 @@ const COPIES: &str = r#"
     ! failed 2 action 0 fault 24
     status 1
 
+    # What is refused leaves the trees that it was done on.
+    > step FILE p=A_G_H q=D_A_G < SOURCE_P; SOURCE_Q; act copy | src "/?" | dest "/d" | mode -1 | allowWildcard true; RESULT | go; tree 0 0; tree 1 0
+    1 claim 0 0 -> source 1
+    2 step 0 -> read
+    3 settle 0 -> 0 done
+    4 claim 0 1 -> source 1
+    5 step 0 -> read
+    6 settle 0 -> 1 done
+    7 claim 0 2 -> file 1
+    8 step 0 -> fault 0 24
+    9 settle 0 -> 2 failed
+    end
+    d 0755 0 0 /
+    f 0644 0 0 67 /g
+    f 0644 0 0 68 /h
+    d 0755 0 0 /s
+    d 0755 0 0 /s/a
+    d 0755 0 0 /
+    d 0755 0 0 /d
+    f 0600 1 1 61 /d/a
+    d 0755 0 0 /d/g
+
     # Each match is copied in path order.
     > run p=A_B_CD q=X < SOURCE_P; SOURCE_Q; act copy | src "?" | dest "/x" | mode 0 | allowWildcard true; RESULT
     d 0755 0 0 /
