@@ -305,7 +305,7 @@ def commands_of(op: dict) -> list[str]:
     if args[:2] != SHELL or len(args) != 3:
         return [shlex.join(args)]
     words = " ".join(word for word in args[2].split(" ") if word)
-    return re.split(r"(?:^| )&&(?: |$)", words)
+    return re.split(r"(?:^| )(?:;|&&|\|\|)(?: |$)", words)
 
 
 def texts_of(op: dict) -> list[str]:

@@ -58,10 +58,10 @@ class Definitions(unittest.TestCase):
         self.assertEqual(definition.entries_of(base.number(9, 5) + base.part(2, "x") + base.part(1, "ab")), [b"ab"])
 
     def test_scripts_and_commands(self):
-        text = "a  && b c &&d && e&&"
+        text = "a  && b c &&d && e&& ; f || g; || h"
         op = definition.read("Op", base.exec_op("/bin/sh", "-c", text))
         self.assertEqual(definition.script_of(op), text)
-        self.assertEqual(definition.commands_of(op), ["a", "b c &&d", "e&&"])
+        self.assertEqual(definition.commands_of(op), ["a", "b c &&d", "e&&", "f", "g;", "h"])
         for words, script in [(["write", "/a b"], "write '/a b'"), (["/bin/sh", "-c"], "/bin/sh -c"), ([], "")]:
             op = definition.read("Op", base.exec_op(*words))
             self.assertEqual((definition.script_of(op), definition.commands_of(op)), (script, [script]))

@@ -1,17 +1,22 @@
 -- A text with no bad place, and the text that its calls make.
-use Rattle.std.proofs.Common.{◌≡◌, ℕ, suc, ◌+◌, ◌==◌, nat_lt, Bool, true, false, not, cond, ◌&&◌, ◌||◌, List, [], ◌∷◌, ◌++◌, length, map}
-use Rattle.std.proofs.Common.{filter, Option, Some, None, option_map, refl, sym, ap, subst, ◌∙◌, true≢false, ne_eqb, arith}
+use Rattle.std.proofs.Common.{◌≡◌, ℕ, suc, ◌+◌, ◌==◌, nat_lt, Bool, true, false, not, cond, ◌&&◌, List, [], ◌∷◌, ◌++◌, length, map, codes}
+use Rattle.std.proofs.Common.{filter, Option, Some, None, is_some, option_map, refl, sym, ap, ◌∙◌, append_assoc, true≢false, ne_eqb, arith}
 use Rattle.std.specs.List.{slice_split, onto_first, flat_map, list_all, join_with_byte, position, position_or_len, All}
 use Rattle.std.specs.Option.{option_or}
 use Rattle.std.specs.Cmp.Lexicographic.{bytes_decides}
 use Rattle.std.proofs.lemmas.Bool.{false≢true}
 use Rattle.std.proofs.lemmas.Bool.Decides.{nat_tests}
+use Rattle.std.proofs.lemmas.List.{length_push}
 use Rattle.std.proofs.lemmas.List.Elements.{All-cons, All-nil}
-use Rattle.std.proofs.lemmas.List.Splits.{slice_split_none, slice_split_at, slice_split-cons_yes, slice_split-cons_no}
-use Rattle.llb_applet.specs.Words.{Word, parts_of, placed, words_of, is_word, is_and, is_word_byte, bad_in, bad_place, bad_place_of, calls_of}
+use Rattle.std.proofs.lemmas.List.Splits.{slice_split_none, slice_split_at}
+use Rattle.llb_applet.specs.declared.join.Join.{Join}
+use Rattle.llb_applet.specs.declared.join.Join.TheVariants.{Then, And, Or}
+use Rattle.llb_applet.specs.Applets.{spells}
+use Rattle.llb_applet.specs.Words.{Word, parts_of, placed, words_of, is_word, join_of, is_separator, is_word_byte, bad_in, bad_place, bad_place_of}
+use Rattle.llb_applet.specs.Words.{Call, at_word, calls_from, calls_of}
 use Rattle.llb_applet.specs.Reading.{some_word}
 use Rattle.llb_applet.specs.Scripts.{commands_of, commands_in, commands_unless}
-use Rattle.llb_applet.specs.Laws.{is_plain_word, is_call, with_ands, text_of, IsShellText}
+use Rattle.llb_applet.specs.Laws.{is_plain_word, is_call, separator, after_separators, with_separators, text_of, IsShellText}
 use Rattle.llb_applet.proofs.Gathering.{words_in}
 
 both : (a b : Bool) → (a && b) ≡ true → (a ≡ true) × (b ≡ true)
@@ -45,51 +50,47 @@ no_place : (f : ℕ → ℕ) (o : Option ℕ) → option_map f o ≡ None → o 
 no_place f None e = refl
 no_place f (Some n) e = absurd cc
 
--- what is known of the calls of words: the first has a word, or one stands before it
-abbrev Front : Bool → List (List (List ℕ)) → Type 0
-Front called [] = ⊥
-Front called (c ∷ cs) = (list_all is_plain_word c ≡ true) × ((called || not (length c == 0)) ≡ true) × (list_all is_call cs ≡ true)
+all_push : (call : List (List ℕ)) (w : List ℕ) → list_all is_plain_word call ≡ true → is_plain_word w ≡ true → list_all is_plain_word (call ++ w ∷ []) ≡ true
+all_push [] w call word = (λ i. word i && true)
+all_push (c ∷ cs) w call word =
+    let halves = both (is_plain_word c) (list_all is_plain_word cs) call in
+    let rest = all_push cs w halves.1 word in
+    (λ i. halves.0 i && rest i)
 
-all_calls : (calls : List (List (List ℕ))) → Front false calls → list_all is_call calls ≡ true
-all_calls [] f = absurd f
-all_calls (c ∷ cs) f = (λ i. (f.1 i && f.0 i) && f.2 i)
+-- a call is before the end
+begun : (called : Bool) (end : ℕ) → cond {A = Option ℕ} called None (Some end) ≡ None → called ≡ true
+begun true end none = refl
+begun false end none = absurd cc
 
-fronts : (end : ℕ) (called : Bool) (ws : List Word) → list_all is_word ws ≡ true → bad_place end called ws ≡ None
-    → Front called (slice_split is_and (map (λ w. w.bytes) ws))
-fronts end true [] words none = (refl, refl, refl)
-fronts end false [] words none = absurd cc
-fronts end called (w ∷ ws) words none =
+-- the calls of words, where the call at hand has only plain words
+calls_are : (end : ℕ) (ws : List Word) (join : Join) (call : List (List ℕ)) → list_all is_word ws ≡ true → list_all is_plain_word call ≡ true
+    → bad_place end (not (length call == 0)) ws ≡ None → list_all is_call (calls_from (map (λ (w : Word). w.bytes) ws) join call) ≡ true
+calls_are end [] join call words plain none = let has = begun (not (length call == 0)) end none in (λ i. (has i && plain i) && true)
+calls_are end (w ∷ ws) join call words plain none =
     let word = both (is_word w) (list_all is_word ws) words in
-    let places = neither (option_map (λ k. w.place + k) (bad_in called w.bytes)) (bad_place end (not (is_and w.bytes)) ws) none in
-    first (is_and w.bytes) refl word.0 (no_place (λ k. w.place + k) (bad_in called w.bytes) places.0)
-    (λ b is. fronts end (not b) ws word.1 (ap (λ a. bad_place end (not a) ws) (sym is) ∙ places.1))
+    let places = neither (option_map (λ k. w.place + k) (bad_in (not (length call == 0)) w.bytes)) (bad_place end (not (is_separator w.bytes)) ws) none in
+    by_word (join_of w.bytes) refl (no_place (λ k. w.place + k) (bad_in (not (length call == 0)) w.bytes) places.0)
+    (λ next is. calls_are end ws next [] word.1 refl (ap (λ o. bad_place end (not (is_some o)) ws) (sym is) ∙ places.1))
+    (λ is bytes. calls_are end ws join (call ++ w.bytes ∷ []) word.1 (all_push call w.bytes plain (λ i. word.0 i && bytes i))
+    (ap (λ b. bad_place end (not b) ws) (ne_eqb (length (call ++ w.bytes ∷ [])) 0 (omega (arith, length_push call w.bytes)))
+    ∙ ap (λ o. bad_place end (not (is_some o)) ws) (sym is) ∙ places.1))
   where
-    calls : List (List (List ℕ))
-    calls = slice_split is_and (map (λ (w : Word). w.bytes) ws)
+    other : Option ℕ
+    other = position (λ b. not (is_word_byte b)) w.bytes
 
-    after_and : (called : Bool) → cond {A = Option ℕ} called None (Some 0) ≡ None → Front false calls → Front called ([] ∷ calls)
-    after_and true none f = (refl, refl, all_calls calls f)
-    after_and false none f = absurd cc
-
-    or_true : (b : Bool) → (b || true) ≡ true
-    or_true true = refl
-    or_true false = refl
-
-    in_call : (cs : List (List (List ℕ))) → is_plain_word w.bytes ≡ true → Front true cs → Front called (onto_first w.bytes cs)
-    in_call [] plain f = absurd f
-    in_call (c ∷ cs) plain f = ((λ i. plain i && f.0 i), ap (λ b. called || not b) (ne_eqb (length (w.bytes ∷ c)) 0 (omega arith)) ∙ or_true called, f.2)
-
-    first : (b : Bool) → is_and w.bytes ≡ b → is_word w ≡ true → bad_in called w.bytes ≡ None
-        → ((b : Bool) → is_and w.bytes ≡ b → Front (not b) calls) → Front called (slice_split is_and (w.bytes ∷ map (λ (w : Word). w.bytes) ws))
-    first true is word none rest =
-        subst (Front called) (sym (slice_split-cons_yes is_and w.bytes (map (λ (w : Word). w.bytes) ws) is))
-        (after_and called (sym (ap (λ b. cond {A = Option ℕ} b (cond {A = Option ℕ} called None (Some 0))
-        (position (λ b. not (is_word_byte b)) w.bytes)) is) ∙ none) (rest true is))
-    first false is word none rest =
-        let bytes = all_bytes w.bytes
-        (sym (ap (λ b. cond {A = Option ℕ} b (cond {A = Option ℕ} called None (Some 0)) (position (λ b. not (is_word_byte b)) w.bytes)) is) ∙ none) in
-        subst (Front called) (sym (slice_split-cons_no is_and w.bytes (map (λ (w : Word). w.bytes) ws) is))
-        (in_call calls (λ i. word i && bytes i) (rest false is))
+    by_word : (o : Option Join) → join_of w.bytes ≡ o → bad_in (not (length call == 0)) w.bytes ≡ None
+        → ((next : Join) → join_of w.bytes ≡ Some next → list_all is_call (calls_from (map (λ (w : Word). w.bytes) ws) next []) ≡ true)
+        → (join_of w.bytes ≡ None → list_all is_word_byte w.bytes ≡ true
+        → list_all is_call (calls_from (map (λ (w : Word). w.bytes) ws) join (call ++ w.bytes ∷ [])) ≡ true)
+        → list_all is_call (at_word join call w.bytes o (λ j c. calls_from (map (λ (w : Word). w.bytes) ws) j c)) ≡ true
+    by_word (Some next) is fine ends goes_on =
+        let has = begun (not (length call == 0)) 0 (sym (ap (λ (o : Option Join). cond {A = Option ℕ} (is_some o)
+        (cond {A = Option ℕ} (not (length call == 0)) None (Some 0)) other) is) ∙ fine) in
+        let rest = ends next is in
+        (λ i. (has i && plain i) && rest i)
+    by_word None is fine ends goes_on =
+        goes_on is (all_bytes w.bytes (sym (ap (λ (o : Option Join). cond {A = Option ℕ} (is_some o)
+        (cond {A = Option ℕ} (not (length call == 0)) None (Some 0)) other) is) ∙ fine))
 
 -- ---- the text of the calls
 
@@ -98,26 +99,35 @@ abbrev HasFirst : {A : Type 0} → List A → Type 0
 HasFirst [] = ⊥
 HasFirst (x ∷ xs) = Unit {0}
 
-split_some : (ws : List (List ℕ)) → HasFirst (slice_split is_and ws)
-split_some [] = tt
-split_some (w ∷ ws) = first (is_and w) (slice_split is_and ws)
+-- the separator of a word is the word
+spelled : (w : List ℕ) (next : Join) → join_of w ≡ Some next → separator next ≡ w
+spelled w next = by_tests (spells (codes ";") w) (spells (codes "&&") w) (spells (codes "||") w) (bytes_decides w (codes ";")).0
+    (bytes_decides w (codes "&&")).0 (bytes_decides w (codes "||")).0
   where
-    first : (yes : Bool) (calls : List (List (List ℕ))) → HasFirst (cond yes ([] ∷ calls) (onto_first w calls))
-    first true calls = tt
-    first false [] = tt
-    first false (c ∷ cs) = tt
+    by_tests : (a b c : Bool) → (a ≡ true → w ≡ codes ";") → (b ≡ true → w ≡ codes "&&") → (c ≡ true → w ≡ codes "||")
+        → cond a (Some Then) (cond b (Some And) (cond c (Some Or) None)) ≡ Some next → separator next ≡ w
+    by_tests true b c semicolon and or is = let same : Then ≡ next = cc in ap separator (sym same) ∙ sym (semicolon refl)
+    by_tests false true c semicolon and or is = let same : And ≡ next = cc in ap separator (sym same) ∙ sym (and refl)
+    by_tests false false true semicolon and or is = let same : Or ≡ next = cc in ap separator (sym same) ∙ sym (or refl)
+    by_tests false false false semicolon and or is = absurd cc
 
--- the words of the calls, with `&&` between them, are the words
-joined_again : (ws : List (List ℕ)) → with_ands (slice_split is_and ws) ≡ ws
-joined_again [] = refl
-joined_again (w ∷ ws) = step (is_and w) refl (slice_split is_and ws) (split_some ws) (joined_again ws)
+-- the words of the calls, with the separators before them, are the words
+after_again : (ws : List (List ℕ)) (join : Join) (call : List (List ℕ)) → after_separators (calls_from ws join call) ≡ separator join ∷ (call ++ ws)
+after_again [] join call = refl
+after_again (w ∷ ws) join call = by_word (join_of w) refl (λ next. after_again ws next []) (after_again ws join (call ++ w ∷ []))
   where
-    step : (b : Bool) → is_and w ≡ b → (calls : List (List (List ℕ))) → HasFirst calls → with_ands calls ≡ ws
-        → with_ands (cond b ([] ∷ calls) (onto_first w calls)) ≡ w ∷ ws
-    step b is [] some e = absurd some
-    step true is (c ∷ cs) some e = let same : w ≡ 38 ∷ 38 ∷ [] = (bytes_decides w (38 ∷ 38 ∷ [])).0 is in (λ i. sym same i ∷ e i)
-    step false is (c ∷ []) some e = ap (λ r. w ∷ r) e
-    step false is (c ∷ d ∷ cs) some e = ap (λ r. w ∷ r) e
+    by_word : (o : Option Join) → join_of w ≡ o → ((next : Join) → after_separators (calls_from ws next []) ≡ separator next ∷ ws)
+        → after_separators (calls_from ws join (call ++ w ∷ [])) ≡ separator join ∷ ((call ++ w ∷ []) ++ ws)
+        → after_separators (at_word join call w o (λ j c. calls_from ws j c)) ≡ separator join ∷ (call ++ w ∷ ws)
+    by_word (Some next) is ends goes_on = ap (λ r. separator join ∷ (call ++ r)) (ends next ∙ ap (λ s. s ∷ ws) (spelled w next is))
+    by_word None is ends goes_on = goes_on ∙ ap (λ r. separator join ∷ r) (append_assoc call (w ∷ []) ws)
+
+joined_again : (ws : List (List ℕ)) → with_separators (calls_from ws Then []) ≡ ws
+joined_again ws = without_first (calls_from ws Then []) (after_again ws Then [])
+  where
+    without_first : (calls : List Call) → after_separators calls ≡ separator Then ∷ ws → with_separators calls ≡ ws
+    without_first [] is = absurd cc
+    without_first (c ∷ cs) is = cc
 
 abbrev lacks : List ℕ → Bool
 lacks word = list_all (λ b. not (b == 32)) word
@@ -188,10 +198,10 @@ none_again end last called (w ∷ ws) [] same none = absurd cc
 none_again end last called (w ∷ ws) (v ∷ vs) same none =
     let bytes : w.bytes ≡ v.bytes = cc in
     let rest : map (λ (w : Word). w.bytes) ws ≡ map (λ (w : Word). w.bytes) vs = cc in
-    let places = neither (option_map (λ k. w.place + k) (bad_in called w.bytes)) (bad_place end (not (is_and w.bytes)) ws) none in
+    let places = neither (option_map (λ k. w.place + k) (bad_in called w.bytes)) (bad_place end (not (is_separator w.bytes)) ws) none in
     let here : bad_in called v.bytes ≡ None = ap (bad_in called) (sym bytes) ∙ no_place (λ k. w.place + k) (bad_in called w.bytes) places.0 in
-    let later : bad_place last (not (is_and v.bytes)) vs ≡ None = none_again end last (not (is_and v.bytes)) ws vs rest
-    (ap (λ b. bad_place end (not (is_and b)) ws) (sym bytes) ∙ places.1) in
+    let later : bad_place last (not (is_separator v.bytes)) vs ≡ None = none_again end last (not (is_separator v.bytes)) ws vs rest
+    (ap (λ b. bad_place end (not (is_separator b)) ws) (sym bytes) ∙ places.1) in
     (λ i. option_or (option_map (λ k. v.place + k) (here i)) (later i))
 
 filtered : (ws : List Word) → list_all is_word (filter is_word ws) ≡ true
@@ -214,15 +224,15 @@ reads_again text none =
     let are : map (λ (w : Word). w.bytes) (words_of text) ≡ words = words_in 0 (parts_of text) in
     let some = has_words (length text) (words_of text) words are none in
     let printed = join_with_byte 32 words in
-    let prints : text_of (calls_of text) ≡ printed = ap (λ ws. join_with_byte 32 (with_ands (slice_split is_and ws))) are
+    let prints : text_of (calls_of text) ≡ printed = ap (λ ws. join_with_byte 32 (with_separators (calls_from ws Then []))) are
     ∙ ap (join_with_byte 32) (joined_again words) in
     let parts : parts_of printed ≡ words = join_parts words some (words_lack (parts_of text) (parts_lack text)) in
     let same : map (λ (w : Word). w.bytes) (words_of printed) ≡ words = words_in 0 (parts_of printed) ∙ ap (flat_map some_word) parts
     ∙ words_stay words (words_have (parts_of text)) in
-    let calls : calls_of printed ≡ calls_of text = ap (slice_split is_and) (same ∙ sym are) in
+    let calls : calls_of printed ≡ calls_of text = ap (λ ws. calls_from ws Then []) (same ∙ sym are) in
     let fine : bad_place_of printed ≡ None = none_again (length text) (length printed) false (words_of text) (words_of printed) (are ∙ sym same) none in
     record {
-      calls = all_calls (calls_of text) (fronts (length text) false (words_of text) (filtered (placed 0 (parts_of text))) none);
+      calls = calls_are (length text) (words_of text) Then [] (filtered (placed 0 (parts_of text))) refl none;
       again =
           ap commands_in prints
           ∙ ap (λ bad. commands_unless bad printed) fine

@@ -1,20 +1,21 @@
 -- Gathering the words of calls from a text, part by part: what a part changes of what becomes of the calls.
 use Rattle.std.proofs.Common.{◌≡◌, ℕ, ◌+◌, ◌==◌, Bool, true, false, cond, ◌||◌, List, [], ◌∷◌, ◌++◌, length, map, filter, not, Result, Ok}
-use Rattle.std.proofs.Common.{Err, is_ok, refl, sym, ap, ◌∙◌, append-nil, append_assoc, ne_eqb, arith}
-use Rattle.std.specs.List.{slice_split, onto_first, flat_map}
-use Rattle.std.specs.Result.{OnOk}
+use Rattle.std.proofs.Common.{Err, Option, Some, None, is_some, is_ok, refl, sym, ap, ◌∙◌, append_assoc, ne_eqb, arith}
+use Rattle.std.specs.List.{flat_map}
 use Rattle.std.proofs.lemmas.List.{length_push}
 use Rattle.std.proofs.lemmas.Bool.{false≢true}
-use Rattle.std.proofs.lemmas.List.Splits.{slice_split-cons_yes, slice_split-cons_no}
 use Rattle.llb_wire.specs.Answer.{◌>>=◌}
 use Rattle.llb_applet.specs.declared.fault.ScriptFault.{ScriptFault}
 use Rattle.llb_applet.specs.declared.command.Command.{Command}
-use Rattle.llb_applet.specs.Faults.{is_memory, names_word, Gives, MemoryLast}
+use Rattle.llb_applet.specs.declared.join.Join.{Join}
+use Rattle.llb_applet.specs.declared.join.Join.TheVariants.{Then}
+use Rattle.llb_applet.specs.declared.join.Joined.{Joined}
 use Rattle.llb_applet.specs.declared.script.Reading.{Reading}
-use Rattle.llb_applet.specs.Words.{Word, placed, is_word, is_and, parts_of, calls_of}
+use Rattle.llb_applet.specs.Faults.{is_memory, names_word, Gives, MemoryLast}
+use Rattle.llb_applet.specs.Words.{Word, placed, is_word, join_of, is_separator, parts_of, call_by, at_word, calls_from, calls_of}
 use Rattle.llb_applet.specs.Calls.{command_of}
-use Rattle.llb_applet.specs.Scripts.{commands_of}
-use Rattle.llb_applet.specs.Reading.{some_word, front, behind, verdict, judged, Refuses, Reads, JudgesCall, ahead, with_call}
+use Rattle.llb_applet.specs.Scripts.{joined, commands_of}
+use Rattle.llb_applet.specs.Reading.{some_word, behind, verdict, judged, Refuses, JudgesCall, ahead, with_call}
 
 -- ---- the words of parts
 
@@ -31,9 +32,9 @@ words_in at (part ∷ parts) = first (length part == 0) ∙ ap (λ ws. some_word
     first true = refl
     first false = refl
 
-some_and : (part : List ℕ) → is_and part ≡ true → some_word part ≡ part ∷ []
-some_and [] is = absurd (false≢true is)
-some_and (b ∷ bs) is = ap (λ none. cond none [] ((b ∷ bs) ∷ [])) (ne_eqb (length (b ∷ bs)) 0 (omega arith))
+some_separator : (part : List ℕ) (next : Join) → join_of part ≡ Some next → some_word part ≡ part ∷ []
+some_separator [] next is = let none : None ≡ Some next = is in absurd cc
+some_separator (b ∷ bs) next is = ap (λ none. cond none [] ((b ∷ bs) ∷ [])) (ne_eqb (length (b ∷ bs)) 0 (omega arith))
 
 pub some_other : (part : List ℕ) → (length part == 0) ≡ false → some_word part ≡ part ∷ []
 some_other part is = ap (λ none. cond none [] (part ∷ [])) is
@@ -43,40 +44,33 @@ some_none part is = ap (λ none. cond none [] (part ∷ [])) is
 
 -- ---- the calls of words
 
--- there is a first call
-pub front_none : (words : List (List ℕ)) → front [] (slice_split is_and words) ≡ slice_split is_and words
-front_none [] = refl
-front_none (w ∷ ws) = first (is_and w) (slice_split is_and ws)
-  where
-    first : (yes : Bool) (calls : List (List (List ℕ))) → front [] (cond yes ([] ∷ calls) (onto_first w calls)) ≡ cond yes ([] ∷ calls) (onto_first w calls)
-    first true calls = refl
-    first false [] = refl
-    first false (c ∷ cs) = refl
+-- a separator is one of the three words
+pub separates : (o : Option Join) → is_some o ≡ true → (next : Join) × (o ≡ Some next)
+separates (Some next) is = (next, refl)
+separates None is = absurd (false≢true is)
 
-front_word : (call : List (List ℕ)) (w : List ℕ) (calls : List (List (List ℕ))) → front call (onto_first w calls) ≡ front (call ++ w ∷ []) calls
-front_word call w [] = refl
-front_word call w (c ∷ cs) = ap (λ d. d ∷ cs) (sym (append_assoc call (w ∷ []) c))
+-- another word is none of them
+pub separates_not : (o : Option Join) → is_some o ≡ false → o ≡ None
+separates_not (Some next) is = absurd (false≢true (sym is))
+separates_not None is = refl
 
--- a `&&` ends the call
-pub at_and : (call : List (List ℕ)) (part : List ℕ) (rest : List (List ℕ)) → is_and part ≡ true
-    → front call (slice_split is_and (some_word part ++ rest)) ≡ call ∷ front [] (slice_split is_and rest)
-at_and call part rest is =
-    ap (λ ws. front call (slice_split is_and (ws ++ rest))) (some_and part is)
-    ∙ ap (front call) (slice_split-cons_yes is_and part rest is)
-    ∙ ap (λ c. c ∷ slice_split is_and rest) (append-nil call)
-    ∙ ap (λ calls. call ∷ calls) (sym (front_none rest))
+-- a separator ends the call
+at_separator : (join next : Join) (call : List (List ℕ)) (part : List ℕ) (rest : List (List ℕ)) → join_of part ≡ Some next
+    → calls_from (some_word part ++ rest) join call ≡ call_by join call ∷ calls_from rest next []
+at_separator join next call part rest is =
+    ap (λ ws. calls_from (ws ++ rest) join call) (some_separator part next is)
+    ∙ ap (λ o. at_word join call part o (λ j c. calls_from rest j c)) is
 
 -- another word is one of it
-pub at_word : (call : List (List ℕ)) (part : List ℕ) (rest : List (List ℕ)) → is_and part ≡ false → (length part == 0) ≡ false
-    → front call (slice_split is_and (some_word part ++ rest)) ≡ front (call ++ part ∷ []) (slice_split is_and rest)
-at_word call part rest is some =
-    ap (λ ws. front call (slice_split is_and (ws ++ rest))) (some_other part some)
-    ∙ ap (front call) (slice_split-cons_no is_and part rest is)
-    ∙ front_word call part (slice_split is_and rest)
+pub at_other : (join : Join) (call : List (List ℕ)) (part : List ℕ) (rest : List (List ℕ)) → join_of part ≡ None → (length part == 0) ≡ false
+    → calls_from (some_word part ++ rest) join call ≡ calls_from rest join (call ++ part ∷ [])
+at_other join call part rest is some =
+    ap (λ ws. calls_from (ws ++ rest) join call) (some_other part some)
+    ∙ ap (λ o. at_word join call part o (λ j c. calls_from rest j c)) is
 
 -- the calls of a text are those of its parts' words
-pub calls_in : (text : List ℕ) → front [] (slice_split is_and (flat_map some_word (parts_of text))) ≡ calls_of text
-calls_in text = front_none (flat_map some_word (parts_of text)) ∙ ap (slice_split is_and) (sym (words_in 0 (parts_of text)))
+pub calls_in : (text : List ℕ) → calls_from (flat_map some_word (parts_of text)) Then [] ≡ calls_of text
+calls_in text = ap (λ ws. calls_from ws Then []) (sym (words_in 0 (parts_of text)))
 
 -- ---- what is wrong with them
 
@@ -93,84 +87,122 @@ module _ {A B : Type 0} (f : A → Result B ScriptFault) where
   names_stops (Ok x) is = absurd (false≢true is)
   names_stops (Err d) is = is
 
-verdict_more : (c : Command) (r : Result (List Command) ScriptFault) → verdict (r >>= λ cs. Ok (c ∷ cs)) ≡ verdict r
+verdict_more : (c : Joined) (r : Result (List Joined) ScriptFault) → verdict (r >>= λ cs. Ok (c ∷ cs)) ≡ verdict r
 verdict_more c (Ok cs) = refl
 verdict_more c (Err e) = refl
 
-module _ (number : ℕ) (call : List (List ℕ)) (part : List ℕ) (rest : List (List ℕ)) (is : is_and part ≡ true) where
-  ended : judged number call (some_word part ++ rest) ≡ verdict (command_of number call
-      >>= λ c. commands_of (number + 1) (front [] (slice_split is_and rest)) >>= λ cs. Ok (c ∷ cs))
-  ended = ap (λ calls. verdict (commands_of number calls)) (at_and call part rest is)
+-- how the call at hand follows those before it makes no difference to what is wrong
+any_join : (join other : Join) (words : List (List ℕ)) (number : ℕ) (call : List (List ℕ))
+    → verdict (commands_of number (calls_from words join call)) ≡ verdict (commands_of number (calls_from words other call))
+any_join join other words number call = on_words words call
+  where
+    either : (r : Result Command ScriptFault) (s : Result (List Joined) ScriptFault)
+        → verdict (r >>= λ c. s >>= λ cs. Ok (joined join c ∷ cs)) ≡ verdict (r >>= λ c. s >>= λ cs. Ok (joined other c ∷ cs))
+    either (Ok c) (Ok cs) = refl
+    either (Ok c) (Err e) = refl
+    either (Err e) s = refl
 
-  -- a call that ends at an `&&` and is right leaves the verdict to the calls after it
-  pub judged_on : verdict (command_of number call) ≡ Ok tt → judged number call (some_word part ++ rest) ≡ judged (number + 1) [] rest
-  judged_on right = ended ∙ verdict_on _ (command_of number call) _ right (λ c. verdict_more c _)
+    by_word : (w : List ℕ) (ws : List (List ℕ)) (call : List (List ℕ)) (o : Option Join)
+        → verdict (commands_of number (calls_from ws join (call ++ w ∷ []))) ≡ verdict (commands_of number (calls_from ws other (call ++ w ∷ [])))
+        → verdict (commands_of number (at_word join call w o (λ j c. calls_from ws j c)))
+        ≡ verdict (commands_of number (at_word other call w o (λ j c. calls_from ws j c)))
+    by_word w ws call (Some next) goes_on = either (command_of number call) (commands_of (number + 1) (calls_from ws next []))
+    by_word w ws call None goes_on = goes_on
+
+    on_words : (words : List (List ℕ)) (call : List (List ℕ))
+        → verdict (commands_of number (calls_from words join call)) ≡ verdict (commands_of number (calls_from words other call))
+    on_words [] call = either (command_of number call) (Ok [])
+    on_words (w ∷ ws) call = by_word w ws call (join_of w) (on_words ws (call ++ w ∷ []))
+
+module _ (number : ℕ) (call : List (List ℕ)) (part : List ℕ) (rest : List (List ℕ)) (next : Join) (is : join_of part ≡ Some next) where
+  ended : judged number call (some_word part ++ rest) ≡ verdict (command_of number call
+      >>= λ c. commands_of (number + 1) (calls_from rest next []) >>= λ cs. Ok (joined Then c ∷ cs))
+  ended = ap (λ calls. verdict (commands_of number calls)) (at_separator Then next call part rest is)
+
+  -- a call that ends at a separator and is right leaves the verdict to the calls after it
+  judged_after : verdict (command_of number call) ≡ Ok tt → judged number call (some_word part ++ rest) ≡ judged (number + 1) [] rest
+  judged_after right =
+      ended
+      ∙ verdict_on _ (command_of number call) _ right (λ c. verdict_more (joined Then c) _)
+      ∙ any_join next Then rest (number + 1) []
 
   -- and one that is wrong is what is wrong with them all
-  pub judged_stops : (e : ScriptFault) → Refuses e (verdict (command_of number call)) → Refuses e (judged number call (some_word part ++ rest))
-  judged_stops e refuses = record {
+  stopped_at : (e : ScriptFault) → Refuses e (verdict (command_of number call)) → Refuses e (judged number call (some_word part ++ rest))
+  stopped_at e refuses = record {
     known = λ k. ended ∙ verdict_stops _ (command_of number call) e (refuses.known k);
     last = λ m. ap names_word ended ∙ names_stops _ (command_of number call) (refuses.last m);
   }
 
+module _ (number : ℕ) (call : List (List ℕ)) (part : List ℕ) (rest : List (List ℕ)) (is : is_separator part ≡ true) where
+  -- the same where it is only known that the word is a separator
+  pub judged_on : verdict (command_of number call) ≡ Ok tt → judged number call (some_word part ++ rest) ≡ judged (number + 1) [] rest
+  judged_on right = let (next, names) = separates (join_of part) is in judged_after number call part rest next names right
+
+  pub judged_stops : (e : ScriptFault) → Refuses e (verdict (command_of number call)) → Refuses e (judged number call (some_word part ++ rest))
+  judged_stops e refuses = let (next, names) = separates (join_of part) is in stopped_at number call part rest next names e refuses
+
 -- the last call alone is left
 pub judged_last : (number : ℕ) (call : List (List ℕ)) → judged number call [] ≡ verdict (command_of number call)
-judged_last number call = ap (λ c. verdict (commands_of number (c ∷ []))) (append-nil call) ∙ single (command_of number call)
+judged_last number call = single (command_of number call)
   where
-    single : (r : Result Command ScriptFault) → verdict (r >>= λ c. Ok (c ∷ [])) ≡ verdict r
+    single : (r : Result Command ScriptFault) → verdict (r >>= λ c. Ok (joined Then c ∷ [])) ≡ verdict r
     single (Ok c) = refl
     single (Err e) = refl
 
 -- ---- what becomes of them
 
-behind_one : (commands : List Command) (c : Command) (r : Result (List Command) ScriptFault)
+behind_one : (commands : List Joined) (c : Joined) (r : Result (List Joined) ScriptFault)
     → behind commands (r >>= λ more. Ok (c ∷ more)) ≡ behind (commands ++ c ∷ []) r
 behind_one commands c (Ok more) = ap Ok (sym (append_assoc commands (c ∷ []) more))
 behind_one commands c (Err e) = refl
 
--- before any command stands, what becomes of the calls is what becomes of the rest alone
-pub behind_none : (r : Result (List Command) ScriptFault) → behind [] r ≡ r
+-- before there is any command, what becomes of the calls is what becomes of the rest alone
+pub behind_none : (r : Result (List Joined) ScriptFault) → behind [] r ≡ r
 behind_none (Ok more) = refl
 behind_none (Err e) = refl
 
-module _ (commands : List Command) (more : ℕ → Result (List Command) ScriptFault) where
-  goes_on : (r : Result Command ScriptFault) (next : List Command) → (r >>= λ c. Ok (commands ++ c ∷ [])) ≡ Ok next
-      → behind commands (r >>= λ c. more (length commands + 1) >>= λ cs. Ok (c ∷ cs)) ≡ behind next (more (length next))
+module _ (join : Join) (commands : List Joined) (more : ℕ → Result (List Joined) ScriptFault) where
+  goes_on : (r : Result Command ScriptFault) (next : List Joined) → (r >>= λ c. Ok (commands ++ joined join c ∷ [])) ≡ Ok next
+      → behind commands (r >>= λ c. more (length commands + 1) >>= λ cs. Ok (joined join c ∷ cs)) ≡ behind next (more (length next))
   goes_on (Ok c) next is =
-      let same : commands ++ c ∷ [] ≡ next = cc in
-      behind_one commands c (more (length commands + 1))
-      ∙ ap (λ n. behind (commands ++ c ∷ []) (more n)) (sym (length_push commands c))
+      let same : commands ++ joined join c ∷ [] ≡ next = cc in
+      behind_one commands (joined join c) (more (length commands + 1))
+      ∙ ap (λ n. behind (commands ++ joined join c ∷ []) (more n)) (sym (length_push commands (joined join c)))
       ∙ ap (λ cs. behind cs (more (length cs))) same
   goes_on (Err e) next is = absurd cc
 
-  stops_there : (r : Result Command ScriptFault) (e : ScriptFault) → (r >>= λ c. Ok (commands ++ c ∷ [])) ≡ Err e
-      → behind commands (r >>= λ c. more (length commands + 1) >>= λ cs. Ok (c ∷ cs)) ≡ Err e
+  stops_there : (r : Result Command ScriptFault) (e : ScriptFault) → (r >>= λ c. Ok (commands ++ joined join c ∷ [])) ≡ Err e
+      → behind commands (r >>= λ c. more (length commands + 1) >>= λ cs. Ok (joined join c ∷ cs)) ≡ Err e
   stops_there (Ok c) e is = absurd cc
   stops_there (Err d) e is = let same : d ≡ e = cc in ap (λ x. Err x) same
 
-module _ (old new : Reading) (part : List ℕ) (rest : List (List ℕ)) (is : is_and part ≡ true) where
-  ahead_and : ahead old (some_word part ++ rest) ≡ behind old.commands.items (command_of (length old.commands.items) old.words.items
-      >>= λ c. commands_of (length old.commands.items + 1) (front [] (slice_split is_and rest)) >>= λ cs. Ok (c ∷ cs))
-  ahead_and = ap (λ calls. behind old.commands.items (commands_of (length old.commands.items) calls)) (at_and old.words.items part rest is)
+module _ (old : Reading) (part : List ℕ) (next : Join) (is : join_of part ≡ Some next) (rest : List (List ℕ)) where
+  ahead_at : ahead old (some_word part ++ rest) ≡ behind old.commands.items (command_of (length old.commands.items) old.words.items
+      >>= λ c. commands_of (length old.commands.items + 1) (calls_from rest next []) >>= λ cs. Ok (joined old.join c ∷ cs))
+  ahead_at = ap (λ calls. behind old.commands.items (commands_of (length old.commands.items) calls)) (at_separator old.join next old.words.items part rest is)
 
-  -- a `&&` makes the call at hand into a command
-  pub reads_and : (r : Result (Unit {0}) ScriptFault) → Gives (λ _. new.commands.items) r (with_call old) → OnOk r (new.words.items ≡ [])
-      → Reads r (ahead old (some_word part ++ rest)) (ahead new rest)
-  reads_and (Ok _) gives none =
-      ahead_and
-      ∙ goes_on old.commands.items (λ n. commands_of n (front [] (slice_split is_and rest)))
-      (command_of (length old.commands.items) old.words.items) new.commands.items gives
-      ∙ ap (λ call. behind new.commands.items (commands_of (length new.commands.items) (front call (slice_split is_and rest)))) (sym none)
-  reads_and (Err e) gives none =
-      λ known. ahead_and ∙ stops_there old.commands.items (λ n. commands_of n (front [] (slice_split is_and rest)))
-      (command_of (length old.commands.items) old.words.items) e (gives known)
+  -- a separator makes the call at hand into a command, and says how the next call follows
+  pub reads_on : (commands : List Joined) (words : List (List ℕ)) → with_call old ≡ Ok commands → words ≡ []
+      → ahead old (some_word part ++ rest) ≡ behind commands (commands_of (length commands) (calls_from rest next words))
+  reads_on commands words gives none =
+      ahead_at
+      ∙ goes_on old.join old.commands.items (λ n. commands_of n (calls_from rest next []))
+      (command_of (length old.commands.items) old.words.items) commands gives
+      ∙ ap (λ call. behind commands (commands_of (length commands) (calls_from rest next call))) (sym none)
+
+  -- or the call at hand is none
+  pub reads_stop : (e : ScriptFault) → with_call old ≡ Err e → ahead old (some_word part ++ rest) ≡ Err e
+  reads_stop e gives =
+      ahead_at
+      ∙ stops_there old.join old.commands.items (λ n. commands_of n (calls_from rest next []))
+      (command_of (length old.commands.items) old.words.items) e gives
 
 -- the last call alone is left
 pub ahead_last : (reading : Reading) → ahead reading [] ≡ with_call reading
-ahead_last reading = ap (λ c. behind reading.commands.items (commands_of (length reading.commands.items) (c ∷ [])))
-    (append-nil reading.words.items) ∙ single (command_of (length reading.commands.items) reading.words.items)
+ahead_last reading = single (command_of (length reading.commands.items) reading.words.items)
   where
-    single : (r : Result Command ScriptFault) → behind reading.commands.items (r >>= λ c. Ok (c ∷ [])) ≡ (r >>= λ c. Ok (reading.commands.items ++ c ∷ []))
+    single : (r : Result Command ScriptFault)
+        → behind reading.commands.items (r >>= λ c. Ok (joined reading.join c ∷ [])) ≡ (r >>= λ c. Ok (reading.commands.items ++ joined reading.join c ∷ []))
     single (Ok c) = refl
     single (Err e) = refl
 

@@ -2,3 +2,4 @@ pub mod Looking
 pub mod Gathering
 pub mod Exchanged
 pub mod Again
+pub mod Ands

@@ -3,7 +3,7 @@ use Rattle.std.proofs.Common.{◌≡◌, ℕ, suc, ◌+◌, ◌<◌, ◌==◌, B
 use Rattle.std.proofs.Common.{filter, Some, None, option_map, refl, sym, ap, ◌∙◌, add-one, drop-cons, ne_eqb, arith}
 use Rattle.std.specs.List.{slice_split, onto_first, position}
 use Rattle.std.specs.Option.{option_or}
-use Rattle.llb_applet.specs.Words.{Word, placed, is_word, is_word_byte, is_and, bad_in, called_after, bad_place}
+use Rattle.llb_applet.specs.Words.{Word, placed, is_word, is_word_byte, is_separator, bad_in, called_after, bad_place}
 
 -- the element at hand, and what follows it
 pub at_drop : {A : Type 0} (xs : List A) (i : ℕ) (x : A) → i < length xs → x ≡ get_or xs i x → drop i xs ≡ x ∷ drop (i + 1) xs
@@ -39,10 +39,10 @@ at_part end called at (b ∷ bs) parts =
     let some : (length (b ∷ bs) == 0) ≡ false = ne_eqb _ _ (omega arith) in
     let rest : List Word = filter is_word (placed (at + length (b ∷ bs) + 1) parts) in
     (λ i. bad_place end called (cond (not (some i)) (record { place = at; bytes = b ∷ bs } ∷ rest) rest))
-    ∙ ap (λ q. option_or (option_map (λ k. at + k) (bad_in called (b ∷ bs))) (bad_place end (cond q called (not (is_and (b ∷ bs)))) rest)) (sym some)
+    ∙ ap (λ q. option_or (option_map (λ k. at + k) (bad_in called (b ∷ bs))) (bad_place end (cond q called (not (is_separator (b ∷ bs)))) rest)) (sym some)
 
--- a word that is no `&&`
-pub bad_in-word : (called : Bool) (word : List ℕ) → is_and word ≡ false → bad_in called word ≡ position (λ b. not (is_word_byte b)) word
+-- a word that is no separator
+pub bad_in-word : (called : Bool) (word : List ℕ) → is_separator word ≡ false → bad_in called word ≡ position (λ b. not (is_word_byte b)) word
 bad_in-word called word is = ap (λ b. if b then (if called then None else Some 0) else position (λ b. not (is_word_byte b)) word) is
 
 -- the bad place at hand stands

@@ -1,7 +1,11 @@
--- What holds of a text with no bad place: what its calls are, and that they are read again from the text that they make.
-use Rattle.std.specs.Prelude.{◌≡◌, ℕ, ◌==◌, Bool, ◌&&◌, not, IsTrue, List, [], ◌∷◌, ◌++◌, length}
-use Rattle.std.specs.List.{list_all, join_with_byte}
-use Rattle.llb_applet.specs.Words.{is_word_byte, calls_of}
+-- What holds of a text with no bad place: what its calls are, and that they are read again from the text that they make; and what the calls
+-- are where every separator is `&&`.
+use Rattle.std.specs.Prelude.{◌≡◌, ℕ, ◌==◌, Bool, true, false, ◌&&◌, ◌||◌, not, IsTrue, List, [], ◌∷◌, ◌++◌, length, map, codes}
+use Rattle.std.specs.List.{list_all, join_with_byte, slice_split}
+use Rattle.llb_applet.specs.declared.join.Join.{Join}
+use Rattle.llb_applet.specs.declared.join.Join.TheVariants.{Then, And, Or}
+use Rattle.llb_applet.specs.Applets.{spells}
+use Rattle.llb_applet.specs.Words.{words_of, is_separator, Call, is_word_byte, calls_of}
 use Rattle.llb_applet.specs.Scripts.{commands_in}
 
 -- a word has a byte, and only bytes of words
@@ -9,20 +13,62 @@ abbrev pub is_plain_word : List ℕ → Bool
 is_plain_word word = not (length word == 0) && list_all is_word_byte word
 
 -- a call has a word, and only such
-abbrev pub is_call : List (List ℕ) → Bool
-is_call call = not (length call == 0) && list_all is_plain_word call
+abbrev pub is_call : Call → Bool
+is_call call = not (length call.words == 0) && list_all is_plain_word call.words
 
--- the words of calls, with `&&` between the calls
-abbrev pub with_ands : List (List (List ℕ)) → List (List ℕ)
-with_ands [] = []
-with_ands (call ∷ []) = call
-with_ands (call ∷ next ∷ calls) = call ++ ((38 ∷ 38 ∷ []) ∷ with_ands (next ∷ calls))
+-- the separator before a call that follows so
+abbrev pub separator : Join → List ℕ
+separator Then = codes ";"
+separator And = codes "&&"
+separator Or = codes "||"
+
+-- the words of calls that are not the first, each with the separator before it
+abbrev pub after_separators : List Call → List (List ℕ)
+after_separators [] = []
+after_separators (call ∷ calls) = separator call.join ∷ call.words ++ after_separators calls
+
+-- the words of calls, with a separator between each two
+abbrev pub with_separators : List Call → List (List ℕ)
+with_separators [] = []
+with_separators (call ∷ calls) = call.words ++ after_separators calls
 
 -- and with a space between the words
-abbrev pub text_of : List (List (List ℕ)) → List ℕ
-text_of calls = join_with_byte 32 (with_ands calls)
+abbrev pub text_of : List Call → List ℕ
+text_of calls = join_with_byte 32 (with_separators calls)
 
--- a text is calls with `&&` between them, and the text of its calls reads the same
+-- a text is calls with a separator between each two, and the text of its calls reads the same
 pub record IsShellText (text : List ℕ) : Type 0 where
   pub calls : IsTrue (list_all is_call (calls_of text))
   pub again : commands_in (text_of (calls_of text)) ≡ commands_in text
+
+-- the word `&&`
+abbrev pub is_and : List ℕ → Bool
+is_and word = spells (codes "&&") word
+
+-- the words of a text, without their places
+abbrev pub texts_of : List ℕ → List (List ℕ)
+texts_of text = map (λ w. w.bytes) (words_of text)
+
+-- none of these words is another separator than `&&`
+abbrev pub only_ands : List (List ℕ) → Bool
+only_ands words = list_all (λ w. not (is_separator w) || is_and w) words
+
+abbrev pub follows_all : Join → Bool
+follows_all Then = true
+follows_all And = false
+follows_all Or = false
+
+abbrev pub follows_success : Join → Bool
+follows_success And = true
+follows_success Then = false
+follows_success Or = false
+
+-- the first call follows nothing, and each other one is joined by And
+abbrev pub joined_by_ands : List Call → Bool
+joined_by_ands [] = true
+joined_by_ands (call ∷ calls) = follows_all call.join && list_all (λ (c : Call). follows_success c.join) calls
+
+-- the calls of a text are what is between its `&&`
+pub record IsSplitAtAnds (text : List ℕ) : Type 0 where
+  pub calls : map (λ (c : Call). c.words) (calls_of text) ≡ slice_split is_and (texts_of text)
+  pub joins : joined_by_ands (calls_of text) ≡ true

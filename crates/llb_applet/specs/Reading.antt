@@ -1,39 +1,34 @@
 -- Calls while they are read from a text, part by part: what is known of the call at hand, and what the words that are left make of it.
 use Rattle.std.specs.Prelude.{◌≡◌, ℕ, ◌==◌, true, false, if◌then◌else◌, List, [], ◌∷◌, ◌++◌, length, Result, Ok, Err, slice_index_or}
-use Rattle.std.specs.List.{slice_split}
 use Rattle.llb_wire.specs.Answer.{◌>>=◌}
 use Rattle.llb_applet.specs.declared.fault.ScriptFault.{ScriptFault}
-use Rattle.llb_applet.specs.declared.command.Command.{Command}
+use Rattle.llb_applet.specs.declared.join.Join.TheVariants.{Then}
+use Rattle.llb_applet.specs.declared.join.Joined.{Joined}
 use Rattle.llb_applet.specs.declared.script.Reading.{Reading}
 use Rattle.llb_applet.specs.declared.call.Begun.{Begun}
 use Rattle.llb_applet.specs.Faults.{is_memory, names_word}
-use Rattle.llb_applet.specs.Words.{is_and}
+use Rattle.llb_applet.specs.Words.{calls_from}
 use Rattle.llb_applet.specs.Calls.{command_of}
-use Rattle.llb_applet.specs.Scripts.{commands_of}
+use Rattle.llb_applet.specs.Scripts.{joined, commands_of}
 
--- the word that stands between two spaces, where there is one
+-- the word that is between two spaces, where there is one
 abbrev pub some_word : List ℕ → List (List ℕ)
 some_word part = if length part == 0 then [] else part ∷ []
 
--- calls, where the first has these words first
-abbrev pub front : List (List ℕ) → List (List (List ℕ)) → List (List (List ℕ))
-front call [] = call ∷ []
-front call (first ∷ calls) = (call ++ first) ∷ calls
-
 -- commands, with these first
-abbrev pub behind : List Command → Result (List Command) ScriptFault → Result (List Command) ScriptFault
+abbrev pub behind : List Joined → Result (List Joined) ScriptFault → Result (List Joined) ScriptFault
 behind commands rest = rest >>= λ more. Ok (commands ++ more)
 
 -- what becomes of calls that are read, where these words are left
-abbrev pub ahead : Reading → List (List ℕ) → Result (List Command) ScriptFault
-ahead reading words = behind reading.commands.items (commands_of (length reading.commands.items) (front reading.words.items (slice_split is_and words)))
+abbrev pub ahead : Reading → List (List ℕ) → Result (List Joined) ScriptFault
+ahead reading words = behind reading.commands.items (commands_of (length reading.commands.items) (calls_from words reading.join reading.words.items))
 
 -- the commands with that of the call at hand after them
-abbrev pub with_call : Reading → Result (List Command) ScriptFault
-with_call reading = command_of (length reading.commands.items) reading.words.items >>= λ c. Ok (reading.commands.items ++ c ∷ [])
+abbrev pub with_call : Reading → Result (List Joined) ScriptFault
+with_call reading = command_of (length reading.commands.items) reading.words.items >>= λ c. Ok (reading.commands.items ++ joined reading.join c ∷ [])
 
 -- a step changes nothing of what becomes of it, or its refusal is that, or it lacked memory
-abbrev pub Reads : Result (Unit {0}) ScriptFault → Result (List Command) ScriptFault → Result (List Command) ScriptFault → Type 0
+abbrev pub Reads : Result (Unit {0}) ScriptFault → Result (List Joined) ScriptFault → Result (List Joined) ScriptFault → Type 0
 Reads (Ok _) before after = before ≡ after
 Reads (Err e) before after = is_memory e ≡ false → before ≡ Err e
 
@@ -48,9 +43,9 @@ pub record IsBegun (call : List (List ℕ)) (begun : Begun) : Type 0 where
   pub named : begun.name.now ≡ slice_index_or call 0 []
   pub option : begun.first.now ≡ slice_index_or call 1 []
 
--- what is wrong with a call of this number that begins so, and with those after it
+-- what is wrong with a call of this number that begins so, and with those after it, however the call follows those before it
 abbrev pub judged : ℕ → List (List ℕ) → List (List ℕ) → Result (Unit {0}) ScriptFault
-judged number call words = verdict (commands_of number (front call (slice_split is_and words)))
+judged number call words = verdict (commands_of number (calls_from words Then call))
 
 -- a refusal is that of the rule, or it lacked memory for the text of a fault
 pub record Refuses (e : ScriptFault) (rule : Result (Unit {0}) ScriptFault) : Type 0 where

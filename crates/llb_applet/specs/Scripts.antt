@@ -4,22 +4,29 @@ use Rattle.llb_wire.specs.Answer.{◌>>=◌}
 use Rattle.llb_applet.specs.declared.fault.ScriptFault.{ScriptFault}
 use Rattle.llb_applet.specs.declared.fault.ScriptFault.TheVariants.{ShellSyntax}
 use Rattle.llb_applet.specs.declared.command.Command.{Command}
+use Rattle.llb_applet.specs.declared.join.Join.{Join}
+use Rattle.llb_applet.specs.declared.join.Joined.{Joined}
 use Rattle.llb_applet.specs.Applets.{spells}
-use Rattle.llb_applet.specs.Words.{bad_place_of, calls_of}
+use Rattle.llb_applet.specs.Words.{Call, first_call, bad_place_of, calls_of}
 use Rattle.llb_applet.specs.Calls.{command_of}
 
+-- a command that follows so
+abbrev pub joined : Join → Command → Joined
+joined join command = record { join = join; command = command }
+
 -- the commands of calls, which are numbered from here on, or the fault of the first that is none
-abbrev pub commands_of : ℕ → List (List (List ℕ)) → Result (List Command) ScriptFault
+abbrev pub commands_of : ℕ → List Call → Result (List Joined) ScriptFault
 commands_of number [] = Ok []
-commands_of number (call ∷ calls) = command_of number call >>= λ c. commands_of (number + 1) calls >>= λ cs. Ok (c ∷ cs)
+commands_of number (call ∷ calls) =
+    command_of number call.words >>= λ c. commands_of (number + 1) calls >>= λ cs. Ok (joined call.join c ∷ cs)
 
 -- the commands of a text that has a bad place or none
-abbrev pub commands_unless : Option ℕ → List ℕ → Result (List Command) ScriptFault
+abbrev pub commands_unless : Option ℕ → List ℕ → Result (List Joined) ScriptFault
 commands_unless (Some place) text = Err (ShellSyntax place)
 commands_unless None text = commands_of 0 (calls_of text)
 
 -- the commands of a text
-abbrev pub commands_in : List ℕ → Result (List Command) ScriptFault
+abbrev pub commands_in : List ℕ → Result (List Joined) ScriptFault
 commands_in text = commands_unless (bad_place_of text) text
 
 -- arguments are `/bin/sh`, `-c` and one text
@@ -27,5 +34,5 @@ abbrev pub is_shell : List (List ℕ) → Bool
 is_shell args = (length args == 3) && spells (codes "/bin/sh") (slice_index_or args 0 []) && spells (codes "-c") (slice_index_or args 1 [])
 
 -- the script of arguments: that text, or else they are one call
-abbrev pub script_of : List (List ℕ) → Result (List Command) ScriptFault
-script_of args = if is_shell args then commands_in (slice_index_or args 2 []) else commands_of 0 (args ∷ [])
+abbrev pub script_of : List (List ℕ) → Result (List Joined) ScriptFault
+script_of args = if is_shell args then commands_in (slice_index_or args 2 []) else commands_of 0 (first_call args ∷ [])

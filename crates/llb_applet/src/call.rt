@@ -9,7 +9,7 @@ ghost use Rattle.llb_applet.specs.Reading.{IsBegun, Judges, JudgesCall, verdict}
 use crate::applet::Applet;
 use crate::command::is_form;
 use crate::fault::ScriptFault;
-use crate::words::is_and;
+use crate::words::is_separator;
 use llb_wire::Text;
 use std::alloc::Global;
 
@@ -41,13 +41,13 @@ impl<'a> Begun<'a> {
         }
     }
 
-    // Takes what stands between two spaces: a `&&` ends the call, another word is one of it, and no bytes are none.
+    // Takes what is between two spaces: a separator ends the call, another word is one of it, and no bytes are none.
     fn take(&mut self, alloc: Global, part: &'a str) -> Result<(), ScriptFault>
         requires { self.old.number + self.old.count < 2 ^ 63 }
         ensures judges { (call : List (List ℕ)) → IsBegun call self.old → Judges result part.now call self.old self.new }
         ensures room { self.new.number + self.new.count ≤ self.old.number + self.old.count + 1 }
     {
-        if is_and(part) {
+        if is_separator(part) {
             self.judge(alloc)?;
             self.number += 1;
             self.count = 0;

@@ -15,7 +15,7 @@ pub enum ScriptFault {
     /// 72 N: in call N, from 0, the words after an applet's name are none of its forms.
     #[error("72 {0}")]
     Usage(usize),
-    /// 73 PLACE: the text is no calls of words with `&&` between them; its first bad byte is at PLACE, from 0.
+    /// 73 PLACE: the text is not calls with separators between them; its first bad byte is at PLACE, from 0.
     #[error("73 {0}")]
     ShellSyntax(usize),
     /// 74: memory was refused.

@@ -1,6 +1,6 @@
 //! Scripts of applets: a text is read as calls of small commands, and a command is a function on the trees of a view.
 //! Here are the reading of a script, which refuses what no command would run, and the running of one command.
-//! Nothing here knows a process, a shell beyond `&&`, or an operation.
+//! Nothing here knows a process, a shell beyond `;`, `&&` and `||`, or an operation.
 #![tactic(auto)]
 
 mod applet;
@@ -9,6 +9,7 @@ mod change;
 mod command;
 mod content;
 mod fault;
+mod join;
 mod laws;
 mod run;
 mod script;
@@ -19,7 +20,8 @@ mod words;
 
 pub use command::{Command, Kind};
 pub use fault::{Memory, ScriptFault};
-pub use laws::reads_again;
+pub use join::{Join, Joined};
+pub use laws::{reads_again, splits_at_ands};
 pub use llb_mount::View;
 pub use llb_tree::{Mode, Path, Tree};
 pub use llb_wire::{Many, Text};

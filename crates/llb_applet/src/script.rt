@@ -4,22 +4,23 @@
 ghost use Rattle.std.specs.Prelude.{◌≡◌, ◌+◌, ◌≤◌, ◌<◌, ◌^◌, ◌++◌, ◌∷◌, [], List, ℕ, length, OnOk, IsTrue, slice_index_or, Ok};
 ghost use Rattle.llb_applet.specs.Faults.{Gives, MemoryLast};
 ghost use Rattle.llb_applet.specs.Scripts.{is_shell, script_of, commands_in, commands_of};
-ghost use Rattle.llb_applet.specs.Words.{calls_of};
+ghost use Rattle.llb_applet.specs.Words.{calls_of, first_call};
 
 use crate::applet::is_word;
 use crate::call::{Begun, judge_text};
-use crate::command::{Command, command_of};
+use crate::command::command_of;
 use crate::fault::ScriptFault;
+use crate::join::{Join, Joined};
 use crate::texts::copies;
-use crate::words::{bad_place, is_and};
+use crate::words::{bad_place, join_of};
 use llb_wire::{Same, Text, all_same};
 use std::alloc::Global;
 use std::marker::Model;
 use std::mem;
 
-/// A script: commands that are run one after another. Contracts see the list of them.
+/// A script: commands in the order in which they run, each with how it follows those before it. Contracts see the list of them.
 pub struct Script {
-    commands: Vec<Command>,
+    commands: Vec<Joined>,
 }
 
 // Written out, so that the crates above drop one by this one function.
@@ -31,16 +32,16 @@ impl Drop for Script {
 
 impl Model for Script {
     ghost use Rattle.std.specs.Prelude.{List};
-    ghost use Rattle.llb_applet.specs.declared.command.Command.{Command};
+    ghost use Rattle.llb_applet.specs.declared.join.Joined.{Joined};
 
-    ghost Value = { List Command };
+    ghost Value = { List Joined };
 
     ghost view = { λ s. s.commands.items };
 }
 
 impl Script {
     /// The commands in their order.
-    pub fn commands(&self) -> &[Command]
+    pub fn commands(&self) -> &[Joined]
         ensures { result.now ≡ self.now }
     {
         self.commands.as_slice()
@@ -65,22 +66,25 @@ impl Same for Script {
     }
 }
 
-// Calls while they are read: the commands that are whole, and the words of the call at hand.
+// Calls while they are read: the commands that are whole, how the call at hand follows them, and its words.
 #[derive(Drop)]
 pub struct Reading {
-    commands: Vec<Command>,
+    commands: Vec<Joined>,
+    join: Join,
     words: Vec<Text>,
 }
 
 impl Reading {
     ghost use Rattle.llb_applet.specs.Reading.{some_word, ahead, with_call, Reads};
 
-    // Takes what stands between two spaces: a `&&` ends the call at hand, another word is one of it, and no bytes are none.
+    // Takes what is between two spaces: a separator ends the call at hand, another word is one of it, and no bytes are none.
     fn take(&mut self, alloc: Global, part: &str) -> Result<(), ScriptFault>
         ensures { (rest : List (List ℕ)) → Reads result (ahead self.old (some_word part.now ++ rest)) (ahead self.new rest) }
     {
-        if is_and(part) {
-            return self.end_call(alloc);
+        if let Some(join) = join_of(part) {
+            self.end_call(alloc)?;
+            self.join = join;
+            return Ok(());
         }
         if part.is_empty() {
             return Ok(());
@@ -97,17 +101,21 @@ impl Reading {
     {
         let words = mem::replace(&mut self.words, Vec::new(alloc));
         let command = command_of(alloc, self.commands.len(), words)?;
-        self.commands.push(command)?;
+        self.commands.push(Joined {
+            join: self.join,
+            command,
+        })?;
         Ok(())
     }
 }
 
 // The commands of a text.
-fn read_text(alloc: Global, text: &str) -> Result<Vec<Command>, ScriptFault>
+fn read_text(alloc: Global, text: &str) -> Result<Vec<Joined>, ScriptFault>
     ensures { Gives (λ c. c.items) result (commands_of 0 (calls_of text.now)) }
 {
     let mut reading = Reading {
         commands: Vec::new(alloc),
+        join: Join::Then,
         words: Vec::new(alloc),
     };
     for part in text.split(' ') {
@@ -118,7 +126,7 @@ fn read_text(alloc: Global, text: &str) -> Result<Vec<Command>, ScriptFault>
 }
 
 // The script of a text.
-fn read_shell(alloc: Global, text: &str) -> Result<Vec<Command>, ScriptFault>
+fn read_shell(alloc: Global, text: &str) -> Result<Vec<Joined>, ScriptFault>
     ensures gives { Gives (λ c. c.items) result (commands_in text.now) }
     ensures last { MemoryLast result (commands_in text.now) }
 {
@@ -130,10 +138,10 @@ fn read_shell(alloc: Global, text: &str) -> Result<Vec<Command>, ScriptFault>
 }
 
 // The script of one call.
-fn read_call(alloc: Global, args: &[Text]) -> Result<Vec<Command>, ScriptFault>
+fn read_call(alloc: Global, args: &[Text]) -> Result<Vec<Joined>, ScriptFault>
     requires { 0 < length args.now }
-    ensures gives { Gives (λ c. c.items) result (commands_of 0 (args.now ∷ [])) }
-    ensures last { MemoryLast result (commands_of 0 (args.now ∷ [])) }
+    ensures gives { Gives (λ c. c.items) result (commands_of 0 (first_call args.now ∷ [])) }
+    ensures last { MemoryLast result (commands_of 0 (first_call args.now ∷ [])) }
 {
     let begun = Begun {
         number: 0,
@@ -145,7 +153,10 @@ fn read_call(alloc: Global, args: &[Text]) -> Result<Vec<Command>, ScriptFault>
     let words = copies(alloc, args)?;
     let command = command_of(alloc, 0, words)?;
     let mut commands = Vec::new(alloc);
-    commands.push(command)?;
+    commands.push(Joined {
+        join: Join::Then,
+        command,
+    })?;
     Ok(commands)
 }
 
@@ -171,11 +182,11 @@ fn second(args: &[Text]) -> &str
 }
 
 /// The script that arguments are: `/bin/sh`, `-c` and one text, or else one call, an applet's name and its words. In a text
-/// words stand between spaces, and a word `&&` between calls; another word has only ASCII letters and digits, `_ - . / , : + @ % =`
-/// and characters past ASCII. 73 `ShellSyntax` at the first bad place of the text: a byte that no word may have, a `&&` with no
-/// call before it, or the text's end where the last call is missing. Then for each call in order 71 `NoApplet` where its first
-/// word is no applet's name, and 72 `Usage` where the others are none of the applet's forms. 74 `Memory`, where there is no
-/// other fault, or in place of 71 where there is no memory for its text.
+/// words are between spaces, and a separator, a word `;`, `&&` or `||`, is between two calls; another word has only ASCII letters
+/// and digits, `_ - . / , : + @ % =` and characters past ASCII. 73 `ShellSyntax` at the first bad place of the text: a byte that no
+/// word may have, a separator with no call before it, or the text's end where the last call is missing. Then for each call in order
+/// 71 `NoApplet` where its first word is no applet's name, and 72 `Usage` where the others are none of the applet's forms.
+/// 74 `Memory`, where there is no other fault, or in place of 71 where there is no memory for its text.
 pub fn read_script(alloc: Global, args: &[Text]) -> Result<Script, ScriptFault>
     requires { 0 < length args.now }
     ensures gives { Gives (λ s. s) result (script_of args.now) }

@@ -1,9 +1,10 @@
 //! Looking a script's text through without memory: where it is no script.
 
 ghost use Rattle.std.specs.Prelude.{◌≡◌, ◌+◌, ◌<◌, length, IfSome};
-ghost use Rattle.llb_applet.specs.Words.{is_and, is_word_byte, bad_in, called_after, bad_place_of};
+ghost use Rattle.llb_applet.specs.Words.{join_of, is_separator, is_word_byte, bad_in, called_after, bad_place_of};
 
 use crate::applet::is_word;
+use crate::join::Join;
 
 // Whether words may have this byte.
 fn is_word_byte(byte: u8) -> bool
@@ -16,11 +17,27 @@ fn is_word_byte(byte: u8) -> bool
         || byte >= 128
 }
 
-/// Whether a word is `&&`.
-pub fn is_and(word: &str) -> bool
-    ensures { result ≡ is_and word.now }
+/// How the call after a separator follows those before it; a word of a call is no separator.
+pub fn join_of(word: &str) -> Option<Join>
+    ensures { result ≡ join_of word.now }
 {
-    is_word(word, b"&&")
+    if is_word(word, b";") {
+        return Some(Join::Then);
+    }
+    if is_word(word, b"&&") {
+        return Some(Join::And);
+    }
+    if is_word(word, b"||") {
+        return Some(Join::Or);
+    }
+    None
+}
+
+/// Whether a word is a separator.
+pub fn is_separator(word: &str) -> bool
+    ensures { result ≡ is_separator word.now }
+{
+    join_of(word).is_some()
 }
 
 // Where a word has its first bad byte, where a word of a call stands right before it or not.
@@ -28,7 +45,7 @@ fn bad_in(called: bool, word: &str) -> Option<usize>
     ensures value { result ≡ bad_in called word.now }
     ensures inside { IfSome result (λ k. k < length word.now) }
 {
-    if is_and(word) {
+    if is_separator(word) {
         return if called { None } else { Some(0) };
     }
     word.as_bytes().iter().position(|byte| !is_word_byte(*byte))
@@ -41,10 +58,10 @@ fn called_after(called: bool, part: &str) -> bool
     if part.is_empty() {
         return called;
     }
-    !is_and(part)
+    !is_separator(part)
 }
 
-/// The first place at which a text is no calls of words with `&&` between them.
+/// The first place at which a text is not calls of words with a separator between each two.
 pub fn bad_place(text: &str) -> Option<usize>
     ensures { result ≡ bad_place_of text.now }
 {

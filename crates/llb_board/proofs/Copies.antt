@@ -1,17 +1,17 @@
 -- A second board on which the same has happened: its type keeps the same.
-use Rattle.std.proofs.Common.{◌≡◌, ℕ, ◌<◌, ◌≤◌, List, map, length, sym, ap, subst, ◌∙◌}
+use Rattle.std.proofs.Common.{◌≡◌, ℕ, ◌+◌, List, map, length, sym, ap, subst, ◌∙◌}
 use Rattle.std.specs.Prelude.{Bool}
 use Rattle.llb_cache.specs.Caches.{CachesValue, Row}
 use Rattle.llb_model.specs.Kept.{store_of}
 use Rattle.llb_model.specs.Leases.{AreLeased}
 use Rattle.llb_model.specs.Program.{Build}
-use Rattle.llb_model.specs.Room.{most_events}
-use Rattle.llb_model.specs.State.{At, stopped}
+use Rattle.llb_model.specs.Room.{owed}
 use Rattle.llb_model.specs.Table.{Event}
-use Rattle.llb_state.specs.Board.{Seen, Replays, opening_with}
+use Rattle.llb_state.specs.Board.{Seen, opening_with}
 use Rattle.llb_links.specs.Links.{Linked, IsLinked}
 use Rattle.llb_state.specs.OpenInputs.{done_in}
-use Rattle.llb_state.specs.Room.{AreOver, IsTracked, seen, ready_made, needed}
+use Rattle.llb_state.specs.Events.{Space}
+use Rattle.llb_state.specs.Room.{AreOver, IsKept, IsTracked, seen, ready_made}
 use Rattle.llb_state.specs.Views.{status_of, at_of, leased_by}
 use Rattle.llb_state.specs.declared.stand.Stand.{Stand}
 use Rattle.llb_state.specs.declared.stand.Desk.{Desk}
@@ -56,24 +56,25 @@ seen_same p q same =
       events = same.events i;
     }
 
--- what a board's type keeps it keeps of a second board with the same parts, whose record has room for a whole run
-pub tracked_same : (p q : Parts) (room more n : ℕ) → AreSame p q → most_events q.build ≤ more
-    → IsTracked (seen_in p) p.desks p.caches.out p.marks p.links room n
+-- what a board's type keeps it keeps of a second board with the same parts and the same room
+pub tracked_same : (p q : Parts) (space more : Space) (n : ℕ) → AreSame p q → more ≡ space
+    → IsTracked (seen_in p) p.desks p.caches.out p.marks p.links space n
     → IsTracked (seen_in q) q.desks q.caches.out q.marks q.links more n
-tracked_same p q room more n same enough tracked =
+tracked_same p q space more n same alike tracked =
     let is = sym (seen_same p q same) in
+    let kept : IsKept (seen_in p) q.desks q.caches.out q.marks more = record {
+      replays = tracked.kept.replays;
+      room = ap (λ (s : Space). s.room + owed p.build (map status_of p.stands) tracked.kept.replays.replies) alike ∙ tracked.kept.room;
+      counted = ap (λ (s : Space). s.cancels) alike ∙ tracked.kept.counted;
+      leased = subst (λ (c : CachesValue). AreLeased c.out (map at_of p.desks) (map leased_by q.desks)) (sym same.caches)
+          (subst (AreLeased p.caches.out (map at_of p.desks)) (sym same.leases) tracked.kept.leased);
+      supplies = same.made ∙ tracked.kept.supplies;
+      some = tracked.kept.some;
+      few = tracked.kept.few;
+      stop_marks_are = same.marks ∙ tracked.kept.stop_marks_are;
+    } in
     record {
-      kept = record {
-        replays = subst Replays is tracked.kept.replays;
-        room = enough;
-        leased = subst (λ (c : CachesValue). AreLeased c.out (map at_of q.desks) (map leased_by q.desks)) (sym same.caches)
-            (subst (λ (ws : List At). AreLeased p.caches.out ws (map leased_by q.desks)) (sym same.workers)
-            (subst (AreLeased p.caches.out (map at_of p.desks)) (sym same.leases) tracked.kept.leased));
-        supplies = same.made ∙ tracked.kept.supplies ∙ ap (λ (s : Seen). map (needed s.build) s.state.workers) is;
-        some = subst (λ (s : Seen). 0 < length s.state.workers) is tracked.kept.some;
-        few = subst (λ (s : Seen). length s.state.workers ≤ 64) is tracked.kept.few;
-        stop_marks_are = same.marks ∙ tracked.kept.stop_marks_are ∙ ap (λ (s : Seen). stopped s.build s.state.statuses) is;
-      };
+      kept = subst (λ (s : Seen). IsKept s q.desks q.caches.out q.marks more) is kept;
       over = subst (λ (s : Seen). AreOver s.build s.state.statuses n) is tracked.over;
       linked = subst (IsLinked q.build.graph.vertices (done_in (map status_of q.stands))) (sym same.links)
           (subst (λ (s : Seen). IsLinked s.build.graph.vertices (done_in s.state.statuses) p.links) is tracked.linked);

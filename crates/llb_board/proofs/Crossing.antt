@@ -9,8 +9,8 @@ use Rattle.llb_execution.proofs.Crossing.{tree_send}
 use Rattle.llb_links.specs.contracts.links.Links as links
 use Rattle.llb_links.proofs.links.Links.TheSendSync as links_crosses
 use Rattle.llb_state.specs.contracts.build.Build as build
-use Rattle.llb_state.specs.contracts.events.Events as events
-use Rattle.llb_state.proofs.Crossing.{build_send, stands_send, desks_send, events_send}
+use Rattle.llb_state.specs.contracts.history.History as history
+use Rattle.llb_state.proofs.Crossing.{build_send, stands_send, desks_send, history_send}
 use Rattle.llb_board.specs.contracts.board.Board as board
 use Rattle.llb_board.specs.contracts.board.Board.TheInside as inside
 
@@ -42,7 +42,7 @@ inside_send = declared_send inside.the_type (
                 as_row_send links.the_field links_send,
                 (
                   search sendable,
-                  (as_row_send events.the_field events_send, tt),
+                  (as_row_send history.the_field history_send, tt),
                 ),
               ),
             ),

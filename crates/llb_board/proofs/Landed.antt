@@ -25,9 +25,11 @@ use Rattle.llb_model.proofs.Parts.{go_keeps}
 use Rattle.llb_model.proofs.Leases.{writes_alike}
 use Rattle.llb_model.proofs.Needs.{graph_distinct}
 use Rattle.llb_model.proofs.There.{held_are_there}
-use Rattle.llb_model.proofs.Rooms.{run_has_few}
+use Rattle.llb_model.specs.Room.{cancels_in}
+use Rattle.llb_model.proofs.Cancels.{steps_no_cancel, steps_counts, steps_roomy, record_fits}
 use Rattle.llb_model.proofs.Runs.{run_none, run_one, run_on}
 use Rattle.llb_model.proofs.Landing.{first_step, steps_as_block, after_again, further_keeps}
+use Rattle.llb_state.specs.Events.{Space}
 use Rattle.llb_state.specs.Board.{Seen, Replays, kept_next, kept_along, opening_with, after_event, recorded}
 use Rattle.llb_state.specs.Caches.{written, places_at, rows_after, leased_places}
 use Rattle.llb_state.specs.Jobs.{OutcomeValue, IsOutcome, begun_on}
@@ -99,8 +101,8 @@ settles_if b s w x at fin = ap (λ o. is_ok (settled b s w o)) at ∙ ap (λ f. 
 
 -- ---- what the board's type keeps after the steps
 
-module _ (b : Build) (first : List Row) (d : Data) (es : List Event) (capacity w : ℕ) (l : Option ℕ) (own : running.Execution) (o : OutcomeValue)
-    (kept : Keeps b first d es capacity)
+module _ (b : Build) (first : List Row) (d : Data) (es : List Event) (space : Space) (w : ℕ) (l : Option ℕ) (own : running.Execution) (o : OutcomeValue)
+    (kept : Keeps b first d es space)
     (at : slice_get d.desks w ≡ Some (desk.Runs l own)) (apart : AreApart d.out) (there : AreAllThere d.rows d.out) (graph : IsGraph b.graph)
     (can : IsRunOf b (store_of d.rows) w (execution_of own) o.job) (is : IsOutcome o.job o.count o.left) where
   x : Execution
@@ -181,8 +183,11 @@ module _ (b : Build) (first : List Row) (d : Data) (es : List Event) (capacity w
   leads = run_on b (opening b (opening_with (length d.desks) first)) (state_as d) (state_as later) es (steps_by w o.count) kept.replays.replies steps.0
       kept.replays.leads steps.1
 
+  quiet : (v : ℕ) → cancels_in v steps.0 ≡ 0
+  quiet = steps_no_cancel b w o.count (state_as d) (state_as later) steps.0 steps.1
+
   -- the board's type keeps what it keeps
-  pub keeps : Keeps b first later (es ++ steps_by w o.count) capacity
+  pub keeps : Keeps b first later (es ++ steps_by w o.count) space
   keeps =
       let some = kept.some in
       let few = kept.few in
@@ -196,7 +201,8 @@ module _ (b : Build) (first : List Row) (d : Data) (es : List Event) (capacity w
               ∙ ap (λ k. fold (kept_next b) k (steps_by w o.count)) kept.replays.keeps
               ∙ rows;
         };
-        room = kept.room;
+        room = steps_roomy b (state_as d) (state_as later) kept.replays.replies steps.0 space.room quiet refl kept.room;
+        counted = kept.counted ∙ sym (steps_counts b kept.replays.replies steps.0 quiet);
         leased = leased_stepped d.out d.out d.desks w l own after kept.leased at refl refl;
         supplies = supplies_claimed b d.desks w l after kept.supplies made;
         some = omega (arith, length_map at_of later.desks, length_map at_of d.desks, alike, some);
@@ -205,12 +211,13 @@ module _ (b : Build) (first : List Row) (d : Data) (es : List Event) (capacity w
       }
 
   -- there is room for the steps
-  pub room : length es + o.count ≤ capacity
+  pub room : length es + o.count ≤ space.room
   room =
-      let few = run_has_few b (opening_with (length d.desks) first) (state_as later) (es ++ steps_by w o.count) (kept.replays.replies ++ steps.0) leads in
-      let enough = kept.room in
+      let fits = record_fits b (opening_with (length d.desks) first) (state_as later) (es ++ steps_by w o.count) (kept.replays.replies ++ steps.0) space.room
+      leads
+      (steps_roomy b (state_as d) (state_as later) kept.replays.replies steps.0 space.room quiet refl kept.room) in
       let count : length (steps_by w o.count) ≡ o.count = length-replicate o.count (Step w) in
-      omega (arith, few, enough, length-append es (steps_by w o.count), count)
+      omega (arith, fits, length-append es (steps_by w o.count), count)
 
   pub trees_count : length o.left.work.trees ≡ length own.places.items
   trees_count =

@@ -2,6 +2,7 @@ pub mod Crossing
 pub mod Others
 pub mod Claiming
 pub mod Settling
+pub mod Cancelling
 pub mod Opened
 pub mod Walks
 pub mod Undone

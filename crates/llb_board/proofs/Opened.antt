@@ -1,6 +1,6 @@
 -- A board on which nothing has happened.
 use Rattle.std.proofs.Common.{◌≡◌, ℕ, zero, suc, ◌<◌, ◌≤◌, List, [], ◌∷◌, map, length, refl, sym, ap, ◌∙◌, subst, arith}
-use Rattle.std.specs.Prelude.{Bool, true, false, ◌&&◌, nat_le, replicate}
+use Rattle.std.specs.Prelude.{Some, Bool, true, false, ◌&&◌, nat_le, replicate}
 use Rattle.std.proofs.lemmas.Bool.{leb-true}
 use Rattle.std.proofs.lemmas.List.{length-replicate}
 use Rattle.llb_cache.specs.Caches.{Row, Leases, leases}
@@ -11,8 +11,11 @@ use Rattle.llb_model.specs.Leases.{AreLeased}
 use Rattle.llb_model.specs.Table.{Event}
 use Rattle.llb_model.specs.Room.{most_events}
 use Rattle.llb_model.specs.Run.{run}
+use Rattle.llb_model.proofs.Owing.{IsRoomy, opening_roomy}
+use Rattle.llb_model.proofs.Cancels.{counts_open}
 use Rattle.llb_state.specs.Views.{status_of, at_of, leased_by}
-use Rattle.llb_state.specs.Board.{Replays, opening_with, opened}
+use Rattle.llb_state.specs.Events.{Space}
+use Rattle.llb_state.specs.Board.{opening_with, opened}
 use Rattle.llb_board.specs.Opening.{may_work}
 use Rattle.llb_state.specs.Room.{IsKept, seen, ready_made, needed}
 use Rattle.llb_state.specs.declared.stand.Stand.{Stand}
@@ -44,9 +47,9 @@ seen_open b first workers ss ds rows es s d e f = λ i. record {
   events = e i;
 }
 
-opened_replays : (b : Build) (workers : ℕ) (rows : List Row) → Replays (opened b workers rows)
+opened_leads : (b : Build) (s : model.State) → run b s [] ≡ Some (s, [])
 unfolding run
-opened_replays b workers rows = record { replies = []; leads = refl; keeps = refl }
+opened_leads b s = refl
 
 both : (a b : Bool) → (a && b) ≡ true → (a ≡ true) × (b ≡ true)
 both true true is = (refl, refl)
@@ -67,27 +70,29 @@ leased_open : (workers : ℕ) (ds : List Desk) (out : Leases) → ds ≡ replica
 leased_open workers ds out d none =
     subst (AreLeased out (replicate workers model.Idle)) (sym (ap (map leased_by) d ∙ map_replicate leased_by workers Idle)) (none_leased out workers none)
 
-pub record IsFresh (b : Build) (workers : ℕ) (ss : List Stand) (ds : List Desk) (es : List Event) (stop_marks : List Bool) (capacity : ℕ) : Type 0 where
+pub record IsFresh (b : Build) (workers : ℕ) (ss : List Stand) (ds : List Desk) (es : List Event) (stop_marks : List Bool) (space : Space) : Type 0 where
   pub stands : ss ≡ replicate (length b.graph.vertices) Waiting
   pub desks : ds ≡ replicate workers Idle
   pub events : es ≡ []
   pub marks : stop_marks ≡ replicate (length b.graph.vertices) false
-  pub room : most_events b ≤ capacity
+  pub room : space.room ≡ most_events b []
+  pub cancels : space.cancels ≡ replicate (length b.graph.vertices) 0
 
 -- a board that was just opened keeps what its type asks for, where no lease is out and the number of workers is allowed
-pub kept_open : (b : Build) (first : List Row) (workers capacity : ℕ) (ss : List Stand) (ds : List Desk) (rows : List Row) (out : Leases) (es : List Event)
+pub kept_open : (b : Build) (first : List Row) (workers : ℕ) (space : Space) (ss : List Stand) (ds : List Desk) (rows : List Row) (out : Leases)
+    (es : List Event)
     (stop_marks : List Bool)
-    → IsFresh b workers ss ds es stop_marks capacity → first ≡ rows → leases out ≡ 0 → 0 < workers → workers ≤ 64
-    → IsKept (seen b first ss ds rows es) ds out stop_marks capacity
-kept_open b first workers capacity ss ds rows out es stop_marks fresh f none one most =
-    let room = fresh.room in
-    let kept : IsKept (opened b workers rows) ds out stop_marks capacity = record {
-      replays = opened_replays b workers rows;
-      room = room;
+    → IsFresh b workers ss ds es stop_marks space → first ≡ rows → leases out ≡ 0 → 0 < workers → workers ≤ 64
+    → IsKept (seen b first ss ds rows es) ds out stop_marks space
+kept_open b first workers space ss ds rows out es stop_marks fresh f none one most =
+    let kept : IsKept (opened b workers rows) ds out stop_marks space = record {
+      replays = record { replies = []; leads = opened_leads b (model.opening b (opening_with workers rows)); keeps = refl };
+      room = subst (IsRoomy b (model.opening b (opening_with workers rows)) []) (sym fresh.room) (opening_roomy b (opening_with workers rows));
+      counted = fresh.cancels ∙ sym (counts_open b.graph.vertices 0);
       leased = leased_open workers ds out fresh.desks none;
       supplies = ap (map ready_made) fresh.desks ∙ map_replicate ready_made workers Idle ∙ sym (map_replicate (needed b) workers model.Idle);
       some = omega (arith, length-replicate workers model.Idle, one);
       few = omega (arith, length-replicate workers model.Idle, most);
       stop_marks_are = fresh.marks ∙ sym (unmarked b.graph.vertices);
     } in
-    subst (λ b. IsKept b ds out stop_marks capacity) (sym (seen_open b first workers ss ds rows es fresh.stands fresh.desks fresh.events f)) kept
+    subst (λ b. IsKept b ds out stop_marks space) (sym (seen_open b first workers ss ds rows es fresh.stands fresh.desks fresh.events f)) kept

@@ -3,9 +3,9 @@ use Rattle.std.proofs.Common.{◌≡◌, ◌≢◌, ℕ, Some, sym, ap, ◌∙�
 use Rattle.std.specs.Prelude.{slice_get}
 use Rattle.llb_model.specs.Program.{Build, step_on}
 use Rattle.llb_model.specs.State.{State, Status, Running, Execution, Idle, Runs, work_of, begin_at}
-use Rattle.llb_model.specs.Table.{Event, Claim, Step, Settle, worker_of, execution_on, with_step, table}
+use Rattle.llb_model.specs.Table.{Event, Claim, Step, Settle, Cancel, worker_of, execution_on, with_step, table}
 use Rattle.llb_model.proofs.Lists.{inside, get_set_other}
-use Rattle.llb_model.proofs.Events.{Answer, claim_places, claim_is, step_is, settle_is}
+use Rattle.llb_model.proofs.Events.{Answer, claim_places, claim_is, step_is, settle_is, cancel_is}
 use Rattle.llb_state.specs.Board.{Seen, Replays}
 use Rattle.llb_state.proofs.Sound.{consistent}
 
@@ -22,6 +22,9 @@ others b s (Step w) a given u apart =
     ∙ get_set_other s.workers w (Runs (with_step c.x (step_on c.x.done (Some c.step) (work_of s c.x)))) u apart
 others b s (Settle w) a given u apart =
     let c = settle_is b s w a given in
+    ap (λ (t : Answer). slice_get t.0.workers u) c.gives ∙ get_set_other s.workers w Idle u apart
+others b s (Cancel w) a given u apart =
+    let c = cancel_is b s w a given in
     ap (λ (t : Answer). slice_get t.0.workers u) c.gives ∙ get_set_other s.workers w Idle u apart
 
 running_by : Status → ℕ

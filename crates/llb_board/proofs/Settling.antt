@@ -1,5 +1,5 @@
 -- A settle that is granted: what the board does is what the table gives, and its type keeps what it keeps.
-use Rattle.std.proofs.Common.{◌≡◌, ℕ, ◌<◌, List, [], ◌∷◌, ◌++◌, length, map, Option, Some, arith}
+use Rattle.std.proofs.Common.{◌≡◌, ℕ, ◌<◌, List, [], ◌∷◌, ◌++◌, length, map, Option, Some, refl, arith}
 use Rattle.std.specs.Prelude.{Bool, Ok, slice_get, slice_set}
 use Rattle.std.proofs.lemmas.Option.{slice_get_within}
 use Rattle.llb_cache.specs.Caches.{CachesValue, Row}
@@ -8,6 +8,7 @@ use Rattle.llb_model.specs.Program.{Build}
 use Rattle.llb_model.specs.State.{Running, Runs, stopped}
 use Rattle.llb_model.specs.Table.{Event, Settle, settle_reply, settle_grant}
 use Rattle.llb_model.proofs.Lists.{length_set}
+use Rattle.llb_state.specs.Events.{Space}
 use Rattle.llb_state.specs.Caches.{rows_after, IsOutIf, given_back}
 use Rattle.llb_state.specs.Room.{AreOver}
 use Rattle.llb_state.specs.Rules.{left_at}
@@ -20,11 +21,12 @@ use Rattle.llb_state.proofs.Lent.{leased_settled, lease_out}
 use Rattle.llb_state.proofs.Calls.{CanSettle, can_settle, settle_done}
 use Rattle.llb_board.proofs.Claiming.{data_of}
 use Rattle.llb_state.proofs.Sound.{consistent}
+use Rattle.llb_state.proofs.Spaces.{space_stays}
 use Rattle.llb_state.proofs.Kept.{Data, state_as, seen_as, Keeps, kept_after, settled, settle_does, settle_rows, leaves_running, supplies_settled, still_over}
 
-module _ (b : Build) (first : List Row) (ss : List Stand) (ds : List Desk) (c : CachesValue) (stop_marks : List Bool) (es : List Event) (capacity w v : ℕ) (l
-    : Option ℕ) (s : Stand)
-    (kept : Keeps b first (data_of ss ds c stop_marks) es capacity) (left : left_at b (slice_get (map at_of ds) w) ≡ Ok (v, status_of s))
+module _ (b : Build) (first : List Row) (ss : List Stand) (ds : List Desk) (c : CachesValue) (stop_marks : List Bool) (es : List Event) (space : Space)
+    (w v : ℕ) (l : Option ℕ) (s : Stand)
+    (kept : Keeps b first (data_of ss ds c stop_marks) es space) (left : left_at b (slice_get (map at_of ds) w) ≡ Ok (v, status_of s))
     (leased : slice_get (map leased_by ds) w ≡ Some l) where
   -- the data after it, with these marks
   abbrev pub after : List Bool → Data
@@ -61,19 +63,21 @@ module _ (b : Build) (first : List Row) (ss : List Stand) (ds : List Desk) (c : 
   rows_stay marks = settle_rows (data_of ss ds c stop_marks) w v s (given_back c l).out marks (Runs ends.x) ends.there
 
   -- with the marks of what is stopped now, the board keeps after the settle what its type keeps
-  pub keeps : (marks : List Bool) → marks ≡ stopped b (map status_of (slice_set ss v s)) → Keeps b first (after marks) (es ++ Settle w ∷ []) capacity
+  pub keeps : (marks : List Bool) → marks ≡ stopped b (map status_of (slice_set ss v s)) → Keeps b first (after marks) (es ++ Settle w ∷ []) space
   keeps marks are =
-      kept_after b first (data_of ss ds c stop_marks) (after marks) es capacity (Settle w) (settle_reply v ends.ending) kept
+      kept_after b first (data_of ss ds c stop_marks) (after marks) es space (Settle w) (settle_reply v ends.ending) kept
       (settle_done b (state_as (data_of ss ds c stop_marks)) w _ (grants marks)) (record {
         same = length_set ds w desk.Idle;
         rows = rows_stay marks;
         leased = leased_settled c ds w l kept.leased leased;
         supplies = supplies_settled b ds w kept.supplies;
         marks = are;
-      })
+      }) space
+      (space_stays b (state_as (data_of ss ds c stop_marks)) (Settle w) (state_as (after marks), settle_reply v ends.ending) kept.replays.replies space
+      (λ u e. cc) refl (settle_done b (state_as (data_of ss ds c stop_marks)) w _ (grants marks)) kept.counted)
 
   -- the vertices that were over before the settle still are
   pub stay_over : (n : ℕ) → IsGraph b.graph → AreOver b (map status_of ss) n → AreOver b (map status_of (slice_set ss v s)) n
   stay_over n graph over =
-      still_over b first (data_of ss ds c stop_marks) (after stop_marks) es capacity n (Settle w) (settle_reply v ends.ending) graph kept
+      still_over b first (data_of ss ds c stop_marks) (after stop_marks) es space n (Settle w) (settle_reply v ends.ending) graph kept
       (settle_done b (state_as (data_of ss ds c stop_marks)) w _ (grants stop_marks)) over

@@ -18,17 +18,25 @@ use Rattle.llb_model.specs.Kept.{store_of}
 use Rattle.llb_model.specs.Leases.{AreLeased}
 use Rattle.llb_model.specs.Program.{Build}
 use Rattle.llb_model.specs.Run.{is_settled}
-use Rattle.llb_model.specs.State.{Status, Waiting, Running, Execution, At, Idle, Runs, is_waiting, is_failed, ending_of, ending_at, next_stopped}
+use Rattle.llb_model.specs.State.{State, opening, Status, Waiting, Running, Execution, At, Idle, Runs, is_waiting, is_failed, ending_of, ending_at}
+use Rattle.llb_model.specs.State.{next_stopped}
 use Rattle.llb_model.specs.State.{stopped, is_stopped}
-use Rattle.llb_model.specs.Table.{Event}
-use Rattle.llb_model.proofs.Lists.{get_set_same, get_set_other, get_within, length_set}
-use Rattle.llb_state.specs.Board.{Seen, Replays, opening_with}
-use Rattle.llb_state.specs.Room.{AreOver, Supplies, supplies_for, ready_made, needed}
+use Rattle.llb_model.specs.Room.{cancel_counts, room_taken}
+use Rattle.llb_model.specs.Run.{run}
+use Rattle.llb_model.specs.Table.{Event, Reply, table}
+use Rattle.llb_model.proofs.Cancels.{event_returns}
+use Rattle.llb_model.proofs.Owing.{IsRoomy}
+use Rattle.llb_model.proofs.Runs.{run_more}
+use Rattle.llb_model.proofs.Lists.{inside, get_set_same, get_set_other, get_within, length_set}
+use Rattle.llb_state.specs.Events.{Space}
+use Rattle.llb_state.specs.Board.{Seen, Replays, opening_with, kept_along}
+use Rattle.llb_state.specs.Room.{AreOver, IsKept, Supplies, supplies_for, ready_made, needed}
 use Rattle.llb_board.specs.Undo.{Back, Unclaim, Unstep, Resume, Displaced}
 use Rattle.llb_state.specs.Undoing.{Before, Left, left_in, caches_in}
 use Rattle.llb_board.specs.Undo.{statuses_before, workers_before, step_before, rows_before, store_before, undone}
 use Rattle.llb_state.specs.Undoing.{front}
-use Rattle.llb_board.specs.Undo.{IsBegun, HasNoPlaces, FitsLeases}
+use Rattle.llb_board.specs.Undo.{IsBegun, HasNoPlaces, FitsLeases, CanUndo, event_before}
+use Rattle.llb_board.specs.declared.undo.End.{End}
 use Rattle.llb_state.specs.Undoing.{desk_before, leases_before, caches_before, HasPlaceFor}
 use Rattle.llb_state.specs.Views.{status_of, at_of, leased_by, execution_of}
 use Rattle.llb_state.specs.declared.stand.Stand.{Stand}
@@ -37,7 +45,8 @@ use Rattle.llb_state.specs.declared.stand.Desk.{Desk}
 use Rattle.llb_state.specs.declared.stand.Desk.TheVariants as desk
 use Rattle.llb_state.specs.declared.stand.Execution as own
 use Rattle.llb_state.specs.declared.undoing.Before as before
-use Rattle.llb_state.proofs.Kept.{Data, Keeps, seen_as, made_enough, supplies_claimed, leased_claimed}
+use Rattle.llb_state.proofs.Spaces.{SpaceBefore}
+use Rattle.llb_state.proofs.Kept.{Data, Keeps, state_as, seen_as, made_enough, supplies_claimed, leased_claimed}
 use Rattle.llb_state.proofs.Lists.{map_set, get_map, length_map}
 use Rattle.llb_state.proofs.Sound.{consistent}
 use Rattle.llb_state.proofs.Stepping.{leased_stepped}
@@ -102,7 +111,7 @@ pub record Leaves (b : Build) (d d' : Data) (u : Displaced) : Type 0 where
 as_many : (k : Back) (workers : List At) → length (workers_before k workers) ≡ length workers
 as_many (Unclaim w v) workers = length_set workers w Idle
 as_many (Unstep w mark) workers = length_set workers w (step_before mark (slice_get workers w))
-as_many (Resume w left) workers = length_set workers w (Runs left.execution)
+as_many (Resume e w left) workers = length_set workers w (Runs left.execution)
 
 same_desks : (b : Build) (d d' : Data) (u : Displaced) → Leaves b d d' u → length d'.desks ≡ length d.desks
 same_desks b d d' u leaves =
@@ -127,23 +136,73 @@ undone_is b first d d' es u leaves =
       events = front es;
     }
 
--- what a board's type keeps it keeps of data that is what an undo leaves
-pub undo_keeps : (b : Build) (first : List Row) (d d' : Data) (es : List Event) (capacity : ℕ) (u : Displaced) → Keeps b first d es capacity
-    → Replays (undone u (seen_as b first d es))
-    → Leaves b d d' u → Keeps b first d' (front es) capacity
-undo_keeps b first d d' es capacity u kept here leaves =
-    let many = same_desks b d d' u leaves in
+-- ---- the record before
+
+-- a record that can be taken back: what it was, with its last event, and the room and the counts by its replies
+pub record EndsWith (b : Build) (first : List Row) (d : Data) (es : List Event) (space : Space) (u : Displaced) : Type 0 where
+  pub replies : List Reply
+  pub leads : run b (opening b (opening_with (length d.desks) first)) (front es) ≡ Some ((undone u (seen_as b first d es)).state, replies)
+  pub keeps : kept_along b (opening b (opening_with (length d.desks) first)) first (front es)
+      ≡ Some ((undone u (seen_as b first d es)).state, (undone u (seen_as b first d es)).rows)
+  pub reply : Reply
+  pub gives : table b (undone u (seen_as b first d es)).state (event_before u.back) ≡ Some (state_as d, reply)
+  pub counted : space.cancels ≡ cancel_counts b (replies ++ reply ∷ [])
+  pub roomy : IsRoomy b (state_as d) (replies ++ reply ∷ []) space.room
+
+replies_inside : {s t : State} {rs qs : List Reply} → ◌≡◌ {A = Option (State × List Reply)} (Some (s, rs)) (Some (t, qs)) → rs ≡ qs
+replies_inside e = ap (λ (a : State × List Reply). a.1) (inside e)
+
+pub ends_with : (b : Build) (first : List Row) (d : Data) (es : List Event) (space : Space) (u : Displaced) → Keeps b first d es space
+    → CanUndo u (seen_as b first d es) → EndsWith b first d es space u
+ends_with b first d es space u kept can =
+    let o = opening b (opening_with (length d.desks) first) in
+    let rs = can.replays.replies in
+    let r = can.last.reply in
+    let all : run b o es ≡ Some (state_as d, rs ++ r ∷ [])
+    = ap (run b o) can.last.events
+    ∙ run_more b o (undone u (seen_as b first d es)).state (state_as d) (front es) rs (event_before u.back) r can.replays.leads can.last.gives in
+    let same : kept.replays.replies ≡ rs ++ r ∷ [] = replies_inside (sym kept.replays.leads ∙ all) in
+    record {
+      replies = rs;
+      leads = can.replays.leads;
+      keeps = can.replays.keeps;
+      reply = r;
+      gives = can.last.gives;
+      counted = kept.counted ∙ ap (cancel_counts b) same;
+      roomy = subst (λ qs. IsRoomy b (state_as d) qs space.room) same kept.room;
+    }
+
+-- what a board's type keeps it keeps of data that is what an undo leaves, where the room and the counts are what they were
+pub undo_keeps : (b : Build) (first : List Row) (d d' : Data) (es : List Event) (space old : Space) (u : Displaced) → Keeps b first d es space
+    → (ends : EndsWith b first d es space u) → SpaceBefore b ends.replies (event_before u.back) space old
+    → Leaves b d d' u → Keeps b first d' (front es) old
+undo_keeps b first d d' es space old u kept ends before leaves =
+    let n = undone u (seen_as b first d es) in
+    let replays : Replays n = record { replies = ends.replies; leads = ends.leads; keeps = ends.keeps } in
+    let many = as_many u.back (map at_of d.desks) in
     let some = kept.some in
     let few = kept.few in
-    record {
-      replays = subst Replays (sym (undone_is b first d d' es u leaves)) here;
-      room = kept.room;
-      leased = leaves.leased;
-      supplies = leaves.supplies;
-      some = omega (arith, length_map at_of d'.desks, length_map at_of d.desks, many, some);
-      few = omega (arith, length_map at_of d'.desks, length_map at_of d.desks, many, few);
-      stop_marks_are = leaves.marks;
-    }
+    let returned = event_returns b n.state ends.replies space.room (event_before u.back) (state_as d, ends.reply)
+    (consistent n replays) ends.gives ends.roomy in
+    let here : IsKept n d'.desks d'.out d'.stop_marks old = record {
+      replays = replays;
+      room = subst (IsRoomy b n.state ends.replies) (sym before.room) returned.1;
+      counted = before.counted;
+      leased = subst (λ (ws : List At). AreLeased d'.out ws (map leased_by d'.desks)) leaves.workers leaves.leased;
+      supplies = leaves.supplies ∙ ap (map (needed b)) leaves.workers;
+      some = omega (arith, length_map at_of d.desks, many, some);
+      few = omega (arith, length_map at_of d.desks, many, few);
+      stop_marks_are = leaves.marks ∙ ap (stopped b) leaves.statuses;
+    } in
+    subst (λ (s : Seen). IsKept s d'.desks d'.out d'.stop_marks old) (sym (undone_is b first d d' es u leaves)) here
+
+-- the room that the event took is there to be given back
+pub room_returns : (b : Build) (first : List Row) (d : Data) (es : List Event) (space : Space) (u : Displaced) (ends : EndsWith b first d es space u)
+    → room_taken b ends.replies (event_before u.back) ≤ space.room
+room_returns b first d es space u ends =
+    let n = undone u (seen_as b first d es) in
+    let replays : Replays n = record { replies = ends.replies; leads = ends.leads; keeps = ends.keeps } in
+    (event_returns b n.state ends.replies space.room (event_before u.back) (state_as d, ends.reply) (consistent n replays) ends.gives ends.roomy).0
 
 -- ---- caches that are put back
 
@@ -254,15 +313,15 @@ unstepped_supplies b ds w mark l x kept at mounts =
     })
 
 -- a worker whose micro-step is taken back keeps its lease and has what its vertex needs
-pub unstep_leaves : (b : Build) (first : List Row) (ss : List Stand) (ds : List Desk) (c : CachesValue) (es : List Event) (capacity w : ℕ) (mark : Mark)
+pub unstep_leaves : (b : Build) (first : List Row) (ss : List Stand) (ds : List Desk) (c : CachesValue) (es : List Event) (space : Space) (w : ℕ) (mark : Mark)
     (marks : List Bool)
-    → Keeps b first (record { stands = ss; desks = ds; rows = c.rows; out = c.out; stop_marks = marks }) es capacity
+    → Keeps b first (record { stands = ss; desks = ds; rows = c.rows; out = c.out; stop_marks = marks }) es space
     → (x : Execution) → slice_get (map at_of ds) w ≡ Some (Runs x) → mounts_in (put_back mark x.own)
     ≡ (supplies_for (slice_get b.graph.vertices x.vertex)).mounts
     → (let new = slice_set ds w (desk_before mark (slice_get ds w)) in
     AreLeased c.out (map at_of new) (map leased_by new) × (map ready_made new ≡ map (needed b) (map at_of new)) × (map at_of new
     ≡ workers_before (Unstep w mark) (map at_of ds)))
-unstep_leaves b first ss ds c es capacity w mark marks kept x at mounts =
+unstep_leaves b first ss ds c es space w mark marks kept x at mounts =
     let d = desk_at ds w x at in
     let l = d.0 in
     let y = d.1 in
@@ -279,14 +338,15 @@ unstep_leaves b first ss ds c es capacity w mark marks kept x at mounts =
     )
 
 -- a settle
-pub resumed_workers : (ds : List Desk) (w : ℕ) (l : Option ℕ) (x : own.Execution) → map at_of (slice_set ds w (desk.Runs l x))
-    ≡ workers_before (Resume w (left_in x)) (map at_of ds)
-resumed_workers ds w l x = map_set at_of ds w (desk.Runs l x)
+pub resumed_workers : (ds : List Desk) (e : End) (w : ℕ) (l : Option ℕ) (x : own.Execution) → map at_of (slice_set ds w (desk.Runs l x))
+    ≡ workers_before (Resume e w (left_in x)) (map at_of ds)
+resumed_workers ds e w l x = map_set at_of ds w (desk.Runs l x)
 
 -- the vertex that a worker runs again is one of the graph's
-pub resumed_there : (u : Displaced) (n : Seen) (w : ℕ) (left : Left) → u.back ≡ Resume w left → Replays (undone u n) → slice_get n.state.workers w ≡ Some Idle
+pub resumed_there : (u : Displaced) (n : Seen) (e : End) (w : ℕ) (left : Left) → u.back ≡ Resume e w left → Replays (undone u n)
+    → slice_get n.state.workers w ≡ Some Idle
     → left.execution.vertex < length n.state.statuses
-resumed_there u n w left is here idle =
+resumed_there u n e w left is here idle =
     let runs : slice_get (undone u n).state.workers w ≡ Some (Runs left.execution)
     = ap (λ k. slice_get (workers_before k n.state.workers) w) is ∙ get_set_same n.state.workers w (Runs left.execution) Idle idle in
     let ran = (consistent (undone u n) here).working w left.execution runs in
@@ -297,10 +357,10 @@ resumed_there u n w left is here idle =
     omega (arith, low, same)
 
 -- a worker that runs again without instances needs no lease
-pub resumed_leased : (b : Build) (first : List Row) (d : Data) (es : List Event) (capacity w : ℕ) (x : own.Execution) → Keeps b first d es capacity
+pub resumed_leased : (b : Build) (first : List Row) (d : Data) (es : List Event) (space : Space) (w : ℕ) (x : own.Execution) → Keeps b first d es space
     → slice_get (map at_of d.desks) w ≡ Some Idle → x.places.items ≡ []
     → AreLeased d.out (map at_of (slice_set d.desks w (desk.Runs None x))) (map leased_by (slice_set d.desks w (desk.Runs None x)))
-resumed_leased b first d es capacity w x kept idle none = leased_claimed d w None x [] d.out kept.leased idle none (inr (refl, refl, refl))
+resumed_leased b first d es space w x kept idle none = leased_claimed d w None x [] d.out kept.leased idle none (inr (refl, refl, refl))
 
 -- the marks are made anew where the vertex that runs again had failed, and else stay
 pub resumed_marks : (b : Build) (ss : List Stand) (w v : ℕ) (had : Stand) (failed : Bool) (old new : List Bool) → old ≡ stopped b (map status_of ss)

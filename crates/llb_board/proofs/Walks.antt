@@ -1,5 +1,5 @@
 -- An event that is granted, and the board before it: what undoes the event leads back there, and can be done.
-use Rattle.std.proofs.Common.{◌≡◌, ℕ, ◌+◌, ◌-◌, Bool, true, false, ◌||◌, List, [], ◌∷◌, map, length, Option, Some, None, is_some, refl, sym, ap}
+use Rattle.std.proofs.Common.{◌≡◌, ℕ, ◌+◌, ◌-◌, Bool, true, false, ◌||◌, List, [], ◌∷◌, ◌++◌, map, length, Option, Some, None, is_some, refl, sym, ap}
 use Rattle.std.proofs.Common.{subst, ◌∙◌, arith}
 use Rattle.std.specs.Prelude.{Result, Ok, Err, slice_get, slice_set, nat_le, not, ◌==◌, if◌then◌else◌}
 use Rattle.std.proofs.lemmas.Bool.{eqb-true}
@@ -11,31 +11,33 @@ use Rattle.llb_loader.specs.declared.graph.Vertex.{Vertex}
 use Rattle.llb_model.specs.declared.fault.VertexFault.{VertexFault}
 use Rattle.llb_model.specs.Caches.{Store, put_all, trees_at}
 use Rattle.llb_model.specs.Program.{Build, MicroStep, needs_of, step_on}
-use Rattle.llb_model.specs.State.{Waiting, Running, Settled, Execution, At, Idle, Runs, State, program_in, work_of, next_step, ending_from, held}
+use Rattle.llb_model.specs.State.{Status, Waiting, Running, Settled, Execution, At, Idle, Runs, State, program_in, work_of, next_step, ending_from, held}
 use Rattle.llb_model.specs.State.{places_for, begin_at}
-use Rattle.llb_model.specs.Table.{Event, Claim, Step, Settle, worker_of, with_step, step_by, stepped, settle_with, settled, table}
+use Rattle.llb_model.specs.Table.{Event, Claim, Step, Settle, Cancel, worker_of, with_step, step_by, stepped, settled, cancelled, after_end, table}
 use Rattle.llb_model.specs.Leases.{AreLeased}
-use Rattle.llb_model.proofs.Events.{Answer, IsStep, IsSettle, claim_places, claim_is, step_is, settle_is}
+use Rattle.llb_model.proofs.Events.{Answer, IsStep, claim_places, claim_is, step_is, settle_is, cancel_is}
 use Rattle.llb_model.proofs.Lists.{get_set_same}
 use Rattle.llb_state.specs.Board.{Seen, Replays, after_event, recorded}
 use Rattle.llb_state.specs.Caches.{written, places_at, rows_after}
 use Rattle.llb_state.specs.Room.{Supplies, supplies_for, ready_made, needed, mounts_at, needs_at}
-use Rattle.llb_state.specs.Rules.{claim_fault, step_fault, settle_fault}
+use Rattle.llb_state.specs.Rules.{claim_fault, step_fault, settle_fault, cancel_fault}
 use Rattle.llb_board.specs.Undo.{told_as, walk_of, Back, Unclaim, Unstep, Resume, Displaced}
 use Rattle.llb_state.specs.Undoing.{Before, left_in}
 use Rattle.llb_board.specs.Undo.{statuses_before, with_view_back, step_before, workers_before, rows_before, store_before, undone}
-use Rattle.llb_board.specs.Undo.{StandsBehind, HasNoPlaces, FitsLeases, CanUndo, KeepsWhere, MarksClaim, MarksStep, MarksSettle, Marks}
+use Rattle.llb_board.specs.Undo.{StandsBehind, HasNoPlaces, FitsLeases, CanUndo, KeepsWhere, MarksClaim, MarksStep, MarksEnd, Marks}
+use Rattle.llb_board.specs.Undo.{end_of, no_worker, not_running, event_before, IsLast}
+use Rattle.llb_board.specs.declared.undo.End.{End}
+use Rattle.llb_board.specs.declared.undo.End.TheVariants as end
 use Rattle.llb_events.specs.declared.fault.WalkFault.{WalkFault}
 use Rattle.llb_events.specs.declared.fault.WalkFault.TheVariants as walk
 use Rattle.llb_state.specs.Views.{execution_of, at_of}
 use Rattle.llb_board.specs.Walking.{KeepsIf}
-use Rattle.llb_events.specs.declared.fault.SettleFault.TheVariants as no_settle
 use Rattle.llb_events.specs.declared.fault.StepFault.TheVariants as no_step
 use Rattle.llb_state.specs.declared.stand.Desk.{Desk}
 use Rattle.llb_state.specs.declared.stand.Desk.TheVariants as desk
 use Rattle.llb_state.specs.declared.stand.Execution as own
 use Rattle.llb_board.specs.declared.walk.Reply as replied
-use Rattle.llb_state.proofs.Calls.{claim_done, step_done, settle_done}
+use Rattle.llb_state.proofs.Calls.{claim_done, step_done, settle_done, cancel_done}
 use Rattle.llb_state.proofs.Kept.{made_enough}
 use Rattle.llb_state.proofs.Lists.{get_map, set_back, front_again}
 use Rattle.llb_state.proofs.Sound.{consistent}
@@ -61,6 +63,7 @@ pub granted : (b n : Seen) (e : Event) (r : replied.Reply) → walk_of b e ≡ O
 granted b n (Claim w v) r is = told_of b n (Claim w v) claim_fault walk.Claim _ r (claim_done b.build b.state w v) is
 granted b n (Step w) r is = told_of b n (Step w) step_fault walk.Step _ r (step_done b.build b.state w) is
 granted b n (Settle w) r is = told_of b n (Settle w) settle_fault walk.Settle _ r (settle_done b.build b.state w) is
+granted b n (Cancel w) r is = told_of b n (Cancel w) cancel_fault walk.Cancel _ r (cancel_done b.build b.state w) is
 
 -- ---- back to the board before
 
@@ -98,14 +101,27 @@ fits_leases : {A : Type 0} (shown : List A) (u : Displaced) (b n : Seen) (o : Op
 fits_leases shown u b n (Some c) is keeps none = subst (λ (m : Seen). AreLeased c.caches.out m.state.workers c.leases) (sym is) keeps.leased
 fits_leases shown u b n None is keeps none = none keeps
 
-can_undo : {A : Type 0} (shown : List A) (u : Displaced) (b n : Seen) (k : Back) → Replays b → undone u n ≡ b → u.back ≡ k → StandsBehind k n
-    → KeepsWhere shown b u.caches
-    → (shown ≡ [] → HasNoPlaces k) → CanUndo u n
-can_undo shown u b n k here is same stands keeps none = record {
-  replays = subst Replays (sym is) here;
-  stands = subst (λ (x : Back). StandsBehind x n) (sym same) stands;
-  leased = fits_leases shown u b n u.caches is keeps (λ e. subst HasNoPlaces (sym same) (none e));
+-- an event that is granted is the last of the record after it
+last_of : (u : Displaced) (b : Seen) (k : Back) (a : Answer) → table b.build b.state (event_before k) ≡ Some a → u.back ≡ k
+    → undone u (after_event b (event_before k) a.0) ≡ b → IsLast u (after_event b (event_before k) a.0)
+last_of u b k a grants same is = record {
+  reply = a.1;
+  gives = (λ i. table b.build (is i).state (event_before (same i))) ∙ grants;
+  events = λ i. (sym is i).events ++ event_before (sym same i) ∷ [];
 }
+
+can_undo : {A : Type 0} (shown : List A) (u : Displaced) (b : Seen) (k : Back) (a : Answer) → Replays b → table b.build b.state (event_before k) ≡ Some a
+    → undone u (after_event b (event_before k) a.0) ≡ b → u.back ≡ k → StandsBehind k (after_event b (event_before k) a.0)
+    → KeepsWhere shown b u.caches
+    → (shown ≡ [] → HasNoPlaces k) → CanUndo u (after_event b (event_before k) a.0)
+can_undo shown u b k a here grants is same stands keeps none =
+    let n = after_event b (event_before k) a.0 in
+    record {
+      replays = subst Replays (sym is) here;
+      last = last_of u b k a grants same is;
+      stands = subst (λ (x : Back). StandsBehind x n) (sym same) stands;
+      leased = fits_leases shown u b n u.caches is keeps (λ e. subst HasNoPlaces (sym same) (none e));
+    }
 
 -- what an undo of an event does
 pub record Undoes (b : Seen) (e : Event) (s : State) (u : Displaced) : Type 0 where
@@ -140,7 +156,7 @@ claim_back b w v a u here grants marks =
     }) in
     record {
       back = is;
-      can = can_undo (needs_at (slice_get b.build.graph.vertices v)) u b (after_event b (Claim w v) a.0) (Unclaim w v) here is marks.back
+      can = can_undo (needs_at (slice_get b.build.graph.vertices v)) u b (Unclaim w v) a here grants is marks.back
           (record { runs = ap (λ (t : Answer). slice_get t.0.statuses v) c.gives ∙ get_set_same s.statuses v (Running w) Waiting c.begins.waits })
           marks.caches (λ e. tt);
     }
@@ -205,7 +221,7 @@ step_back b w a u here grants marks =
     }) in
     record {
       back = is;
-      can = can_undo x.places u b (after_event b (Step w) a.0) (Unstep w mark) here is marks.back
+      can = can_undo x.places u b (Unstep w mark) a here grants is marks.back
           (record {
             x = z;
             runs = runs;
@@ -214,37 +230,50 @@ step_back b w a u here grants marks =
           }) marks.caches (λ e. tt);
     }
 
--- ---- of a settle
+-- ---- of a settle or a cancel
 
-record SettlesBy (b : Build) (s : State) (w : ℕ) (a : Answer) (x : Execution) : Type 0 where
-  gives : a ≡ settle_with s w x.vertex (ending_from (program_in b x) x)
+-- the worker leaves the vertex, which stands otherwise
+record LeavesBy (s : State) (w : ℕ) (a : Answer) (x : Execution) : Type 0 where
+  status : Status
+  gives : a.0 ≡ after_end s w x.vertex status
 
-settles_by : (b : Build) (s : State) (w : ℕ) (a : Answer) (x : Execution) → slice_get s.workers w ≡ Some (Runs x) → IsSettle b s w a → SettlesBy b s w a x
-settles_by b s w a x runs c = subst (SettlesBy b s w a) (runs_inside (sym c.there ∙ runs)) (record { gives = c.gives })
+leaves_by : (b : Build) (s : State) (e : End) (w : ℕ) (a : Answer) (x : Execution) → slice_get s.workers w ≡ Some (Runs x)
+    → table b s (end_of e w) ≡ Some a → LeavesBy s w a x
+leaves_by b s end.Settle w a x runs given =
+    let c = settle_is b s w a given in
+    subst (LeavesBy s w a) (runs_inside (sym c.there ∙ runs))
+    (record { status = Settled (ending_from (program_in b c.x) c.x); gives = ap (λ (t : Answer). t.0) c.gives })
+leaves_by b s end.Cancel w a x runs given =
+    let c = cancel_is b s w a given in
+    subst (LeavesBy s w a) (runs_inside (sym c.there ∙ runs)) (record { status = Waiting; gives = ap (λ (t : Answer). t.0) c.gives })
 
-settle_back : (b : Seen) (w : ℕ) (a : Answer) (u : Displaced) → Replays b → table b.build b.state (Settle w) ≡ Some a → MarksSettle b w u
-    → Undoes b (Settle w) a.0 u
-settle_back b w a u here grants marks =
+worker_ends : (e : End) (w : ℕ) → worker_of (end_of e w) ≡ w
+worker_ends end.Settle w = refl
+worker_ends end.Cancel w = refl
+
+end_back : (b : Seen) (e : End) (w : ℕ) (a : Answer) (u : Displaced) → Replays b → table b.build b.state (end_of e w) ≡ Some a → MarksEnd b e w u
+    → Undoes b (end_of e w) a.0 u
+end_back b e w a u here grants marks =
     let s = b.state in
     let x = marks.left.execution in
-    let c = settles_by b.build s w a x marks.runs (settle_is b.build s w a grants) in
-    let ending = ending_from (program_in b.build x) x in
+    let c = leaves_by b.build s e w a x marks.runs grants in
     let ran = (consistent b here).working w x marks.runs in
-    let idle : slice_get a.0.workers w ≡ Some Idle = ap (λ (t : Answer). slice_get t.0.workers w) c.gives ∙ get_set_same s.workers w Idle (Runs x) marks.runs in
-    let is = leads_back u b (Settle w) a.0 (record {
+    let idle : slice_get a.0.workers w ≡ Some Idle = ap (λ (t : State). slice_get t.workers w) c.gives ∙ get_set_same s.workers w Idle (Runs x) marks.runs in
+    let is = leads_back u b (end_of e w) a.0 (record {
       statuses = ap (λ k. statuses_before k a.0.statuses) marks.back
-          ∙ ap (λ (t : Answer). slice_set t.0.statuses x.vertex (Running w)) c.gives ∙ set_back s.statuses x.vertex (Settled ending) (Running w) ran;
+          ∙ ap (λ (t : State). slice_set t.statuses x.vertex (Running w)) c.gives ∙ set_back s.statuses x.vertex c.status (Running w) ran;
       workers = ap (λ k. workers_before k a.0.workers) marks.back
-          ∙ ap (λ (t : Answer). slice_set t.0.workers w (Runs x)) c.gives ∙ set_back s.workers w Idle (Runs x) marks.runs;
-      store = store_back x.places b u.caches a.0.store marks.caches (λ e. ap (λ (t : Answer). t.0.store) c.gives);
-      rows = rows_back x.places b u.caches (rows_after b.rows a.0 w) marks.caches (λ e. ap (λ o. written a.0.store b.rows (places_at o)) idle);
+          ∙ ap (λ (t : State). slice_set t.workers w (Runs x)) c.gives ∙ set_back s.workers w Idle (Runs x) marks.runs;
+      store = store_back x.places b u.caches a.0.store marks.caches (λ none. ap (λ (t : State). t.store) c.gives);
+      rows = ap (λ k. rows_before u.caches (rows_after b.rows a.0 k)) (worker_ends e w)
+          ∙ rows_back x.places b u.caches (rows_after b.rows a.0 w) marks.caches (λ none. ap (λ o. written a.0.store b.rows (places_at o)) idle);
     }) in
     record {
       back = is;
-      can = can_undo x.places u b (after_event b (Settle w) a.0) (Resume w marks.left) here is marks.back (record {
+      can = can_undo x.places u b (Resume e w marks.left) a here grants is marks.back (record {
         idle = idle;
         supplies = marks.supplies;
-      }) marks.caches (λ e. e);
+      }) marks.caches (λ none. none);
     }
 
 -- ---- of any event
@@ -252,7 +281,8 @@ settle_back b w a u here grants marks =
 undoes : (b : Seen) (e : Event) (a : Answer) (u : Displaced) → Replays b → table b.build b.state e ≡ Some a → Marks b e u → Undoes b e a.0 u
 undoes b (Claim w v) a u here grants marks = claim_back b w v a u here grants marks
 undoes b (Step w) a u here grants marks = step_back b w a u here grants marks
-undoes b (Settle w) a u here grants marks = settle_back b w a u here grants marks
+undoes b (Settle w) a u here grants marks = end_back b end.Settle w a u here grants marks
+undoes b (Cancel w) a u here grants marks = end_back b end.Cancel w a u here grants marks
 
 -- what was kept before a granted event leads back from the board after it to the one before
 pub walk_back : (b n : Seen) (e : Event) (r : replied.Reply) (u : Displaced) → Replays b → walk_of b e ≡ Ok (n, r) → Marks b e u → undone u n ≡ b
@@ -294,15 +324,16 @@ marks_step n b ds w l x m o asked at is keeps none =
       caches = keeps_where x.places.items n asked o keeps none;
     }
 
--- before a settle, the worker's execution and, where asked for, the caches are all that the settle can displace
-pub marks_settle : (n : Seen) (b : Build) (ds : List Desk) (w : ℕ) (l : Option ℕ) (x y : own.Execution) (o : Option Before) (asked : Bool) → IsAt n b ds w l x
-    → left_in y ≡ left_in x → KeepsIf asked n o → (asked ≡ false → x.places.items ≡ []) → MarksSettle n w (record { back = Resume w (left_in y); caches = o })
-marks_settle n b ds w l x y o asked at is keeps none =
+-- before a settle or a cancel, the worker's execution and, where asked for, the caches are all that it can displace
+pub marks_end : (n : Seen) (e : End) (b : Build) (ds : List Desk) (w : ℕ) (l : Option ℕ) (x y : own.Execution) (o : Option Before) (asked : Bool)
+    → IsAt n b ds w l x → left_in y ≡ left_in x → KeepsIf asked n o → (asked ≡ false → x.places.items ≡ [])
+    → MarksEnd n e w (record { back = Resume e w (left_in y); caches = o })
+marks_end n e b ds w l x y o asked at is keeps none =
     let made = made_enough b ds w l x at.supplies at.there in
     record {
       left = left_in x;
       runs = ap (λ ws. slice_get ws w) at.workers ∙ get_map at_of ds w (desk.Runs l x) at.there;
-      back = ap (Resume w) is;
+      back = ap (Resume e w) is;
       supplies = made ∙ ap (λ (c : Build). supplies_for (slice_get c.graph.vertices x.vertex)) (sym at.build);
       caches = keeps_where x.places.items n asked o keeps none;
     }
@@ -315,11 +346,13 @@ step_none n w at = ap (λ o. told_as walk.Step (recorded n (Step w) step_fault (
 pub step_idle : (n : Seen) (w : ℕ) → slice_get n.state.workers w ≡ Some Idle → walk_of n (Step w) ≡ Err (walk.Step no_step.NotRunning)
 step_idle n w at = ap (λ o. told_as walk.Step (recorded n (Step w) step_fault (stepped n.build n.state w o))) at
 
-pub settle_none : (n : Seen) (w : ℕ) → slice_get n.state.workers w ≡ None → walk_of n (Settle w) ≡ Err (walk.Settle no_settle.NoWorker)
-settle_none n w at = ap (λ o. told_as walk.Settle (recorded n (Settle w) settle_fault (settled n.build n.state w o))) at
+pub end_none : (n : Seen) (e : End) (w : ℕ) → slice_get n.state.workers w ≡ None → walk_of n (end_of e w) ≡ Err (no_worker e)
+end_none n end.Settle w at = ap (λ o. told_as walk.Settle (recorded n (Settle w) settle_fault (settled n.build n.state w o))) at
+end_none n end.Cancel w at = ap (λ o. told_as walk.Cancel (recorded n (Cancel w) cancel_fault (cancelled n.state w o))) at
 
-pub settle_idle : (n : Seen) (w : ℕ) → slice_get n.state.workers w ≡ Some Idle → walk_of n (Settle w) ≡ Err (walk.Settle no_settle.NotRunning)
-settle_idle n w at = ap (λ o. told_as walk.Settle (recorded n (Settle w) settle_fault (settled n.build n.state w o))) at
+pub end_idle : (n : Seen) (e : End) (w : ℕ) → slice_get n.state.workers w ≡ Some Idle → walk_of n (end_of e w) ≡ Err (not_running e)
+end_idle n end.Settle w at = ap (λ o. told_as walk.Settle (recorded n (Settle w) settle_fault (settled n.build n.state w o))) at
+end_idle n end.Cancel w at = ap (λ o. told_as walk.Cancel (recorded n (Cancel w) cancel_fault (cancelled n.state w o))) at
 
 none_of : {A : Type 0} (xs : List A) → length xs ≡ 0 → xs ≡ []
 none_of [] e = refl

@@ -1,5 +1,5 @@
 -- An event as a walker does it, what it displaces, and the board after the event taken back.
-use Rattle.std.specs.Prelude.{◌≡◌, ℕ, ◌-◌, Bool, true, false, List, [], length, Option, Some, None, Result, Ok, Err, slice_get, slice_set}
+use Rattle.std.specs.Prelude.{◌≡◌, ℕ, ◌-◌, Bool, true, false, List, [], ◌∷◌, ◌++◌, length, Option, Some, None, Result, Ok, Err, slice_get, slice_set}
 use Rattle.llb_wire.specs.Answer as answer
 use Rattle.llb_cache.specs.Caches.{Row}
 use Rattle.llb_execution.specs.Marks.{Mark, mark_of, put_back}
@@ -11,14 +11,19 @@ use Rattle.llb_model.specs.State.{Status, Waiting, Running, Execution, At, Idle,
 use Rattle.llb_model.specs.Table as table
 use Rattle.llb_state.specs.Board.{Seen, Replays}
 use Rattle.llb_state.specs.Room.{supplies_for, mounts_at, needs_at}
-use Rattle.llb_state.specs.Rules.{claim_of, step_of, settle_of}
+use Rattle.llb_state.specs.Events.{Space, uncancelled}
+use Rattle.llb_state.specs.Rules.{claim_of, step_of, settle_of, cancel_of}
 use Rattle.llb_state.specs.Undoing.{Left, left_in, Before, front}
 use Rattle.llb_events.specs.declared.event.Stepped.TheVariants as stepped
 use Rattle.llb_events.specs.declared.event.Settled.TheVariants as settled
+use Rattle.llb_events.specs.declared.fault.SettleFault.TheVariants as no_settle
+use Rattle.llb_events.specs.declared.fault.CancelFault.TheVariants as no_cancel
 use Rattle.llb_events.specs.declared.fault.WalkFault.{WalkFault}
 use Rattle.llb_events.specs.declared.fault.WalkFault.TheVariants as walk
 use Rattle.llb_board.specs.declared.undo.Back as undo
 use Rattle.llb_board.specs.declared.undo.Back.TheVariants as back
+use Rattle.llb_board.specs.declared.undo.End.{End}
+use Rattle.llb_board.specs.declared.undo.End.TheVariants as end
 use Rattle.llb_board.specs.declared.walk.Reply.{Reply}
 use Rattle.llb_board.specs.declared.walk.Reply.TheVariants as reply
 
@@ -31,36 +36,53 @@ told table.HasRead = reply.Stepped stepped.Read
 told (table.Acted a) = reply.Stepped (stepped.Acted a)
 told (table.HasMerged i) = reply.Stepped (stepped.Merged i)
 told (table.HasRun c status) = reply.Stepped (stepped.Ran c status)
+told (table.Skipped c) = reply.Stepped (stepped.Skipped c)
 told (table.Faulted f) = reply.Stepped (stepped.Fault f)
 told (table.SettledDone v) = reply.Settled (settled.Done v)
 told (table.SettledFailed v) = reply.Settled (settled.Failed v)
+told (table.Cancelled v k) = reply.Cancelled (record { vertex = v; done = k })
 
 abbrev pub told_as : {F : Type 0} → (F → WalkFault) → Result (Seen × table.Reply) F → Result (Seen × Reply) WalkFault
 told_as fault (Ok (b, r)) = Ok (b, told r)
 told_as fault (Err e) = Err (fault e)
 
--- what a claim, a step or a settle answers
+-- what a claim, a step, a settle or a cancel answers
 abbrev pub walk_of : Seen → table.Event → Result (Seen × Reply) WalkFault
 walk_of b (table.Claim w v) = told_as walk.Claim (claim_of b w v)
 walk_of b (table.Step w) = told_as walk.Step (step_of b w)
 walk_of b (table.Settle w) = told_as walk.Settle (settle_of b w)
+walk_of b (table.Cancel w) = told_as walk.Cancel (cancel_of b w)
 
 abbrev pub walk_memory : WalkFault → Bool
 walk_memory walk.Memory = true
 walk_memory (walk.Claim e) = false
 walk_memory (walk.Step e) = false
 walk_memory (walk.Settle e) = false
+walk_memory (walk.Cancel e) = false
 
 abbrev pub GivesWalk : {X Y : Type 0} → (X → Y) → Result X WalkFault → Result Y WalkFault → Type 0
 GivesWalk = answer.Gives walk_memory
 
+-- the event by which a worker leaves what it runs, and its faults where the worker is not there or idle
+abbrev pub end_of : End → ℕ → table.Event
+end_of end.Settle w = table.Settle w
+end_of end.Cancel w = table.Cancel w
+
+abbrev pub no_worker : End → WalkFault
+no_worker end.Settle = walk.Settle no_settle.NoWorker
+no_worker end.Cancel = walk.Cancel no_cancel.NoWorker
+
+abbrev pub not_running : End → WalkFault
+not_running end.Settle = walk.Settle no_settle.NotRunning
+not_running end.Cancel = walk.Cancel no_cancel.NotRunning
+
 -- ---- what an event displaces
 
--- a claim the vertex that waited, a step what it can change of a view, a settle what the worker ran
+-- a claim the vertex that waited, a step what it can change of a view, a settle and a cancel what the worker ran
 pub data Back : Type 0 where
   Unclaim : ℕ → ℕ → Back
   Unstep : ℕ → Mark → Back
-  Resume : ℕ → Left → Back
+  Resume : End → ℕ → Left → Back
 
 -- and where the vertex shows caches, these as they were
 pub record Displaced : Type 0 where
@@ -70,14 +92,14 @@ pub record Displaced : Type 0 where
 abbrev pub back_in : undo.Back → Back
 back_in (back.Unclaim w v) = Unclaim w v
 back_in (back.Unstep w mark) = Unstep w mark
-back_in (back.Resume w x) = Resume w (left_in x)
+back_in (back.Resume e w x) = Resume e w (left_in x)
 
 -- ---- the event taken back
 
 abbrev pub statuses_before : Back → List Status → List Status
 statuses_before (Unclaim w v) statuses = slice_set statuses v Waiting
 statuses_before (Unstep w mark) statuses = statuses
-statuses_before (Resume w left) statuses = slice_set statuses left.execution.vertex (Running w)
+statuses_before (Resume e w left) statuses = slice_set statuses left.execution.vertex (Running w)
 
 -- one micro-step less is done, and none has faulted
 abbrev pub with_view_back : Mark → Execution → Execution
@@ -91,7 +113,7 @@ step_before mark None = Idle
 abbrev pub workers_before : Back → List At → List At
 workers_before (Unclaim w v) workers = slice_set workers w Idle
 workers_before (Unstep w mark) workers = slice_set workers w (step_before mark (slice_get workers w))
-workers_before (Resume w left) workers = slice_set workers w (Runs left.execution)
+workers_before (Resume e w left) workers = slice_set workers w (Runs left.execution)
 
 abbrev pub rows_before : Option Before → List Row → List Row
 rows_before (Some c) rows = c.caches.rows
@@ -113,7 +135,24 @@ undone u b = record b {
   events = front b.events;
 }
 
+-- the counts of cancels before a worker left a vertex
+abbrev pub space_before : End → ℕ → Space → Space
+space_before end.Settle v space = space
+space_before end.Cancel v space = uncancelled v space
+
 -- ---- where it can be taken back
+
+-- the event that is taken back
+abbrev pub event_before : Back → table.Event
+event_before (Unclaim w v) = table.Claim w v
+event_before (Unstep w mark) = table.Step w
+event_before (Resume e w left) = end_of e w
+
+-- it is the last of the record
+pub record IsLast (u : Displaced) (b : Seen) : Type 0 where
+  pub reply : table.Reply
+  pub gives : table.table b.build (undone u b).state (event_before u.back) ≡ Some (b.state, reply)
+  pub events : b.events ≡ (undone u b).events ++ event_before u.back ∷ []
 
 -- the worker and its vertex stand as the event left them, and what is put back has the supplies that the build asks for
 pub record IsBegun (b : Seen) (w v : ℕ) : Type 0 where
@@ -131,13 +170,13 @@ pub record IsLeft (b : Seen) (w : ℕ) (left : Left) : Type 0 where
 abbrev pub StandsBehind : Back → Seen → Type 0
 StandsBehind (Unclaim w v) b = IsBegun b w v
 StandsBehind (Unstep w mark) b = IsStepped b w mark
-StandsBehind (Resume w left) b = IsLeft b w left
+StandsBehind (Resume e w left) b = IsLeft b w left
 
--- what a settle left of a vertex that shows no cache has no instances
+-- what a worker left of a vertex that shows no cache has no instances
 abbrev pub HasNoPlaces : Back → Type 0
 HasNoPlaces (Unclaim w v) = Unit {0}
 HasNoPlaces (Unstep w mark) = Unit {0}
-HasNoPlaces (Resume w left) = left.execution.places ≡ []
+HasNoPlaces (Resume e w left) = left.execution.places ≡ []
 
 -- the caches that are put back have the instances of the workers leased, by these leases
 abbrev pub FitsLeases : Displaced → Seen → Option Before → Type 0
@@ -147,6 +186,7 @@ FitsLeases u b None = HasNoPlaces u.back
 -- the board that an undo leaves is one that events lead to, and whose parts fit
 pub record CanUndo (u : Displaced) (b : Seen) : Type 0 where
   pub replays : Replays (undone u b)
+  pub last : IsLast u b
   pub stands : StandsBehind u.back b
   pub leased : FitsLeases u b u.caches
 
@@ -174,10 +214,10 @@ pub record MarksStep (b : Seen) (w : ℕ) (u : Displaced) : Type 0 where
   pub mounts : mounts_in x.own ≡ length (mounts_at (slice_get b.build.graph.vertices x.vertex))
   pub caches : KeepsWhere x.places b u.caches
 
-pub record MarksSettle (b : Seen) (w : ℕ) (u : Displaced) : Type 0 where
+pub record MarksEnd (b : Seen) (e : End) (w : ℕ) (u : Displaced) : Type 0 where
   pub left : Left
   pub runs : slice_get b.state.workers w ≡ Some (Runs left.execution)
-  pub back : u.back ≡ Resume w left
+  pub back : u.back ≡ Resume e w left
   pub supplies : left.supplies ≡ supplies_for (slice_get b.build.graph.vertices left.execution.vertex)
   pub caches : KeepsWhere left.execution.places b u.caches
 
@@ -185,4 +225,5 @@ pub record MarksSettle (b : Seen) (w : ℕ) (u : Displaced) : Type 0 where
 abbrev pub Marks : Seen → table.Event → Displaced → Type 0
 Marks b (table.Claim w v) u = MarksClaim b w v u
 Marks b (table.Step w) u = MarksStep b w u
-Marks b (table.Settle w) u = MarksSettle b w u
+Marks b (table.Settle w) u = MarksEnd b end.Settle w u
+Marks b (table.Cancel w) u = MarksEnd b end.Cancel w u

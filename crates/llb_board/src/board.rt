@@ -1,15 +1,15 @@
 //! The board: what stands at each vertex, what each worker runs, the caches, and the record of events since it was opened. Its
-//! type keeps that the record is a run of the table to where the board is, that it has room for every event to come, and that each
-//! running worker has a lease of its instances of caches.
+//! type keeps that the record is a run of the table to where the board is, that it has room for every event to come but those of a
+//! vertex that is claimed again after a cancel, and that each running worker has a lease of its instances of caches.
 
 ghost use Rattle.std.specs.Prelude.{◌≡◌, ◌<◌, ◌≤◌, ◌+◌, length, true, is_some, option_map, OnErr, IfErr, IfOk};
 ghost use Rattle.llb_model.specs.Outcome.{output_in};
 ghost use Rattle.llb_model.specs.State.{ending_at, missing_local};
-ghost use Rattle.llb_model.specs.Room.{most_events, still_to_come};
+ghost use Rattle.llb_model.specs.Room.{most_events, owed, still_to_come};
 ghost use Rattle.llb_model.specs.Run.{chosen, is_complete};
 ghost use Rattle.llb_model.specs.Laws.{IsReached};
 ghost use Rattle.llb_loader.specs.Graph.{IsGraph};
-ghost use Rattle.llb_state.specs.Board.{Seen, Replays};
+ghost use Rattle.llb_state.specs.Board.{Seen, Replays, replies_in};
 ghost use Rattle.llb_links.specs.Links.{users_of};
 ghost use Rattle.llb_wire.specs.Answer.{MemoryLast};
 ghost use Rattle.llb_cache.specs.Caches.{leases};
@@ -19,20 +19,22 @@ ghost use Rattle.llb_state.specs.Rules.{step_memory};
 ghost use Rattle.llb_board.specs.Opening.{may_work, open_memory, GivesOpen, open_of, open_with};
 ghost use Rattle.llb_events.specs.Faults.{claim_memory, claim_may_want};
 ghost use Rattle.llb_board.specs.Opening.{returned, may_want_memory};
-ghost use Rattle.llb_state.specs.Rules.{claim_of, GivesStep, step_of, GivesSettle, settle_of};
+ghost use Rattle.llb_state.specs.Rules.{claim_of, GivesStep, step_of, GivesSettle, settle_of, GivesCancel, cancel_of};
 ghost use Rattle.llb_events.specs.Faults.{GivesClaim};
-ghost use Rattle.llb_state.specs.Views.{event_of, claim_reply, step_reply, settle_reply, status_of, look, look_at, worker_look};
+ghost use Rattle.llb_state.specs.Views.{event_of, claim_reply, step_reply, settle_reply, cancel_reply, status_of, look, look_at, worker_look};
 
 use crate::fault::OpenFault;
 use llb_cache::Caches;
-use llb_events::{At, ClaimFault, Event, SettleFault, Settled, Status, StepFault, Stepped};
+use llb_events::{
+    At, CancelFault, Cancelled, ClaimFault, Event, SettleFault, Settled, Status, StepFault, Stepped,
+};
 use llb_links::Links;
 use llb_loader::{Graph, Locals};
 use llb_needs::wanted_by;
 use llb_state::{
-    Begun, Build, Desk, Events, Job, Stand, all_settled, begin, claimable, desk_at, first_open,
-    give_all_back, give_back, is_finished, is_marked, is_ready, lease_for, leave, next_claim,
-    next_event, opening, output_at, stand_at, step_at,
+    Begun, Build, Desk, Events, History, Job, Stand, all_settled, begin, claimable, desk_at,
+    first_open, give_all_back, give_back, give_up, is_finished, is_marked, is_ready,
+    lease_with_room, leave, next_claim, next_event, opening, output_at, stand_at, step_at,
 };
 use llb_tree::Tree;
 use llb_wire::{Memory, Text};
@@ -50,7 +52,7 @@ pub struct Board {
     pub(crate) stop_marks: Vec<bool>,
     pub(crate) links: Links,
     pub(crate) first_open: u32,
-    pub(crate) events: Events,
+    pub(crate) history: History,
 }
 
 // Written out, so that the crates above drop one by this one function.
@@ -66,7 +68,7 @@ impl Drop for Board {
             stop_marks: _,
             links: _,
             first_open: _,
-            events: _,
+            history: _,
         } = self;
     }
 }
@@ -82,10 +84,10 @@ impl Model for Board {
 
     ghost coded = { Prim.hlevel (codes, coded_tree, coded_store) };
 
-    ghost view = { λ b. seen b.build b.start.rows b.stands.items b.desks.items b.caches.rows b.events.list };
+    ghost view = { λ b. seen b.build b.start.rows b.stands.items b.desks.items b.caches.rows b.history.list };
 
-    ghost invariant = { λ b. IsTracked (seen b.build b.start.rows b.stands.items b.desks.items b.caches.rows b.events.list) b.desks.items b.caches.out
-        b.stop_marks.items b.links b.events.room b.first_open };
+    ghost invariant = { λ b. IsTracked (seen b.build b.start.rows b.stands.items b.desks.items b.caches.rows b.history.list) b.desks.items b.caches.out
+        b.stop_marks.items b.links b.history.space b.first_open };
 }
 
 impl Board {
@@ -145,7 +147,7 @@ impl Board {
                 stop_marks: fresh.stop_marks,
                 links: fresh.links,
                 first_open: 0,
-                events: fresh.events,
+                history: fresh.history,
             }),
             Err(_) => {
                 let (graph, locals) = build.into_parts();
@@ -156,7 +158,8 @@ impl Board {
 
     /// An idle worker takes a vertex that waits and has all its inputs, with an instance of each cache that the vertex shows. 131, 132,
     /// 133, 134, 135 with the first locked key that a running worker has, 141. Where memory is refused for that key's own
-    /// text, 141 stands in the place of 135; memory for anything else comes after it.
+    /// text, 141 stands in the place of 135; memory for anything else comes after it. A vertex that was cancelled before takes
+    /// room for its events once more.
     pub fn claim(&mut self, w: u32, v: u32) -> Result<Job, ClaimFault>
         ensures gives { GivesClaim (λ job. (self.new, claim_reply job)) result (claim_of self.old w v) }
         ensures last { IfErr result (λ e. claim_memory e ≡ true → claim_may_want (claim_of self.old w v) ≡ true) }
@@ -179,16 +182,17 @@ impl Board {
             needs,
         } = begun;
         self.caches.is_exclusive();
-        let lease = lease_for(&mut self.caches, needs)?;
+        let events = self.build.steps(v) as usize + 2;
+        let lease = lease_with_room(&mut self.caches, &mut self.history, needs, v, events)?;
         self.first_open = first_open(&self.build, &self.stands, &self.stop_marks, self.first_open);
-        self.events.push_reserved(Event::Claim(w, v));
+        self.history.push_reserved(Event::Claim(w, v));
         self.stands[v as usize] = Stand::Running(w);
         self.desks[w as usize] = Desk::Runs(lease, execution);
         Ok(job)
     }
 
-    /// The next micro-step of what a worker runs. A command that ends with another status than 0 is the last. It sees the caches as they
-    /// are now, and they are written at once. 131, 136, 137, 141.
+    /// The next micro-step of what a worker runs. A command runs or is skipped, by its join and the last status. It sees the caches as
+    /// they are now, and they are written at once. 131, 136, 137, 141; a skipped command takes no memory.
     pub fn step(&mut self, w: u32) -> Result<Stepped, StepFault>
         ensures gives { GivesStep (λ r. (self.new, step_reply r)) result (step_of self.old w) }
         ensures last { MemoryLast step_memory result (step_of self.old w) }
@@ -201,7 +205,7 @@ impl Board {
             &mut self.caches,
             w,
         )?;
-        self.events.push_reserved(Event::Step(w));
+        self.history.push_reserved(Event::Step(w));
         Ok(stepped)
     }
 
@@ -215,7 +219,7 @@ impl Board {
         give_back(&mut self.caches, lease);
         let failed = stand.has_failed();
         self.stands[v as usize] = stand;
-        self.events.push_reserved(Event::Settle(w));
+        self.history.push_reserved(Event::Settle(w));
         if failed {
             self.links.spread(&mut self.stop_marks, v);
             self.first_open = first_open(
@@ -229,6 +233,20 @@ impl Board {
         self.links.count_down(v);
         self.first_open = first_open(&self.build, &self.stands, &self.stop_marks, self.first_open);
         Ok(Settled::Done(v))
+    }
+
+    /// A worker gives up what it runs, finished or not. Its vertex waits again, its instances of caches are free, and they keep what
+    /// its micro-steps have written. 131, 136; no memory.
+    pub fn cancel(&mut self, w: u32) -> Result<Cancelled, CancelFault>
+        ensures gives { GivesCancel (λ r. (self.new, cancel_reply r)) result (cancel_of self.old w) }
+        ensures err { OnErr result (self.new ≡ self.old) }
+    {
+        let _ = self.build.vertices();
+        let (cancelled, lease) = give_up(&mut self.desks, w)?;
+        give_back(&mut self.caches, lease);
+        self.stands[cancelled.vertex as usize] = Stand::Waiting;
+        self.history.push_cancel(w, cancelled.vertex);
+        Ok(cancelled)
     }
 
     /// The graph that is worked on. No memory.
@@ -276,14 +294,15 @@ impl Board {
         self.links.users(v)
     }
 
-    /// The record of events since the board was opened: at most one claim, one settle and its micro-steps for each vertex. It has room
-    /// for a whole run, and so for all that is still to come. No memory.
+    /// The record of events since the board was opened: of each vertex at most one claim, one settle and its micro-steps, and as many
+    /// once more for each time that it was cancelled. It has room for all that is still to come, but for the vertices that wait
+    /// after a cancel, whose claim takes it. No memory.
     pub fn events(&self) -> &Events
         ensures all { result.now.list ≡ self.now.events }
-        ensures bound { still_to_come self.now.build self.now.state + length result.now.list ≤ most_events self.now.build }
-        ensures room { most_events self.now.build ≤ result.now.room }
+        ensures bound { still_to_come self.now.build self.now.state + length result.now.list ≤ most_events self.now.build (replies_in self.now) }
+        ensures room { result.now.room + owed self.now.build self.now.state.statuses (replies_in self.now) ≡ most_events self.now.build (replies_in self.now) }
     {
-        &self.events
+        self.history.events()
     }
 
     /// The event that a driver chooses. No memory.
@@ -332,7 +351,7 @@ impl Board {
             stop_marks: _,
             links: _,
             first_open: _,
-            events: _,
+            history: _,
         } = self;
         give_all_back(&mut caches, &desks);
         let (graph, locals) = build.into_parts();
@@ -361,7 +380,7 @@ impl Board {
         ensures run { Replays self.now }
         ensures reached { IsReached self.now.build self.now.state }
     {
-        let _ = &self.events;
+        let _ = &self.history;
     }
 }
 

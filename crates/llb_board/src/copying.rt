@@ -4,11 +4,11 @@ ghost use Rattle.std.specs.Prelude.{◌≡◌, IfOk};
 
 use crate::board::Board;
 use llb_events::Memory;
-use llb_state::{copied_desks, copied_stands, room};
+use llb_state::{copied_desks, copied_stands};
 
 impl Board {
-    /// A second board, on which the same has happened, with the same room. It shares the graph and all trees. 141 where memory is
-    /// refused.
+    /// A second board, on which the same has happened. Its record has the same room, since the room is told by what is seen
+    /// (`events`). It shares the graph and all trees. 141 where memory is refused.
     pub fn copy(&self) -> Result<Board, Memory>
         ensures { IfOk result (λ b. b ≡ self.now) }
     {
@@ -22,7 +22,7 @@ impl Board {
             stop_marks: Vec::from_slice(self.alloc, &self.stop_marks)?,
             links: self.links.copy(self.alloc)?,
             first_open: self.first_open,
-            events: self.events.with_same(self.alloc, room(&self.build))?,
+            history: self.history.copy(self.alloc)?,
         })
     }
 }

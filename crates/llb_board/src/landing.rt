@@ -8,9 +8,7 @@ ghost use Rattle.llb_state.specs.Views.{settle_reply};
 use crate::board::Board;
 use crate::fault::LandFault;
 use llb_events::Settled;
-use llb_state::{
-    Desk, Job, Outcome, desk_at, has_shared, is_run_of, put_left, record_steps, write_back,
-};
+use llb_state::{Desk, Job, Outcome, desk_at, has_shared, is_run_of, put_left, write_back};
 
 /// Why no outcome lands.
 #[derive(Clone, Copy)]
@@ -72,7 +70,7 @@ impl Board {
         self.caches.is_exclusive();
         let lease = put_left(&mut self.desks, w, (count, fault), view);
         write_back(&mut self.caches, lease, trees);
-        record_steps(&mut self.events, w, count);
+        self.history.record_steps(w, count);
     }
 }
 

@@ -62,7 +62,7 @@ pub fn chosen_is_granted(board: &Board)
     board.has_workers();
 }
 
-/// An event that is granted leaves what the workers other than its own do as it is. From a worker's claim to its settle it
+/// An event that is granted leaves what the workers other than its own do as it is. From a worker's claim to its settle or cancel it
 /// also leaves the instances of caches that the worker has alone, and whatever stood there the event would have the same
 /// reply, and the same effect elsewhere.
 pub fn others_keep(board: &Board)
@@ -104,7 +104,7 @@ pub fn stays_dense(board: &Board)
 }
 
 /// Where no cache is shared, after any list of granted events the settled vertices and the free instances of caches stand as
-/// if each claimed vertex had been run whole at its claim, in the order of the claims.
+/// if each claimed vertex had been run at its claim, in the order of the claims: whole, or as far as it came where it was cancelled.
 pub fn runs_in_claim_order(board: &Board)
     ensures { machine.NoShared board.now.build → machine.RunsInClaimOrder board.now.build }
 {
@@ -122,6 +122,23 @@ pub fn alone_in_claim_order(board: &Board)
 /// of the block of its micro-steps and its settle.
 pub fn lands_as_block(board: &Board)
     ensures { LandsAsBlock board.now.build }
+{
+    let _ = board;
+}
+
+/// An exec is finished after its last command, or as soon as the last status is not 0 and every later command is joined by `&&`. Its fault
+/// is then the exit of the last command that ran, exactly where that status is not 0: of a script run by itself, and of every worker
+/// on this board and after any list of granted events, whatever others do to shared caches meanwhile.
+pub fn execs_end_by_last_status(board: &Board)
+    ensures alone { machine.FailsByLastStatus }
+    ensures among_others { machine.ExecsEndByLastStatus board.now.build }
+{
+    let _ = board;
+}
+
+/// A script of `&&` alone runs its commands in turn up to the first with a status other than 0, and skips none.
+pub fn ands_run_in_turn(board: &Board)
+    ensures { machine.AndsRunInTurn }
 {
     let _ = board;
 }

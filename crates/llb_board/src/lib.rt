@@ -1,5 +1,5 @@
-//! One state, changed by the transition table alone: claims, steps and settles of workers on the vertices of a graph with caches,
-//! and the record of them. Stands on the parts of a state and on what changes one of them; it starts no thread and takes no lock.
+//! One state, changed by the transition table alone: claims, steps, settles and cancels of workers on the vertices of a graph with
+//! caches, and the record of them. Stands on the parts of a state and on what changes one of them; it starts no thread and takes no lock.
 #![tactic(auto)]
 
 mod board;
@@ -14,8 +14,8 @@ mod walk;
 pub use board::Board;
 pub use fault::{LandFault, OpenFault};
 pub use llb_events::{
-    At, ClaimFault, Event, Gate, Memory, SettleFault, Settled, Status, StepFault, Stepped, Stopped,
-    WalkFault, WorkFault,
+    At, CancelFault, Cancelled, ClaimFault, Event, Gate, Memory, SettleFault, Settled, Status,
+    StepFault, Stepped, Stopped, WalkFault, WorkFault,
 };
 pub use llb_execution::{Program, View};
 pub use llb_state::{Events, Job, Outcome, work};

@@ -18,6 +18,9 @@ impl Board {
             && self.caches.has_same_trees(&other.caches)
             && same_stands(self.stands.as_slice(), other.stands.as_slice())
             && same_desks(self.desks.as_slice(), other.desks.as_slice())
-            && same_events(self.events.as_slice(), other.events.as_slice())
+            && same_events(
+                self.history.events().as_slice(),
+                other.history.events().as_slice(),
+            )
     }
 }

@@ -1,14 +1,14 @@
 //! An event taken back: what it displaced is on the board again.
 
-ghost use Rattle.std.specs.Prelude.{◌≡◌};
-ghost use Rattle.llb_board.specs.Undo.{Unclaim, Unstep, Resume, undone, CanUndo};
-ghost use Rattle.llb_state.specs.Undoing.{left_in, caches_in};
+ghost use Rattle.std.specs.Prelude.{◌≡◌, ◌<◌, length};
+ghost use Rattle.llb_board.specs.Undo.{Unclaim, Unstep, Resume, undone, CanUndo, space_before};
+ghost use Rattle.llb_state.specs.Undoing.{left_in, caches_in, front};
 
 use crate::board::Board;
 use llb_execution::Mark;
 use llb_state::{
-    Before, Desk, Execution, Stand, give_back, make_idle, mark_anew, open_anew, put_caches,
-    step_back,
+    Before, Desk, Execution, History, Stand, give_back, make_idle, mark_anew, open_anew,
+    put_caches, step_back,
 };
 use std::marker::Model;
 use std::mem;
@@ -28,8 +28,15 @@ pub(crate) enum Back {
     Unclaim(u32, u32),
     /// Of a step: the worker, and what the micro-step could change of its view.
     Unstep(u32, Mark),
-    /// Of a settle: the worker, and what it ran.
-    Resume(u32, Execution),
+    /// Of a settle or a cancel: which of the two, the worker, and what it ran.
+    Resume(End, u32, Execution),
+}
+
+/// The event by which a worker leaves what it runs.
+#[derive(Clone, Copy)]
+pub(crate) enum End {
+    Settle,
+    Cancel,
 }
 
 impl Model for Undo {
@@ -55,11 +62,11 @@ impl Board {
         match back {
             Back::Unclaim(w, v) => self.unclaim(w, v, caches),
             Back::Unstep(w, mark) => self.unstep(w, mark, caches),
-            Back::Resume(w, execution) => self.resume(w, execution, caches),
+            Back::Resume(end, w, execution) => self.resume(end, w, execution, caches),
         }
     }
 
-    // A claim taken back: the worker is idle, and the vertex waits.
+    // A claim taken back: the worker is idle, the vertex waits, and the room that the claim took is given back.
     fn unclaim(&mut self, w: u32, v: u32, before: Option<Before>)
         requires { CanUndo (record { back = Unclaim w v; caches = caches_in before }) self.old }
         ensures { self.new ≡ undone (record { back = Unclaim w v; caches = caches_in before }) self.old }
@@ -69,7 +76,9 @@ impl Board {
         put_caches(&mut self.desks, &mut self.caches, before);
         self.stands[v as usize] = Stand::Waiting;
         self.first_open = self.first_open.min(v);
-        self.events.take_back();
+        self.history.take_back();
+        let events = self.build.steps(v) as usize + 2;
+        self.history.give_room(v, events);
     }
 
     // A micro-step taken back.
@@ -79,13 +88,13 @@ impl Board {
     {
         step_back(&mut self.desks, w, mark);
         put_caches(&mut self.desks, &mut self.caches, before);
-        self.events.take_back();
+        self.history.take_back();
     }
 
-    // A settle taken back: the worker runs what it has left. The marks are made anew where the vertex had failed.
-    fn resume(&mut self, w: u32, execution: Execution, before: Option<Before>)
-        requires { CanUndo (record { back = Resume w (left_in execution); caches = caches_in before }) self.old }
-        ensures { self.new ≡ undone (record { back = Resume w (left_in execution); caches = caches_in before }) self.old }
+    // A settle or a cancel taken back: the worker runs what it has left. The marks are made anew where the vertex had failed.
+    fn resume(&mut self, end: End, w: u32, execution: Execution, before: Option<Before>)
+        requires { CanUndo (record { back = Resume end w (left_in execution); caches = caches_in before }) self.old }
+        ensures { self.new ≡ undone (record { back = Resume end w (left_in execution); caches = caches_in before }) self.old }
     {
         let v = execution.vertex;
         let vertices = self.build.vertices();
@@ -100,6 +109,18 @@ impl Board {
         );
         open_anew(&mut self.links, v, had.is_done());
         self.first_open = self.first_open.min(v);
-        self.events.take_back();
+        take_back_end(&mut self.history, end, v);
+    }
+}
+
+// The record without the event by which a worker left a vertex.
+fn take_back_end(history: &mut History, end: End, v: u32)
+    requires { v < length history.old.space.cancels }
+    ensures list { history.new.list ≡ front history.old.list }
+    ensures space { history.new.space ≡ space_before end v history.old.space }
+{
+    match end {
+        End::Settle => history.take_back(),
+        End::Cancel => history.take_back_cancel(v),
     }
 }

@@ -2,15 +2,18 @@
 
 ghost use Rattle.std.specs.Prelude.{◌≡◌, ◌==◌, false, not, length, option_map, slice_get, OnErr, IfOk, IfErr, Err};
 ghost use Rattle.llb_state.specs.Room.{needs_at};
-ghost use Rattle.llb_board.specs.Undo.{GivesWalk, walk_of, walk_memory, undone, CanUndo, Marks, MarksClaim, MarksStep, MarksSettle};
+ghost use Rattle.llb_board.specs.Undo.{GivesWalk, walk_of, walk_memory, undone, CanUndo, Marks, MarksClaim, MarksStep, MarksEnd};
+ghost use Rattle.llb_board.specs.Undo.{end_of, no_worker, not_running};
 ghost use Rattle.llb_state.specs.Undoing.{caches_in};
 ghost use Rattle.llb_board.specs.Walking.{KeepsIf};
 ghost use Rattle.llb_state.specs.Views.{event_of};
-ghost use Rattle.llb_model.specs.Table.{Step, Settle};
+ghost use Rattle.llb_model.specs.Table.{Step};
 
 use crate::board::Board;
-use crate::undo::{Back, Undo};
-use llb_events::{Event, Memory, SettleFault, Settled, StepFault, Stepped, WalkFault};
+use crate::undo::{Back, End, Undo};
+use llb_events::{
+    CancelFault, Cancelled, Event, Memory, SettleFault, Settled, StepFault, Stepped, WalkFault,
+};
 use llb_needs::shows_cache;
 use llb_state::{Before, Build, Desk, copied, copied_leases};
 
@@ -20,6 +23,7 @@ pub enum Reply {
     Claimed,
     Stepped(Stepped),
     Settled(Settled),
+    Cancelled(Cancelled),
 }
 
 /// An event that was done: its answer, and what takes it back.
@@ -31,7 +35,7 @@ pub struct Walked {
 
 impl Board {
     /// Does an event, and answers besides what takes it back: memory for that grows with what the event changes. The fault of the
-    /// claim, the step or the settle, or 141, which may come at any time.
+    /// claim, the step, the settle or the cancel, or 141, which may come at any time.
     pub fn walk(&mut self, event: Event) -> Result<Walked, WalkFault>
         ensures gives { GivesWalk (λ r. (self.new, r.reply)) result (walk_of self.old (event_of event)) }
         ensures undo { IfOk result (λ r. undone r.undo self.new ≡ self.old) }
@@ -62,6 +66,10 @@ impl Board {
                 let settled = self.settle(w)?;
                 Ok(Reply::Settled(settled))
             }
+            Event::Cancel(w) => {
+                let cancelled = self.cancel(w)?;
+                Ok(Reply::Cancelled(cancelled))
+            }
         }
     }
 
@@ -73,7 +81,8 @@ impl Board {
         match event {
             Event::Claim(w, v) => Ok(self.before_claim(w, v)?),
             Event::Step(w) => self.before_step(w),
-            Event::Settle(w) => self.before_settle(w),
+            Event::Settle(w) => self.before_end(End::Settle, w),
+            Event::Cancel(w) => self.before_end(End::Cancel, w),
         }
     }
 
@@ -105,18 +114,18 @@ impl Board {
         }
     }
 
-    fn before_settle(&self, w: u32) -> Result<Undo, WalkFault>
-        ensures marks { IfOk result (λ u. MarksSettle self.now w u) }
-        ensures refused { IfErr result (λ e. walk_memory e ≡ false → walk_of self.now (Settle w) ≡ Err e) }
+    fn before_end(&self, end: End, w: u32) -> Result<Undo, WalkFault>
+        ensures marks { IfOk result (λ u. MarksEnd self.now end w u) }
+        ensures refused { IfErr result (λ e. walk_memory e ≡ false → walk_of self.now (end_of end w) ≡ Err e) }
     {
         match desk_of(&self.desks, w) {
-            None => Err(WalkFault::Settle(SettleFault::NoWorker)),
-            Some(Desk::Idle) => Err(WalkFault::Settle(SettleFault::NotRunning)),
+            None => Err(no_worker(end)),
+            Some(Desk::Idle) => Err(not_running(end)),
             Some(Desk::Runs(_, execution)) => {
                 let left = copied(self.alloc, execution)?;
                 let caches = self.caches_if(!execution.places.is_empty())?;
                 Ok(Undo {
-                    back: Back::Resume(w, left),
+                    back: Back::Resume(end, w, left),
                     caches,
                 })
             }
@@ -134,6 +143,26 @@ impl Board {
             caches: self.caches.copy()?,
             leases: copied_leases(self.alloc, &self.desks)?,
         }))
+    }
+}
+
+// Of a settle or a cancel by a worker that is not there, 131.
+fn no_worker(end: End) -> WalkFault
+    ensures { result ≡ no_worker end }
+{
+    match end {
+        End::Settle => WalkFault::Settle(SettleFault::NoWorker),
+        End::Cancel => WalkFault::Cancel(CancelFault::NoWorker),
+    }
+}
+
+// By one that is idle, 136.
+fn not_running(end: End) -> WalkFault
+    ensures { result ≡ not_running end }
+{
+    match end {
+        End::Settle => WalkFault::Settle(SettleFault::NotRunning),
+        End::Cancel => WalkFault::Cancel(CancelFault::NotRunning),
     }
 }
 

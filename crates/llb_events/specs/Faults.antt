@@ -8,6 +8,8 @@ use Rattle.llb_events.specs.declared.fault.StepFault.{StepFault}
 use Rattle.llb_events.specs.declared.fault.StepFault.TheVariants as step
 use Rattle.llb_events.specs.declared.fault.SettleFault.{SettleFault}
 use Rattle.llb_events.specs.declared.fault.SettleFault.TheVariants as settle
+use Rattle.llb_events.specs.declared.fault.CancelFault.{CancelFault}
+use Rattle.llb_events.specs.declared.fault.CancelFault.TheVariants as cancel
 use Rattle.llb_events.specs.declared.fault.WalkFault.{WalkFault}
 use Rattle.llb_events.specs.declared.fault.WalkFault.TheVariants as walk
 
@@ -30,10 +32,15 @@ settle_text settle.NoWorker = codes "131"
 settle_text settle.NotRunning = codes "136"
 settle_text settle.NotFinished = codes "138"
 
+abbrev pub cancel_text : CancelFault → List ℕ
+cancel_text cancel.NoWorker = codes "131"
+cancel_text cancel.NotRunning = codes "136"
+
 abbrev pub walk_text : WalkFault → List ℕ
 walk_text (walk.Claim e) = claim_text e
 walk_text (walk.Step e) = step_text e
 walk_text (walk.Settle e) = settle_text e
+walk_text (walk.Cancel e) = cancel_text e
 walk_text walk.Memory = codes "141"
 
 -- out of memory is one fault, whoever has it

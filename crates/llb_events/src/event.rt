@@ -11,6 +11,8 @@ pub enum Event {
     Step(u32),
     /// What the worker runs is finished, and the worker is idle again.
     Settle(u32),
+    /// The worker gives up what it runs, and the vertex waits again.
+    Cancel(u32),
 }
 
 /// What a micro-step answers.
@@ -24,6 +26,8 @@ pub enum Stepped {
     Merged(u32),
     /// The command of that number has ended with that status.
     Ran(u32, u32),
+    /// The command of that number was skipped, by its join and the last status.
+    Skipped(u32),
     /// The micro-step faulted.
     Fault(VertexFault),
 }
@@ -33,6 +37,13 @@ pub enum Stepped {
 pub enum Settled {
     Done(u32),
     Failed(u32),
+}
+
+/// The vertex that a worker has given up, and how many micro-steps of it were done.
+#[derive(Clone, Copy, Debug, PartialEq, Eq)]
+pub struct Cancelled {
+    pub vertex: u32,
+    pub done: u32,
 }
 
 /// How a vertex looks.

@@ -1,7 +1,7 @@
 //! Why an event is refused, and why a job comes to no outcome. A fault prints its number, and after it the ID of a held key.
 
 ghost use Rattle.std.specs.Prelude.{Some};
-ghost use Rattle.llb_events.specs.Faults.{claim_text, step_text, settle_text, walk_text};
+ghost use Rattle.llb_events.specs.Faults.{claim_text, step_text, settle_text, cancel_text, walk_text};
 
 use crate::gate::Stopped;
 use llb_cache::Key;
@@ -113,7 +113,29 @@ impl fmt::Display for SettleFault {
 
 impl error::Error for SettleFault {}
 
-/// Why an event of a walk is refused: the fault of the claim, the step or the settle, or out of memory, whoever has it.
+/// Why what a worker runs is not given up: the first cause that stands.
+#[derive(Clone, Copy, Debug, PartialEq, Eq)]
+pub enum CancelFault {
+    /// 131: there is no worker of that number.
+    NoWorker,
+    /// 136: the worker is idle.
+    NotRunning,
+}
+
+impl fmt::Display for CancelFault {
+    ghost output = { λ e. Some (cancel_text e) };
+
+    fn fmt<W: fmt::Write>(&self, f: &mut fmt::Formatter<W>) -> fmt::Result {
+        match self {
+            CancelFault::NoWorker => write!(f, "131"),
+            CancelFault::NotRunning => write!(f, "136"),
+        }
+    }
+}
+
+impl error::Error for CancelFault {}
+
+/// Why an event of a walk is refused: the fault of the claim, the step, the settle or the cancel, or out of memory, whoever has it.
 #[derive(Debug, Drop)]
 pub enum WalkFault {
     /// 131 to 135.
@@ -122,6 +144,8 @@ pub enum WalkFault {
     Step(StepFault),
     /// 131, 136, 138.
     Settle(SettleFault),
+    /// 131, 136.
+    Cancel(CancelFault),
     /// 141: memory was refused.
     Memory,
 }
@@ -134,6 +158,7 @@ impl fmt::Display for WalkFault {
             WalkFault::Claim(fault) => write!(f, "{fault}"),
             WalkFault::Step(fault) => write!(f, "{fault}"),
             WalkFault::Settle(fault) => write!(f, "{fault}"),
+            WalkFault::Cancel(fault) => write!(f, "{fault}"),
             WalkFault::Memory => write!(f, "141"),
         }
     }
@@ -256,6 +281,18 @@ impl From<llb_wire::Memory> for ClaimFault {
     }
 }
 
+/// Of room for events.
+impl From<Memory> for ClaimFault {
+    ghost use Rattle.std.specs.Prelude.{◌≡◌};
+    ghost use Rattle.llb_events.specs.declared.fault.ClaimFault.TheVariants as claim;
+
+    ghost from_gives = { λ _ e. e ≡ claim.Memory };
+
+    fn from(_: Memory) -> ClaimFault {
+        ClaimFault::Memory
+    }
+}
+
 /// Of a copy of a key.
 impl From<llb_cache::Memory> for ClaimFault {
     ghost use Rattle.std.specs.Prelude.{◌≡◌};
@@ -374,5 +411,16 @@ impl From<SettleFault> for WalkFault {
 
     fn from(fault: SettleFault) -> WalkFault {
         WalkFault::Settle(fault)
+    }
+}
+
+impl From<CancelFault> for WalkFault {
+    ghost use Rattle.std.specs.Prelude.{◌≡◌};
+    ghost use Rattle.llb_events.specs.declared.fault.WalkFault.TheVariants as walk;
+
+    ghost from_gives = { λ f e. e ≡ walk.Cancel f };
+
+    fn from(fault: CancelFault) -> WalkFault {
+        WalkFault::Cancel(fault)
     }
 }

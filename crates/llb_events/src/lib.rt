@@ -6,6 +6,6 @@ mod event;
 mod fault;
 mod gate;
 
-pub use event::{At, Event, Settled, Status, Stepped};
-pub use fault::{ClaimFault, Memory, SettleFault, StepFault, WalkFault, WorkFault};
+pub use event::{At, Cancelled, Event, Settled, Status, Stepped};
+pub use fault::{CancelFault, ClaimFault, Memory, SettleFault, StepFault, WalkFault, WorkFault};
 pub use gate::{Gate, Stopped};

@@ -156,6 +156,36 @@ const ON_ONE_TREE: &str = r#"
     > run / listing /x /l
     1| d f/a= d/b f/b/c= d/b-
 
+    # A command runs by its separator and the last status.
+    > new
+    > mount / /
+    > run / false || write /x a ; false && true || true
+    101-0| d f/x=a\n
+    > run / false && true && true
+    1--| d
+    > run / true ; false
+    01| d
+    > run / true || write /a x ; write /b y
+    0-0| d f/b=y\n
+    > run / false || false || mkdir /d && mkdir /d/e
+    1100| d d/d d/d/e
+
+    # Each text has its first bad place, or its first call that is none.
+    > run / ; true
+    73 0
+    > run / true ||
+    73 7
+    > run / true ; && true
+    73 7
+    > run / true; true
+    73 4
+    > run / true | true
+    73 5
+    > run / true || nosuch
+    71 nosuch
+    > run / true ; mkdir
+    72 1
+
     # A digest is that of the content.
     > new
     > file /f 644 0:0 abc
@@ -185,7 +215,7 @@ const ON_MORE_MOUNTS: &str = r#"
     > run / cp /t/in/f /t/x && cp /t/x /y && write /t/in/g k
     000| d f/y=hi| d f/x=hi| d d/sub f/sub/f=hi f/sub/g=k\n
     > run / write /a x && false && write /b y
-    01| d f/a=x\n| d| d d/sub f/sub/f=hi
+    01-| d f/a=x\n| d| d d/sub f/sub/f=hi
     > run / write a x && write /a/b y
     01| d f/a=x\n| d| d d/sub f/sub/f=hi
 

@@ -1,10 +1,13 @@
 //! Scripts on views, as transcripts have them (`stage`). `mount DEST SELECTOR` puts a mount with this tree, which is then empty; `read-only`
-//! after them makes it so. `run CWD TEXT` runs the script of a text on a view of such mounts, and answers the statuses of its commands, up to
-//! the first that is not 0, and then each mount's tree after a bar; the mounts themselves stay as they are.
+//! after them makes it so. `run CWD TEXT` runs the script of a text on a view of such mounts, and answers the statuses of its commands, `-` for
+//! one that is skipped, and then each mount's tree after a bar; the mounts themselves stay as they are. Where the text is no script it answers
+//! the fault.
 
-use super::told::{say, say_number, say_tree};
+use super::told::{say, say_fault, say_number, say_tree};
 use super::trees::{Trees, word_and_rest};
-use llb_applet::{Command, Many, Path, Script, Setting, Text, View, read_script, run_command};
+use llb_applet::{
+    Join, Joined, Many, Path, Script, ScriptFault, Setting, Text, View, read_script, run_command,
+};
 use llb_mount::Shown;
 use llb_tree::Tree;
 use std::alloc::Global;
@@ -58,27 +61,39 @@ fn setting_of(rt: &impl Abort, alloc: Global, cwd: &str) -> Setting {
     Setting { cwd, env }.copy().expect(rt, "memory")
 }
 
-fn script_of(rt: &impl Abort, alloc: Global, text: &str) -> Script {
+fn script_of(rt: &impl Abort, alloc: Global, text: &str) -> Result<Script, ScriptFault> {
     let args = texts(rt, alloc, &["/bin/sh", "-c", text]);
     assert!(rt; !args.is_empty());
-    let script = read_script(alloc, &args).expect(rt, "a script");
-    script.copy().expect(rt, "memory")
+    let script = read_script(alloc, &args)?;
+    Ok(script.copy().expect(rt, "memory"))
 }
 
-// Runs the commands up to the first whose status is not 0, and tells the statuses.
+// Whether a command that is joined so runs after that status.
+fn is_run(join: Join, last: u32) -> bool {
+    match join {
+        Join::Then => true,
+        Join::And => last == 0,
+        Join::Or => last != 0,
+    }
+}
+
+// Runs the commands that are not skipped, and tells their statuses.
 fn say_statuses(
     rt: &impl Abort,
     alloc: Global,
     text: &mut String,
-    commands: &[Command],
+    commands: &[Joined],
     setting: &Setting,
     view: &mut View,
 ) {
-    for command in commands {
-        let status = run_command(alloc, command, setting, view).expect(rt, "memory");
-        say_number(rt, text, u32::from(status));
-        if status != 0 {
-            return;
+    let mut last = 0;
+    for joined in commands {
+        if is_run(joined.join, last) {
+            let status = run_command(alloc, &joined.command, setting, view).expect(rt, "memory");
+            last = u32::from(status);
+            say_number(rt, text, last);
+        } else {
+            say(rt, text, "-");
         }
     }
 }
@@ -100,8 +115,12 @@ pub(crate) fn say_run(
 ) {
     let (cwd, script) = word_and_rest(words);
     let setting = setting_of(rt, alloc, cwd);
-    let script = script_of(rt, alloc, script);
     let mut view = view_of(rt, alloc, mounts);
-    say_statuses(rt, alloc, text, script.commands(), &setting, &mut view);
-    say_trees(rt, text, view.mounts());
+    match script_of(rt, alloc, script) {
+        Ok(script) => {
+            say_statuses(rt, alloc, text, script.commands(), &setting, &mut view);
+            say_trees(rt, text, view.mounts());
+        }
+        Err(fault) => say_fault(rt, text, &fault),
+    }
 }

@@ -1,5 +1,6 @@
 -- What a program works on may go to another thread. A search over all fields at once is past its limit, so that each type has its own fact.
 use denote.Builtin.{u32}
+use denote.Struct.Field.{u32-field}
 use denote.Hole.{as_row}
 use denote.Param.Send.{IsSend, sendable, view_send}
 use denote.Param.SendFields.{as_row_send, variants_send, declared_send}
@@ -31,11 +32,15 @@ many = as_row_send (vec.the_field tree.the_row heap.the_row ghosts) trees_send
 numbers : IsSend (as_row (vec.the_field u32 heap.the_row ghosts))
 numbers = search (crosses, sendable) depth 20
 
+last : IsSend (as_row u32-field)
+last = search (crosses, sendable) depth 20
+
 mounts_send : IsSend mounts.the_row
 mounts_send = search (crosses, knot.crosses, sendable) depth 60 fits 20000
 
 own_send : IsSend own.the_row
-own_send = variants_send own.enum ((one, tt), ((many, (many, tt)), ((many, (one, tt)), ((as_row_send mounts.the_field mounts_send, (numbers, tt)), tt))))
+own_send =
+    variants_send own.enum ((one, tt), ((many, (many, tt)), ((many, (one, tt)), ((as_row_send mounts.the_field mounts_send, (numbers, (last, tt))), tt))))
 
 inside_send : IsSend inside.the_row
 inside_send = declared_send inside.the_type (own_send, tt)

@@ -1,14 +1,16 @@
 -- A mark of a view puts back the view before a micro-step, and shows the same caches.
-use Rattle.std.proofs.Common.{◌≡◌, ℕ, ℤ, List, [], ◌∷◌, length, refl, ap, arith}
+use Rattle.std.proofs.Common.{◌≡◌, ℕ, ℤ, Bool, true, false, cond, List, [], ◌∷◌, length, refl, ap, arith}
 use Rattle.std.specs.Prelude.{Option, Some, None, Result, Ok, Err}
 use Rattle.std.proofs.Math.Seq.{take-append_seam}
 use Rattle.std.proofs.lemmas.List.{take_all}
 use Rattle.llb_fileop.specs.declared.fault.ActFault.{ActFault}
 use Rattle.llb_tree.specs.Tree.{TreeMap}
 use Rattle.llb_mount.specs.declared.shown.Shown.{Shown}
+use Rattle.llb_applet.specs.declared.join.Joined.{Joined}
+use Rattle.llb_applet.specs.declared.setting.Setting.{Setting}
 use Rattle.llb_applet.specs.Commands.{run}
 use Rattle.llb_model.specs.Program.{ReadLocal, Act, LayInput, Run, View, LocalTree, Files, Layers, Mounted, micro_step, tried}
-use Rattle.llb_model.specs.Program.{trees_in, with_tree, act_among, with_own, with_result, lay_on, filled, ran}
+use Rattle.llb_model.specs.Program.{trees_in, with_tree, act_among, with_result, lay_on, filled, is_run, no_fault, ran, run_on}
 use Rattle.llb_execution.specs.Parts.{work_with, shown_in}
 use Rattle.llb_execution.specs.Marks.{Mark, Nothing, Results, Laid, Mounts, mark_of, put_back, PutsBack}
 
@@ -17,16 +19,16 @@ same_back : (view : View) → put_back (mark_of view) view ≡ view
 same_back (LocalTree t) = refl
 same_back (Files inputs results) = ap (Files inputs) (take_all (length results) results (omega arith))
 same_back (Layers inputs t) = refl
-same_back (Mounted mounts caches) = refl
+same_back (Mounted mounts caches last) = refl
 
 tree_back : (view : View) (t : TreeMap) → put_back (mark_of view) (with_tree view t) ≡ view
 tree_back (LocalTree own) t = refl
 tree_back (Files inputs results) t = ap (Files inputs) (take-append_seam results (t ∷ []))
 tree_back (Layers inputs laid) t = refl
-tree_back (Mounted mounts caches) t = refl
+tree_back (Mounted mounts caches last) t = refl
 
 acted_back : (k : ℕ) (view : View) (trees : List TreeMap) (r : Result TreeMap ActFault)
-    → put_back (mark_of view) (tried (work_with view trees) (with_own (work_with view trees) (with_result k view r))).work.own ≡ view
+    → put_back (mark_of view) (tried (work_with view trees) (with_result k view r)).work.own ≡ view
 acted_back k view trees (Ok t) = tree_back view t
 acted_back k view trees (Err e) = same_back view
 
@@ -34,12 +36,21 @@ laid_back : (i : ℤ) (view : View) → put_back (mark_of view) (lay_on i view) 
 laid_back i (LocalTree own) = refl
 laid_back i (Files inputs results) = same_back (Files inputs results)
 laid_back i (Layers inputs laid) = refl
-laid_back i (Mounted mounts caches) = refl
+laid_back i (Mounted mounts caches last) = refl
 
-ran_back : (k : ℕ) (mounts : List Shown) (caches : List ℕ) (trees : List TreeMap) (o : Option (List Shown))
-    → put_back (Mounts mounts) (tried (work_with (Mounted mounts caches) trees) (ran k caches trees o)).work.own ≡ Mounted mounts caches
-ran_back k mounts caches trees None = refl
-ran_back k mounts caches trees (Some after) = refl
+ran_back : (k : ℕ) (ends : Bool) (mounts : List Shown) (caches : List ℕ) (last : ℕ) (trees : List TreeMap) (o : Option (List Shown))
+    → put_back (Mounts mounts last) (ran k ends mounts caches trees o).work.own ≡ Mounted mounts caches last
+ran_back k ends mounts caches last trees None = refl
+ran_back k ends mounts caches last trees (Some after) = refl
+
+run_back : (k : ℕ) (s : Setting) (m : Joined) (ends : Bool) (mounts : List Shown) (caches : List ℕ) (last : ℕ) (trees : List TreeMap)
+    → put_back (Mounts mounts last) (run_on k s m ends (Mounted mounts caches last) trees).work.own ≡ Mounted mounts caches last
+run_back k s m ends mounts caches last trees = by_run (is_run m.join last)
+  where
+    by_run : (b : Bool) → put_back (Mounts mounts last) (cond b (ran k ends mounts caches trees (run s (filled mounts caches trees) m.command))
+        (no_fault (work_with (Mounted mounts caches last) trees))).work.own ≡ Mounted mounts caches last
+    by_run true = ran_back k ends mounts caches last trees (run s (filled mounts caches trees) m.command)
+    by_run false = refl
 
 -- whatever micro-step is done on a view, its mark from before puts it back
 pub puts_back : (view : View) → PutsBack view (mark_of view)
@@ -48,10 +59,10 @@ puts_back view k None trees = same_back view
 puts_back view k (Some ReadLocal) trees = same_back view
 puts_back view k (Some (Act a)) trees = acted_back k view trees (act_among a (trees_in view))
 puts_back view k (Some (LayInput i)) trees = laid_back i view
-puts_back (LocalTree t) k (Some (Run s m)) trees = refl
-puts_back (Files inputs results) k (Some (Run s m)) trees = same_back (Files inputs results)
-puts_back (Layers inputs t) k (Some (Run s m)) trees = refl
-puts_back (Mounted mounts caches) k (Some (Run s m)) trees = ran_back k mounts caches trees (run s (filled mounts caches trees) m)
+puts_back (LocalTree t) k (Some (Run s m ends)) trees = refl
+puts_back (Files inputs results) k (Some (Run s m ends)) trees = same_back (Files inputs results)
+puts_back (Layers inputs t) k (Some (Run s m ends)) trees = refl
+puts_back (Mounted mounts caches last) k (Some (Run s m ends)) trees = run_back k s m ends mounts caches last trees
 
 -- a view that is put back shows the same caches
 pub shown_back : (m : Mark) (view : View) → shown_in (put_back m view) ≡ shown_in view
@@ -59,12 +70,12 @@ shown_back Nothing view = refl
 shown_back (Results n) (LocalTree t) = refl
 shown_back (Results n) (Files inputs results) = refl
 shown_back (Results n) (Layers inputs t) = refl
-shown_back (Results n) (Mounted mounts caches) = refl
+shown_back (Results n) (Mounted mounts caches last) = refl
 shown_back (Laid was) (LocalTree t) = refl
 shown_back (Laid was) (Files inputs results) = refl
 shown_back (Laid was) (Layers inputs t) = refl
-shown_back (Laid was) (Mounted mounts caches) = refl
-shown_back (Mounts were) (LocalTree t) = refl
-shown_back (Mounts were) (Files inputs results) = refl
-shown_back (Mounts were) (Layers inputs t) = refl
-shown_back (Mounts were) (Mounted mounts caches) = refl
+shown_back (Laid was) (Mounted mounts caches last) = refl
+shown_back (Mounts were status) (LocalTree t) = refl
+shown_back (Mounts were status) (Files inputs results) = refl
+shown_back (Mounts were status) (Layers inputs t) = refl
+shown_back (Mounts were status) (Mounted mounts caches last) = refl

@@ -10,12 +10,12 @@ use Rattle.llb_ops.specs.declared.file.Action.{Action}
 use Rattle.llb_tree.specs.Tree.{TreeMap, empty_tree}
 use Rattle.llb_mount.specs.declared.shown.Shown.{Shown}
 use Rattle.llb_applet.specs.declared.setting.Setting.{Setting}
-use Rattle.llb_applet.specs.declared.command.Command.{Command}
+use Rattle.llb_applet.specs.declared.join.Joined.{Joined}
 use Rattle.llb_ops.specs.declared.op.Kind.{Kind}
 use Rattle.llb_ops.specs.declared.op.Kind.TheVariants as kind
 use Rattle.llb_ops.specs.declared.merge.MergeInput.{MergeInput}
 use Rattle.llb_loader.specs.declared.graph.Vertex.{Vertex}
-use Rattle.llb_model.specs.Program.{Program, Act, LayInput, Run, LocalTree, Files, Layers, Mounted, setting_of, steps_of, program_of}
+use Rattle.llb_model.specs.Program.{Program, Act, LayInput, LocalTree, Files, Layers, Mounted, setting_of, runs_of, steps_of, program_of}
 use Rattle.llb_model.specs.Program.{result_for, tree_for, is_output, output_from, outputs_of}
 use Rattle.llb_execution.specs.Outputs.{placed, placed_by, first_placed, actions_in, numbers_of, tree_by}
 
@@ -170,13 +170,13 @@ laid_none i [] rs = refl
 laid_none i (n ∷ inputs) [] = refl
 laid_none i (n ∷ inputs) (t ∷ rs) = laid_none i inputs rs
 
-ran_none : (i : ℕ) (s : Setting) (commands : List Command) (rs : List TreeMap) → result_for i (map (Run s) commands) rs ≡ empty_tree
+ran_none : (i : ℕ) (s : Setting) (commands : List Joined) (rs : List TreeMap) → result_for i (runs_of s commands) rs ≡ empty_tree
 ran_none i s [] rs = refl
 ran_none i s (m ∷ commands) [] = refl
 ran_none i s (m ∷ commands) (t ∷ rs) = ran_none i s commands rs
 
 -- only actions have results
-by_kind : (i : ℕ) (k : Option Kind) (script : Option (List Command)) (rs : List TreeMap)
+by_kind : (i : ℕ) (k : Option Kind) (script : Option (List Joined)) (rs : List TreeMap)
     → tree_by i (numbers_of (actions_in k)) rs ≡ result_for i (steps_of k script) rs
 by_kind i (Some (kind.File f)) script rs = acted_by i f.actions rs
 by_kind i (Some (kind.Source s)) script [] = refl
@@ -201,10 +201,11 @@ outputs_of_files v inputs results outs n is =
     (λ i. by_kind i v.op.kind v.script results) (range_with_len 0 n)
 
 -- trees of mounts that are placed by the numbers of an exec's outputs are the outputs of its view
-pub outputs_of_mounts : (v : Vertex) (mounts : List Shown) (caches : List ℕ) (given : List ℤ) (outs : List TreeMap) (n : ℕ) → given ≡ (program_of v).given
-    → outs ≡ map (λ i. tree_for i given mounts) (range_with_len 0 n) → outs ≡ outputs_of (program_with v n) (Mounted mounts caches)
+pub outputs_of_mounts : (v : Vertex) (mounts : List Shown) (caches : List ℕ) (last : ℕ) (given : List ℤ) (outs : List TreeMap) (n : ℕ)
+    → given ≡ (program_of v).given → outs ≡ map (λ i. tree_for i given mounts) (range_with_len 0 n)
+    → outs ≡ outputs_of (program_with v n) (Mounted mounts caches last)
 unfolding outputs_of
-outputs_of_mounts v mounts caches given outs n same is = is ∙ ap (λ l. map (λ i. tree_for i l mounts) (range_with_len 0 n)) same
+outputs_of_mounts v mounts caches last given outs n same is = is ∙ ap (λ l. map (λ i. tree_for i l mounts) (range_with_len 0 n)) same
 
 -- after the first output all are empty
 behind_first : (f : ℕ → TreeMap) → ((i : ℕ) → f (suc i) ≡ empty_tree) → (n a : ℕ) → map f (range_with_len (a + 1) n) ≡ replicate n empty_tree

@@ -1,17 +1,20 @@
 -- What a micro-step leaves: its work and its fault, and as many mounts and trees as there were.
-use Rattle.std.proofs.Common.{◌≡◌, ◌≢◌, ℕ, ℤ, List, length, refl, ap, sym, ◌∙◌, arith}
+use Rattle.std.proofs.Common.{◌≡◌, ◌≢◌, ℕ, ℤ, Bool, true, false, not, cond, List, length, refl, ap, sym, ◌∙◌, arith}
 use Rattle.std.specs.Prelude.{Option, Some, None, Result, Ok, Err}
+use Rattle.std.proofs.lemmas.Bool.{false≢true}
 use Rattle.llb_fileop.specs.declared.fault.ActFault.{ActFault}
 use Rattle.llb_ops.specs.declared.file.Action.{Action}
 use Rattle.llb_tree.specs.Tree.{TreeMap}
 use Rattle.llb_mount.specs.declared.shown.Shown.{Shown}
 use Rattle.llb_applet.specs.declared.setting.Setting.{Setting}
-use Rattle.llb_applet.specs.declared.command.Command.{Command}
+use Rattle.llb_applet.specs.declared.join.Joined.{Joined}
 use Rattle.llb_applet.specs.Commands.{run, status_of, left as left_of}
+use Rattle.llb_model.specs.declared.fault.VertexFault.{VertexFault}
 use Rattle.llb_model.specs.declared.fault.VertexFault.TheVariants as fault
-use Rattle.llb_model.specs.Program.{MicroStep, ReadLocal, Act, LayInput, Run, View, LocalTree, Files, Layers, Mounted, micro_step, tried, step_on}
-use Rattle.llb_model.specs.Program.{trees_in, with_tree, act_among, with_own, with_result, fault_number, lay_on, run_on, filled, taken, blanked, ran}
-use Rattle.llb_execution.specs.Parts.{work_with, left_with, exit_of, mounts_in, shown_in}
+use Rattle.llb_model.specs.Program.{MicroStep, ReadLocal, Act, LayInput, Run, View, LocalTree, Files, Layers, Mounted, Work, Left, micro_step, tried, step_on}
+use Rattle.llb_model.specs.Program.{trees_in, with_tree, act_among, with_result, fault_number, lay_on, last_of, is_run, no_fault, after_run, exit_of, ran}
+use Rattle.llb_model.specs.Program.{run_on, filled, taken, blanked}
+use Rattle.llb_execution.specs.Parts.{work_with, left_with, is_skipped, mounts_in, shown_in}
 use Rattle.llb_execution.proofs.Commands.{left_as_many}
 use Rattle.llb_execution.proofs.Exchanges.{as_many_filled}
 
@@ -21,13 +24,13 @@ use Rattle.llb_execution.proofs.Exchanges.{as_many_filled}
 pub acted : (k : ℕ) (view : View) (a : Action) (t : TreeMap) (trees : List TreeMap) → act_among a (trees_in view) ≡ Ok t
     → left_with (with_tree view t) trees None ≡ step_on k (Some (Act a)) (work_with view trees)
 unfolding micro_step
-acted k view a t trees is = ap (λ r. tried (work_with view trees) (with_own (work_with view trees) (with_result k view r))) (sym is)
+acted k view a t trees is = ap (λ r. tried (work_with view trees) (with_result k view r)) (sym is)
 
 -- an action that fails leaves the view as it was, and the fault with the numbers of both
 pub act_failed : (k : ℕ) (view : View) (a : Action) (e : ActFault) (trees : List TreeMap) → act_among a (trees_in view) ≡ Err e
     → left_with view trees (Some (fault.Action k (fault_number e))) ≡ step_on k (Some (Act a)) (work_with view trees)
 unfolding micro_step
-act_failed k view a e trees is = ap (λ r. tried (work_with view trees) (with_own (work_with view trees) (with_result k view r))) (sym is)
+act_failed k view a e trees is = ap (λ r. tried (work_with view trees) (with_result k view r)) (sym is)
 
 -- ---- the other micro-steps
 
@@ -41,25 +44,67 @@ pub laid : (k : ℕ) (i : ℤ) (view : View) (trees : List TreeMap) → left_wit
 unfolding micro_step
 laid k i view trees = refl
 
--- a command is tried on the view and the trees of the caches, and leaves what its run makes of both
-pub has_run : (k : ℕ) (s : Setting) (m : Command) (view : View) (trees : List TreeMap)
-    → step_on k (Some (Run s m)) (work_with view trees) ≡ tried (work_with view trees) (run_on k s m view trees)
+-- a command leaves what its run makes of the view and the trees of the caches
+pub has_run : (k : ℕ) (s : Setting) (m : Joined) (ends : Bool) (view : View) (trees : List TreeMap)
+    → run_on k s m ends view trees ≡ step_on k (Some (Run s m ends)) (work_with view trees)
 unfolding micro_step
-has_run k s m view trees = refl
+has_run k s m ends view trees = refl
 
--- a command that ends with 0 leaves the work that it has made, and else the work stays
-pub command_left : (o : Option (List Shown)) (before started view after : List Shown) (k status : ℕ) (ms : List ℕ) (ts trees : List TreeMap)
+-- a command that ends with 0 leaves the work that it has made, and else the work stays, but for the last status
+pub command_left : (o : Option (List Shown)) (before started view after : List Shown) (status : ℕ) (ms : List ℕ) (ts trees : List TreeMap)
     → status ≡ status_of o → view ≡ left_of started o
     → (status ≡ 0 → (after ≡ blanked view ms ts) × (trees ≡ taken view ms ts))
     → (status ≢ 0 → (after ≡ before) × (trees ≡ ts))
-    → left_with (Mounted after ms) trees (exit_of k status) ≡ tried (work_with (Mounted before ms) ts) (ran k ms ts o)
-command_left None before started view after k status ms ts trees is leaves done failed =
+    → work_with (Mounted after ms status) trees ≡ after_run before ms ts o
+command_left None before started view after status ms ts trees is leaves done failed =
     let same = failed (λ none. absurd (omega (arith, is, none))) in
-    λ i. left_with (Mounted (same.0 i) ms) (same.1 i) (exit_of k (is i))
-command_left (Some mounts) before started view after k status ms ts trees is leaves done failed =
+    λ i. work_with (Mounted (same.0 i) ms (is i)) (same.1 i)
+command_left (Some mounts) before started view after status ms ts trees is leaves done failed =
     let parts = done is in
-    (λ i. left_with (Mounted (parts.0 i) ms) (parts.1 i) (exit_of k (is i)))
-    ∙ ap (λ xs. left_with (Mounted (blanked xs ms ts) ms) (taken xs ms ts) None) leaves
+    (λ i. work_with (Mounted (parts.0 i) ms (is i)) (parts.1 i))
+    ∙ ap (λ xs. work_with (Mounted (blanked xs ms ts) ms 0) (taken xs ms ts)) leaves
+
+-- a command that is skipped leaves the view as it is
+pub skipped : (k : ℕ) (s : Setting) (m : Joined) (ends : Bool) (mounts : List Shown) (caches : List ℕ) (last : ℕ) (trees : List TreeMap)
+    → is_run m.join last ≡ false → left_with (Mounted mounts caches last) trees None ≡ run_on k s m ends (Mounted mounts caches last) trees
+skipped k s m ends mounts caches last trees off =
+    ap (λ b. cond b (ran k ends mounts caches trees (run s (filled mounts caches trees) m.command)) (no_fault (work_with (Mounted mounts caches last) trees)))
+    (sym off)
+
+-- one that runs leaves its work and its fault
+pub run_left : (k : ℕ) (s : Setting) (m : Joined) (ends : Bool) (mounts after : List Shown) (caches : List ℕ) (last status : ℕ) (trees now : List TreeMap)
+    (f : Option VertexFault) → is_run m.join last ≡ true
+    → work_with (Mounted after caches status) now ≡ after_run mounts caches trees (run s (filled mounts caches trees) m.command)
+    → f ≡ exit_of k ends status
+    → left_with (Mounted after caches status) now f ≡ run_on k s m ends (Mounted mounts caches last) trees
+run_left k s m ends mounts after caches last status trees now f on work fault =
+    ap (λ g. left_with (Mounted after caches status) now g) (fault ∙ ap (exit_of k ends) (status_is (run s (filled mounts caches trees) m.command) work))
+    ∙ ap (λ (w : Work). left_of_work w (exit_of k ends (status_of (run s (filled mounts caches trees) m.command)))) work
+    ∙ ap (λ b. cond b (ran k ends mounts caches trees (run s (filled mounts caches trees) m.command)) (no_fault (work_with (Mounted mounts caches last) trees)))
+    (sym on)
+  where
+    left_of_work : Work → Option VertexFault → Left
+    left_of_work w g = record { work = w; fault = g }
+
+    status_is : (o : Option (List Shown)) → work_with (Mounted after caches status) now ≡ after_run mounts caches trees o → status ≡ status_of o
+    status_is None is = ap (λ (w : Work). last_of w.own) is
+    status_is (Some view) is = ap (λ (w : Work). last_of w.own) is
+
+-- where a micro-step is skipped nothing changes
+pub skip_leaves : (k : ℕ) (m : MicroStep) (view : View) (trees : List TreeMap) → is_skipped m view ≡ true
+    → left_with view trees None ≡ step_on k (Some m) (work_with view trees)
+unfolding micro_step
+skip_leaves k ReadLocal view trees skips = refl
+skip_leaves k (Act a) view trees skips = absurd (false≢true skips)
+skip_leaves k (LayInput i) view trees skips = absurd (false≢true skips)
+skip_leaves k (Run s m ends) (LocalTree t) trees skips = refl
+skip_leaves k (Run s m ends) (Files inputs results) trees skips = refl
+skip_leaves k (Run s m ends) (Layers inputs t) trees skips = refl
+skip_leaves k (Run s m ends) (Mounted mounts caches last) trees skips = skipped k s m ends mounts caches last trees (not_true (is_run m.join last) skips)
+  where
+    not_true : (b : Bool) → not b ≡ true → b ≡ false
+    not_true true e = absurd (false≢true e)
+    not_true false e = refl
 
 -- ---- what every micro-step keeps
 
@@ -72,10 +117,10 @@ seen_with_tree : (view : View) (t : TreeMap) → IsSeenSo view (with_tree view t
 seen_with_tree (LocalTree own) t = record { mounts = refl; shown = refl }
 seen_with_tree (Files inputs results) t = record { mounts = refl; shown = refl }
 seen_with_tree (Layers inputs laid) t = record { mounts = refl; shown = refl }
-seen_with_tree (Mounted mounts caches) t = record { mounts = refl; shown = refl }
+seen_with_tree (Mounted mounts caches last) t = record { mounts = refl; shown = refl }
 
 seen_acted : (k : ℕ) (view : View) (trees : List TreeMap) (r : Result TreeMap ActFault)
-    → IsSeenSo view (tried (work_with view trees) (with_own (work_with view trees) (with_result k view r))).work.own
+    → IsSeenSo view (tried (work_with view trees) (with_result k view r)).work.own
 seen_acted k view trees (Ok t) = seen_with_tree view t
 seen_acted k view trees (Err e) = record { mounts = refl; shown = refl }
 
@@ -83,26 +128,30 @@ seen_laid : (i : ℤ) (view : View) → IsSeenSo view (lay_on i view)
 seen_laid i (LocalTree own) = record { mounts = refl; shown = refl }
 seen_laid i (Files inputs results) = record { mounts = refl; shown = refl }
 seen_laid i (Layers inputs laid) = record { mounts = refl; shown = refl }
-seen_laid i (Mounted mounts caches) = record { mounts = refl; shown = refl }
+seen_laid i (Mounted mounts caches last) = record { mounts = refl; shown = refl }
 
-seen_parted : (k : ℕ) (mounts : List Shown) (caches : List ℕ) (trees : List TreeMap) (o : Option (List Shown))
+seen_parted : (mounts : List Shown) (caches : List ℕ) (last : ℕ) (trees : List TreeMap) (o : Option (List Shown))
     → ((after : List Shown) → o ≡ Some after → length after ≡ length mounts)
-    → IsSeenSo (Mounted mounts caches) (tried (work_with (Mounted mounts caches) trees) (ran k caches trees o)).work.own
-seen_parted k mounts caches trees None as_many = record { mounts = refl; shown = refl }
-seen_parted k mounts caches trees (Some after) as_many = record {
+    → IsSeenSo (Mounted mounts caches last) (after_run mounts caches trees o).own
+seen_parted mounts caches last trees None as_many = record { mounts = refl; shown = refl }
+seen_parted mounts caches last trees (Some after) as_many = record {
   mounts = as_many_filled after caches _ ∙ as_many after refl;
   shown = refl;
 }
 
-seen_run : (k : ℕ) (s : Setting) (m : Command) (view : View) (trees : List TreeMap)
-    → IsSeenSo view (tried (work_with view trees) (run_on k s m view trees)).work.own
-seen_run k s m (LocalTree own) trees = record { mounts = refl; shown = refl }
-seen_run k s m (Files inputs results) trees = record { mounts = refl; shown = refl }
-seen_run k s m (Layers inputs laid) trees = record { mounts = refl; shown = refl }
-seen_run k s m (Mounted mounts caches) trees =
-    let started = filled mounts caches trees in
-    seen_parted k mounts caches trees (run s started m)
-    (λ after is. sym (ap (λ o. length (left_of started o)) is) ∙ left_as_many s started m ∙ as_many_filled mounts caches trees)
+seen_run : (k : ℕ) (s : Setting) (m : Joined) (ends : Bool) (view : View) (trees : List TreeMap) → IsSeenSo view (run_on k s m ends view trees).work.own
+seen_run k s m ends (LocalTree own) trees = record { mounts = refl; shown = refl }
+seen_run k s m ends (Files inputs results) trees = record { mounts = refl; shown = refl }
+seen_run k s m ends (Layers inputs laid) trees = record { mounts = refl; shown = refl }
+seen_run k s m ends (Mounted mounts caches last) trees = by_run (is_run m.join last)
+  where
+    by_run : (b : Bool) → IsSeenSo (Mounted mounts caches last) (cond b (ran k ends mounts caches trees (run s (filled mounts caches trees) m.command))
+        (no_fault (work_with (Mounted mounts caches last) trees))).work.own
+    by_run true =
+        seen_parted mounts caches last trees (run s (filled mounts caches trees) m.command)
+        (λ after is. sym (ap (λ o. length (left_of (filled mounts caches trees) o)) is) ∙ left_as_many s (filled mounts caches trees) m.command
+        ∙ as_many_filled mounts caches trees)
+    by_run false = record { mounts = refl; shown = refl }
 
 -- every micro-step leaves as many mounts, of which the same show caches
 pub seen_so : (k : ℕ) (m : MicroStep) (view : View) (trees : List TreeMap) → IsSeenSo view (step_on k (Some m) (work_with view trees)).work.own
@@ -110,4 +159,4 @@ unfolding micro_step
 seen_so k ReadLocal view trees = record { mounts = refl; shown = refl }
 seen_so k (Act a) view trees = seen_acted k view trees (act_among a (trees_in view))
 seen_so k (LayInput i) view trees = seen_laid i view
-seen_so k (Run s m) view trees = seen_run k s m view trees
+seen_so k (Run s m ends) view trees = seen_run k s m ends view trees

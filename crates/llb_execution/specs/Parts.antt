@@ -1,12 +1,11 @@
 -- What the parts of an execution stand for, in the words of the machine's definitions.
-use Rattle.std.specs.Prelude.{ℕ, zero, suc, Option, Some, None, List, [], ◌∷◌, length, map}
+use Rattle.std.specs.Prelude.{ℕ, Bool, false, not, Option, Some, None, List, [], ◌∷◌, length, map}
 use Rattle.llb_ops.specs.declared.op.Kind.{Kind}
 use Rattle.llb_ops.specs.declared.op.Kind.TheVariants as kind
 use Rattle.llb_tree.specs.Tree.{TreeMap}
 use Rattle.llb_applet.specs.declared.setting.Setting.{Setting}
 use Rattle.llb_model.specs.Program as model
 use Rattle.llb_model.specs.declared.fault.VertexFault.{VertexFault}
-use Rattle.llb_model.specs.declared.fault.VertexFault.TheVariants as fault
 use Rattle.llb_execution.specs.declared.micro_step.MicroStep.{MicroStep}
 use Rattle.llb_execution.specs.declared.micro_step.MicroStep.TheVariants as step
 use Rattle.llb_execution.specs.declared.program.Steps.{Steps}
@@ -26,7 +25,7 @@ abbrev pub step_in : MicroStep → model.MicroStep
 step_in step.ReadLocal = model.ReadLocal
 step_in (step.Act action) = model.Act action.now
 step_in (step.LayInput number) = model.LayInput number
-step_in (step.Run setting command) = model.Run setting.now command.now
+step_in (step.Run setting command later) = model.Run setting.now command.now (model.all_and later.now)
 
 -- the micro-steps that a program owns
 abbrev pub steps_in : Steps → List model.MicroStep
@@ -34,7 +33,7 @@ steps_in steps.Nothing = []
 steps_in steps.Read = model.ReadLocal ∷ []
 steps_in (steps.Actions actions) = map model.Act actions
 steps_in (steps.Inputs numbers) = map model.LayInput numbers.items
-steps_in (steps.Commands setting script) = map (model.Run setting) script
+steps_in (steps.Commands setting script) = model.runs_of setting script
 
 -- ---- views
 
@@ -43,18 +42,18 @@ abbrev pub own_of : Own → model.View
 own_of (own.Local t) = model.LocalTree t
 own_of (own.Files inputs results) = model.Files inputs.items results.items
 own_of (own.Layers inputs t) = model.Layers inputs.items t
-own_of (own.Mounted mounts numbers) = model.Mounted mounts numbers.items
+own_of (own.Mounted mounts numbers last) = model.Mounted mounts numbers.items last
 
 -- how many mounts the commands of a view see
 abbrev pub mounts_in : model.View → ℕ
-mounts_in (model.Mounted mounts caches) = length mounts
+mounts_in (model.Mounted mounts caches last) = length mounts
 mounts_in (model.LocalTree t) = 0
 mounts_in (model.Files inputs results) = 0
 mounts_in (model.Layers inputs t) = 0
 
 -- the numbers of those that show caches
 abbrev pub shown_in : model.View → List ℕ
-shown_in (model.Mounted mounts caches) = caches
+shown_in (model.Mounted mounts caches last) = caches
 shown_in (model.LocalTree t) = []
 shown_in (model.Files inputs results) = []
 shown_in (model.Layers inputs t) = []
@@ -69,7 +68,9 @@ work_with view trees = record { own = view; trees = trees }
 abbrev pub left_with : model.View → List TreeMap → Option VertexFault → model.Left
 left_with view trees fault = record { work = work_with view trees; fault = fault }
 
--- the fault of a command that ended with a status, where that is not 0
-abbrev pub exit_of : ℕ → ℕ → Option VertexFault
-exit_of k zero = None
-exit_of k (suc status) = Some (fault.Exit k (suc status))
+-- a command that is skipped after a view's last status
+abbrev pub is_skipped : model.MicroStep → model.View → Bool
+is_skipped (model.Run setting command ends) view = not (model.is_run command.join (model.last_of view))
+is_skipped model.ReadLocal view = false
+is_skipped (model.Act action) view = false
+is_skipped (model.LayInput number) view = false

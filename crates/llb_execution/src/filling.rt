@@ -1,13 +1,13 @@
 //! A command on mounts of which some show caches, whose trees come in from outside for that one command. Stands on mounts and
 //! on commands; it knows neither keys nor instances.
 
-ghost use Rattle.std.specs.Prelude.{◌≡◌, ◌<◌, ℕ, length, replicate, IfOk, OnErr};
+ghost use Rattle.std.specs.Prelude.{◌≡◌, ◌<◌, length, replicate, IfOk, OnErr};
 ghost use Rattle.std.specs.List.{All};
 ghost use Rattle.llb_tree.specs.Tree.{empty_tree};
 ghost use Rattle.llb_applet.specs.Commands.{run};
 ghost use Rattle.llb_model.specs.Caches.{Distinct};
-ghost use Rattle.llb_model.specs.Program.{Mounted, filled, taken, ran, tried};
-ghost use Rattle.llb_execution.specs.Parts.{work_with, left_with, exit_of};
+ghost use Rattle.llb_model.specs.Program.{Mounted, filled, taken, after_run};
+ghost use Rattle.llb_execution.specs.Parts.{work_with};
 
 use crate::refusal::NoMemory;
 use llb_applet::{Command, Setting, run_command};
@@ -65,9 +65,8 @@ pub(crate) fn run_filled(
     requires apart { Distinct numbers.now }
     requires within { All (λ n. n < length mounts.old) numbers.now }
     requires count { length trees.old.items ≡ length numbers.now }
-    ensures left { IfOk result (λ status. (k : ℕ) → left_with (Mounted mounts.new numbers.now) trees.new.items (exit_of k status)
-        ≡ tried (work_with (Mounted mounts.old numbers.now) trees.old.items)
-        (ran k numbers.now trees.old.items (run setting.now (filled mounts.old numbers.now trees.old.items) command.now))) }
+    ensures left { IfOk result (λ status. work_with (Mounted mounts.new numbers.now status) trees.new.items
+        ≡ after_run mounts.old numbers.now trees.old.items (run setting.now (filled mounts.old numbers.now trees.old.items) command.now)) }
     ensures err { OnErr result ((mounts.new ≡ mounts.old) × (trees.new.items ≡ trees.old.items)) }
 {
     if numbers.is_empty() {

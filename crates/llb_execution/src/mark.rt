@@ -12,7 +12,7 @@ use llb_wire::Memory;
 use std::marker::Model;
 
 /// What a micro-step can change of a view: of a source nothing, of a file op how many results there are, of a merge what is laid so
-/// far, of an exec its mounts.
+/// far, of an exec its mounts and its last status.
 #[derive(Drop)]
 pub struct Mark {
     was: Was,
@@ -23,7 +23,7 @@ pub(crate) enum Was {
     Nothing,
     Results(usize),
     Laid(Tree),
-    Mounts(Mounts),
+    Mounts(Mounts, u32),
 }
 
 impl Model for Mark {
@@ -57,7 +57,7 @@ impl View {
             Was::Nothing => {}
             Was::Results(count) => self.keep_results(count),
             Was::Laid(tree) => self.put_laid(tree),
-            Was::Mounts(mounts) => self.put_mounts(mounts),
+            Was::Mounts(mounts, last) => self.put_mounts(mounts, last),
         }
     }
 }
@@ -70,6 +70,6 @@ fn was_in(own: &Own) -> Result<Was, NoMemory>
         Own::Local(_) => Ok(Was::Nothing),
         Own::Files(_, results) => Ok(Was::Results(results.len())),
         Own::Layers(_, laid) => Ok(Was::Laid(laid.copy()?)),
-        Own::Mounted(mounts, _) => Ok(Was::Mounts(mounts.copy()?)),
+        Own::Mounted(mounts, _, last) => Ok(Was::Mounts(mounts.copy()?, *last)),
     }
 }

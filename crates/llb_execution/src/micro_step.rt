@@ -3,22 +3,22 @@
 
 ghost use Rattle.std.specs.Prelude.{◌≡◌, ◌∷◌, [], length, map, option_map, slice_get, unwrap_or};
 ghost use Rattle.llb_loader.specs.Graph.{IsVertexOf};
-ghost use Rattle.llb_model.specs.Program.{ReadLocal, Act, LayInput, Run, program_of};
+ghost use Rattle.llb_model.specs.Program.{ReadLocal, Act, LayInput, runs_of, program_of};
 ghost use Rattle.llb_ops.specs.declared.merge.MergeInput as merge_input;
 ghost use Rattle.llb_execution.specs.Parts.{step_in, kind_setting};
 
-use llb_applet::{Command, Script, Setting};
+use llb_applet::{Joined, Script, Setting};
 use llb_loader::Vertex;
 use llb_ops::{Action, Kind, MergeInput};
 
 /// One micro-step: the read of a source's local tree, an action of a file op, the laying of a merge's input, by number, over those
-/// before it, or a command of an exec where its commands run.
+/// before it, or a command of an exec where its commands run, with the commands after it.
 #[derive(Clone, Copy)]
 pub enum MicroStep<'a> {
     ReadLocal,
     Act(&'a Action),
     LayInput(i64),
-    Run(&'a Setting, &'a Command),
+    Run(&'a Setting, &'a Joined, &'a [Joined]),
 }
 
 /// How many micro-steps a vertex has. Takes no memory.
@@ -77,19 +77,23 @@ fn lay_at<'a>(inputs: &'a [MergeInput], k: u32) -> Option<MicroStep<'a>>
 /// The command of that number.
 pub(crate) fn run_at<'a>(
     setting: &'a Setting,
-    commands: &'a [Command],
+    commands: &'a [Joined],
     k: u32,
 ) -> Option<MicroStep<'a>>
-    ensures { option_map step_in result ≡ slice_get (map (Run setting.now) commands.now) k }
+    ensures { option_map step_in result ≡ slice_get (runs_of setting.now commands.now) k }
 {
-    match commands.get(k as usize) {
-        Some(command) => Some(MicroStep::Run(setting, command)),
+    if k as usize > commands.len() {
+        return None;
+    }
+    let (_, rest) = commands.split_at(k as usize);
+    match rest.split_first() {
+        Some((command, later)) => Some(MicroStep::Run(setting, command, later)),
         None => None,
     }
 }
 
 /// The commands of a script, where there is one.
-pub(crate) fn commands_of(script: &Option<Script>) -> &[Command]
+pub(crate) fn commands_of(script: &Option<Script>) -> &[Joined]
     ensures { result.now ≡ unwrap_or script.now [] }
 {
     match script {

@@ -25,7 +25,7 @@ pub(crate) fn outputs_of(own: Own, outputs: Vec<Tree>, vertex: &Vertex) -> Vec<T
         Own::Local(tree) => place_first(outputs, tree),
         Own::Layers(_, tree) => place_first(outputs, tree),
         Own::Files(_, results) => place_all(outputs, results, actions_of(&vertex.op.kind)),
-        Own::Mounted(view, _) => {
+        Own::Mounted(view, _, _) => {
             let mounts = view.into_mounts().into_vec();
             place_shown(outputs, mounts, mounts_of(&vertex.op.kind))
         }

@@ -3,7 +3,7 @@
 
 ghost use Rattle.std.specs.Prelude.{◌≡◌, [], IfOk, map, option_map, slice_get, unwrap_or};
 ghost use Rattle.llb_loader.specs.Rules.{mount_outputs};
-ghost use Rattle.llb_model.specs.Program.{LayInput, Run, program_of, steps_of};
+ghost use Rattle.llb_model.specs.Program.{LayInput, runs_of, program_of, steps_of};
 ghost use Rattle.llb_ops.specs.declared.merge.MergeInput as merge_input;
 ghost use Rattle.llb_execution.specs.Parts.{step_in, steps_in};
 
@@ -113,7 +113,7 @@ fn steps_of(alloc: Global, kind: &Option<Kind>, script: &Option<Script>) -> Resu
 
 // The commands of a script that run so.
 fn commands(setting: Setting, script: &Option<Script>) -> Result<Steps, NoMemory>
-    ensures { IfOk result (λ s. steps_in s ≡ map (Run setting) (unwrap_or script.now [])) }
+    ensures { IfOk result (λ s. steps_in s ≡ runs_of setting (unwrap_or script.now [])) }
 {
     match script {
         Some(script) => Ok(Steps::Commands(setting, script.copy()?)),

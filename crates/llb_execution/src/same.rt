@@ -3,7 +3,7 @@
 
 ghost use Rattle.std.specs.Prelude.{◌≡◌, ◌↔◌, IsTrue, [], ◌∷◌, map, slice_get, unwrap_or};
 ghost use Rattle.llb_loader.specs.Rules.{mount_outputs};
-ghost use Rattle.llb_model.specs.Program.{ReadLocal, Act, LayInput, Run, program_of, steps_of, setting_of, path_in};
+ghost use Rattle.llb_model.specs.Program.{ReadLocal, Act, LayInput, runs_of, program_of, steps_of, setting_of, path_in};
 ghost use Rattle.llb_ops.specs.declared.merge.MergeInput as merge_input;
 ghost use Rattle.llb_execution.specs.Parts.{steps_in, own_of};
 
@@ -11,7 +11,7 @@ use crate::micro_step::commands_of;
 use crate::mounting::mounts_of;
 use crate::program::{Program, Steps};
 use crate::view::{Own, View};
-use llb_applet::{Command, Script, Setting};
+use llb_applet::{Joined, Script, Setting};
 use llb_loader::Vertex;
 use llb_ops::{Action, Kind, MergeInput, Meta, Mount};
 use llb_tree::Path;
@@ -36,8 +36,8 @@ fn same_own(own: &Own, other: &Own) -> bool
         (Own::Layers(inputs, laid), Own::Layers(others, also)) => {
             all_same(inputs.as_slice(), others.as_slice()) && laid.same(also)
         }
-        (Own::Mounted(mounts, numbers), Own::Mounted(others, also)) => {
-            mounts.same(others) && all_same(numbers.as_slice(), also.as_slice())
+        (Own::Mounted(mounts, numbers, last), Own::Mounted(others, also, other)) => {
+            mounts.same(others) && all_same(numbers.as_slice(), also.as_slice()) && last == other
         }
         _ => false,
     }
@@ -156,8 +156,8 @@ fn are_layings(steps: &Steps, inputs: &[MergeInput]) -> bool
 }
 
 // Whether the micro-steps are these commands, run where an exec of that meta runs them.
-fn are_runs(steps: &Steps, meta: &Option<Meta>, commands: &[Command]) -> bool
-    ensures { IsTrue result ↔ (steps_in steps.now ≡ map (Run (setting_of meta.now)) commands.now) }
+fn are_runs(steps: &Steps, meta: &Option<Meta>, commands: &[Joined]) -> bool
+    ensures { IsTrue result ↔ (steps_in steps.now ≡ runs_of (setting_of meta.now) commands.now) }
 {
     if commands.is_empty() {
         return are_none(steps);

@@ -9,17 +9,17 @@ ghost use Rattle.llb_fileop.specs.Faults.{Gives};
 ghost use Rattle.llb_loader.specs.Graph.{IsVertexOf};
 ghost use Rattle.llb_model.specs.Caches.{Distinct};
 ghost use Rattle.llb_model.specs.Program.{Act, program_of, view_on, local_tree, mount_of, needs_of, trees_in, base_in, with_tree, act_among};
-ghost use Rattle.llb_model.specs.Program.{tree_fault_number, fault_number, lay_on, run_on, step_on, tried, outputs_of};
+ghost use Rattle.llb_model.specs.Program.{tree_fault_number, fault_number, is_and, all_and, is_run, exit_of, last_of, lay_on, run_on, step_on, outputs_of};
 ghost use Rattle.llb_execution.specs.Marks.{put_back, Results, Laid};
 ghost use Rattle.llb_execution.specs.Marks as marks;
-ghost use Rattle.llb_execution.specs.Parts.{step_in, own_of, work_with, left_with, exit_of, mounts_in, shown_in};
+ghost use Rattle.llb_execution.specs.Parts.{step_in, own_of, work_with, left_with, is_skipped, mounts_in, shown_in};
 
 use crate::filling::run_filled;
 use crate::micro_step::MicroStep;
 use crate::mounting::{input_tree, view_of};
 use crate::outputs::outputs_of;
 use crate::refusal::NoMemory;
-use llb_applet::{Command, Setting};
+use llb_applet::{Join, Joined, Setting};
 use llb_fileop::{ActFault, act};
 use llb_loader::{Locals, Vertex};
 use llb_merge::lay_over;
@@ -32,7 +32,8 @@ use std::alloc::Global;
 use std::marker::Model;
 
 /// What a program works on: of a source its local tree, of a file op the trees of its inputs and the results so far, of a
-/// merge the trees of its inputs and what is laid so far, of an exec its mounts, of which those that show caches are empty.
+/// merge the trees of its inputs and what is laid so far, of an exec its mounts, of which those that show caches are empty, and
+/// the status of the last command that ran.
 pub struct View {
     pub(crate) own: Own,
 }
@@ -49,7 +50,7 @@ pub(crate) enum Own {
     Local(Tree),
     Files(Vec<Tree>, Vec<Tree>),
     Layers(Vec<Tree>, Tree),
-    Mounted(Mounts, Vec<u32>),
+    Mounted(Mounts, Vec<u32>, u32),
 }
 
 impl Model for View {
@@ -91,9 +92,30 @@ impl View {
         Ok(View { own })
     }
 
-    /// Does micro-step k; that number stands in its fault. The trees are those of the instances of the caches that the view shows,
+    /// The status of the last command that ran, 0 before one has. Takes no memory.
+    pub fn last(&self) -> u32
+        ensures { result ≡ last_of self.now }
+    {
+        match &self.own {
+            Own::Mounted(_, _, last) => *last,
+            _ => 0,
+        }
+    }
+
+    /// Whether a micro-step is a command that is skipped here: it changes nothing. Takes no memory.
+    pub fn skips(&self, step: MicroStep<'_>) -> bool
+        ensures { result ≡ is_skipped (step_in step.entry) self.now }
+    {
+        match step {
+            MicroStep::Run(_, command, _) => !runs_after(command.join, self.last()),
+            _ => false,
+        }
+    }
+
+    /// Does micro-step k; that number is in its fault. The trees are those of the instances of the caches that the view shows,
     /// in the order of the needs, and a command leaves them as it changes them. The answer is the fault, where there is one, and
-    /// then the view and the trees are as they were. `Memory`: out of memory, the one refusal; then they are so too.
+    /// then the view and the trees are as they were but for the last status. `Memory`: out of memory, the one refusal; then they
+    /// are as they were.
     pub fn step(
         &mut self,
         alloc: Global,
@@ -146,9 +168,8 @@ impl View {
                 self.lay(alloc, input)?;
                 Ok(None)
             }
-            MicroStep::Run(setting, command) => {
-                let status = self.run(alloc, setting, command, trees)?;
-                Ok(exit_of(k, status))
+            MicroStep::Run(setting, command, later) => {
+                self.run(alloc, k, setting, command, later, trees)
             }
         }
     }
@@ -184,7 +205,7 @@ impl View {
         let at = number as usize;
         match &self.own {
             Own::Local(_) => None,
-            Own::Mounted(_, _) => None,
+            Own::Mounted(_, _, _) => None,
             Own::Layers(inputs, _) => inputs.get(at),
             Own::Files(inputs, results) => {
                 if at < inputs.len() {
@@ -240,36 +261,47 @@ impl View {
         }
     }
 
-    // The mounts of an exec.
-    pub(crate) fn put_mounts(&mut self, mounts: Mounts)
-        ensures { self.new ≡ put_back (marks.Mounts mounts) self.old }
+    // The mounts of an exec, and its last status.
+    pub(crate) fn put_mounts(&mut self, mounts: Mounts, last: u32)
+        ensures { self.new ≡ put_back (marks.Mounts mounts last) self.old }
     {
         match &mut self.own {
-            Own::Mounted(shown, _) => *shown = mounts,
+            Own::Mounted(shown, _, status) => {
+                *shown = mounts;
+                *status = last;
+            }
             _ => {}
         }
     }
 
-    // A command runs on an exec's mounts, of which those that show caches have these trees meanwhile: its status.
+    // Command k runs on an exec's mounts, of which those that show caches have these trees meanwhile; or it is skipped, by its join
+    // and the last status. The answer is its fault: its status, where no later command may run.
     fn run(
         &mut self,
         alloc: Global,
+        k: u32,
         setting: &Setting,
-        command: &Command,
+        command: &Joined,
+        later: &[Joined],
         trees: &mut Vec<Tree>,
-    ) -> Result<u32, NoMemory>
+    ) -> Result<Option<VertexFault>, NoMemory>
         requires apart { Distinct (shown_in self.old) }
         requires within { All (λ n. n < mounts_in self.old) (shown_in self.old) }
         requires count { length trees.old.items ≡ length (shown_in self.old) }
-        ensures left { IfOk result (λ status. (k : ℕ) → left_with self.new trees.new.items (exit_of k status)
-            ≡ tried (work_with self.old trees.old.items) (run_on k setting.now command.now self.old trees.old.items)) }
+        ensures left { IfOk result (λ fault. left_with self.new trees.new.items fault
+            ≡ run_on k setting.now command.now (all_and later.now) self.old trees.old.items) }
         ensures err { OnErr result ((self.new ≡ self.old) × (trees.new.items ≡ trees.old.items)) }
     {
         match &mut self.own {
-            Own::Mounted(mounts, caches) => {
-                run_filled(alloc, command, setting, mounts, caches, trees)
+            Own::Mounted(mounts, caches, last) => {
+                if !runs_after(command.join, *last) {
+                    return Ok(None);
+                }
+                let status = run_filled(alloc, &command.command, setting, mounts, caches, trees)?;
+                *last = status;
+                Ok(exit_of(k, status, later))
             }
-            _ => Ok(0),
+            _ => Ok(None),
         }
     }
 }
@@ -282,7 +314,9 @@ fn copy_of(own: &Own) -> Result<Own, NoMemory>
         Own::Local(tree) => Ok(Own::Local(tree.copy()?)),
         Own::Files(inputs, results) => Ok(Own::Files(tree_copies(inputs)?, tree_copies(results)?)),
         Own::Layers(inputs, laid) => Ok(Own::Layers(tree_copies(inputs)?, laid.copy()?)),
-        Own::Mounted(mounts, numbers) => Ok(Own::Mounted(mounts.copy()?, numbers.clone()?)),
+        Own::Mounted(mounts, numbers, last) => {
+            Ok(Own::Mounted(mounts.copy()?, numbers.clone()?, *last))
+        }
     }
 }
 
@@ -314,7 +348,7 @@ fn own_on(
         Some(Kind::Merge(_)) => Ok(Own::Layers(inputs, Tree::empty(alloc)?)),
         Some(Kind::Exec(exec)) => {
             let mounts = view_of(alloc, inputs.as_slice(), exec.get().mounts.as_slice())?;
-            Ok(Own::Mounted(mounts, caches))
+            Ok(Own::Mounted(mounts, caches, 0))
         }
         _ => Ok(Own::Files(inputs, Vec::new(alloc))),
     }
@@ -380,12 +414,48 @@ fn lay_input(alloc: Global, laid: &mut Tree, inputs: &[Tree], input: i64) -> Res
     Ok(())
 }
 
-// The fault of a command that ended with a status, where that is not 0.
-fn exit_of(command: u32, status: u32) -> Option<VertexFault>
-    ensures { result ≡ exit_of command status }
+// Whether a command that is joined so runs after a last status.
+fn runs_after(join: Join, last: u32) -> bool
+    ensures { result ≡ is_run join last }
+{
+    match join {
+        Join::Then => true,
+        Join::And => last == 0,
+        Join::Or => last != 0,
+    }
+}
+
+fn is_and(join: Join) -> bool
+    ensures { result ≡ is_and join }
+{
+    match join {
+        Join::And => true,
+        _ => false,
+    }
+}
+
+// Whether each of these commands is joined by `&&`.
+fn are_ands(commands: &[Joined]) -> bool
+    ensures { result ≡ all_and commands.now }
+{
+    for command in commands {
+        if !is_and(command.join) {
+            return false;
+        }
+    }
+    true
+}
+
+// The fault of a command that ended with a status other than 0, where no later one may run. Those after it are looked at only then:
+// all that this passes over are skipped, so that a whole script costs no more than its length.
+fn exit_of(command: u32, status: u32, later: &[Joined]) -> Option<VertexFault>
+    ensures { result ≡ exit_of command (all_and later.now) status }
 {
     if status == 0 {
         return None;
     }
-    Some(VertexFault::Exit(command, status))
+    if are_ands(later) {
+        return Some(VertexFault::Exit(command, status));
+    }
+    None
 }

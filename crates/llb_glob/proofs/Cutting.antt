@@ -1,22 +1,17 @@
 -- Cutting characters into items and names into parts, one at a time.
-use Rattle.std.proofs.Common.{◌≡◌, ℕ, suc, ◌+◌, ◌<◌, ◌≤◌, ◌==◌, Bool, true, false, not, cond, if◌then◌else◌, List, [], ◌∷◌, ◌++◌, length, drop, get_or}
-use Rattle.std.proofs.Common.{Option, Some, None, is_some, is_none, option_to_list, Result, Ok, Err, is_ok, inl, inr}
-use Rattle.std.proofs.Common.{refl, sym, ap, ◌∙◌, subst, append_assoc, add-one, drop-cons, ne_eqb}
-use Rattle.std.proofs.lemmas.Bool.{cases_eq}
+use Rattle.std.proofs.Common.{◌≡◌, ℕ, suc, ◌+◌, ◌<◌, ◌≤◌, Bool, true, false, List, [], ◌∷◌, ◌++◌, length, drop, get_or}
+use Rattle.std.proofs.Common.{option_to_list, Result, Ok, Err, is_ok, refl, sym, ap, ◌∙◌, append_assoc, add-one, drop-cons}
 use Rattle.std.proofs.lemmas.List.{drop_all}
 use Rattle.std.specs.Str.{chars}
 use Rattle.llb_wire.specs.Answer.{◌>>=◌}
 use Rattle.llb_glob.specs.declared.fault.PatternFault.{PatternFault}
-use Rattle.llb_glob.specs.declared.fault.PatternFault.TheVariants.{BadPattern}
 use Rattle.llb_glob.specs.declared.item.Item.{Item}
-use Rattle.llb_glob.specs.declared.item.Item.TheVariants.{One}
-use Rattle.llb_glob.specs.declared.item.Letter.TheVariants.{Only}
-use Rattle.llb_glob.specs.Items.{item_of, items_of, cut}
+use Rattle.llb_glob.specs.declared.cursor.Cursor.{Cursor}
+use Rattle.llb_glob.specs.declared.cursor.Effect.{Effect}
+use Rattle.llb_glob.specs.ClassValue.{ClassValue}
+use Rattle.llb_glob.specs.Class.{none_yet}
+use Rattle.llb_glob.specs.Items.{cut, item_by, class_by, behind, is_whole, ended, items_from, items_of}
 use Rattle.llb_glob.specs.Pattern.{each_cut}
-
--- what is cut already, and then what is left
-abbrev pub behind : {A : Type 0} → List A → Result (List A) PatternFault → Result (List A) PatternFault
-behind before rest = rest >>= λ more. Ok (before ++ more)
 
 -- where nothing is cut yet, the answer is that of what is left
 pub behind_none : {A : Type 0} (rest : Result (List A) PatternFault) → behind [] rest ≡ rest
@@ -35,93 +30,65 @@ is_ok-behind before (Err e) = refl
 pub at_drop : {A : Type 0} (xs : List A) (i : ℕ) (x : A) → i < length xs → x ≡ get_or xs i x → drop i xs ≡ x ∷ drop (i + 1) xs
 at_drop xs i x inside is = rw add-one (drop-cons xs i x inside ∙ ap (λ y. y ∷ drop (suc i) xs) (sym is))
 
--- what is not there is not some
-pub is_none_from : {A : Type 0} (said : Option A) (none : Bool) → is_some said ≡ not none → is_none said ≡ none
-is_none_from None true e = refl
-is_none_from None false e = absurd cc
-is_none_from (Some x) true e = absurd cc
-is_none_from (Some x) false e = refl
-
 -- ---- a part
 
--- what characters spell, after a `\` or not
-abbrev pub items_from : Bool → List ℕ → Result (List Item) PatternFault
-items_from quoted letters = if quoted then items_of (92 ∷ letters) else items_of letters
+-- what a character does, and what the characters after it spell
+abbrev pub and_then : List ℕ → ClassValue → Cursor × Effect → Result (List Item) PatternFault
+and_then letters class next = behind (option_to_list (item_by next.1 class)) (items_from letters next.0 (class_by next.1 class))
 
--- what one character says, and what follows it
-abbrev and_then : List ℕ → Option Item → Result (List Item) PatternFault
-and_then letters said = behind (option_to_list said) (items_from (is_none said) letters)
+-- whether characters can be cut does not depend on the class at hand
+is_ok-class :
+    (letters : List ℕ) (cursor : Cursor) (class other : ClassValue)
+    → is_ok (items_from letters cursor class) ≡ is_ok (items_from letters cursor other)
+is_ok-class [] cursor class other = refl
+is_ok-class (c ∷ letters) cursor class other = then (is_ok-class letters) (cut cursor c)
+  where
+    then :
+        ((cursor : Cursor) (class other : ClassValue) → is_ok (items_from letters cursor class) ≡ is_ok (items_from letters cursor other))
+        → (r : Result (Cursor × Effect) PatternFault)
+        → is_ok (r >>= and_then letters class) ≡ is_ok (r >>= and_then letters other)
+    then rest (Err e) = refl
+    then rest (Ok next) =
+        is_ok-behind (option_to_list (item_by next.1 class)) _
+        ∙ rest next.0 (class_by next.1 class) (class_by next.1 other)
+        ∙ sym (is_ok-behind (option_to_list (item_by next.1 other)) _)
 
--- a character that is no `\`
-plain_first : (c : ℕ) (letters : List ℕ) → (c == 92) ≡ false → items_of (c ∷ letters) ≡ (item_of c >>= λ item. behind (item ∷ []) (items_of letters))
-plain_first c [] is = ap (λ b. if b then Err BadPattern else (item_of c >>= λ item. Ok (item ∷ []))) is
-plain_first c (d ∷ letters) is =
-    ap (λ b. if b then behind (One (Only d) ∷ []) (items_of letters) else (item_of c >>= λ item. behind (item ∷ []) (items_of (d ∷ letters)))) is
-
-plain_says : (r : Result Item PatternFault) (letters : List ℕ) → (r >>= λ item. behind (item ∷ []) (items_of letters))
-    ≡ (r >>= (λ item. Ok (Some item)) >>= and_then letters)
-plain_says (Ok item) letters = refl
-plain_says (Err e) letters = refl
-
--- the first character decides
-at_first : (quoted : Bool) (c : ℕ) (letters : List ℕ) → items_from quoted (c ∷ letters) ≡ (cut quoted c >>= and_then letters)
-at_first true c letters = refl
-at_first false c letters =
-    elim (cases_eq c 92) [
-      | inl is ↦ subst (λ x. items_of (x ∷ letters) ≡ (cut false x >>= and_then letters)) (sym is) (sym (behind_none (items_of (92 ∷ letters))))
-      | inr other ↦
-          let plain = ne_eqb c 92 other in
-          plain_first c letters plain
-          ∙ plain_says (item_of c) letters
-          ∙ ap (λ b. (if b then Ok None else (item_of c >>= λ item. Ok (Some item))) >>= and_then letters) (sym plain)
-    ]
-
-module _ (quoted : Bool) (letters : List ℕ) (i c : ℕ) (inside : i < length letters) (is : c ≡ get_or letters i c) where
+module _ (cursor : Cursor) (letters : List ℕ) (i c : ℕ) (inside : i < length letters) (is : c ≡ get_or letters i c) where
   -- the character at hand decides
-  at_letter : items_from quoted (drop i letters) ≡ (cut quoted c >>= and_then (drop (i + 1) letters))
-  at_letter =
-      let here : drop i letters ≡ c ∷ drop (i + 1) letters = at_drop letters i c inside is in
-      ap (items_from quoted) here ∙ at_first quoted c (drop (i + 1) letters)
+  at_letter : (r : Result (Cursor × Effect) PatternFault) → cut cursor c ≡ r
+      → items_from (drop i letters) cursor none_yet ≡ (r >>= and_then (drop (i + 1) letters) none_yet)
+  at_letter r says =
+      ap (λ ls. items_from ls cursor none_yet) (at_drop letters i c inside is)
+      ∙ ap (λ s. s >>= and_then (drop (i + 1) letters) none_yet) says
 
-  module _ (said : Option Item) (says : cut quoted c ≡ Ok said) (next : Bool) (none : is_some said ≡ not next) where
-    letter_says : items_from quoted (drop i letters) ≡ behind (option_to_list said) (items_from next (drop (i + 1) letters))
-    letter_says =
-        at_letter
-        ∙ ap (λ r. r >>= and_then (drop (i + 1) letters)) says
-        ∙ ap (λ q. behind (option_to_list said) (items_from q (drop (i + 1) letters))) (is_none_from said next none)
+  -- the characters from it on can be cut just if those after it can
+  pub is_more :
+      (next : Cursor × Effect)
+      → cut cursor c ≡ Ok next
+      → (r : Bool)
+      → is_ok (items_from (drop i letters) cursor none_yet) ≡ r
+      → is_ok (items_from (drop (i + 1) letters) next.0 none_yet) ≡ r
+  is_more next says r so_far =
+      is_ok-class (drop (i + 1) letters) next.0 none_yet (class_by next.1 none_yet)
+      ∙ sym (is_ok-behind (option_to_list (item_by next.1 none_yet)) _)
+      ∙ ap is_ok (sym (at_letter (Ok next) says))
+      ∙ so_far
 
-    -- the item that a character gives, if any, joins the items before it, and all comes to the same
-    pub cut_more :
-        (before : List Item) (r : Result (List Item) PatternFault)
-        → behind before (items_from quoted (drop i letters)) ≡ r
-        → behind (before ++ option_to_list said) (items_from next (drop (i + 1) letters)) ≡ r
-    cut_more before r so_far = sym (behind_both before (option_to_list said) _) ∙ ap (behind before) (sym letter_says) ∙ so_far
-
-    -- and the characters from it on can be cut just if those after it can
-    pub is_more : (r : Bool) → is_ok (items_from quoted (drop i letters)) ≡ r → is_ok (items_from next (drop (i + 1) letters)) ≡ r
-    is_more r so_far = sym (is_ok-behind (option_to_list said) _) ∙ ap is_ok (sym letter_says) ∙ so_far
-
-  module _ (e : PatternFault) (says : cut quoted c ≡ Err e) where
-    letter_stops : items_from quoted (drop i letters) ≡ Err e
-    letter_stops = at_letter ∙ ap (λ r. r >>= and_then (drop (i + 1) letters)) says
-
-    -- a character that is refused has the whole refused, for the same cause
-    pub cut_stops :
-        (before : List Item) (r : Result (List Item) PatternFault)
-        → behind before (items_from quoted (drop i letters)) ≡ r
-        → r ≡ Err e
-    cut_stops before r so_far = sym so_far ∙ ap (behind before) letter_stops
-
-    -- and then the characters can't be cut
-    pub is_stopped : (r : Bool) → is_ok (items_from quoted (drop i letters)) ≡ r → false ≡ r
-    is_stopped r so_far = ap is_ok (sym letter_stops) ∙ so_far
+  -- where it is refused, they can't be cut
+  pub is_stopped : (e : PatternFault) → cut cursor c ≡ Err e → (r : Bool) → is_ok (items_from (drop i letters) cursor none_yet) ≡ r → false ≡ r
+  is_stopped e says r so_far = ap is_ok (sym (at_letter (Err e) says)) ∙ so_far
 
 -- no character is left
 pub cut_ends :
-    (quoted : Bool) (letters : List ℕ) (i : ℕ)
+    (cursor : Cursor) (class : ClassValue) (letters : List ℕ) (i : ℕ)
     → length letters ≤ i
-    → items_from quoted (drop i letters) ≡ cond quoted (Err BadPattern) (Ok [])
-cut_ends quoted letters i past = ap (items_from quoted) (drop_all i letters past)
+    → items_from (drop i letters) cursor class ≡ ended (is_whole cursor)
+cut_ends cursor class letters i past = ap (λ ls. items_from ls cursor class) (drop_all i letters past)
+
+-- it is whole, or refused
+pub is_ok-ended : (b : Bool) → is_ok (ended b) ≡ b
+is_ok-ended true = refl
+is_ok-ended false = refl
 
 -- ---- a pattern
 

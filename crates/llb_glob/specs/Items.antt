@@ -1,29 +1,130 @@
--- The items that the characters of a part spell: `*` is any run, `?` any one character, `\c` the character c, and
--- another character stands for itself. A `[` that is not after a `\` is refused, and so is a `\` at the end.
-use Rattle.std.specs.Prelude.{ℕ, ◌==◌, Bool, true, false, if◌then◌else◌, List, [], ◌∷◌, Option, Some, None, Result, Ok, Err}
+-- How the characters of a part are read into items, one after the other and never back. What a character does depends on the stage of the reading, and on
+-- whether a `\` quotes it. The grammar, apart from any reading, is in Spelling.
+use Rattle.std.specs.Prelude.{ℕ, ◌==◌, Bool, true, false, not, ◌&&◌, if◌then◌else◌, List, [], ◌∷◌, ◌++◌, Option, Some, None, option_to_list, Result, Ok, Err}
 use Rattle.llb_wire.specs.Answer.{◌>>=◌}
 use Rattle.llb_glob.specs.declared.fault.PatternFault.{PatternFault}
 use Rattle.llb_glob.specs.declared.fault.PatternFault.TheVariants.{BadPattern}
 use Rattle.llb_glob.specs.declared.item.Item.{Item}
 use Rattle.llb_glob.specs.declared.item.Item.TheVariants.{Run, One}
-use Rattle.llb_glob.specs.declared.item.Letter.TheVariants.{Any, Only}
+use Rattle.llb_glob.specs.declared.item.Letter.TheVariants.{Any, Only, In}
+use Rattle.llb_glob.specs.declared.cursor.Stage.{Stage}
+use Rattle.llb_glob.specs.declared.cursor.Stage.TheVariants.{Outside, Opened, Caret, Single, Dash, Range}
+use Rattle.llb_glob.specs.declared.cursor.Cursor.{Cursor}
+use Rattle.llb_glob.specs.declared.cursor.Effect.{Effect}
+use Rattle.llb_glob.specs.declared.cursor.Effect.TheVariants.{Nothing, Whole, Exclude, Add, Extend, Close}
+use Rattle.llb_glob.specs.ClassValue.{ClassValue}
+use Rattle.llb_glob.specs.Class.{none_yet, one_alone, extended}
 
--- a character that is no `\` and not after one
-abbrev pub item_of : ℕ → Result Item PatternFault
-item_of c =
-    if c == 91 then Err BadPattern
-    else (if c == 42 then Ok Run
-    else (if c == 63 then Ok (One Any) else Ok (One (Only c))))
+-- ---- what a character does
 
--- a `\` and the character after it are one item, and so is each other character
+abbrev pub at : Stage → Cursor
+at stage = record { stage = stage; quotes = false }
+
+-- where a part begins: in no class
+abbrev pub start : Cursor
+start = at Outside
+
+-- a character that means itself: an item of the part, an item of the class at hand, or the high end of a range
+abbrev pub literal : Stage → ℕ → Cursor × Effect
+literal Outside c = (at Outside, Whole (One (Only c)))
+literal Opened c = (at Single, Add c)
+literal Caret c = (at Single, Add c)
+literal Single c = (at Single, Add c)
+literal Dash c = (at Range, Extend c)
+literal Range c = (at Single, Add c)
+
+-- in no class a `[` opens one, `*` is any run and `?` any one character
+abbrev pub outside : ℕ → Cursor × Effect
+outside c =
+    if c == 91 then (at Opened, Nothing)
+    else (if c == 42 then (at Outside, Whole Run)
+    else (if c == 63 then (at Outside, Whole (One Any)) else literal Outside c))
+
+-- a `]` closes a class of one or more whole items
+abbrev pub closed : Stage → Result (Cursor × Effect) PatternFault
+closed Outside = Err BadPattern
+closed Opened = Err BadPattern
+closed Caret = Err BadPattern
+closed Single = Ok (at Outside, Close)
+closed Dash = Err BadPattern
+closed Range = Ok (at Outside, Close)
+
+-- a `-` is between the two ends of a range
+abbrev pub dashed : Stage → Result (Cursor × Effect) PatternFault
+dashed Outside = Err BadPattern
+dashed Opened = Err BadPattern
+dashed Caret = Err BadPattern
+dashed Single = Ok (at Dash, Nothing)
+dashed Dash = Err BadPattern
+dashed Range = Err BadPattern
+
+-- in a class each other character means itself
+abbrev pub inside : Stage → ℕ → Result (Cursor × Effect) PatternFault
+inside stage c = if c == 93 then closed stage else (if c == 45 then dashed stage else Ok (literal stage c))
+
+-- a character that is neither a `\` nor after one; right after a `[` a `^` makes the class exclude
+abbrev pub plain : Stage → ℕ → Result (Cursor × Effect) PatternFault
+plain Outside c = Ok (outside c)
+plain Opened c = if c == 94 then Ok (at Caret, Exclude) else inside Opened c
+plain Caret c = inside Caret c
+plain Single c = inside Single c
+plain Dash c = inside Dash c
+plain Range c = inside Range c
+
+abbrev pub quoted : Bool → Stage → ℕ → Result (Cursor × Effect) PatternFault
+quoted true stage c = Ok (literal stage c)
+quoted false stage c = if c == 92 then Ok (record { stage = stage; quotes = true }, Nothing) else plain stage c
+
+-- where the reading is after a character, and what the character does
+abbrev pub cut : Cursor → ℕ → Result (Cursor × Effect) PatternFault
+cut cursor c = quoted cursor.quotes cursor.stage c
+
+-- ---- what is read
+
+-- the item of the part that an effect completes, if any
+abbrev pub item_by : Effect → ClassValue → Option Item
+item_by Nothing class = None
+item_by (Whole item) class = Some item
+item_by Exclude class = None
+item_by (Add c) class = None
+item_by (Extend c) class = None
+item_by Close class = Some (One (In class))
+
+-- the class at hand after an effect; behind a class the next one has no item yet
+abbrev pub class_by : Effect → ClassValue → ClassValue
+class_by Nothing class = class
+class_by (Whole item) class = class
+class_by Exclude class = record class { excludes = true }
+class_by (Add c) class = record class { spans = class.spans ++ one_alone c ∷ [] }
+class_by (Extend c) class = record class { spans = extended class.spans c }
+class_by Close class = none_yet
+
+-- items, and then those that are left
+abbrev pub behind : {A : Type 0} → List A → Result (List A) PatternFault → Result (List A) PatternFault
+behind before rest = rest >>= λ more. Ok (before ++ more)
+
+-- a part may end in no class, where no `\` waits for its character
+abbrev pub is_outside : Stage → Bool
+is_outside Outside = true
+is_outside Opened = false
+is_outside Caret = false
+is_outside Single = false
+is_outside Dash = false
+is_outside Range = false
+
+abbrev pub is_whole : Cursor → Bool
+is_whole cursor = is_outside cursor.stage && not cursor.quotes
+
+abbrev pub ended : Bool → Result (List Item) PatternFault
+ended true = Ok []
+ended false = Err BadPattern
+
+-- the items that characters are read as from where the reading is, with the class at hand
+abbrev pub items_from : List ℕ → Cursor → ClassValue → Result (List Item) PatternFault
+items_from [] cursor class = ended (is_whole cursor)
+items_from (c ∷ cs) cursor class =
+    cut cursor c >>= λ next. behind (option_to_list (item_by next.1 class)) (items_from cs next.0 (class_by next.1 class))
+
+-- the items that the characters of a part are read as
 abbrev pub items_of : List ℕ → Result (List Item) PatternFault
-items_of [] = Ok []
-items_of (c ∷ []) = if c == 92 then Err BadPattern else (item_of c >>= λ item. Ok (item ∷ []))
-items_of (c ∷ d ∷ cs) =
-    if c == 92 then (items_of cs >>= λ items. Ok (One (Only d) ∷ items))
-    else (item_of c >>= λ item. items_of (d ∷ cs) >>= λ items. Ok (item ∷ items))
-
--- what one character says, after a `\` or not: an item, or nothing yet
-abbrev pub cut : Bool → ℕ → Result (Option Item) PatternFault
-cut true c = Ok (Some (One (Only c)))
-cut false c = if c == 92 then Ok None else (item_of c >>= λ item. Ok (Some item))
+items_of letters = items_from letters start none_yet

@@ -1,24 +1,45 @@
 -- The test of a path against a pattern tells whether it matches.
 use Rattle.std.specs.Prelude.{◌≡◌, ◌↔◌, ℕ, zero, suc, Bool, true, false, ◌&&◌, ◌||◌, List, [], ◌∷◌, drop, IsTrue}
-use Rattle.std.proofs.Common.{refl, sym, inl, inr, eqb-true, eq-eqb}
+use Rattle.std.specs.List.{list_any}
+use Rattle.std.proofs.Common.{refl, sym, inl, inr, eqb-true, eq-eqb, leb-true, le-leb}
+use Rattle.std.proofs.lemmas.Bool.Decides.{Decides-or, Decides-not}
 use Rattle.std.proofs.lemmas.Bool.{and_parts, and_from, or_cases, or_left, or_right, false≢true}
 use Rattle.std.specs.Str.{chars}
 use Rattle.llb_glob.specs.declared.item.Item.{Item}
 use Rattle.llb_glob.specs.declared.item.Item.TheVariants.{Run, One}
 use Rattle.llb_glob.specs.declared.item.Letter.{Letter}
-use Rattle.llb_glob.specs.declared.item.Letter.TheVariants.{Any, Only}
+use Rattle.llb_glob.specs.declared.item.Letter.TheVariants.{Any, Only, In}
+use Rattle.llb_glob.specs.declared.class.Span.{Span}
+use Rattle.llb_glob.specs.ClassValue.{ClassValue}
+use Rattle.llb_glob.specs.Class.{IsInSpan, IsInSome, Excluding, ClassTakes, is_in_span, excluding, class_takes}
 use Rattle.llb_glob.specs.Matching.{Takes, MatchesName, Matches, takes, any_suffix, name_matches, path_matches}
 
 -- a test that tells whether a fact holds
 abbrev pub Tells : Bool → Type 0 → Type 0
 Tells b P = IsTrue b ↔ P
 
+both : (a b : Bool) (P Q : Type 0) → Tells a P → Tells b Q → Tells (a && b) (P × Q)
+both a b P Q p q = (λ e. (p.0 (and_parts a b e).0, q.0 (and_parts a b e).1), λ h. and_from a b (p.1 h.0) (q.1 h.1))
+
+-- a class, by its items
+is_in_span-tells : (span : Span) (c : ℕ) → Tells (is_in_span span c) (IsInSpan span c)
+is_in_span-tells span c = both _ _ _ _ (leb-true span.low c, le-leb span.low c) (leb-true c span.high, le-leb c span.high)
+
+any-tells : (spans : List Span) (c : ℕ) → Tells (list_any (λ span. is_in_span span c) spans) (IsInSome spans c)
+any-tells [] c = (λ e. absurd (false≢true e), λ h. absurd h)
+any-tells (span ∷ spans) c = Decides-or _ _ (is_in_span-tells span c) (any-tells spans c)
+
+excluding-tells : (excludes b : Bool) (P : Type 0) → Tells b P → Tells (excluding excludes b) (Excluding excludes P)
+excluding-tells false b P tells = tells
+excluding-tells true b P tells = Decides-not b tells
+
+pub class_takes-tells : (class : ClassValue) (c : ℕ) → Tells (class_takes class c) (ClassTakes class c)
+class_takes-tells class c = excluding-tells class.excludes _ _ (any-tells class.spans c)
+
 takes-tells : (l : Letter) (c : ℕ) → Tells (takes l c) (Takes l c)
 takes-tells Any c = (λ _. tt, λ _. refl)
 takes-tells (Only only) c = (eqb-true c only, eq-eqb c only)
-
-both : (a b : Bool) (P Q : Type 0) → Tells a P → Tells b Q → Tells (a && b) (P × Q)
-both a b P Q p q = (λ e. (p.0 (and_parts a b e).0, q.0 (and_parts a b e).1), λ h. and_from a b (p.1 h.0) (q.1 h.1))
+takes-tells (In class) c = class_takes-tells class c
 
 -- where a test tells of each name, it tells of the suffixes of one
 suffix-tells : (items : List Item) → ((name : List ℕ) → Tells (name_matches items name) (MatchesName items name)) → (name : List ℕ)

@@ -1,9 +1,14 @@
--- Read first Matching (when a path matches a pattern) and Pattern (what a text reads as) with Items, then Faults and Laws. Places and Walk are the code's
--- own way.
+-- Read first Matching with Class (when a path matches a pattern), then Spelling (what spells a part) and Pattern (what a text reads as) with Items, then
+-- Simple, Faults and Laws. Reading, Places and Walk are the code's own way.
 pub mod Faults
-pub mod Items
+pub mod ClassValue
+pub mod Class
 pub mod Matching
+pub mod Spelling
+pub mod Items
+pub mod Simple
 pub mod Laws
+pub mod Reading
 pub mod Places
 pub mod Pattern
 pub mod Walk

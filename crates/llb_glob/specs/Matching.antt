@@ -4,12 +4,14 @@ use Rattle.std.specs.Str.{chars}
 use Rattle.llb_glob.specs.declared.item.Item.{Item}
 use Rattle.llb_glob.specs.declared.item.Item.TheVariants.{Run, One}
 use Rattle.llb_glob.specs.declared.item.Letter.{Letter}
-use Rattle.llb_glob.specs.declared.item.Letter.TheVariants.{Any, Only}
+use Rattle.llb_glob.specs.declared.item.Letter.TheVariants.{Any, Only, In}
+use Rattle.llb_glob.specs.Class.{ClassTakes, class_takes}
 
 -- the characters that one item of a part may stand for
 abbrev pub Takes : Letter → ℕ → Type 0
 Takes Any c = Unit {0}
 Takes (Only only) c = c ≡ only
+Takes (In class) c = ClassTakes class c
 
 -- a run and the rest match a name where the rest matches one of its suffixes
 abbrev pub MatchesName : List Item → List ℕ → Type 0
@@ -30,6 +32,7 @@ Matches (part ∷ parts) (name ∷ path) = MatchesName part (chars name) × Matc
 abbrev pub takes : Letter → ℕ → Bool
 takes Any c = true
 takes (Only only) c = c == only
+takes (In class) c = class_takes class c
 
 -- a list or one of its suffixes passes
 abbrev pub any_suffix : (List ℕ → Bool) → List ℕ → Bool

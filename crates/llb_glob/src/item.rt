@@ -1,10 +1,9 @@
-//! What a part of a pattern is made of, and what each of its characters says.
+//! What a part of a pattern is made of.
 
-ghost use Rattle.std.specs.Prelude.{◌≡◌, ◌↔◌, IsTrue};
-ghost use Rattle.llb_glob.specs.Items.{cut};
+ghost use Rattle.std.specs.Prelude.{◌↔◌, IsTrue};
 ghost use Rattle.llb_glob.specs.Matching.{Takes};
 
-use crate::fault::PatternFault;
+use crate::class::Class;
 
 /// An item of a part.
 #[derive(Drop)]
@@ -15,39 +14,26 @@ pub enum Item {
     One(Letter),
 }
 
-/// Which characters may stand for one.
+/// Which characters match.
 #[derive(Drop)]
 pub enum Letter {
     /// `?`: any.
     Any,
     /// This one.
     Only(char),
+    /// Those of a class.
+    In(Class),
 }
 
 impl Letter {
-    /// Whether a character is one of these.
+    /// Whether a character matches.
     pub fn takes(&self, letter: char) -> bool
         ensures { IsTrue result ↔ Takes self.now letter }
     {
         match self {
             Letter::Any => true,
             Letter::Only(only) => letter == *only,
+            Letter::In(class) => class.takes(letter),
         }
-    }
-}
-
-/// What the next character of a part says, after a `\` or not: an item, or nothing where it is a `\` itself.
-pub fn cut(quoted: bool, letter: char) -> Result<Option<Item>, PatternFault>
-    ensures { result ≡ cut quoted letter }
-{
-    if quoted {
-        return Ok(Some(Item::One(Letter::Only(letter))));
-    }
-    match letter {
-        '\\' => Ok(None),
-        '[' => Err(PatternFault::BadPattern),
-        '*' => Ok(Some(Item::Run)),
-        '?' => Ok(Some(Item::One(Letter::Any))),
-        _ => Ok(Some(Item::One(Letter::Only(letter)))),
     }
 }

@@ -1,13 +1,17 @@
-//! Patterns: which paths a text with `*`, `?` and `\` stands for. A pattern is read part by part, as a path is, and a
-//! path matches where each of its names matches the part at its place. Nothing here knows a tree or an operation.
+//! Patterns: which paths a text with `*`, `?`, classes and `\` matches. A pattern is read part by part, as a path is, and
+//! a path matches where each of its names matches the part at its place. Nothing here knows a tree or an operation.
 #![tactic(auto)]
 
+mod class;
+mod cursor;
 mod fault;
 mod item;
+mod laws;
 mod letters;
 mod part;
 mod pattern;
 mod places;
 
 pub use fault::PatternFault;
+pub use laws::{reads_by_the_grammar, reads_without_classes};
 pub use pattern::Pattern;

@@ -1,17 +1,20 @@
 //! A part of a pattern: what one name has to match.
 
-ghost use Rattle.std.specs.Prelude.{◌≡◌, ◌↔◌, ◌≤◌, length, is_ok, IsTrue};
+ghost use Rattle.std.specs.Prelude.{◌≡◌, ◌↔◌, ◌≤◌, ◌∷◌, ℕ, List, length, is_ok, IsTrue};
 ghost use Rattle.std.specs.Str.{chars};
 ghost use Rattle.llb_glob.specs.Faults.{Gives};
 ghost use Rattle.llb_glob.specs.Items.{items_of};
 ghost use Rattle.llb_glob.specs.Matching.{MatchesName};
 
+use crate::class::Class;
+use crate::cursor::{Cursor, Effect};
 use crate::fault::PatternFault;
-use crate::item::{Item, cut};
+use crate::item::{Item, Letter};
 use crate::letters::Letters;
 use crate::places::matches_letters;
 use std::alloc::Global;
 use std::marker::Model;
+use std::mem;
 
 /// A part of a pattern. Contracts see the list of its items.
 pub struct Part {
@@ -41,19 +44,20 @@ impl Part {
         ensures { Gives (λ p. p) result (items_of (chars text.now)) }
     {
         let letters = Letters::of(text);
-        let mut items = Vec::new(alloc);
-        let mut quoted = false;
+        let mut reading = Reading {
+            cursor: Cursor::start(),
+            items: Vec::new(alloc),
+            class: Class::new(alloc),
+        };
         for letter in letters.as_slice() {
-            let said = cut(quoted, *letter)?;
-            quoted = said.is_none();
-            if let Some(item) = said {
-                items.push(item)?;
-            }
+            reading.take(alloc, *letter)?;
         }
-        if quoted {
+        if !reading.cursor.is_whole() {
             return Err(PatternFault::BadPattern);
         }
-        Ok(Part { items })
+        Ok(Part {
+            items: reading.items,
+        })
     }
 
     /// Whether a name matches.
@@ -66,18 +70,50 @@ impl Part {
     }
 }
 
+// A part while it is read: where the reading is, the whole items before it, and the class at hand.
+#[derive(Drop)]
+pub struct Reading {
+    cursor: Cursor,
+    items: Vec<Item>,
+    class: Class,
+}
+
+impl Reading {
+    ghost use Rattle.llb_glob.specs.Reading.{ahead, Reads};
+
+    // Takes the next character; 41 `BadPattern`, 42 `Memory`.
+    fn take(&mut self, alloc: Global, letter: char) -> Result<(), PatternFault>
+        ensures { (rest : List ℕ) → Reads result (ahead self.old (letter ∷ rest)) (ahead self.new rest) }
+    {
+        let (cursor, effect) = self.cursor.cut(letter)?;
+        self.cursor = cursor;
+        match effect {
+            Effect::Nothing => {}
+            Effect::Whole(item) => self.items.push(item)?,
+            Effect::Exclude => self.class.exclude(),
+            Effect::Add(letter) => self.class.add(letter)?,
+            Effect::Extend(high) => self.class.extend(high),
+            Effect::Close => {
+                let class = mem::replace(&mut self.class, Class::new(alloc));
+                self.items.push(Item::One(Letter::In(class)))?;
+            }
+        }
+        Ok(())
+    }
+}
+
 /// Whether a text spells a part.
 pub fn is_part(text: &str) -> bool
     requires { length text.now ≤ 255 }
     ensures { result ≡ is_ok (items_of (chars text.now)) }
 {
     let letters = Letters::of(text);
-    let mut quoted = false;
+    let mut cursor = Cursor::start();
     for letter in letters.as_slice() {
-        match cut(quoted, *letter) {
-            Ok(said) => quoted = said.is_none(),
-            Err(_) => return false,
-        }
+        let Ok((next, _)) = cursor.cut(*letter) else {
+            return false;
+        };
+        cursor = next;
     }
-    !quoted
+    cursor.is_whole()
 }

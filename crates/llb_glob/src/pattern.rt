@@ -37,9 +37,10 @@ impl Model for Pattern {
 impl Pattern {
     /// The pattern that a text reads as: the text is split at `/`, empty parts and `.` are dropped, `..` removes the last
     /// part and stops at the root, and each part that is left is cut into items: `*` any run of characters, `?` any one
-    /// character, `\c` the character c, any other character itself. 41 `BadPattern` at a part that is no name or is the
-    /// 129th, also where a later `..` would remove it, and where a part that is left ends in a lone `\` or has a `[` that
-    /// is not after a `\`; 42 `Memory`, where there is no other fault.
+    /// character, `[..]` one that is in an item of the class, `[^..]` one that is in none, `\c` the character c, any other
+    /// character itself. An item of a class is a character or a range `lo-hi`. 41 `BadPattern` at a part that is no name or
+    /// is the 129th, also where a later `..` would remove it, and where a part that is left ends in a lone `\` or has a
+    /// class that is empty, not closed or misspelled; 42 `Memory`, where there is no other fault.
     pub fn read(alloc: Global, text: &str) -> Result<Pattern, PatternFault>
         ensures gives { Gives (λ p. p) result (pattern_of text.now) }
         ensures last { MemoryLast result (pattern_of text.now) }

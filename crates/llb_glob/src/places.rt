@@ -8,7 +8,8 @@ ghost use Rattle.llb_glob.specs.Places.{IsIn, Reaches, AreStarts};
 
 use crate::item::{Item, Letter};
 
-/// Whether items match the characters of a name, in at most as many steps as there are items times places.
+/// Whether items match the characters of a name. It takes at most as many comparisons as the part has characters, times
+/// the places: an item is compared once at each place, and a class has at most as many items as characters.
 pub fn matches_letters(items: &[Item], name: &[char]) -> bool
     requires { length name.now ≤ 255 }
     ensures { IsTrue result ↔ MatchesName items.now name.now }

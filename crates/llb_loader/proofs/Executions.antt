@@ -9,7 +9,7 @@ use Rattle.llb_ops.specs.declared.op.Kind.TheVariants.{Exec}
 use Rattle.llb_ops.specs.declared.exec.ExecOp.{ExecOp}
 use Rattle.llb_ops.specs.declared.exec.Meta.{Meta}
 use Rattle.llb_ops.specs.Within.{IsMetaOptWithin, IsKindWithin}
-use Rattle.llb_applet.specs.declared.command.Command.{Command}
+use Rattle.llb_applet.specs.declared.join.Joined.{Joined}
 use Rattle.llb_applet.specs.declared.fault.ScriptFault.{ScriptFault}
 use Rattle.llb_applet.specs.Scripts.{script_of}
 use Rattle.llb_loader.specs.declared.graph.Vertex.{Vertex}
@@ -33,7 +33,7 @@ there : (o : Option Meta) → IsSome o → (m : Meta) × (o ≡ Some m)
 there (Some m) e = (m, refl)
 there None e = absurd (let x : false ≡ true = e in cc)
 
-commands_there : (r : Result (List Command) ScriptFault) → IsSome (result_ok r) → (cs : List Command) × (r ≡ Ok cs)
+commands_there : (r : Result (List Joined) ScriptFault) → IsSome (result_ok r) → (cs : List Joined) × (r ≡ Ok cs)
 commands_there (Ok cs) e = (cs, refl)
 commands_there (Err f) e = absurd (let x : false ≡ true = e in cc)
 
@@ -49,7 +49,7 @@ exec_vertex v x secrets agents met within inputs script steps outputs =
     let cwd : ReadsCwd (Some m.0) = subst (λ (o : Option Meta). ReadsCwd o) m.1 paths.cwd in
     let small : IsMetaOptWithin (Some m.0) = subst (λ (o : Option Meta). IsMetaOptWithin o) m.1 within.meta in
     let c = commands_there (script_of m.0.args) (subst (λ (o : Option Meta). IsSome (commands_in o)) m.1 met.1.1.1.1.1.1.1.1.1.1.1.1.1.1.1.1.1.0) in
-    let is : commands_in x.meta ≡ Some c.0 = ap commands_in m.1 ∙ ap (λ (r : Result (List Command) ScriptFault). result_ok r) c.1 in
+    let is : commands_in x.meta ≡ Some c.0 = ap commands_in m.1 ∙ ap (λ (r : Result (List Joined) ScriptFault). result_ok r) c.1 in
     record {
       meta = m.0;
       commands = c.0;
@@ -74,6 +74,6 @@ exec_vertex v x secrets agents met within inputs script steps outputs =
       sharing = met.1.1.1.1.1.1.1.1.1.1.1.1.1.1.1.0;
       keys = met.1.1.1.1.1.1.1.1.1.1.1.1.1.1.1.1.0;
       inputs = inputs;
-      steps = steps ∙ ap (λ (o : Option (List Command)). length (unwrap_or o [])) is;
+      steps = steps ∙ ap (λ (o : Option (List Joined)). length (unwrap_or o [])) is;
       outputs = outputs;
     }

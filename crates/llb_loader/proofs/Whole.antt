@@ -23,7 +23,7 @@ use Rattle.llb_loader.specs.Numbering.{rank_in}
 use Rattle.llb_loader.specs.Rows.{inputs, HasEdge, Walk}
 use Rattle.llb_loader.specs.RowLookup.{row_at, row_named}
 use Rattle.llb_loader.specs.Features.{is_nameless, has, features, feature_of}
-use Rattle.llb_applet.specs.declared.command.Command.{Command}
+use Rattle.llb_applet.specs.declared.join.Joined.{Joined}
 use Rattle.llb_loader.specs.Locals.{behind}
 use Rattle.llb_loader.specs.Mounts.{secret, ssh, has_type}
 use Rattle.llb_loader.specs.Scripts.{kind_script, script_in}
@@ -165,7 +165,7 @@ same_vertex : (v w : Vertex) → v.digest ≡ w.digest → v.op ≡ w.op → v.s
 same_vertex v w a b s c d e =
     ap (λ (x : List ℕ). let r : Vertex = record { digest = x; op = v.op; script = v.script; inputs = v.inputs; steps = v.steps; outputs = v.outputs } in r) a
     ∙ ap (λ (x : Op). let r : Vertex = record { digest = w.digest; op = x; script = v.script; inputs = v.inputs; steps = v.steps; outputs = v.outputs } in r) b
-    ∙ ap (λ (x : Option (List Command)). let r : Vertex = record {
+    ∙ ap (λ (x : Option (List Joined)). let r : Vertex = record {
       digest = w.digest;
       op = w.op;
       script = x;

@@ -17,7 +17,7 @@ use Rattle.llb_loader.specs.Rows.{Reached}
 use Rattle.llb_loader.specs.Features.{feature_of}
 use Rattle.llb_loader.specs.Rules.{owner_of, owner_by_name, IsInput, ActionInputs, SecondInputs, outputs_of, count_outputs, AreOutputs}
 use Rattle.llb_loader.specs.Rules.{step_count, output_count, MeetsRules, mount_outputs, ShowsInput, AreMountOutputs, HasOptions, IsShared}
-use Rattle.llb_applet.specs.declared.command.Command.{Command}
+use Rattle.llb_applet.specs.declared.join.Joined.{Joined}
 use Rattle.llb_applet.specs.Scripts.{script_of}
 use Rattle.llb_loader.specs.Mounts.{bind, cache, tmpfs, read_as, dests_of, keys_of, AreApart}
 use Rattle.llb_loader.specs.Scripts.{script_in}
@@ -94,7 +94,7 @@ pub record IsMergeVertex (v : Vertex) (m : MergeOp) : Type 0 where
 -- There are fewer than 2^25 commands, since each takes more than half a byte of the entry.
 pub record IsExecVertex (v : Vertex) (x : ExecOp) : Type 0 where
   pub meta : Meta
-  pub commands : List Command
+  pub commands : List Joined
   pub there : x.meta ≡ Some meta
   pub words : 0 < length meta.args
   pub few_words : length meta.args ≤ 1_024

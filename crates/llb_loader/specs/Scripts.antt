@@ -5,18 +5,18 @@ use Rattle.llb_ops.specs.declared.op.Op.{Op}
 use Rattle.llb_ops.specs.declared.op.Kind.{Kind}
 use Rattle.llb_ops.specs.declared.op.Kind.TheVariants.{Exec}
 use Rattle.llb_ops.specs.declared.exec.Meta.{Meta}
-use Rattle.llb_applet.specs.declared.command.Command.{Command}
+use Rattle.llb_applet.specs.declared.join.Joined.{Joined}
 use Rattle.llb_applet.specs.declared.fault.ScriptFault.{ScriptFault}
 use Rattle.llb_applet.specs.declared.fault.ScriptFault.TheVariants.{ShellSyntax}
 use Rattle.llb_applet.specs.Scripts.{script_of}
 
 -- the commands that a meta's words are, if they are some
-abbrev pub commands_in : Option Meta → Option (List Command)
+abbrev pub commands_in : Option Meta → Option (List Joined)
 commands_in (Some m) = result_ok (script_of m.args)
 commands_in None = None
 
 -- the fault in a result, and a stand-in where there is none
-abbrev pub fault_or_none : Result (List Command) ScriptFault → ScriptFault
+abbrev pub fault_or_none : Result (List Joined) ScriptFault → ScriptFault
 fault_or_none (Err f) = f
 fault_or_none (Ok cs) = ShellSyntax 0
 
@@ -26,10 +26,10 @@ script_fault (Some m) = fault_or_none (script_of m.args)
 script_fault None = ShellSyntax 0
 
 -- the commands of a kind: those of an exec
-abbrev pub kind_script : Option Kind → Option (List Command)
+abbrev pub kind_script : Option Kind → Option (List Joined)
 kind_script (Some (Exec x)) = commands_in x.meta
 kind_script _ = None
 
 -- the script of an op: there for an exec alone
-abbrev pub script_in : Op → Option (List Command)
+abbrev pub script_in : Op → Option (List Joined)
 script_in op = kind_script op.kind

@@ -1,5 +1,5 @@
 -- A run by chosen events: each is granted, and its claims ascend.
-use Rattle.std.proofs.Common.{◌≡◌, ◌≢◌, ℕ, zero, suc, ◌+◌, ◌<◌, Bool, true, false, ◌||◌, ◌&&◌, cond, List, [], ◌∷◌, ◌++◌, length, Option}
+use Rattle.std.proofs.Common.{◌≡◌, ◌≢◌, ℕ, zero, suc, ◌+◌, ◌<◌, ◌≤◌, Bool, true, false, ◌||◌, ◌&&◌, cond, List, [], ◌∷◌, ◌++◌, length, Option}
 use Rattle.std.proofs.Common.{Some, None, is_some, option_map, ◌⊎◌, inl, inr, refl, sym, ap, subst, ◌∙◌, arith}
 use Rattle.std.specs.Prelude.{slice_get, slice_set}
 use Rattle.std.proofs.lemmas.Bool.{cases_order}
@@ -15,13 +15,16 @@ use Rattle.llb_model.specs.Program.{Build, Need, Start, needs_of, step_on}
 use Rattle.llb_model.specs.State.{Status, Waiting, Running, Settled, Execution, At, Idle, Runs, State, ending_of, ending_at, ready}
 use Rattle.llb_model.specs.State.{is_ready, is_waiting, is_failed, program_in, work_of, is_finished, ending_from, held, is_shut, held_key}
 use Rattle.llb_model.specs.State.{is_stopped}
-use Rattle.llb_model.specs.Table.{Event, Claim, Step, Settle, Reply, claim_at, step_by, settle_with, after_settle, table}
+use Rattle.llb_model.specs.Table.{Event, Claim, Step, Settle, Cancel, Reply, claim_at, step_by, settle_with, after_end, table}
 use Rattle.llb_model.specs.Run.{next_of, least, next_claim, or_else, chosen, is_settled, claims_of, AllAbove, AreAscending}
+use Rattle.llb_model.specs.Room.{still_to_come}
 use Rattle.llb_model.specs.Consistent.{IsConsistent}
 use Rattle.llb_model.proofs.Lists.{inside, eq_or, get_set_same, get_set_other, get_within, Each_of, any_true, true_any, some_as}
 use Rattle.llb_model.proofs.Parts.{unfinished_some}
-use Rattle.llb_model.proofs.Events.{Answer, claim_places, claim_is, step_is, settle_is, ready_is, ready_as, claim_granted, step_granted, settle_granted}
+use Rattle.llb_model.proofs.Events.{Answer, claim_places, claim_is, step_is, settle_is, cancel_is, ready_is, ready_as, claim_granted, step_granted}
+use Rattle.llb_model.proofs.Events.{settle_granted}
 use Rattle.llb_model.proofs.Outcomes.{each_below}
+use Rattle.llb_model.proofs.Rooms.{event_room}
 use Rattle.llb_model.proofs.Stopped.{stopped_is, stopped_there, any_stopped, stopped_cases, ready_not_stopped}
 use Rattle.llb_model.proofs.Ready.{ready_waits}
 use Rattle.llb_model.proofs.Complete.{is_over, nothing_runs, over_by, least_some, IsLeast, progress, over_not_ready}
@@ -76,6 +79,22 @@ chosen_is b s e is = by_next (next_of b 0 s.workers) refl is
     by_next None next is =
         let c = chosen_claim (least (is_ready b s.statuses) 0 (length b.graph.vertices)) e is in
         inr (c.0, c.2, record { idle = nothing_runs b s.workers 0 next; least = least_some (is_ready b s.statuses) 0 (length b.graph.vertices) c.0 c.1 })
+
+-- a cancel is never chosen
+pub chosen_goes_on : (b : Build) (s : State) (e : Event) → chosen b s ≡ Some e → (w : ℕ) → e ≢ Cancel w
+chosen_goes_on b s e is w same = elim (chosen_is b s e is) [
+  | inl n ↦ by_test (is_finished (program_in b n.execution).steps n.execution) n.worker (sym same ∙ n.is)
+  | inr c ↦ let h : Cancel w ≡ Claim 0 c.0 = sym same ∙ c.1 in cc
+]
+  where
+    by_test : (fin : Bool) (u : ℕ) → Cancel w ≡ cond fin (Settle u) (Step u) → ⊥
+    by_test true u e = cc
+    by_test false u e = cc
+
+-- so with each event that a driver does fewer events are still to come
+pub chosen_comes_nearer : (b : Build) (s : State) (e : Event) (a : Answer) → chosen b s ≡ Some e → table b s e ≡ Some a
+    → still_to_come b a.0 + 1 ≤ still_to_come b s
+chosen_comes_nearer b s e a is given = event_room b s e a (chosen_goes_on b s e is) given
 
 -- ---- what is chosen is granted
 
@@ -171,7 +190,6 @@ module _ (b : Build) (graph : IsGraph b.graph) where
   record Keeps (s t : State) : Type 0 where
     failures : (j : ℕ) → is_failed (ending_at s.statuses j) ≡ true → is_failed (ending_at t.statuses j) ≡ true
     over : (k : ℕ) → is_over b s k ≡ true → slice_get t.statuses k ≡ slice_get s.statuses k
-    claimed_stay : (k : ℕ) → is_waiting (slice_get s.statuses k) ≡ false → is_waiting (slice_get t.statuses k) ≡ false
 
   over_stays : (s t : State) → Keeps s t → (k : ℕ) → is_over b s k ≡ true → is_over b t k ≡ true
   unfolding StopsMore
@@ -190,18 +208,20 @@ module _ (b : Build) (graph : IsGraph b.graph) where
 
   -- a status that is written where nothing was over
   written : (s : State) (v : ℕ) (old new : Status) → slice_get s.statuses v ≡ Some old → is_failed (ending_of (Some old)) ≡ false → is_over b s v ≡ false
-      → is_waiting (Some new) ≡ false → (ws : List At) (store : Store) → Keeps s (record { statuses = slice_set s.statuses v new; workers = ws; store = store })
-  written s v old new there unfailed open_ working ws store = record {
+      → (ws : List At) (store : Store) → Keeps s (record { statuses = slice_set s.statuses v new; workers = ws; store = store })
+  written s v old new there unfailed open_ ws store = record {
     failures = λ j failed. elim (eq_or j v) [
       | inl h ↦ absurd (cc (sym (ap (λ o. is_failed (ending_of o)) (ap (slice_get s.statuses) h ∙ there)) ∙ failed, unfailed))
       | inr h ↦ ap (λ o. is_failed (ending_of o)) (get_set_other s.statuses v new j h) ∙ failed
     ];
     over = λ k over. get_set_other s.statuses v new k (λ same. cc (sym (ap (is_over b s) same) ∙ over, open_));
-    claimed_stay = λ k stays. elim (eq_or k v) [
-      | inl h ↦ ap is_waiting (ap (slice_get (slice_set s.statuses v new)) h ∙ get_set_same s.statuses v new old there) ∙ working
-      | inr h ↦ ap is_waiting (get_set_other s.statuses v new k h) ∙ stays
-    ];
   }
+
+  -- where a worker ends what it runs
+  ended : (s : State) (w : ℕ) (x : Execution) (new : Status) → IsConsistent b s → slice_get s.workers w ≡ Some (Runs x) → Keeps s (after_end s w x.vertex new)
+  ended s w x new here there =
+      let own = here.working w x there in
+      written s x.vertex (Running w) new own refl (over_by b graph s here x.vertex (Some (Running w)) own) (after_end s w x.vertex new).workers s.store
 
   kept : (s : State) (e : Event) (a : Answer) → IsConsistent b s → table b s e ≡ Some a → Keeps s a.0
   kept s (Claim w v) a here given =
@@ -209,17 +229,16 @@ module _ (b : Build) (graph : IsGraph b.graph) where
       let clear = ready_not_stopped b graph s here v (ap is_some (ready_as b s.statuses v c.start c.begins)) in
       let unover = over_by b graph s here v (Some Waiting) c.begins.waits ∙ clear in
       let t = (claim_at b s w v c.start (claim_places s c.start)).0 in
-      subst (λ (t : Answer). Keeps s t.0) (sym c.gives) (written s v Waiting (Running w) c.begins.waits refl unover refl t.workers t.store)
+      subst (λ (t : Answer). Keeps s t.0) (sym c.gives) (written s v Waiting (Running w) c.begins.waits refl unover t.workers t.store)
   kept s (Step w) a here given =
       let c = step_is b s w a given in
-      subst (λ (t : Answer). Keeps s t.0) (sym c.gives) (record { failures = λ j failed. failed; over = λ k over. refl; claimed_stay = λ k stays. stays })
+      subst (λ (t : Answer). Keeps s t.0) (sym c.gives) (record { failures = λ j failed. failed; over = λ k over. refl })
   kept s (Settle w) a here given =
       let c = settle_is b s w a given in
-      let own = here.working w c.x c.there in
-      let end = ending_from (program_in b c.x) c.x in
-      let unover = over_by b graph s here c.x.vertex (Some (Running w)) own in
-      subst (λ (t : Answer). Keeps s t.0) (sym c.gives) (written s c.x.vertex (Running w) (Settled end) own refl unover refl
-      (after_settle s w c.x.vertex end).workers s.store)
+      subst (λ (t : Answer). Keeps s t.0) (sym c.gives) (ended s w c.x (Settled (ending_from (program_in b c.x) c.x)) here c.there)
+  kept s (Cancel w) a here given =
+      let c = cancel_is b s w a given in
+      subst (λ (t : Answer). Keeps s t.0) (sym c.gives) (ended s w c.x Waiting here c.there)
 
   -- what is over stays so after an event
   pub over_after : (s t : State) (e : Event) (r : Reply) → IsConsistent b s → table b s e ≡ Some (t, r) → (k : ℕ) → is_over b s k ≡ true → is_over b t k ≡ true
@@ -230,11 +249,39 @@ module _ (b : Build) (graph : IsGraph b.graph) where
   pub nothing_claimed : (s : State) → Ascends b s []
   nothing_claimed s = record { ascending = tt; past = tt }
 
-  still_past : (s t : State) → Keeps s t → (us : List ℕ) → Each_of (IsPast b s) us → Each_of (IsPast b t) us
-  still_past s t keeps [] past = tt
-  still_past s t keeps (u ∷ us) past = (
-    record { claimed_once = keeps.claimed_stay u past.0.claimed_once; below = λ k lt. over_stays s t keeps k (past.0.below k lt) },
-    still_past s t keeps us past.1,
+  -- what does not wait does not wait later
+  WaitsNoMore : State → State → Type 0
+  WaitsNoMore s t = (k : ℕ) → is_waiting (slice_get s.statuses k) ≡ false → is_waiting (slice_get t.statuses k) ≡ false
+
+  -- a status that is written and does not wait
+  moved : (s : State) (v : ℕ) (old new : Status) → slice_get s.statuses v ≡ Some old → is_waiting (Some new) ≡ false
+      → (k : ℕ) → is_waiting (slice_get s.statuses k) ≡ false → is_waiting (slice_get (slice_set s.statuses v new) k) ≡ false
+  moved s v old new there working k stays = elim (eq_or k v) [
+    | inl h ↦ ap is_waiting (ap (slice_get (slice_set s.statuses v new)) h ∙ get_set_same s.statuses v new old there) ∙ working
+    | inr h ↦ ap is_waiting (get_set_other s.statuses v new k h) ∙ stays
+  ]
+
+  -- only a cancel lets a vertex wait again
+  claimed_stay : (s : State) (e : Event) (a : Answer) → IsConsistent b s → ((w : ℕ) → e ≢ Cancel w) → table b s e ≡ Some a → WaitsNoMore s a.0
+  unfolding WaitsNoMore
+  claimed_stay s (Claim w v) a here goes_on given =
+      let c = claim_is b s w v a given in
+      subst (λ (t : Answer). WaitsNoMore s t.0) (sym c.gives) (moved s v Waiting (Running w) c.begins.waits refl)
+  claimed_stay s (Step w) a here goes_on given =
+      let c = step_is b s w a given in
+      subst (λ (t : Answer). WaitsNoMore s t.0) (sym c.gives) (λ k stays. stays)
+  claimed_stay s (Settle w) a here goes_on given =
+      let c = settle_is b s w a given in
+      subst (λ (t : Answer). WaitsNoMore s t.0) (sym c.gives)
+      (moved s c.x.vertex (Running w) (Settled (ending_from (program_in b c.x) c.x)) (here.working w c.x c.there) refl)
+  claimed_stay s (Cancel w) a here goes_on given = absurd (goes_on w refl)
+
+  still_past : (s t : State) → Keeps s t → WaitsNoMore s t → (us : List ℕ) → Each_of (IsPast b s) us → Each_of (IsPast b t) us
+  unfolding WaitsNoMore
+  still_past s t keeps stay [] past = tt
+  still_past s t keeps stay (u ∷ us) past = (
+    record { claimed_once = stay u past.0.claimed_once; below = λ k lt. over_stays s t keeps k (past.0.below k lt) },
+    still_past s t keeps stay us past.1,
   )
 
   claims_append : (es fs : List Event) → claims_of (es ++ fs) ≡ claims_of es ++ claims_of fs
@@ -242,6 +289,7 @@ module _ (b : Build) (graph : IsGraph b.graph) where
   claims_append (Claim w v ∷ es) fs = ap (λ us. v ∷ us) (claims_append es fs)
   claims_append (Step w ∷ es) fs = claims_append es fs
   claims_append (Settle w ∷ es) fs = claims_append es fs
+  claims_append (Cancel w ∷ es) fs = claims_append es fs
 
   each_append : (P : ℕ → Type 0) (us : List ℕ) (v : ℕ) → Each_of P us → P v → Each_of P (us ++ v ∷ [])
   each_append P [] v each p = (p, tt)
@@ -284,12 +332,15 @@ module _ (b : Build) (graph : IsGraph b.graph) where
       keeps : Keeps s t
       keeps = kept s e (t, r) here given
 
+      stay : WaitsNoMore s t
+      stay = claimed_stay s e (t, r) here (chosen_goes_on b s e is) given
+
       same_claims : claims_of (e ∷ []) ≡ [] → Ascends b t (es ++ e ∷ [])
       same_claims none =
           let all : claims_of (es ++ e ∷ []) ≡ claims_of es = claims_append es (e ∷ []) ∙ ap (λ us. claims_of es ++ us) none ∙ append-nil (claims_of es) in
           record {
             ascending = subst AreAscending (sym all) up.ascending;
-            past = subst (Each_of (IsPast b t)) (sym all) (still_past s t keeps (claims_of es) up.past);
+            past = subst (Each_of (IsPast b t)) (sym all) (still_past s t keeps stay (claims_of es) up.past);
           }
 
       quiet : (t : Bool) (w : ℕ) → claims_of (cond t (Settle w) (Step w) ∷ []) ≡ []
@@ -310,6 +361,6 @@ module _ (b : Build) (graph : IsGraph b.graph) where
           here.running k w runs_ in c.idle w x.0 x.1) (λ k lt. c.least.below k (omega arith) lt) in
           record {
             ascending = subst AreAscending (sym all) (ascending_append (claims_of es) v up.ascending below);
-            past = subst (Each_of (IsPast b t)) (sym all) (each_append (IsPast b t) (claims_of es) v (still_past s t keeps (claims_of es) up.past)
+            past = subst (Each_of (IsPast b t)) (sym all) (each_append (IsPast b t) (claims_of es) v (still_past s t keeps stay (claims_of es) up.past)
                 (record { claimed_once = now_claimed v same; below = λ k lt. over_stays s t keeps k (over k lt) }));
           }

@@ -10,11 +10,11 @@ use Rattle.llb_model.specs.Program.{Build, Work, Left, Start, program_at, step_o
 use Rattle.llb_model.specs.Outcome.{Ending, Done, inputs_from}
 use Rattle.llb_model.specs.State.{Status, Waiting, Running, Settled, Execution, Idle, Runs, State, Opening, opening, ending_of, ending_at}
 use Rattle.llb_model.specs.State.{is_waiting, program_in, work_of, ending_from, begin_at}
-use Rattle.llb_model.specs.Table.{Event, Claim, Step, Settle, Reply, execution_on, after_claim, with_step, after_step, after_settle, table}
+use Rattle.llb_model.specs.Table.{Event, Claim, Step, Settle, Cancel, Reply, execution_on, after_claim, with_step, after_step, after_end, table}
 use Rattle.llb_model.specs.Run.{run}
 use Rattle.llb_model.specs.Consistent.{IsConsistent}
 use Rattle.llb_model.proofs.Lists.{some_of, inside, eq_or, got_set, get_set_same, get_set_other, length_set, got_replicate, each_unit, get_within, got_within}
-use Rattle.llb_model.proofs.Events.{Answer, IsReady, claim_places, claim_is, step_is, settle_is}
+use Rattle.llb_model.proofs.Events.{Answer, IsReady, claim_places, claim_is, step_is, settle_is, cancel_is}
 use Rattle.llb_model.proofs.Runs.{run_keeps}
 use Rattle.llb_model.proofs.Outcomes.{inputs_mono, ended_count}
 
@@ -130,39 +130,42 @@ module _ (b : Build) (s : State) (here : IsConsistent b s) where
       runs_same : {y : Execution} → some_of (Runs y) ≡ some_of (Runs x) → y ≡ x
       runs_same e = cc
 
-  settle_keeps : (w : ℕ) (x : Execution) → slice_get s.workers w ≡ Some (Runs x) → IsConsistent b (after_settle s w x.vertex (ending_from (program_in b x) x))
-  settle_keeps w x at = record {
-    count = length_set s.statuses x.vertex (Settled end) ∙ here.count;
-    running = λ k u there. elim (got_set s.statuses x.vertex (Settled end) k (Running u) there) [
-      | inl h ↦ absurd (cc (h.1))
+  -- where a worker ends what it runs, and the vertex gets a status that does not run
+  end_keeps : (w : ℕ) (x : Execution) (new : Status) → slice_get s.workers w ≡ Some (Runs x) → ((u : ℕ) → new ≡ Running u → ⊥)
+      → ((v : Vertex) (trees : List TreeMap) → slice_get b.graph.vertices x.vertex ≡ Some v → new ≡ Settled (Done trees) → length trees ≡ v.outputs)
+      → IsConsistent b (after_end s w x.vertex new)
+  end_keeps w x new at rests counts = record {
+    count = length_set s.statuses x.vertex new ∙ here.count;
+    running = λ k u there. elim (got_set s.statuses x.vertex new k (Running u) there) [
+      | inl h ↦ absurd (rests u (sym h.1))
       | inr h ↦
           let old = here.running k u h.1 in
           (old.0, get_set_other s.workers w Idle u (λ same. h.0 (sym old.2 ∙ ap (λ (y : Execution). y.vertex) (one_of u old.0 old.1 same))) ∙ old.1, old.2)
     ];
     working = λ u y there. elim (got_set s.workers w Idle u (Runs y) there) [
       | inl h ↦ absurd (cc (h.1))
-      | inr h ↦ get_set_other s.statuses x.vertex (Settled end) y.vertex (λ same. h.0 (one_worker u y (here.working u y h.1) same)) ∙ here.working u y h.1
+      | inr h ↦ get_set_other s.statuses x.vertex new y.vertex (λ same. h.0 (one_worker u y (here.working u y h.1) same)) ∙ here.working u y h.1
     ];
-    outputs = λ k v trees there done. elim (got_set s.statuses x.vertex (Settled end) k (Settled (Done trees)) done) [
-      | inl h ↦
-          let same : end ≡ Done trees = cc (h.1) in
-          let program : program_in b x ≡ program_at (Some v) = ap program_at (sym (ap (slice_get b.graph.vertices) h.0) ∙ there) in
-          ended_count (program_in b x) x.own x.fault trees same ∙ ap (λ p. p.outputs) program
+    outputs = λ k v trees there done. elim (got_set s.statuses x.vertex new k (Settled (Done trees)) done) [
+      | inl h ↦ counts v trees (sym (ap (slice_get b.graph.vertices) h.0) ∙ there) (sym h.1)
       | inr h ↦ here.outputs k v trees there h.1
     ];
-    inputs = inputs_stay x.vertex (Running w) (Settled end) (here.working w x at) refl
-        (λ v there. here.inputs x.vertex v there (ap is_waiting (here.working w x at)));
+    inputs = inputs_stay x.vertex (Running w) new (here.working w x at) refl (λ v there. here.inputs x.vertex v there (ap is_waiting (here.working w x at)));
   }
     where
-      end : Ending
-      end = ending_from (program_in b x) x
-
       one_of : (u : ℕ) (y : Execution) → slice_get s.workers u ≡ Some (Runs y) → u ≡ w → y ≡ x
       one_of u y there same = let both : some_of (Runs y) ≡ some_of (Runs x) = sym there ∙ ap (slice_get s.workers) same ∙ at in cc
 
       one_worker : (u : ℕ) (y : Execution) → slice_get s.statuses y.vertex ≡ Some (Running u) → y.vertex ≡ x.vertex → u ≡ w
       one_worker u y status same = let both : some_of (Running u) ≡ some_of (Running w) = sym status ∙ ap (slice_get s.statuses) same
           ∙ here.working w x at in cc
+
+  -- an ending has as many trees as the vertex has outputs
+  settle_counts : (x : Execution) (v : Vertex) (trees : List TreeMap) → slice_get b.graph.vertices x.vertex ≡ Some v
+      → Settled (ending_from (program_in b x) x) ≡ Settled (Done trees) → length trees ≡ v.outputs
+  settle_counts x v trees there is =
+      let same : ending_from (program_in b x) x ≡ Done trees = cc in
+      ended_count (program_in b x) x.own x.fault trees same ∙ ap (λ p. p.outputs) (ap program_at there)
 
 pub event_consistent : (b : Build) (s : State) (e : Event) (a : Answer) → IsConsistent b s → table b s e ≡ Some a → IsConsistent b a.0
 event_consistent b s (Claim w v) a here given =
@@ -174,7 +177,11 @@ event_consistent b s (Step w) a here given =
     subst (λ (t : Answer). IsConsistent b t.0) (sym c.gives) (step_keeps b s here w c.x (step_on c.x.done (Some c.step) (work_of s c.x)) c.there)
 event_consistent b s (Settle w) a here given =
     let c = settle_is b s w a given in
-    subst (λ (t : Answer). IsConsistent b t.0) (sym c.gives) (settle_keeps b s here w c.x c.there)
+    subst (λ (t : Answer). IsConsistent b t.0) (sym c.gives)
+    (end_keeps b s here w c.x (Settled (ending_from (program_in b c.x) c.x)) c.there (λ u is. cc) (settle_counts b s here c.x))
+event_consistent b s (Cancel w) a here given =
+    let c = cancel_is b s w a given in
+    subst (λ (t : Answer). IsConsistent b t.0) (sym c.gives) (end_keeps b s here w c.x Waiting c.there (λ u is. cc) (λ v trees there is. absurd cc))
 
 -- from a consistent state any list of granted events leads to a consistent one
 pub run_consistent : (b : Build) (s t : State) (es : List Event) (rs : List Reply) → IsConsistent b s → run b s es ≡ Some (t, rs) → IsConsistent b t

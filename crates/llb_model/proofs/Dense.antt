@@ -12,14 +12,14 @@ use Rattle.llb_model.specs.Caches.{Place, place, place_cmp, Store, content, put_
 use Rattle.llb_model.specs.Program.{Build, Need, needs_of, step_on}
 use Rattle.llb_model.specs.State.{Execution, At, Idle, Runs, State, Opening, opening, work_of, held, above, first_free, number_for}
 use Rattle.llb_model.specs.State.{place_for, places_for, begin_at, places_by}
-use Rattle.llb_model.specs.Table.{Event, Claim, Step, Settle, Reply, Claimed, execution_on, claim_at, table}
+use Rattle.llb_model.specs.Table.{Event, Claim, Step, Settle, Cancel, Reply, Claimed, execution_on, claim_at, table}
 use Rattle.llb_model.specs.Laws.{IsDense, StaysDense, ClaimsLeast}
 use Rattle.llb_model.proofs.Lists.{inside, got_set, got_replicate}
 use Rattle.llb_model.proofs.Stores.{content_same, content_other, place_or, place_test, has_map}
 use Rattle.llb_model.proofs.Claims.{places_length, places_numbered, first_length}
-use Rattle.llb_model.proofs.Events.{Answer, claim_places, claim_is, step_is, settle_is}
+use Rattle.llb_model.proofs.Events.{Answer, claim_places, claim_is, step_is, settle_is, cancel_is}
 use Rattle.llb_model.proofs.Runs.{run_keeps}
-use Rattle.llb_model.proofs.Separate.{stepped_back, settled_back}
+use Rattle.llb_model.proofs.Separate.{stepped_back, ended_back}
 
 -- ---- below the least free one
 
@@ -175,7 +175,13 @@ event_filled b s (Settle w) a f given =
     let c = settle_is b s w a given in
     subst (λ (t : Answer). IsFilled t.0) (sym c.gives) (record {
       dense = f.dense;
-      there = λ u x p at_u h. let y = settled_back s.workers w u x at_u in f.there u y.0 p y.1 (subst (λ ps. Has ps p) (sym y.2) h);
+      there = λ u x p at_u h. let y = ended_back s.workers w u x at_u in f.there u y.0 p y.1 (subst (λ ps. Has ps p) (sym y.2) h);
+    })
+event_filled b s (Cancel w) a f given =
+    let c = cancel_is b s w a given in
+    subst (λ (t : Answer). IsFilled t.0) (sym c.gives) (record {
+      dense = f.dense;
+      there = λ u x p at_u h. let y = ended_back s.workers w u x at_u in f.there u y.0 p y.1 (subst (λ ps. Has ps p) (sym y.2) h);
     })
 
 opening_filled : (b : Build) (o : Opening) → IsDense o.store → IsFilled (opening b o)

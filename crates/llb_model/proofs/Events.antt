@@ -11,8 +11,8 @@ use Rattle.llb_model.specs.Outcome.{inputs_from}
 use Rattle.llb_model.specs.State.{Status, Waiting, Running, Settled, Execution, At, Idle, Runs, State, ending_at, start_from, ready}
 use Rattle.llb_model.specs.State.{program_in, work_of, is_finished, next_step, ending_from, held, places_for, held_key, begin_at}
 use Rattle.llb_model.specs.SettleCause.{SettleCause, NotFinished}
-use Rattle.llb_model.specs.Table.{Event, Claim, Step, Settle, Reply, or_not_ready, claim_start, claim_at, claim_unless, claimed}
-use Rattle.llb_model.specs.Table.{execution_on, with_step, step_by, step_with, stepped, settle_with, settled, table}
+use Rattle.llb_model.specs.Table.{Event, Claim, Step, Settle, Cancel, Reply, or_not_ready, claim_start, claim_at, claim_unless, claimed}
+use Rattle.llb_model.specs.Table.{execution_on, with_step, step_by, step_with, stepped, settle_with, settled, cancel_with, cancelled, table}
 use Rattle.llb_model.proofs.Lists.{inside, length_set}
 
 -- the state after an event, and its reply
@@ -48,6 +48,11 @@ pub record IsSettle (b : Build) (s : State) (w : ℕ) (a : Answer) : Type 0 wher
   pub there : slice_get s.workers w ≡ Some (Runs x)
   pub finished : is_finished (program_in b x).steps x ≡ true
   pub gives : a ≡ settle_with s w x.vertex (ending_from (program_in b x) x)
+
+pub record IsCancel (s : State) (w : ℕ) (a : Answer) : Type 0 where
+  pub x : Execution
+  pub there : slice_get s.workers w ≡ Some (Runs x)
+  pub gives : a ≡ cancel_with s w x.vertex x.done
 
 -- ---- Ready
 
@@ -147,6 +152,16 @@ settle_is b s w a e = by_worker (slice_get s.workers w) refl (granted_ok (settle
     by_worker (Some Idle) is e = absurd cc
     by_worker (Some (Runs x)) is e = by_test x is (is_finished (program_in b x).steps x) refl e
 
+-- what a granted cancel shows: the worker runs something, and what the cancel gives
+pub cancel_is : (b : Build) (s : State) (w : ℕ) (a : Answer) → table b s (Cancel w) ≡ Some a → IsCancel s w a
+unfolding table
+cancel_is b s w a e = by_worker (slice_get s.workers w) refl (granted_ok (cancelled s w (slice_get s.workers w)) a e)
+  where
+    by_worker : (o : Option At) → slice_get s.workers w ≡ o → cancelled s w o ≡ Ok a → IsCancel s w a
+    by_worker None is e = absurd cc
+    by_worker (Some Idle) is e = absurd cc
+    by_worker (Some (Runs x)) is e = record { x = x; there = is; gives = sym (inside_ok e) }
+
 -- as many workers as before
 pub workers_stay : (b : Build) (s : State) (e : Event) (a : Answer) → table b s e ≡ Some a → length a.0.workers ≡ length s.workers
 workers_stay b s (Claim w v) a given =
@@ -157,6 +172,7 @@ workers_stay b s (Step w) a given =
     let c = step_is b s w a given in
     ap (λ (t : Answer). length t.0.workers) c.gives ∙ length_set s.workers w (Runs (with_step c.x (step_on c.x.done (Some c.step) (work_of s c.x))))
 workers_stay b s (Settle w) a given = let c = settle_is b s w a given in ap (λ (t : Answer). length t.0.workers) c.gives ∙ length_set s.workers w Idle
+workers_stay b s (Cancel w) a given = let c = cancel_is b s w a given in ap (λ (t : Answer). length t.0.workers) c.gives ∙ length_set s.workers w Idle
 
 -- ---- where it is granted
 
@@ -183,3 +199,9 @@ pub settle_granted : (b : Build) (s : State) (w : ℕ) (x : Execution) → slice
     → table b s (Settle w) ≡ Some (settle_with s w x.vertex (ending_from (program_in b x) x))
 unfolding table settle_if
 settle_granted b s w x there fin = ap (λ o. result_ok (settled b s w o)) there ∙ ap (λ t. result_ok (settle_if b s w x t)) fin
+
+-- the cancel of a worker that runs something is granted
+pub cancel_granted : (b : Build) (s : State) (w : ℕ) (x : Execution) → slice_get s.workers w ≡ Some (Runs x)
+    → table b s (Cancel w) ≡ Some (cancel_with s w x.vertex x.done)
+unfolding table
+cancel_granted b s w x there = ap (λ o. result_ok (cancelled s w o)) there

@@ -1,4 +1,4 @@
--- A claim, a step and a settle in words of leases.
+-- A claim, a step and an end in words of leases.
 use Rattle.std.proofs.Common.{◌≡◌, ℕ, zero, suc, ◌+◌, ◌<◌, ◌≤◌, Bool, true, false, ◌&&◌, List, [], ◌∷◌, length, map, Some, option_map}
 use Rattle.std.proofs.Common.{unwrap_or, ◌⊎◌, inl, inr, refl, sym, ap, subst, ◌∙◌, cond, arith}
 use Rattle.std.specs.List.{find}

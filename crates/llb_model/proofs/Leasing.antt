@@ -1,4 +1,4 @@
--- The leases of workers, after a claim, a step and a settle.
+-- The leases of workers, after a claim, a step and an end.
 use Rattle.std.proofs.Common.{◌≡◌, ◌≢◌, ℕ, zero, suc, ◌+◌, ◌<◌, Bool, true, false, List, [], ◌∷◌, ◌++◌, length, Option, Some, None, inl}
 use Rattle.std.proofs.Common.{inr, refl, sym, ap, subst, ◌∙◌, cond, arith}
 use Rattle.std.specs.Prelude.{slice_get, slice_set, nat_lt}
@@ -8,7 +8,7 @@ use Rattle.llb_cache.specs.Caches.{Leases, with_lease, free_lease, before, trimm
 use Rattle.llb_cache.specs.Leased.{held_by, holder, free_within, lease_cases}
 use Rattle.llb_model.specs.Caches.{Place, Has}
 use Rattle.llb_model.specs.State.{Execution, At, Idle, Runs}
-use Rattle.llb_model.specs.Leases.{AreLeased, LeasedHoldsAs, ClaimLeases, ClaimWithout, StepKeepsLease, SettleGivesBack, SettleWithout}
+use Rattle.llb_model.specs.Leases.{AreLeased, LeasedHoldsAs, ClaimLeases, ClaimWithout, StepKeepsLease, EndGivesBack, EndWithout}
 use Rattle.llb_model.proofs.Lists.{some_of, eq_or, got_set, get_set_same, get_set_other, length_set, get_within, got_within, get_middle}
 use Rattle.llb_model.proofs.Claims.{held_has}
 use Rattle.llb_model.proofs.Dense.{holder_of}
@@ -243,8 +243,8 @@ step_keeps_lease out workers ls w x z are at_w places = record {
 }
 
 -- the lease that a worker gives back was its own, so the others keep theirs
-pub settle_gives_back : SettleGivesBack
-settle_gives_back out workers ls w l are at_w = record {
+pub end_gives_back : EndGivesBack
+end_gives_back out workers ls w l are at_w = record {
   count = length_set ls w None ∙ are.count ∙ sym (length_set workers w Idle);
   has = λ u x at. elim (got_set workers w Idle u (Runs x) at) [
     | inl h ↦ absurd (cc (h.1))
@@ -272,9 +272,9 @@ settle_gives_back out workers ls w l are at_w = record {
       (old.0, get_set_other ls w None old.0 (λ same. b.0 (same_lease (sym old.1 ∙ ap (slice_get ls) same ∙ at_w))) ∙ old.1);
 }
 
--- a worker without a lease leaves all leases as they are when it settles
-pub settle_without : SettleWithout
-settle_without out workers ls w are at_w = record {
+-- a worker without a lease leaves all leases as they are when it ends what it runs
+pub end_without : EndWithout
+end_without out workers ls w are at_w = record {
   count = length_set ls w None ∙ are.count ∙ sym (length_set workers w Idle);
   has = λ u x at. elim (got_set workers w Idle u (Runs x) at) [
     | inl h ↦ absurd (cc (h.1))

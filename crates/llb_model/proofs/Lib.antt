@@ -4,9 +4,12 @@ pub mod Views
 pub mod Parts
 pub mod Events
 pub mod Runs
+pub mod Scripts
 pub mod Outcomes
 pub mod Consistent
 pub mod Rooms
+pub mod Owing
+pub mod Cancels
 pub mod Made
 pub mod Plain
 pub mod Stopped
@@ -27,3 +30,4 @@ pub mod Leases
 pub mod Leasing
 pub mod Vertices
 pub mod Landing
+pub mod Endings

@@ -12,15 +12,15 @@ use Rattle.llb_model.specs.SettleCause.{SettleCause, NotFinished}
 use Rattle.llb_model.specs.Program.{Build, MicroStep, Need, Work, Left, Start, needs_of, base_in, begin, step_on}
 use Rattle.llb_model.specs.State.{Execution, At, Idle, Runs, State, opening, program_in, work_of, is_finished, next_step, ending_from, held}
 use Rattle.llb_model.specs.State.{number_for, place_for, places_for, held_key, first_trees, begin_at}
-use Rattle.llb_model.specs.Table.{Event, Claim, Step, Settle, Claimed, claim_start, execution_on, job_on, claim_with, claim_at}
-use Rattle.llb_model.specs.Table.{claim_unless, claimed, with_step, step_reply, step_by, step_with, stepped, settle_with, settled, table}
+use Rattle.llb_model.specs.Table.{Event, Claim, Step, Settle, Cancel, Claimed, claim_start, execution_on, job_on, claim_with, claim_at}
+use Rattle.llb_model.specs.Table.{claim_unless, claimed, with_step, step_reply, step_by, step_with, stepped, settle_with, settled, cancelled, table}
 use Rattle.llb_model.specs.Laws.{IsReached, IsLockedOnce, OthersKeep, with_content, with_content_after, OthersIgnore}
 use Rattle.llb_model.proofs.Lists.{got_set, got_replicate}
 use Rattle.llb_model.proofs.Stores.{content_other, kept_all, put_all_put, trees_same, has_map}
 use Rattle.llb_model.proofs.Claims.{places_free, held_has}
-use Rattle.llb_model.proofs.Events.{Answer, claim_places, claim_is, step_is, settle_is}
+use Rattle.llb_model.proofs.Events.{Answer, claim_places, claim_is, step_is, settle_is, cancel_is}
 use Rattle.llb_model.proofs.Runs.{run_keeps}
-use Rattle.llb_model.proofs.Separate.{alone, alone_free, reached_separate, held_once, stepped_back, settled_back}
+use Rattle.llb_model.proofs.Separate.{alone, alone_free, reached_separate, held_once, stepped_back, ended_back}
 
 -- ---- what stays
 
@@ -39,6 +39,9 @@ others_keep b s t (Step u) r reached given w x p there has exclusive other =
     (λ h. other ((reached_separate b s reached).once u w c.x x p c.there there h has exclusive))
 others_keep b s t (Settle u) r reached given w x p there has exclusive other =
     let c = settle_is b s u (t, r) given in
+    ap (λ (a : Answer). content a.0.store p) c.gives
+others_keep b s t (Cancel u) r reached given w x p there has exclusive other =
+    let c = cancel_is b s u (t, r) given in
     ap (λ (a : Answer). content a.0.store p) c.gives
 
 -- ---- what is not looked at
@@ -73,7 +76,7 @@ step_same s p t u x m apart =
     ∙ stored (step_on x.done (Some m) (work_of s x))
   where
     stored : (left : Left) → step_by (with_content p t s) u x m left ≡ with_content_after p t (step_by s u x m left)
-    stored left = ap (λ (st : Store). (record (step_by s u x m left).0 { store = st }, step_reply x.done m left.fault))
+    stored left = ap (λ (st : Store). (record (step_by s u x m left).0 { store = st }, step_reply x.done m x.own left))
         (put_all_put s.store p t x.places left.work.trees apart)
 
 -- the same event, with another tree there
@@ -127,6 +130,15 @@ settle_ignores b s u p t = go (slice_get s.workers u)
     go (Some Idle) = refl
     go (Some (Runs x)) = by_test x (is_finished (program_in b x).steps x)
 
+cancel_ignores : (b : Build) (s : State) (u : ℕ) (p : Place) (t : TreeMap) → Ignored b s (Cancel u) p t
+unfolding table Ignored
+cancel_ignores b s u p t = go (slice_get s.workers u)
+  where
+    go : (o : Option At) → result_ok (cancelled (with_content p t s) u o) ≡ option_map (with_content_after p t) (result_ok (cancelled s u o))
+    go None = refl
+    go (Some Idle) = refl
+    go (Some (Runs x)) = refl
+
 -- another worker's event does not look at what a running worker has alone: reply and effect are the same with any tree there
 pub others_ignore : (b : Build) → OthersIgnore b
 unfolding Ignored alone
@@ -135,6 +147,7 @@ others_ignore b s (Claim u v) t reached w x p there has exclusive other =
 others_ignore b s (Step u) t reached w x p there has exclusive other =
     step_ignores b s u p t (λ y at_u h. other ((reached_separate b s reached).once u w y x p at_u there h has exclusive))
 others_ignore b s (Settle u) t reached w x p there has exclusive other = settle_ignores b s u p t
+others_ignore b s (Cancel u) t reached w x p there has exclusive other = cancel_ignores b s u p t
 
 -- ---- locked keys
 
@@ -178,7 +191,10 @@ event_first b s (Step w) a f given =
     (fewer_first s.workers (slice_set s.workers w (Runs (with_step c.x left))) (stepped_back s.workers w c.x left c.there) f)
 event_first b s (Settle w) a f given =
     let c = settle_is b s w a given in
-    subst (λ (a : Answer). IsFirst a.0.workers) (sym c.gives) (fewer_first s.workers (slice_set s.workers w Idle) (settled_back s.workers w) f)
+    subst (λ (a : Answer). IsFirst a.0.workers) (sym c.gives) (fewer_first s.workers (slice_set s.workers w Idle) (ended_back s.workers w) f)
+event_first b s (Cancel w) a f given =
+    let c = cancel_is b s w a given in
+    subst (λ (a : Answer). IsFirst a.0.workers) (sym c.gives) (fewer_first s.workers (slice_set s.workers w Idle) (ended_back s.workers w) f)
 
 reached_first : (b : Build) (s : State) → IsReached b s → IsFirst s.workers
 reached_first b s r =

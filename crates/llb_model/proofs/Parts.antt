@@ -4,12 +4,13 @@ use Rattle.std.proofs.Common.{inl, inr, refl, sym, ap, ◌∙◌, cond, add-zero
 use Rattle.std.specs.Prelude.{slice_get, nat_le, Result, Ok, Err}
 use Rattle.std.proofs.lemmas.Bool.{leb-true, leb-false, le-leb, cases_lt}
 use Rattle.llb_applet.specs.Commands.{run}
-use Rattle.llb_applet.specs.declared.command.Command.{Command}
+use Rattle.llb_applet.specs.declared.join.Joined.{Joined}
 use Rattle.llb_applet.specs.declared.setting.Setting.{Setting}
 use Rattle.llb_mount.specs.declared.shown.Shown.{Shown}
+use Rattle.llb_tree.specs.Tree.{TreeMap}
 use Rattle.llb_model.specs.declared.fault.VertexFault.{VertexFault}
 use Rattle.llb_model.specs.Program.{MicroStep, ReadLocal, Act, LayInput, Run, View, LocalTree, Files, Layers, Mounted, Work, Left}
-use Rattle.llb_model.specs.Program.{micro_step, with_own, tried, act_on, filled, ran, run_on, step_on, unless_faulted, go_on, part, whole}
+use Rattle.llb_model.specs.Program.{is_run, no_fault, micro_step, tried, act_on, filled, ran, run_on, step_on, unless_faulted, go_on, part, whole}
 use Rattle.llb_model.specs.State.{Execution, is_finished, next_step}
 use Rattle.llb_model.proofs.Lists.{some_of, get_past, get_within}
 use Rattle.llb_model.proofs.Views.{parts_count}
@@ -67,9 +68,9 @@ pub record IsNextStep (steps : List MicroStep) (x : Execution) (m : MicroStep) :
   pub clean : x.fault ≡ None
   pub there : slice_get steps x.done ≡ Some m
 
-no_fault : (f : Option VertexFault) (b : Bool) → (is_some f || b) ≡ false → f ≡ None
-no_fault None b e = refl
-no_fault (Some f) b e = absurd cc
+clean_of : (f : Option VertexFault) (b : Bool) → (is_some f || b) ≡ false → f ≡ None
+clean_of None b e = refl
+clean_of (Some f) b e = absurd cc
 
 none_done : (a b : Bool) → (a || b) ≡ false → b ≡ false
 none_done true b e = absurd cc
@@ -81,7 +82,7 @@ next_step_is steps x m e = by_test (is_finished steps x) refl e
   where
     by_test : (b : Bool) → is_finished steps x ≡ b → cond b None (slice_get steps x.done) ≡ Some m → IsNextStep steps x m
     by_test true is e = absurd cc
-    by_test false is e = record { unfinished = is; clean = no_fault x.fault (nat_le (length steps) x.done) is; there = e }
+    by_test false is e = record { unfinished = is; clean = clean_of x.fault (nat_le (length steps) x.done) is; there = e }
 
 -- a finished execution has none
 pub finished_none : (steps : List MicroStep) (x : Execution) → is_finished steps x ≡ true → next_step steps x ≡ None
@@ -103,19 +104,24 @@ none_finished steps x e = by_test (is_finished steps x) refl
 
 -- ---- the trees of instances
 
-command_keeps : (k : ℕ) (setting : Setting) (command : Command) (work : Work) (own : View)
-    → length (tried work (run_on k setting command own work.trees)).work.trees ≡ length work.trees
-command_keeps k setting command work (LocalTree t) = refl
-command_keeps k setting command work (Files inputs results) = refl
-command_keeps k setting command work (Layers inputs t) = refl
-command_keeps k setting command work (Mounted mounts caches) = by_view (run setting (filled mounts caches work.trees) command)
+command_keeps : (k : ℕ) (setting : Setting) (command : Joined) (ends : Bool) (own : View) (trees : List TreeMap)
+    → length (run_on k setting command ends own trees).work.trees ≡ length trees
+command_keeps k setting command ends (LocalTree t) trees = refl
+command_keeps k setting command ends (Files inputs results) trees = refl
+command_keeps k setting command ends (Layers inputs t) trees = refl
+command_keeps k setting command ends (Mounted mounts caches last) trees = by_run (is_run command.join last)
   where
-    by_view : (o : Option (List Shown)) → length (tried work (ran k caches work.trees o)).work.trees ≡ length work.trees
+    by_view : (o : Option (List Shown)) → length (ran k ends mounts caches trees o).work.trees ≡ length trees
     by_view None = refl
-    by_view (Some after) = parts_count caches work.trees after
+    by_view (Some after) = parts_count caches trees after
+
+    by_run : (b : Bool) → length (cond b (ran k ends mounts caches trees (run setting (filled mounts caches trees) command.command))
+        (no_fault (record { own = Mounted mounts caches last; trees = trees }))).work.trees ≡ length trees
+    by_run true = by_view (run setting (filled mounts caches trees) command.command)
+    by_run false = refl
 
 -- as many trees as before
-own_keeps : (work : Work) (r : Result View VertexFault) → length (tried work (with_own work r)).work.trees ≡ length work.trees
+own_keeps : (work : Work) (r : Result View VertexFault) → length (tried work r).work.trees ≡ length work.trees
 own_keeps work (Ok view) = refl
 own_keeps work (Err f) = refl
 
@@ -126,7 +132,7 @@ step_keeps k None work = refl
 step_keeps k (Some ReadLocal) work = refl
 step_keeps k (Some (Act action)) work = own_keeps work (act_on k action work.own)
 step_keeps k (Some (LayInput i)) work = refl
-step_keeps k (Some (Run setting command)) work = command_keeps k setting command work work.own
+step_keeps k (Some (Run setting command ends)) work = command_keeps k setting command ends work.own work.trees
 
 -- and as many trees stay where a fault before it lets nothing be done
 pub go_keeps : (steps : List MicroStep) (k : ℕ) (left : Left) → length (go_on steps k left).work.trees ≡ length left.work.trees

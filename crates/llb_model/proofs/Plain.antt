@@ -10,12 +10,12 @@ use Rattle.llb_model.specs.Program.{Build, Program, View, Work, Left, Start, pro
 use Rattle.llb_model.specs.Outcome.{Ending, Ended, ending, ending_in, outcome_on, outcome, is_plain}
 use Rattle.llb_model.specs.State.{Status, Waiting, Running, Settled, Execution, Idle, Runs, State, Opening, opening, ending_of, ending_at}
 use Rattle.llb_model.specs.State.{program_in, work_of, is_finished, ending_from, held, places_for, begin_at}
-use Rattle.llb_model.specs.Table.{Event, Claim, Step, Settle, Reply, execution_on, with_step, table}
+use Rattle.llb_model.specs.Table.{Event, Claim, Step, Settle, Cancel, Reply, execution_on, with_step, table}
 use Rattle.llb_model.specs.Run.{run}
 use Rattle.llb_model.specs.Plain.{left_of, IsUnderWay, StandsByOutcomes}
 use Rattle.llb_model.proofs.Lists.{some_of, inside, got_set, got_replicate}
 use Rattle.llb_model.proofs.Parts.{is_over_at, finished_whole, IsNextStep, next_step_is, step_keeps}
-use Rattle.llb_model.proofs.Events.{Answer, IsReady, IsStep, IsSettle, claim_places, claim_is, step_is, settle_is}
+use Rattle.llb_model.proofs.Events.{Answer, IsReady, IsStep, IsSettle, claim_places, claim_is, step_is, settle_is, cancel_is}
 use Rattle.llb_model.proofs.Runs.{run_keeps}
 use Rattle.llb_model.proofs.Outcomes.{inputs_mono, plain, outcome_is, plain_needs, plain_inputs}
 
@@ -143,6 +143,13 @@ event_plain b graph s (Settle w) a stands given =
             ap (outcome b) h.0 ∙ ends b graph s stands w a c (subst (λ n. is_plain b n ≡ true) h.0 is) ∙ ap (λ y. some_of (Ended y)) same
         | inr h ↦ stands.settled k e is h.1
       ];
+      working = λ u x is there. elim (got_set s.workers w Idle u (Runs x) there) [ inl h ↦ absurd (cc (h.1)) | inr h ↦ stands.working u x is h.1 ];
+    })
+event_plain b graph s (Cancel w) a stands given =
+    let c = cancel_is b s w a given in
+    subst (λ (t : Answer). StandsByOutcomes b t.0) (sym c.gives) (record {
+      settled = λ k e is there.
+          elim (got_set s.statuses c.x.vertex Waiting k (Settled e) there) [ inl h ↦ absurd (cc (h.1)) | inr h ↦ stands.settled k e is h.1 ];
       working = λ u x is there. elim (got_set s.workers w Idle u (Runs x) there) [ inl h ↦ absurd (cc (h.1)) | inr h ↦ stands.working u x is h.1 ];
     })
 

@@ -4,11 +4,11 @@ use Rattle.std.specs.Prelude.{slice_get, slice_set, replicate}
 use Rattle.llb_model.specs.Caches.{Place, Has, IsExclusive}
 use Rattle.llb_model.specs.Program.{Build, Left, needs_of, step_on}
 use Rattle.llb_model.specs.State.{Execution, At, Idle, Runs, State, opening, work_of, held, IsFree, begin_at}
-use Rattle.llb_model.specs.Table.{Event, Claim, Step, Settle, execution_on, with_step, table}
+use Rattle.llb_model.specs.Table.{Event, Claim, Step, Settle, Cancel, execution_on, with_step, table}
 use Rattle.llb_model.specs.Laws.{IsReached, IsHeldOnce}
 use Rattle.llb_model.proofs.Lists.{got_set, got_replicate}
 use Rattle.llb_model.proofs.Claims.{places_free, free_from}
-use Rattle.llb_model.proofs.Events.{Answer, IsClaim, claim_places, claim_is, step_is, settle_is}
+use Rattle.llb_model.proofs.Events.{Answer, IsClaim, claim_places, claim_is, step_is, settle_is, cancel_is}
 use Rattle.llb_model.proofs.Runs.{run_keeps}
 
 -- of the places that count, no two workers have one
@@ -70,16 +70,17 @@ stepped_back ws w x left there u y at_u = elim (got_set ws w (Runs (with_step x 
     inside : {a b : Execution} → Runs a ≡ Runs b → a ≡ b
     inside e = cc
 
--- what runs after a settle of a worker ran before it, on the same places
-pub settled_back : (ws : List At) (w u : ℕ) (y : Execution) → slice_get (slice_set ws w Idle) u ≡ Some (Runs y)
+-- what runs after the end of what a worker ran did run before it, on the same places
+pub ended_back : (ws : List At) (w u : ℕ) (y : Execution) → slice_get (slice_set ws w Idle) u ≡ Some (Runs y)
     → (z : Execution) × (slice_get ws u ≡ Some (Runs z)) × (z.places ≡ y.places)
-settled_back ws w u y at_u = elim (got_set ws w Idle u (Runs y) at_u) [ inl h ↦ absurd (cc (h.1)) | inr h ↦ (y, h.1, refl) ]
+ended_back ws w u y at_u = elim (got_set ws w Idle u (Runs y) at_u) [ inl h ↦ absurd (cc (h.1)) | inr h ↦ (y, h.1, refl) ]
 
 -- what a claim takes is free, of the places that count
 abbrev pub TakesFree : (Place → Type 0) → Build → State → Answer → Event → Type 0
 TakesFree E b s a (Claim w v) = (c : IsClaim b s w v a) (p : Place) → Has (claim_places s c.start) p → E p → IsFree s.workers p
 TakesFree E b s a (Step w) = Unit {0}
 TakesFree E b s a (Settle w) = Unit {0}
+TakesFree E b s a (Cancel w) = Unit {0}
 
 -- an event keeps workers apart, where what a claim takes is free
 pub event_separate : (E : Place → Type 0) (b : Build) (s : State) (e : Event) (a : Answer) → IsSeparate E s.workers → TakesFree E b s a e
@@ -95,7 +96,10 @@ event_separate E b s (Step w) a sep free given =
     (fewer_separate E s.workers (slice_set s.workers w (Runs (with_step c.x left))) (stepped_back s.workers w c.x left c.there) sep)
 event_separate E b s (Settle w) a sep free given =
     let c = settle_is b s w a given in
-    subst (λ (t : Answer). IsSeparate E t.0.workers) (sym c.gives) (fewer_separate E s.workers (slice_set s.workers w Idle) (settled_back s.workers w) sep)
+    subst (λ (t : Answer). IsSeparate E t.0.workers) (sym c.gives) (fewer_separate E s.workers (slice_set s.workers w Idle) (ended_back s.workers w) sep)
+event_separate E b s (Cancel w) a sep free given =
+    let c = cancel_is b s w a given in
+    subst (λ (t : Answer). IsSeparate E t.0.workers) (sym c.gives) (fewer_separate E s.workers (slice_set s.workers w Idle) (ended_back s.workers w) sep)
 
 -- what a claim takes alone is free
 pub alone_free : (b : Build) (s : State) (w v : ℕ) (a : Answer) (c : IsClaim b s w v a) (p : Place) → Has (claim_places s c.start) p
@@ -107,6 +111,7 @@ takes_alone : (b : Build) (s : State) (a : Answer) (e : Event) → TakesFree alo
 takes_alone b s a (Claim w v) = alone_free b s w v a
 takes_alone b s a (Step w) = tt
 takes_alone b s a (Settle w) = tt
+takes_alone b s a (Cancel w) = tt
 
 -- wherever granted events lead, no two running workers have one instance of a private or a locked key
 pub reached_separate : (b : Build) (s : State) → IsReached b s → IsSeparate alone s.workers

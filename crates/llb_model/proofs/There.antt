@@ -5,13 +5,13 @@ use Rattle.llb_tree.specs.Tree.{TreeMap}
 use Rattle.llb_model.specs.Caches.{Place, Store, put_all, Hold, Distinct}
 use Rattle.llb_model.specs.Program.{Build, needs_of, step_on}
 use Rattle.llb_model.specs.State.{Execution, At, Idle, Runs, State, opening, work_of, held, begin_at}
-use Rattle.llb_model.specs.Table.{Event, Claim, Step, Settle, execution_on, with_step, table}
+use Rattle.llb_model.specs.Table.{Event, Claim, Step, Settle, Cancel, execution_on, with_step, table}
 use Rattle.llb_model.specs.Laws.{HasDistinctNeeds, HeldAreThere}
 use Rattle.llb_model.proofs.Lists.{got_set, got_replicate}
 use Rattle.llb_model.proofs.Stores.{put_holds, hold_all, hold_trees, hold_length}
 use Rattle.llb_model.proofs.Parts.{step_keeps}
 use Rattle.llb_model.proofs.Claims.{places_distinct, places_length, first_length}
-use Rattle.llb_model.proofs.Events.{Answer, claim_places, claim_is, step_is, settle_is}
+use Rattle.llb_model.proofs.Events.{Answer, claim_places, claim_is, step_is, settle_is, cancel_is}
 use Rattle.llb_model.proofs.Runs.{run_keeps}
 
 record IsThere (store : Store) (ps : List Place) : Type 0 where
@@ -59,6 +59,10 @@ event_there b differ s (Step w) a f given =
     (record { each = after_write s.store s.workers w (with_step c.x left) left.work.trees f.each own.apart count })
 event_there b differ s (Settle w) a f given =
     let c = settle_is b s w a given in
+    subst (λ (t : Answer). AreThere t.0) (sym c.gives)
+    (record { each = λ u x there. elim (got_set s.workers w Idle u (Runs x) there) [ inl h ↦ absurd (cc (h.1)) | inr h ↦ f.each u x h.1 ] })
+event_there b differ s (Cancel w) a f given =
+    let c = cancel_is b s w a given in
     subst (λ (t : Answer). AreThere t.0) (sym c.gives)
     (record { each = λ u x there. elim (got_set s.workers w Idle u (Runs x) there) [ inl h ↦ absurd (cc (h.1)) | inr h ↦ f.each u x h.1 ] })
 

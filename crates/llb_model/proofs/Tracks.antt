@@ -1,25 +1,28 @@
--- A run keeps step with its claim order: what runs has done the first micro-steps of what the order did at the claim.
-use Rattle.std.proofs.Common.{◌≡◌, ◌≢◌, ℕ, zero, suc, ◌+◌, true, List, [], ◌∷◌, length, map, Option, Some, None, unwrap_or, inl, inr, refl}
-use Rattle.std.proofs.Common.{sym, ap, subst, ◌∙◌, arith}
+-- A run keeps step with its claim order: what runs has done the first micro-steps of what the order did at the claim. The order does as many of them as
+-- the replies to come tell, so these are looked at too.
+use Rattle.std.proofs.Common.{◌≡◌, ◌≢◌, ℕ, zero, suc, ◌+◌, Bool, true, false, List, [], ◌∷◌, length, map, Option, Some, None, unwrap_or, inl, inr, refl}
+use Rattle.std.proofs.Common.{sym, ap, subst, ◌∙◌, cond, arith}
 use Rattle.std.specs.Prelude.{slice_get, slice_set, replicate}
+use Rattle.std.proofs.lemmas.Bool.{ne_eqb, eq-eqb}
 use Rattle.llb_loader.specs.declared.graph.Vertex.{Vertex}
 use Rattle.llb_tree.specs.Tree.{TreeMap}
 use Rattle.llb_model.specs.declared.fault.VertexFault.{VertexFault}
 use Rattle.llb_model.specs.Caches.{Place, Store, content, Hold, Has, Distinct}
 use Rattle.llb_model.specs.Program.{Build, MicroStep, ReadLocal, Act, LayInput, Run, Program, View, Need, Work, Left, Start, program_of}
-use Rattle.llb_model.specs.Program.{program_at, needs_of, base_in, step_on, unless_faulted, go_on, part, whole}
+use Rattle.llb_model.specs.Program.{program_at, needs_of, base_in, last_of, is_run, step_on, unless_faulted, go_on, part, whole}
 use Rattle.llb_model.specs.Outcome.{Ending, Done, Failed, ending}
 use Rattle.llb_model.specs.State.{Status, Waiting, Running, Settled, Execution, Idle, Runs, State, Opening, opening, ending_of, ending_at}
 use Rattle.llb_model.specs.State.{ready, program_in, is_finished, next_step, work_of, ending_from, held, IsFree, first_trees, begin_at}
-use Rattle.llb_model.specs.Table.{Event, Claim, Step, Settle, Reply, execution_on, claim_at, with_step, after_step, after_settle}
-use Rattle.llb_model.specs.Table.{step_reply, settle_reply, table}
-use Rattle.llb_model.specs.Order.{Order, at_first, named, whole_at, run_whole, order, claims_in}
+use Rattle.llb_model.specs.Table.{Event, Claim, Step, Settle, Cancel, Reply, Claimed, HasRead, Acted, HasMerged, HasRun, Skipped, Faulted}
+use Rattle.llb_model.specs.Table.{SettledDone, SettledFailed, Cancelled, execution_on, claim_at, with_step, after_step, after_end, after_settle}
+use Rattle.llb_model.specs.Table.{unless_failed, step_reply, settle_reply, table}
+use Rattle.llb_model.specs.Order.{Order, at_first, cut_in, named, done_of, stands_after, whole_at, run_whole, after_whole}
 use Rattle.llb_model.specs.Laws.{HasDistinctNeeds}
 use Rattle.llb_model.proofs.Lists.{some_of, got_set, get_set_same, get_set_other, got_replicate, each_unit}
 use Rattle.llb_model.proofs.Stores.{kept_all, has_or, hold_moved, hold_all, hold_trees, hold_length, hold_same}
 use Rattle.llb_model.proofs.Parts.{is_over_at, finished_whole, next_step_is, IsNextStep, step_keeps, part_keeps}
 use Rattle.llb_model.proofs.Claims.{places_distinct, places_length, places_numbered, first_length}
-use Rattle.llb_model.proofs.Events.{Answer, IsReady, ready_as, claim_places, claim_is, step_is, settle_is}
+use Rattle.llb_model.proofs.Events.{Answer, IsReady, ready_as, claim_places, claim_is, step_is, settle_is, cancel_is}
 use Rattle.llb_model.proofs.Outcomes.{inputs_mono}
 use Rattle.llb_model.proofs.Plain.{ending_settled}
 use Rattle.llb_model.proofs.Separate.{IsSeparate, TakesFree, opening_separate, event_separate}
@@ -34,8 +37,9 @@ at_work own trees = record { own = own; trees = trees }
 abbrev left_at : View → List TreeMap → Option VertexFault → Left
 left_at own trees fault = record { work = at_work own trees; fault = fault }
 
--- what a worker runs: that much of its program on what the order began it with, on its instances as they are now
-pub record IsWorking (b : Build) (s : State) (o : Order) (w : ℕ) (x : Execution) : Type 0 where
+-- what a worker runs: that much of its program on what the order began it with, on its instances as they are now; and what the order did, where `cut`
+-- tells of each vertex that runs how its claim ends
+pub record IsWorking (b : Build) (s : State) (o : Order) (cut : ℕ → Option ℕ) (w : ℕ) (x : Execution) : Type 0 where
   pub vertex : Vertex
   pub there : slice_get b.graph.vertices x.vertex ≡ Some vertex
   pub start : Work
@@ -44,8 +48,9 @@ pub record IsWorking (b : Build) (s : State) (o : Order) (w : ℕ) (x : Executio
   pub now : Hold s.store x.places trees
   pub apart : Distinct x.places
   pub status : slice_get s.statuses x.vertex ≡ Some (Running w)
-  pub ends : slice_get o.statuses x.vertex ≡ Some (Settled (ending (program_of vertex) (whole (program_of vertex).steps start)))
-  pub leaves : Hold o.store x.places (whole (program_of vertex).steps start).work.trees
+  pub ends : slice_get o.statuses x.vertex
+      ≡ Some (stands_after (cut x.vertex) (program_of vertex) (done_of (cut x.vertex) (program_of vertex).steps start))
+  pub leaves : Hold o.store x.places (done_of (cut x.vertex) (program_of vertex).steps start).work.trees
 
 -- a status, and that of the order
 abbrev pub Agrees : Option Status → Option Status → Type 0
@@ -54,9 +59,9 @@ Agrees (Some Waiting) b = b ≡ Some Waiting
 Agrees (Some (Settled e)) b = b ≡ Some (Settled e)
 Agrees None b = b ≡ None
 
-pub record Tracks (b : Build) (s : State) (o : Order) : Type 0 where
+pub record Tracks (b : Build) (s : State) (o : Order) (cut : ℕ → Option ℕ) : Type 0 where
   pub agree : (v : ℕ) → Agrees (slice_get s.statuses v) (slice_get o.statuses v)
-  pub working : (w : ℕ) (x : Execution) → slice_get s.workers w ≡ Some (Runs x) → IsWorking b s o w x
+  pub working : (w : ℕ) (x : Execution) → slice_get s.workers w ≡ Some (Runs x) → IsWorking b s o cut w x
   pub separate : IsSeparate any s.workers
   pub free : (p : Place) → IsFree s.workers p → content s.store p ≡ content o.store p
 
@@ -121,19 +126,23 @@ first_agrees a b inputs (p ∷ ps) (n ∷ ns) same =
     ap (λ o. unwrap_or o (base_in n.input inputs) ∷ first_trees a inputs ps ns) (same p (inl refl))
     ∙ ap (λ ts. unwrap_or (content b p) (base_in n.input inputs) ∷ ts) (first_agrees a b inputs ps ns (λ q h. same q (inr h)))
 
-module _ (b : Build) (s : State) (o : Order) (tracks : Tracks b s o) where
+done_keeps : (cut : Option ℕ) (steps : List MicroStep) (work : Work) → length (done_of cut steps work).work.trees ≡ length work.trees
+done_keeps None steps work = part_keeps steps work (length steps)
+done_keeps (Some k) steps work = part_keeps steps work k
+
+module _ (b : Build) (s : State) (o : Order) (cut : ℕ → Option ℕ) (tracks : Tracks b s o cut) where
   -- a worker that takes free instances
   pub claim_tracks : (w v : ℕ) (start : Start) (ps : List Place) → slice_get s.workers w ≡ Some Idle → IsReady b s.statuses v start
       → ((p : Place) → Has ps p → IsFree s.workers p) → Distinct ps → length ps ≡ length (needs_of start.vertex)
       → IsSeparate any (claim_at b s w v start ps).0.workers
-      → Tracks b (claim_at b s w v start ps).0 (whole_at b o v start ps)
+      → Tracks b (claim_at b s w v start ps).0 (whole_at b o v start ps (cut v)) cut
   unfolding part
   claim_tracks w v start ps idle r free apart count separate = record {
-    agree = agree_written s.statuses o.statuses v (Running w) (Settled (ending p left)) tt Waiting Waiting r.waits waits tracks.agree;
+    agree = agree_written s.statuses o.statuses v (Running w) (stands_after (cut v) p left) tt Waiting Waiting r.waits waits tracks.agree;
     working = λ u x there. elim (got_set s.workers w (Runs z) u (Runs x) there) [
       | inl h ↦
           let same : z ≡ x = cc (h.1) in
-          subst (λ (n : ℕ). IsWorking b new later n x) (sym h.0) (subst (IsWorking b new later w) same fresh)
+          subst (λ (n : ℕ). IsWorking b new later cut n x) (sym h.0) (subst (IsWorking b new later cut w) same fresh)
       | inr h ↦ moved u x h.1 (tracks.working u x h.1)
     ];
     separate = separate;
@@ -157,13 +166,13 @@ module _ (b : Build) (s : State) (o : Order) (tracks : Tracks b s o) where
       begun = begin_at b o.store start ps
 
       left : Left
-      left = whole p.steps begun
+      left = done_of (cut v) p.steps begun
 
       new : State
       new = (claim_at b s w v start ps).0
 
       later : Order
-      later = whole_at b o v start ps
+      later = whole_at b o v start ps (cut v)
 
       waits : slice_get o.statuses v ≡ Some Waiting
       waits = agree_waiting (slice_get s.statuses v) (slice_get o.statuses v) (tracks.agree v) r.waits
@@ -174,7 +183,7 @@ module _ (b : Build) (s : State) (o : Order) (tracks : Tracks b s o) where
       busy : (u : ℕ) (x : Execution) → slice_get s.workers u ≡ Some (Runs x) → u ≡ w → ⊥
       busy u x at_u same = let both : some_of Idle ≡ some_of (Runs x) = sym idle ∙ ap (slice_get s.workers) (sym same) ∙ at_u in cc
 
-      fresh : IsWorking b new later w z
+      fresh : IsWorking b new later cut w z
       fresh = record {
         vertex = start.vertex;
         there = r.there;
@@ -184,12 +193,12 @@ module _ (b : Build) (s : State) (o : Order) (tracks : Tracks b s o) where
         now = hold_all s.store ps work.trees apart (first_length s.store start.inputs ps (needs_of start.vertex) count);
         apart = apart;
         status = get_set_same s.statuses v (Running w) Waiting r.waits;
-        ends = get_set_same o.statuses v (Settled (ending p left)) Waiting waits;
-        leaves = hold_all o.store ps left.work.trees apart (part_keeps p.steps begun (length p.steps)
+        ends = get_set_same o.statuses v (stands_after (cut v) p left) Waiting waits;
+        leaves = hold_all o.store ps left.work.trees apart (done_keeps (cut v) p.steps begun
             ∙ first_length o.store start.inputs ps (needs_of start.vertex) count);
       }
 
-      moved : (u : ℕ) (x : Execution) → slice_get s.workers u ≡ Some (Runs x) → IsWorking b s o u x → IsWorking b new later u x
+      moved : (u : ℕ) (x : Execution) → slice_get s.workers u ≡ Some (Runs x) → IsWorking b s o cut u x → IsWorking b new later cut u x
       moved u x at_u old =
           let other : x.vertex ≢ v = λ same. let both : some_of Waiting ≡ some_of (Running u) = sym r.waits
           ∙ ap (slice_get s.statuses) (sym same) ∙ old.status in absurd cc in
@@ -203,21 +212,21 @@ module _ (b : Build) (s : State) (o : Order) (tracks : Tracks b s o) where
             now = hold_moved s.store new.store x.places old.trees old.now (λ q h. kept_all s.store ps work.trees q (mine q h));
             apart = old.apart;
             status = get_set_other s.statuses v (Running w) x.vertex other ∙ old.status;
-            ends = get_set_other o.statuses v (Settled (ending p left)) x.vertex other ∙ old.ends;
-            leaves = hold_moved o.store later.store x.places (whole (program_of old.vertex).steps old.start).work.trees old.leaves
+            ends = get_set_other o.statuses v (stands_after (cut v) p left) x.vertex other ∙ old.ends;
+            leaves = hold_moved o.store later.store x.places (done_of (cut x.vertex) (program_of old.vertex).steps old.start).work.trees old.leaves
                 (λ q h. kept_all o.store ps left.work.trees q (mine q h));
           }
 
   pub step_tracks : (w : ℕ) (x : Execution) (m : MicroStep) → slice_get s.workers w ≡ Some (Runs x) → next_step (program_in b x).steps x ≡ Some m
       → IsSeparate any (after_step s w x (step_on x.done (Some m) (work_of s x))).workers
-      → Tracks b (after_step s w x (step_on x.done (Some m) (work_of s x))) o
+      → Tracks b (after_step s w x (step_on x.done (Some m) (work_of s x))) o cut
   unfolding part
   step_tracks w x m at_w comes separate = record {
     agree = tracks.agree;
     working = λ u y there. elim (got_set s.workers w (Runs z) u (Runs y) there) [
       | inl h ↦
           let same : z ≡ y = cc (h.1) in
-          subst (λ (n : ℕ). IsWorking b new o n y) (sym h.0) (subst (IsWorking b new o w) same further)
+          subst (λ (n : ℕ). IsWorking b new o cut n y) (sym h.0) (subst (IsWorking b new o cut w) same further)
       | inr h ↦ moved u y h.0 h.1 (tracks.working u y h.1)
     ];
     separate = separate;
@@ -235,7 +244,7 @@ module _ (b : Build) (s : State) (o : Order) (tracks : Tracks b s o) where
       new : State
       new = after_step s w x left
 
-      own : IsWorking b s o w x
+      own : IsWorking b s o cut w x
       own = tracks.working w x at_w
 
       same_worker : (u : ℕ) (y : Execution) → slice_get s.workers u ≡ Some (Runs y) → u ≡ w → y ≡ x
@@ -267,7 +276,7 @@ module _ (b : Build) (s : State) (o : Order) (tracks : Tracks b s o) where
       add_one : (n : ℕ) → n + 1 ≡ suc n
       add_one n = omega arith
 
-      further : IsWorking b new o w z
+      further : IsWorking b new o cut w z
       further = record {
         vertex = own.vertex;
         there = own.there;
@@ -281,7 +290,7 @@ module _ (b : Build) (s : State) (o : Order) (tracks : Tracks b s o) where
         leaves = own.leaves;
       }
 
-      moved : (u : ℕ) (y : Execution) → u ≢ w → slice_get s.workers u ≡ Some (Runs y) → IsWorking b s o u y → IsWorking b new o u y
+      moved : (u : ℕ) (y : Execution) → u ≢ w → slice_get s.workers u ≡ Some (Runs y) → IsWorking b s o cut u y → IsWorking b new o cut u y
       moved u y other at_u old = record {
         vertex = old.vertex;
         there = old.there;
@@ -296,15 +305,18 @@ module _ (b : Build) (s : State) (o : Order) (tracks : Tracks b s o) where
         leaves = old.leaves;
       }
 
-  pub settle_tracks : (w : ℕ) (x : Execution) → slice_get s.workers w ≡ Some (Runs x) → is_finished (program_in b x).steps x ≡ true
-      → IsSeparate any (slice_set s.workers w Idle) → Tracks b (after_settle s w x.vertex (ending_from (program_in b x) x)) o
-  settle_tracks w x at_w fin separate = record {
-    agree = agree_one s.statuses o.statuses x.vertex (Settled end) (Running w) own.status
-        (own.ends ∙ ap (λ (e : Ending). some_of (Settled e)) same_end) tracks.agree;
+  -- a worker that ends what it runs, as the order did at its claim
+  end_tracks : (w : ℕ) (x : Execution) (z : Status) (later : ℕ → Option ℕ) (at_w : slice_get s.workers w ≡ Some (Runs x))
+      → Agrees (Some z) (slice_get o.statuses x.vertex) → Hold o.store x.places (tracks.working w x at_w).trees
+      → ((v : ℕ) → v ≢ x.vertex → cut v ≡ later v) → IsSeparate any (slice_set s.workers w Idle) → Tracks b (after_end s w x.vertex z) o later
+  end_tracks w x z later at_w agrees leaves same separate = record {
+    agree = agree_one s.statuses o.statuses x.vertex z (Running w) own.status agrees tracks.agree;
     working = λ u y there. elim (got_set s.workers w Idle u (Runs y) there) [
       | inl h ↦ absurd (cc (h.1))
       | inr h ↦
           let old = tracks.working u y h.1 in
+          let other : y.vertex ≢ x.vertex = λ e. h.0 (one_worker u y old.status e) in
+          let p = program_of old.vertex in
           record {
             vertex = old.vertex;
             there = old.there;
@@ -313,9 +325,9 @@ module _ (b : Build) (s : State) (o : Order) (tracks : Tracks b s o) where
             so_far = old.so_far;
             now = old.now;
             apart = old.apart;
-            status = get_set_other s.statuses x.vertex (Settled end) y.vertex (λ same. h.0 (one_worker u y old.status same)) ∙ old.status;
-            ends = old.ends;
-            leaves = old.leaves;
+            status = get_set_other s.statuses x.vertex z y.vertex other ∙ old.status;
+            ends = old.ends ∙ ap (λ c. some_of (stands_after c p (done_of c p.steps old.start))) (same y.vertex other);
+            leaves = subst (λ c. Hold o.store y.places (done_of c p.steps old.start).work.trees) (same y.vertex other) old.leaves;
           }
     ];
     separate = separate;
@@ -325,26 +337,8 @@ module _ (b : Build) (s : State) (o : Order) (tracks : Tracks b s o) where
     ];
   }
     where
-      end : Ending
-      end = ending_from (program_in b x) x
-
-      own : IsWorking b s o w x
+      own : IsWorking b s o cut w x
       own = tracks.working w x at_w
-
-      program : program_in b x ≡ program_of own.vertex
-      program = ap program_at own.there
-
-      done : whole (program_of own.vertex).steps own.start ≡ left_at x.own own.trees x.fault
-      done =
-          let over : is_over_at (program_of own.vertex).steps (part (program_of own.vertex).steps own.start x.done) x.done ≡ true =
-          ap (λ (l : Left). is_over_at (program_of own.vertex).steps l x.done) own.so_far ∙ ap (λ (p : Program). is_finished p.steps x) (sym program) ∙ fin in
-          finished_whole (program_of own.vertex).steps own.start x.done over ∙ own.so_far
-
-      same_end : ending (program_of own.vertex) (whole (program_of own.vertex).steps own.start) ≡ end
-      same_end = ap (ending (program_of own.vertex)) done ∙ ap (λ (p : Program). ending_from p x) (sym program)
-
-      leaves : Hold o.store x.places own.trees
-      leaves = subst (Hold o.store x.places) (ap (λ (l : Left). l.work.trees) done) own.leaves
 
       same_worker : (u : ℕ) (y : Execution) → slice_get s.workers u ≡ Some (Runs y) → u ≡ w → y ≡ x
       same_worker u y at_u same = let both : some_of (Runs y) ≡ some_of (Runs x) = sym at_u ∙ ap (slice_get s.workers) same ∙ at_w in cc
@@ -357,60 +351,163 @@ module _ (b : Build) (s : State) (o : Order) (tracks : Tracks b s o) where
       one_worker : (u : ℕ) (y : Execution) → slice_get s.statuses y.vertex ≡ Some (Running u) → y.vertex ≡ x.vertex → u ≡ w
       one_worker u y status same = let both : some_of (Running u) ≡ some_of (Running w) = sym status ∙ ap (slice_get s.statuses) same ∙ own.status in cc
 
+  pub settle_tracks : (w : ℕ) (x : Execution) (later : ℕ → Option ℕ) → slice_get s.workers w ≡ Some (Runs x) → is_finished (program_in b x).steps x ≡ true
+      → cut x.vertex ≡ None → ((v : ℕ) → v ≢ x.vertex → cut v ≡ later v)
+      → IsSeparate any (slice_set s.workers w Idle) → Tracks b (after_settle s w x.vertex (ending_from (program_in b x) x)) o later
+  settle_tracks w x later at_w fin uncut same separate =
+      end_tracks w x (Settled (ending_from (program_in b x) x)) later at_w
+      (own.ends ∙ ap (λ c. some_of (stands_after c p (done_of c p.steps own.start))) uncut ∙ ap (λ (e : Ending). some_of (Settled e)) same_end)
+      (subst (Hold o.store x.places) (ap (λ c. (done_of c p.steps own.start).work.trees) uncut ∙ ap (λ (l : Left). l.work.trees) done) own.leaves)
+      same separate
+    where
+      own : IsWorking b s o cut w x
+      own = tracks.working w x at_w
+
+      p : Program
+      p = program_of own.vertex
+
+      program : program_in b x ≡ p
+      program = ap program_at own.there
+
+      done : whole p.steps own.start ≡ left_at x.own own.trees x.fault
+      done =
+          let over : is_over_at p.steps (part p.steps own.start x.done) x.done ≡ true =
+          ap (λ (l : Left). is_over_at p.steps l x.done) own.so_far ∙ ap (λ (p : Program). is_finished p.steps x) (sym program) ∙ fin in
+          finished_whole p.steps own.start x.done over ∙ own.so_far
+
+      same_end : ending p (whole p.steps own.start) ≡ ending_from (program_in b x) x
+      same_end = ap (ending p) done ∙ ap (λ (p : Program). ending_from p x) (sym program)
+
+  pub cancel_tracks : (w : ℕ) (x : Execution) (later : ℕ → Option ℕ) → slice_get s.workers w ≡ Some (Runs x)
+      → cut x.vertex ≡ Some x.done → ((v : ℕ) → v ≢ x.vertex → cut v ≡ later v)
+      → IsSeparate any (slice_set s.workers w Idle) → Tracks b (after_end s w x.vertex Waiting) o later
+  cancel_tracks w x later at_w is_cut same separate =
+      end_tracks w x Waiting later at_w (own.ends ∙ ap (λ c. some_of (stands_after c p (done_of c p.steps own.start))) is_cut)
+      (subst (Hold o.store x.places) (ap (λ c. (done_of c p.steps own.start).work.trees) is_cut ∙ ap (λ (l : Left). l.work.trees) own.so_far) own.leaves)
+      same separate
+    where
+      own : IsWorking b s o cut w x
+      own = tracks.working w x at_w
+
+      p : Program
+      p = program_of own.vertex
+
 -- ---- events
 
--- the claim order after a reply
-abbrev pub after_reply : Build → Order → Reply → Order
-after_reply b o r = order b o (claims_in (r ∷ []))
+-- how claims end, by the replies to come
+abbrev pub cuts : List Reply → ℕ → Option ℕ
+cuts rs v = cut_in v rs
+
+-- a step ends no claim
+unless_cuts : (f : Option VertexFault) (r : Reply) (rs : List Reply) → cuts (r ∷ rs) ≡ cuts rs → cuts (unless_failed f r ∷ rs) ≡ cuts rs
+unless_cuts None r rs same = same
+unless_cuts (Some f) r rs same = refl
+
+step_cuts : (k : ℕ) (m : MicroStep) (own : View) (left : Left) (rs : List Reply) → cuts (step_reply k m own left ∷ rs) ≡ cuts rs
+step_cuts k ReadLocal own left rs = unless_cuts left.fault HasRead rs refl
+step_cuts k (Act action) own left rs = unless_cuts left.fault (Acted k) rs refl
+step_cuts k (LayInput i) own left rs = unless_cuts left.fault (HasMerged k) rs refl
+step_cuts k (Run setting command ends) own left rs = by_run (is_run command.join (last_of own))
+  where
+    by_run : (b : Bool) → cuts (cond b (HasRun k (last_of left.work.own)) (Skipped k) ∷ rs) ≡ cuts rs
+    by_run true = refl
+    by_run false = refl
+
+-- a settle and a cancel end that of their vertex, and no other
+uncut_here : (v : ℕ) (e : Ending) (rs : List Reply) → cut_in v (settle_reply v e ∷ rs) ≡ None
+uncut_here v (Done trees) rs = ap (λ t. cond t None (cut_in v rs)) (eq-eqb v v refl)
+uncut_here v (Failed f) rs = ap (λ t. cond t None (cut_in v rs)) (eq-eqb v v refl)
+
+uncut_later : (u : ℕ) (e : Ending) (rs : List Reply) (v : ℕ) → v ≢ u → cut_in v (settle_reply u e ∷ rs) ≡ cut_in v rs
+uncut_later u (Done trees) rs v other = ap (λ t. cond t None (cut_in v rs)) (ne_eqb u v (λ e. other (sym e)))
+uncut_later u (Failed f) rs v other = ap (λ t. cond t None (cut_in v rs)) (ne_eqb u v (λ e. other (sym e)))
+
+cut_here : (v k : ℕ) (rs : List Reply) → cut_in v (Cancelled v k ∷ rs) ≡ Some k
+cut_here v k rs = ap (λ t. cond t (some_of k) (cut_in v rs)) (eq-eqb v v refl)
+
+cut_later : (u k : ℕ) (rs : List Reply) (v : ℕ) → v ≢ u → cut_in v (Cancelled u k ∷ rs) ≡ cut_in v rs
+cut_later u k rs v other = ap (λ t. cond t (some_of k) (cut_in v rs)) (ne_eqb u v (λ e. other (sym e)))
+
+-- the claim order after a reply, where those replies are to come
+abbrev pub after_reply : Build → Order → Reply → List Reply → Order
+after_reply b o (Claimed job) rs = after_whole b o (named job.vertex job.instances (cut_in job.vertex rs))
+after_reply b o HasRead rs = o
+after_reply b o (Acted a) rs = o
+after_reply b o (HasMerged i) rs = o
+after_reply b o (HasRun c s) rs = o
+after_reply b o (Skipped c) rs = o
+after_reply b o (Faulted f) rs = o
+after_reply b o (SettledDone v) rs = o
+after_reply b o (SettledFailed v) rs = o
+after_reply b o (Cancelled v k) rs = o
 
 -- a reply that is no claim leaves it
-step_stays : (b : Build) (o : Order) (k : ℕ) (m : MicroStep) (f : Option VertexFault) → after_reply b o (step_reply k m f) ≡ o
-step_stays b o k ReadLocal None = refl
-step_stays b o k ReadLocal (Some f) = refl
-step_stays b o k (Act action) None = refl
-step_stays b o k (Act action) (Some f) = refl
-step_stays b o k (LayInput i) None = refl
-step_stays b o k (LayInput i) (Some f) = refl
-step_stays b o k (Run setting command) f = refl
+unless_stays : (b : Build) (o : Order) (f : Option VertexFault) (r : Reply) (rs : List Reply) → after_reply b o r rs ≡ o
+    → after_reply b o (unless_failed f r) rs ≡ o
+unless_stays b o None r rs same = same
+unless_stays b o (Some f) r rs same = refl
 
-settle_stays : (b : Build) (o : Order) (v : ℕ) (e : Ending) → after_reply b o (settle_reply v e) ≡ o
-settle_stays b o v (Done trees) = refl
-settle_stays b o v (Failed f) = refl
+step_stays : (b : Build) (o : Order) (k : ℕ) (m : MicroStep) (own : View) (left : Left) (rs : List Reply) → after_reply b o (step_reply k m own left) rs ≡ o
+step_stays b o k ReadLocal own left rs = unless_stays b o left.fault HasRead rs refl
+step_stays b o k (Act action) own left rs = unless_stays b o left.fault (Acted k) rs refl
+step_stays b o k (LayInput i) own left rs = unless_stays b o left.fault (HasMerged k) rs refl
+step_stays b o k (Run setting command ends) own left rs = by_run (is_run command.join (last_of own))
+  where
+    by_run : (b' : Bool) → after_reply b o (cond b' (HasRun k (last_of left.work.own)) (Skipped k)) rs ≡ o
+    by_run true = refl
+    by_run false = refl
+
+settle_stays : (b : Build) (o : Order) (v : ℕ) (e : Ending) (rs : List Reply) → after_reply b o (settle_reply v e) rs ≡ o
+settle_stays b o v (Done trees) rs = refl
+settle_stays b o v (Failed f) rs = refl
 
 -- an event keeps step with the claim order, where no running worker has what a claim takes
-pub event_tracks : (b : Build) → HasDistinctNeeds b → (s : State) (o : Order) (e : Event) (a : Answer) → Tracks b s o
+pub event_tracks : (b : Build) → HasDistinctNeeds b → (s : State) (o : Order) (e : Event) (a : Answer) (rs : List Reply) → Tracks b s o (cuts (a.1 ∷ rs))
     → TakesFree any b s a e → table b s e ≡ Some a
-    → Tracks b a.0 (after_reply b o a.1)
-event_tracks b differ s o (Claim w v) a tracks free given =
+    → Tracks b a.0 (after_reply b o a.1 rs) (cuts rs)
+event_tracks b differ s o (Claim w v) a rs before free given =
     let c = claim_is b s w v a given in
     let r = c.begins in
     let ps = claim_places s c.start in
+    let tracks = subst (λ (t : Answer). Tracks b s o (cuts (t.1 ∷ rs))) c.gives before in
     let apart = places_distinct (held s.workers) (needs_of c.start.vertex) (differ v c.start.vertex r.there) in
     let separate = subst (λ (t : Answer). IsSeparate any t.0.workers) c.gives (event_separate any b s (Claim w v) a tracks.separate free given) in
-    let now = claim_tracks b s o tracks w v c.start ps c.idle r (λ p h. free c p h tt) apart
+    let now = claim_tracks b s o (cuts rs) tracks w v c.start ps c.idle r (λ p h. free c p h tt) apart
     (places_length (held s.workers) (needs_of c.start.vertex)) separate in
     let numbers = map (λ (p : Place). p.number) ps in
-    subst (λ (t : Answer). Tracks b t.0 (after_reply b o t.1)) (sym c.gives)
-    (subst (λ (q : Option Start). Tracks b (claim_at b s w v c.start ps).0 (run_whole b o (named v numbers) q))
+    subst (λ (t : Answer). Tracks b t.0 (after_reply b o t.1 rs) (cuts rs)) (sym c.gives)
+    (subst (λ (q : Option Start). Tracks b (claim_at b s w v c.start ps).0 (run_whole b o (named v numbers (cut_in v rs)) q) (cuts rs))
     (sym (ready_too b s.statuses o.statuses tracks.agree v c.start r))
-    (subst (λ qs. Tracks b (claim_at b s w v c.start ps).0 (whole_at b o v c.start qs)) (sym (places_numbered (held s.workers) (needs_of c.start.vertex))) now))
-event_tracks b differ s o (Step w) a tracks free given =
+    (subst (λ qs. Tracks b (claim_at b s w v c.start ps).0 (whole_at b o v c.start qs (cut_in v rs)) (cuts rs))
+    (sym (places_numbered (held s.workers) (needs_of c.start.vertex))) now))
+event_tracks b differ s o (Step w) a rs before free given =
     let c = step_is b s w a given in
     let left = step_on c.x.done (Some c.step) (work_of s c.x) in
+    let tracks = subst (Tracks b s o) (step_cuts c.x.done c.step c.x.own left rs) (subst (λ (t : Answer). Tracks b s o (cuts (t.1 ∷ rs))) c.gives before) in
     let separate = subst (λ (t : Answer). IsSeparate any t.0.workers) c.gives (event_separate any b s (Step w) a tracks.separate free given) in
-    subst (λ (t : Answer). Tracks b t.0 (after_reply b o t.1)) (sym c.gives)
-    (subst (Tracks b (after_step s w c.x left)) (sym (step_stays b o c.x.done c.step left.fault))
-    (step_tracks b s o tracks w c.x c.step c.there c.next separate))
-event_tracks b differ s o (Settle w) a tracks free given =
+    subst (λ (t : Answer). Tracks b t.0 (after_reply b o t.1 rs) (cuts rs)) (sym c.gives)
+    (subst (λ (q : Order). Tracks b (after_step s w c.x left) q (cuts rs)) (sym (step_stays b o c.x.done c.step c.x.own left rs))
+    (step_tracks b s o (cuts rs) tracks w c.x c.step c.there c.next separate))
+event_tracks b differ s o (Settle w) a rs before free given =
     let c = settle_is b s w a given in
     let end = ending_from (program_in b c.x) c.x in
+    let tracks = subst (λ (t : Answer). Tracks b s o (cuts (t.1 ∷ rs))) c.gives before in
     let separate = subst (λ (t : Answer). IsSeparate any t.0.workers) c.gives (event_separate any b s (Settle w) a tracks.separate free given) in
-    subst (λ (t : Answer). Tracks b t.0 (after_reply b o t.1)) (sym c.gives)
-    (subst (Tracks b (after_settle s w c.x.vertex end)) (sym (settle_stays b o c.x.vertex end)) (settle_tracks b s o tracks w c.x c.there c.finished separate))
+    subst (λ (t : Answer). Tracks b t.0 (after_reply b o t.1 rs) (cuts rs)) (sym c.gives)
+    (subst (λ (q : Order). Tracks b (after_settle s w c.x.vertex end) q (cuts rs)) (sym (settle_stays b o c.x.vertex end rs))
+    (settle_tracks b s o (cuts (settle_reply c.x.vertex end ∷ rs)) tracks w c.x (cuts rs) c.there c.finished
+    (uncut_here c.x.vertex end rs) (uncut_later c.x.vertex end rs) separate))
+event_tracks b differ s o (Cancel w) a rs before free given =
+    let c = cancel_is b s w a given in
+    let tracks = subst (λ (t : Answer). Tracks b s o (cuts (t.1 ∷ rs))) c.gives before in
+    let separate = subst (λ (t : Answer). IsSeparate any t.0.workers) c.gives (event_separate any b s (Cancel w) a tracks.separate free given) in
+    subst (λ (t : Answer). Tracks b t.0 (after_reply b o t.1 rs) (cuts rs)) (sym c.gives)
+    (cancel_tracks b s o (cuts (Cancelled c.x.vertex c.x.done ∷ rs)) tracks w c.x (cuts rs) c.there
+    (cut_here c.x.vertex c.x.done rs) (cut_later c.x.vertex c.x.done rs) separate)
 
--- at first all vertices wait in both, and the caches are the same
-pub opening_tracks : (b : Build) (o : Opening) → Tracks b (opening b o) (at_first b o.store)
-opening_tracks b o = record {
+-- at first all vertices wait in both, and the caches are the same, however claims will end
+pub opening_tracks : (b : Build) (o : Opening) (cut : ℕ → Option ℕ) → Tracks b (opening b o) (at_first b o.store) cut
+opening_tracks b o cut = record {
   agree = λ v. go v (slice_get (replicate (length b.graph.vertices) Waiting) v) refl;
   working = λ w x there. absurd (let h : Runs x ≡ Idle = got_replicate o.workers Idle w (Runs x) there in cc);
   separate = opening_separate any o.workers;

@@ -1,15 +1,21 @@
 -- The vertices of a graph one by one: of what kind each is, and how many micro-steps it has.
-use Rattle.std.proofs.Common.{◌≡◌, ℕ, ◌<◌, ◌^◌, List, [], length, map, refl, sym, ap, subst, ◌∙◌, arith}
+use Rattle.std.proofs.Common.{◌≡◌, ℕ, suc, ◌<◌, ◌^◌, List, [], ◌∷◌, length, refl, sym, ap, subst, ◌∙◌, arith}
 use Rattle.std.specs.Prelude.{Option, Some, None, slice_get, unwrap_or}
 use Rattle.std.proofs.lemmas.Option.{slice_get_within, get_or_from_slice_get}
-use Rattle.llb_applet.specs.declared.command.Command.{Command}
+use Rattle.llb_applet.specs.declared.join.Joined.{Joined}
+use Rattle.llb_applet.specs.declared.setting.Setting.{Setting}
 use Rattle.llb_ops.specs.declared.op.Kind.{Kind}
 use Rattle.llb_ops.specs.declared.op.Kind.TheVariants as kind
 use Rattle.llb_ops.specs.declared.merge.MergeInput.{MergeInput}
 use Rattle.llb_loader.specs.declared.graph.Vertex.{Vertex}
 use Rattle.llb_loader.specs.Graph.{Numbered, IsGraph, IsVertex, IsVertexOf}
-use Rattle.llb_model.specs.Program.{Act, LayInput, Run, setting_of, steps_of, program_of, program_at}
+use Rattle.llb_model.specs.Program.{Act, LayInput, setting_of, runs_of, steps_of, program_of, program_at}
 use Rattle.llb_model.proofs.Lists.{length_map}
+
+-- each command is one micro-step
+pub length_runs : (setting : Setting) (cs : List Joined) → length (runs_of setting cs) ≡ length cs
+length_runs setting [] = refl
+length_runs setting (c ∷ cs) = ap suc (length_runs setting cs)
 
 -- a vertex keeps the number of micro-steps that its kind and its script give
 pub counted_by : (v : Vertex) (k : Option Kind) → IsVertexOf v k → v.steps ≡ length (steps_of k v.script)
@@ -17,8 +23,8 @@ counted_by v (Some (kind.Source s)) is = is.steps
 counted_by v (Some (kind.File f)) is = is.steps ∙ sym (length_map Act f.actions)
 counted_by v (Some (kind.Merge m)) is = is.steps ∙ sym (length_map (λ (i : MergeInput). LayInput i.input) m.inputs)
 counted_by v (Some (kind.Exec x)) is =
-    is.steps ∙ sym (length_map (Run (setting_of x.meta)) is.commands)
-    ∙ ap (λ (o : Option (List Command)). length (map (Run (setting_of x.meta)) (unwrap_or o []))) (sym is.script)
+    is.steps ∙ sym (length_runs (setting_of x.meta) is.commands)
+    ∙ ap (λ (o : Option (List Joined)). length (runs_of (setting_of x.meta) (unwrap_or o []))) (sym is.script)
 counted_by v (Some (kind.Build b)) is = absurd is
 counted_by v (Some (kind.Diff d)) is = absurd is
 counted_by v None is = absurd is

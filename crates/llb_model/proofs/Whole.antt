@@ -5,7 +5,8 @@ use Rattle.llb_cache.specs.declared.key.Key.{Key}
 use Rattle.llb_model.specs.Caches.{Place, IsExclusive}
 use Rattle.llb_model.specs.Program.{Build, needs_of}
 use Rattle.llb_model.specs.State.{Status, Waiting, Running, Settled, State, opening, program_in, is_finished, held, place_for}
-use Rattle.llb_model.specs.Table.{Event, Claim, Step, Settle, Reply, Claimed, HasRead, Acted, HasMerged, HasRun, Faulted, SettledDone, SettledFailed, table}
+use Rattle.llb_model.specs.Table.{Event, Claim, Step, Settle, Cancel, Reply, Claimed, HasRead, Acted, HasMerged, HasRun, Skipped, Faulted, SettledDone}
+use Rattle.llb_model.specs.Table.{SettledFailed, Cancelled, table}
 use Rattle.llb_model.specs.Run.{run}
 use Rattle.llb_model.specs.Order.{Order, at_first, order, claims_in, StandsIn}
 use Rattle.llb_model.specs.Laws.{HasDistinctNeeds, NoShared, RunsInClaimOrder, EachIn, IsChosen, AloneInClaimOrder}
@@ -15,31 +16,36 @@ use Rattle.llb_model.proofs.Events.{Answer}
 use Rattle.llb_model.proofs.Runs.{run_none, run_first}
 use Rattle.llb_model.proofs.Alone.{IsNextOf, chosen_is}
 use Rattle.llb_model.proofs.Separate.{alone, alone_free, TakesFree}
-use Rattle.llb_model.proofs.Tracks.{any, Agrees, agree_settled, Tracks, after_reply, event_tracks, opening_tracks}
+use Rattle.llb_model.proofs.Tracks.{any, Agrees, agree_settled, Tracks, cuts, after_reply, event_tracks, opening_tracks}
 
 -- ---- runs with their claim order
 
-order_after : (b : Build) (o : Order) (r : Reply) (rs : List Reply) → order b o (claims_in (r ∷ rs)) ≡ order b (after_reply b o r) (claims_in rs)
+order_after : (b : Build) (o : Order) (r : Reply) (rs : List Reply) → order b o (claims_in (r ∷ rs)) ≡ order b (after_reply b o r rs) (claims_in rs)
 order_after b o (Claimed job) rs = refl
 order_after b o HasRead rs = refl
 order_after b o (Acted a) rs = refl
 order_after b o (HasMerged i) rs = refl
 order_after b o (HasRun c s) rs = refl
+order_after b o (Skipped c) rs = refl
 order_after b o (Faulted f) rs = refl
 order_after b o (SettledDone v) rs = refl
 order_after b o (SettledFailed v) rs = refl
+order_after b o (Cancelled v k) rs = refl
 
--- what each event keeps of a state and its claim order, a run keeps
-pub run_follows : (b : Build) (C : State → Event → Type 0) (Q : State → Order → Type 0)
-    → ((s : State) (o : Order) (e : Event) (a : Answer) → Q s o → C s e → table b s e ≡ Some a → Q a.0 (after_reply b o a.1))
-    → (s t : State) (o : Order) (es : List Event) (rs : List Reply) → Q s o → EachIn C b s es → run b s es ≡ Some (t, rs) → Q t (order b o (claims_in rs))
+-- what each event keeps of a state, its claim order and the replies to come, a run keeps
+pub run_follows : (b : Build) (C : State → Event → Type 0) (Q : State → Order → List Reply → Type 0)
+    → ((s : State) (o : Order) (e : Event) (a : Answer) (rs : List Reply) → Q s o (a.1 ∷ rs) → C s e → table b s e ≡ Some a
+    → Q a.0 (after_reply b o a.1 rs) rs)
+    → (s t : State) (o : Order) (es : List Event) (rs : List Reply) → Q s o rs → EachIn C b s es → run b s es ≡ Some (t, rs)
+    → Q t (order b o (claims_in rs)) []
 run_follows b C Q each s t o [] rs h allowed given =
     let n = run_none b s t rs given in
-    subst (λ qs. Q t (order b o (claims_in qs))) (sym n.1) (subst (λ u. Q u o) n.0 h)
+    subst (λ qs. Q t (order b o (claims_in qs)) []) (sym n.1) (subst (λ u. Q u o []) n.0 (subst (Q s o) n.1 h))
 run_follows b C Q each s t o (e ∷ es) rs h allowed given =
     let r = run_first b s e es t rs given in
-    let rest = run_follows b C Q each r.a.0 t (after_reply b o r.a.1) es r.rest (each s o e r.a h allowed.0 r.given) (allowed.1 r.a r.given) r.goes_on in
-    subst (λ qs. Q t (order b o (claims_in qs))) (sym r.replies) (subst (Q t) (sym (order_after b o r.a.1 r.rest)) rest)
+    let first = each s o e r.a r.rest (subst (Q s o) r.replies h) allowed.0 r.given in
+    let rest = run_follows b C Q each r.a.0 t (after_reply b o r.a.1 r.rest) es r.rest first (allowed.1 r.a r.given) r.goes_on in
+    subst (λ qs. Q t (order b o (claims_in qs)) []) (sym r.replies) (subst (λ (q : Order). Q t q []) (sym (order_after b o r.a.1 r.rest)) rest)
 
 -- ---- where no cache is shared
 
@@ -51,6 +57,7 @@ takes_free b none s a (Claim w v) = λ c p h counts.
     alone_free b s w v a c p h (subst (λ (k : Key). IsExclusive k.mode) (sym (ap (λ (q : Place). q.key) m.2)) exclusive)
 takes_free b none s a (Step w) = tt
 takes_free b none s a (Settle w) = tt
+takes_free b none s a (Cancel w) = tt
 
 abbrev Always : State → Event → Type 0
 Always s e = Unit {0}
@@ -59,8 +66,8 @@ always : (b : Build) (s : State) (es : List Event) → EachIn Always b s es
 always b s [] = tt
 always b s (e ∷ es) = (tt, λ a given. always b a.0 es)
 
-stands : (b : Build) (s : State) (o : Order) → Tracks b s o → StandsIn s o
-stands b s o tracks = record {
+stands : (b : Build) (s : State) (o : Order) (cut : ℕ → Option ℕ) → Tracks b s o cut → StandsIn s o
+stands b s o cut tracks = record {
   endings = λ v e is. agree_settled (slice_get s.statuses v) (slice_get o.statuses v) e (tracks.agree v) is;
   contents = tracks.free;
 }
@@ -68,9 +75,10 @@ stands b s o tracks = record {
 -- where no cache is shared, a claim takes only what is free, so a run keeps step with its claim order
 pub runs_in_claim_order : (b : Build) → HasDistinctNeeds b → NoShared b → RunsInClaimOrder b
 runs_in_claim_order b differ none opened es rs s given =
-    stands b s (order b (at_first b opened.store) (claims_in rs))
-    (run_follows b Always (Tracks b) (λ t o e a tracks allowed is. event_tracks b differ t o e a tracks (takes_free b none t a e) is)
-    (opening b opened) s (at_first b opened.store) es rs (opening_tracks b opened) (always b (opening b opened) es) given)
+    stands b s (order b (at_first b opened.store) (claims_in rs)) (cuts [])
+    (run_follows b Always (λ t o qs. Tracks b t o (cuts qs))
+    (λ t o e a qs tracks allowed is. event_tracks b differ t o e a qs tracks (takes_free b none t a e) is)
+    (opening b opened) s (at_first b opened.store) es rs (opening_tracks b opened (cuts rs)) (always b (opening b opened) es) given)
 
 -- ---- one driver
 
@@ -78,6 +86,7 @@ runs_in_claim_order b differ none opened es rs s given =
 chosen_free : (b : Build) (s : State) (a : Answer) (e : Event) → IsChosen b s e → TakesFree any b s a e
 chosen_free b s a (Step w) is = tt
 chosen_free b s a (Settle w) is = tt
+chosen_free b s a (Cancel w) is = tt
 chosen_free b s a (Claim w v) is = λ c p h counts u x there has. elim (chosen_is b s (Claim w v) is) [
   | inl n ↦ by_test (is_finished (program_in b n.execution).steps n.execution) n n.is
   | inr k ↦ k.2.idle u x there
@@ -107,8 +116,9 @@ rests (Some (Running w)) b h nothing = absurd (nothing w refl)
 pub alone_in_claim_order : (b : Build) → HasDistinctNeeds b → AloneInClaimOrder b
 alone_in_claim_order b differ opened es rs s given all rest =
     let o = order b (at_first b opened.store) (claims_in rs) in
-    let tracks = run_follows b (IsChosen b) (Tracks b) (λ t q e a tr is granted. event_tracks b differ t q e a tr (chosen_free b t a e is) granted)
-    (opening b opened) s (at_first b opened.store) es rs (opening_tracks b opened) all given in (
+    let tracks = run_follows b (IsChosen b) (λ t q qs. Tracks b t q (cuts qs))
+    (λ t q e a qs tr is granted. event_tracks b differ t q e a qs tr (chosen_free b t a e is) granted)
+    (opening b opened) s (at_first b opened.store) es rs (opening_tracks b opened (cuts rs)) all given in (
       same_list s.statuses o.statuses (λ k. rests (slice_get s.statuses k) (slice_get o.statuses k) (tracks.agree k) (rest k)),
       same_store s.store o.store (λ p. tracks.free p (λ w x there has. let own = tracks.working w x there in rest x.vertex w own.status)),
     )

@@ -1,16 +1,26 @@
 -- What holds over whole runs, where executions share caches.
-use Rattle.std.specs.Prelude.{◌≡◌, ◌≢◌, ◌<◌, ℕ, ◌+◌, true, false, List, [], ◌∷◌, length, map, Some, is_some, option_map, slice_get}
+use Rattle.std.specs.Prelude.{◌≡◌, ◌≢◌, ◌<◌, ℕ, zero, suc, ◌+◌, ◌-◌, ◌==◌, nat_le, Bool, true, false, not, ◌&&◌, ◌||◌, List, [], ◌∷◌, length, map, drop}
+use Rattle.std.specs.Prelude.{Option, Some, None, is_some, option_map, unwrap_or, slice_get, if◌then◌else◌}
 use Rattle.llb_cache.specs.declared.key.Key.{Key}
 use Rattle.llb_cache.specs.declared.key.Mode.TheVariants.{Locked}
+use Rattle.llb_ops.specs.declared.exec.ExecOp.{ExecOp}
+use Rattle.llb_ops.specs.declared.op.Kind.TheVariants as kind
 use Rattle.llb_loader.specs.declared.graph.Vertex.{Vertex}
+use Rattle.llb_applet.specs.declared.join.Join.TheVariants.{Then}
+use Rattle.llb_applet.specs.declared.join.Joined.{Joined}
+use Rattle.llb_applet.specs.declared.setting.Setting.{Setting}
 use Rattle.llb_mount.specs.declared.shown.Shown.{Shown}
 use Rattle.llb_tree.specs.Tree.{TreeMap}
 use Rattle.llb_model.specs.Caches.{Place, place, Store, content, put, Hold, Has, Distinct, IsExclusive}
-use Rattle.llb_model.specs.Program.{Build, Need, key_of, needs_of, has_cache, filled, taken, blanked}
-use Rattle.llb_model.specs.State.{Running, Execution, Runs, State, Opening, opening, IsFree, places_by}
+use Rattle.llb_model.specs.declared.fault.VertexFault.{VertexFault}
+use Rattle.llb_model.specs.declared.fault.VertexFault.TheVariants as fault
+use Rattle.llb_model.specs.Program.{Build, MicroStep, Run, Mounted, Work, Need, key_of, needs_of, has_cache, all_and, runs_of, filled, taken, blanked}
+use Rattle.llb_model.specs.Program.{last_of, is_run, part}
+use Rattle.llb_model.specs.State.{Running, Execution, Runs, State, Opening, opening, program_in, is_finished, IsFree, places_by}
 use Rattle.llb_model.specs.Table.{Event, Claim, Job, Reply, Claimed, worker_of, table}
 use Rattle.llb_model.specs.Run.{run, chosen}
 use Rattle.llb_model.specs.Order.{at_first, order, claims_in, StandsIn}
+use Rattle.llb_model.specs.Landing.{is_over}
 
 -- a state to which events lead from an opening state
 pub record IsReached (b : Build) (s : State) : Type 0 where
@@ -67,7 +77,7 @@ OthersIgnore b = (s : State) (e : Event) (t : TreeMap) → IsReached b s → (w 
 
 -- ---- the claim order
 
--- a run stands as its claims, each run whole at its claim
+-- a run stands as its claims, each run at its claim: whole, or as far as it came where it was cancelled
 abbrev pub RunsInClaimOrder : Build → Type 0
 RunsInClaimOrder b = (o : Opening) (es : List Event) (rs : List Reply) (s : State) → run b (opening b o) es ≡ Some (s, rs)
     → StandsIn s (order b (at_first b o.store) (claims_in rs))
@@ -114,6 +124,70 @@ ClaimsLeast b = (s t : State) (w v : ℕ) (vertex : Vertex) (job : Job) → slic
 abbrev pub HeldAreThere : Build → Type 0
 HeldAreThere b = (s : State) → IsReached b s → (w : ℕ) (x : Execution) → slice_get s.workers w ≡ Some (Runs x)
     → Distinct x.places × ((trees : List TreeMap) × Hold s.store x.places trees)
+
+-- ---- scripts
+
+-- of an exec before its first command: its mounts, and which of them show caches
+abbrev pub at_start : List Shown → List ℕ → List TreeMap → Work
+at_start mounts caches trees = record { own = Mounted mounts caches 0; trees = trees }
+
+-- the last command that ran, where this one is number k and another one was the last before it
+abbrev pub later_ran : ℕ → Option Joined → ℕ → ℕ → ℕ
+later_ran k None last before = before
+later_ran k (Some c) last before = if is_run c.join last then k else before
+
+-- the last command that ran among the first k
+abbrev pub last_ran : Setting → List Joined → Work → ℕ → ℕ
+last_ran setting cs work zero = 0
+last_ran setting cs work (suc k) =
+    later_ran k (slice_get cs k) (last_of (part (runs_of setting cs) work k).work.own) (last_ran setting cs work k)
+
+-- the fault of an exec whose last command that ran is c
+abbrev pub fault_of : ℕ → ℕ → Option VertexFault
+fault_of c last = if last == 0 then None else Some (fault.Exit c last)
+
+-- how an exec stands after k micro-steps: it is finished after its last one, or where the last status is not 0 and every later command is
+-- joined by And; and then its fault is that of the last command that ran, exactly where its status is not 0
+pub record EndsByLastStatus (setting : Setting) (cs : List Joined) (work : Work) (k : ℕ) : Type 0 where
+  pub finished : is_over (runs_of setting cs) k (part (runs_of setting cs) work k)
+      ≡ (nat_le (length cs) k || (not (last_of (part (runs_of setting cs) work k).work.own == 0) && all_and (drop k cs)))
+  pub fails : is_over (runs_of setting cs) k (part (runs_of setting cs) work k) ≡ true
+      → (part (runs_of setting cs) work k).fault ≡ fault_of (last_ran setting cs work k) (last_of (part (runs_of setting cs) work k).work.own)
+
+abbrev pub FailsByLastStatus : Type 0
+FailsByLastStatus = (setting : Setting) (cs : List Joined) (mounts : List Shown) (caches : List ℕ) (trees : List TreeMap) (k : ℕ)
+    → EndsByLastStatus setting cs (at_start mounts caches trees) k
+
+-- how a worker stands that runs an exec: it is finished after its last micro-step, or where the last status is not 0 and every later
+-- command is joined by And; and then it has failed exactly where the last status is not 0, by the micro-step that it did last
+pub record StandsByLastStatus (cs : List Joined) (steps : List MicroStep) (x : Execution) : Type 0 where
+  pub finished : is_finished steps x ≡ (nat_le (length cs) x.done || (not (last_of x.own == 0) && all_and (drop x.done cs)))
+  pub fails : is_finished steps x ≡ true → x.fault ≡ fault_of (x.done - 1) (last_of x.own)
+
+-- every worker stands so, whatever others do to shared instances meanwhile
+abbrev pub ExecsEndByLastStatus : Build → Type 0
+ExecsEndByLastStatus b = (s : State) → IsReached b s → (w : ℕ) (x : Execution) (v : Vertex) (e : ExecOp) → slice_get s.workers w ≡ Some (Runs x)
+    → slice_get b.graph.vertices x.vertex ≡ Some v → v.op.kind ≡ Some (kind.Exec e)
+    → StandsByLastStatus (unwrap_or v.script []) (program_in b x).steps x
+
+-- a script of `&&` alone: its first command runs, and each other one is joined by And
+abbrev pub are_ands : List Joined → Bool
+are_ands [] = true
+are_ands (c ∷ cs) = is_run c.join 0 && all_and cs
+
+-- a command that runs whatever the last status is, and whose own status, where it is not 0, is the exec's fault
+abbrev pub in_turn : Setting → Joined → MicroStep
+in_turn setting c = Run setting (record { join = Then; command = c.command }) true
+
+-- its commands run one after the other, none of them skipped, and the first with a status other than 0 is the exec's fault
+pub record RunsInTurn (setting : Setting) (cs : List Joined) (work : Work) (k : ℕ) : Type 0 where
+  pub leaves : part (runs_of setting cs) work k ≡ part (map (in_turn setting) cs) work k
+  pub runs : (c : Joined) → (part (runs_of setting cs) work k).fault ≡ None → slice_get cs k ≡ Some c
+      → is_run c.join (last_of (part (runs_of setting cs) work k).work.own) ≡ true
+
+abbrev pub AndsRunInTurn : Type 0
+AndsRunInTurn = (setting : Setting) (cs : List Joined) (mounts : List Shown) (caches : List ℕ) (trees : List TreeMap) (k : ℕ)
+    → are_ands cs ≡ true → RunsInTurn setting cs (at_start mounts caches trees) k
 
 -- ---- views
 

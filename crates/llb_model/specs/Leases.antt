@@ -1,4 +1,4 @@
--- Leases of caches, and what the running workers have: what a claim, a step and a settle do, in words of leases.
+-- Leases of caches, and what the running workers have: what a claim, a step and an end do, in words of leases.
 use Rattle.std.specs.Prelude.{◌≡◌, ◌⊎◌, ℕ, ◌<◌, true, List, [], ◌∷◌, length, map, Option, Some, None, option_map, slice_get, slice_set}
 use Rattle.std.specs.List.{find}
 use Rattle.llb_cache.specs.declared.need.Need as cache_need
@@ -64,7 +64,7 @@ pub record AreLeased (out : Leases) (workers : List At) (ls : List (Option ℕ))
 abbrev pub LeasedHoldsAs : Type 0
 LeasedHoldsAs = (out : Leases) (workers : List At) (ls : List (Option ℕ)) → AreLeased out workers ls → HoldsAs out workers
 
--- a claim leases where it has instances, a step keeps its lease, a settle gives it back
+-- a claim leases where it has instances, a step keeps its lease, a settle and a cancel give it back
 abbrev pub ClaimLeases : Type 0
 ClaimLeases = (out : Leases) (workers : List At) (ls : List (Option ℕ)) (w : ℕ) (z : Execution) → AreLeased out workers ls → slice_get workers w ≡ Some Idle
     → AreLeased (cache.with_lease out (cache.free_lease out) z.places) (slice_set workers w (Runs z)) (slice_set ls w (Some (cache.free_lease out)))
@@ -79,10 +79,10 @@ StepKeepsLease = (out : Leases) (workers : List At) (ls : List (Option ℕ)) (w 
     → slice_get workers w ≡ Some (Runs x) → z.places ≡ x.places
     → AreLeased out (slice_set workers w (Runs z)) ls
 
-abbrev pub SettleGivesBack : Type 0
-SettleGivesBack = (out : Leases) (workers : List At) (ls : List (Option ℕ)) (w l : ℕ) → AreLeased out workers ls → slice_get ls w ≡ Some (Some l)
+abbrev pub EndGivesBack : Type 0
+EndGivesBack = (out : Leases) (workers : List At) (ls : List (Option ℕ)) (w l : ℕ) → AreLeased out workers ls → slice_get ls w ≡ Some (Some l)
     → AreLeased (cache.trimmed (slice_set out l None)) (slice_set workers w Idle) (slice_set ls w None)
 
-abbrev pub SettleWithout : Type 0
-SettleWithout = (out : Leases) (workers : List At) (ls : List (Option ℕ)) (w : ℕ) → AreLeased out workers ls → slice_get ls w ≡ Some None
+abbrev pub EndWithout : Type 0
+EndWithout = (out : Leases) (workers : List At) (ls : List (Option ℕ)) (w : ℕ) → AreLeased out workers ls → slice_get ls w ≡ Some None
     → AreLeased out (slice_set workers w Idle) (slice_set ls w None)

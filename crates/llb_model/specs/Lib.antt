@@ -1,4 +1,4 @@
--- Read first State (the state of the machine) and Table (which event is granted, the state after it, and its reply) with the three causes, then Program
+-- Read first State (the state of the machine) and Table (which event is granted, the state after it, and its reply) with the four causes, then Program
 -- (what a vertex does) and Caches (places and their trees), Run (whole runs), Outcome (plain outcomes), Room (how many events a run has) and Order (the
 -- claim order). Consistent, Plain, Laws, Kept, Leases and Landing are what follows from these for every list of events, for the laws of the board; Failure
 -- is a text and ByNumber a list.
@@ -11,6 +11,7 @@ pub mod State
 pub mod ClaimCause
 pub mod StepCause
 pub mod SettleCause
+pub mod CancelCause
 pub mod Table
 pub mod Run
 pub mod Room

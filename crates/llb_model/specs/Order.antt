@@ -1,10 +1,10 @@
--- The claim order: each claimed vertex is run whole at its claim, one after the other.
-use Rattle.std.specs.Prelude.{◌≡◌, ℕ, List, [], ◌∷◌, length, Option, Some, None, slice_get, slice_set, replicate}
+-- The claim order: each claimed vertex is run at its claim, one after the other: whole, or as far as it came where the claim was cancelled.
+use Rattle.std.specs.Prelude.{◌≡◌, ℕ, ◌==◌, List, [], ◌∷◌, length, Option, Some, None, slice_get, slice_set, replicate, if◌then◌else◌}
 use Rattle.llb_model.specs.Caches.{Place, Store, content, put_all}
-use Rattle.llb_model.specs.Program.{Build, Program, Left, Start, program_of, needs_of, whole}
+use Rattle.llb_model.specs.Program.{Build, MicroStep, Program, Work, Left, Start, program_of, needs_of, part, whole}
 use Rattle.llb_model.specs.Outcome.{Ending, ending}
 use Rattle.llb_model.specs.State.{Status, Waiting, Settled, State, ready, IsFree, begin_at, places_by}
-use Rattle.llb_model.specs.Table.{Reply, Claimed, HasRead, Acted, HasMerged, HasRun, Faulted, SettledDone, SettledFailed}
+use Rattle.llb_model.specs.Table.{Reply, Claimed, HasRead, Acted, HasMerged, HasRun, Skipped, Faulted, SettledDone, SettledFailed, Cancelled}
 
 -- how vertices stand, and the contents of the caches, where nothing runs
 pub record Order : Type 0 where
@@ -14,25 +14,55 @@ pub record Order : Type 0 where
 abbrev pub at_first : Build → Store → Order
 at_first b store = record { statuses = replicate (length b.graph.vertices) Waiting; store = store }
 
--- a vertex, with the numbers of the instances that its claim names
+-- ---- how claims end
+
+-- how a claim of a vertex ends, by the replies after it: where it is cancelled, after that many micro-steps
+abbrev pub cut_in : ℕ → List Reply → Option ℕ
+cut_in v [] = None
+cut_in v (Claimed job ∷ rs) = cut_in v rs
+cut_in v (HasRead ∷ rs) = cut_in v rs
+cut_in v (Acted a ∷ rs) = cut_in v rs
+cut_in v (HasMerged i ∷ rs) = cut_in v rs
+cut_in v (HasRun c s ∷ rs) = cut_in v rs
+cut_in v (Skipped c ∷ rs) = cut_in v rs
+cut_in v (Faulted f ∷ rs) = cut_in v rs
+cut_in v (SettledDone u ∷ rs) = if u == v then None else cut_in v rs
+cut_in v (SettledFailed u ∷ rs) = if u == v then None else cut_in v rs
+cut_in v (Cancelled u k ∷ rs) = if u == v then Some k else cut_in v rs
+
+-- a vertex, with the numbers of the instances that its claim names, and where the claim was cancelled how many micro-steps were done
 pub record Named : Type 0 where
   pub vertex : ℕ
   pub instances : List ℕ
+  pub cut : Option ℕ
 
-abbrev pub named : ℕ → List ℕ → Named
-named v numbers = record { vertex = v; instances = numbers }
+abbrev pub named : ℕ → List ℕ → Option ℕ → Named
+named v numbers cut = record { vertex = v; instances = numbers; cut = cut }
 
--- the vertex has ended, and the trees are written back
-abbrev pub left_by : Order → ℕ → List Place → Program → Left → Order
-left_by o v ps p left = record { statuses = slice_set o.statuses v (Settled (ending p left)); store = put_all o.store ps left.work.trees }
+-- what a claim does of a program: the whole of it, or as many micro-steps as were done
+abbrev pub done_of : Option ℕ → List MicroStep → Work → Left
+done_of None steps work = whole steps work
+done_of (Some k) steps work = part steps work k
 
--- the whole program, on the trees of the inputs and those at the places
-abbrev pub whole_at : Build → Order → ℕ → Start → List Place → Order
-whole_at b o v start ps = left_by o v ps (program_of start.vertex) (whole (program_of start.vertex).steps (begin_at b o.store start ps))
+-- how its vertex stands then: it has ended, or waits again
+abbrev pub stands_after : Option ℕ → Program → Left → Status
+stands_after None p left = Settled (ending p left)
+stands_after (Some k) p left = Waiting
+
+-- ---- the order
+
+-- the vertex stands so, and the trees are written back
+abbrev pub left_by : Order → ℕ → List Place → Program → Option ℕ → Left → Order
+left_by o v ps p cut left = record { statuses = slice_set o.statuses v (stands_after cut p left); store = put_all o.store ps left.work.trees }
+
+-- what the claim does, on the trees of the inputs and those at the places
+abbrev pub whole_at : Build → Order → ℕ → Start → List Place → Option ℕ → Order
+whole_at b o v start ps cut =
+    left_by o v ps (program_of start.vertex) cut (done_of cut (program_of start.vertex).steps (begin_at b o.store start ps))
 
 abbrev pub run_whole : Build → Order → Named → Option Start → Order
 run_whole b o c None = o
-run_whole b o c (Some start) = whole_at b o c.vertex start (places_by (needs_of start.vertex) c.instances)
+run_whole b o c (Some start) = whole_at b o c.vertex start (places_by (needs_of start.vertex) c.instances) c.cut
 
 abbrev pub after_whole : Build → Order → Named → Order
 after_whole b o c = run_whole b o c (ready b o.statuses c.vertex)
@@ -41,17 +71,19 @@ abbrev pub order : Build → Order → List Named → Order
 order b o [] = o
 order b o (c ∷ cs) = order b (after_whole b o c) cs
 
--- the claims among replies
+-- the claims among replies, each with how it ends
 abbrev pub claims_in : List Reply → List Named
 claims_in [] = []
-claims_in (Claimed job ∷ rs) = named job.vertex job.instances ∷ claims_in rs
+claims_in (Claimed job ∷ rs) = named job.vertex job.instances (cut_in job.vertex rs) ∷ claims_in rs
 claims_in (HasRead ∷ rs) = claims_in rs
 claims_in (Acted a ∷ rs) = claims_in rs
 claims_in (HasMerged i ∷ rs) = claims_in rs
 claims_in (HasRun c s ∷ rs) = claims_in rs
+claims_in (Skipped c ∷ rs) = claims_in rs
 claims_in (Faulted f ∷ rs) = claims_in rs
 claims_in (SettledDone v ∷ rs) = claims_in rs
 claims_in (SettledFailed v ∷ rs) = claims_in rs
+claims_in (Cancelled v k ∷ rs) = claims_in rs
 
 -- settled vertices and free instances stand as in an order
 pub record StandsIn (s : State) (o : Order) : Type 0 where

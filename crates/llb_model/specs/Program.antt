@@ -1,7 +1,7 @@
 -- What a vertex does: its program of micro-steps on a work, and what the first of them leave; and the caches that it needs.
-use Rattle.std.specs.Prelude.{ℕ, zero, suc, ◌+◌, ◌==◌, ℤ, pos, negsuc, Bool, false, List, [], ◌∷◌, ◌++◌, length, map, Option, Some, None}
+use Rattle.std.specs.Prelude.{ℕ, zero, suc, ◌+◌, ◌==◌, ℤ, pos, negsuc, Bool, true, false, not, List, [], ◌∷◌, ◌++◌, length, map, Option, Some, None}
 use Rattle.std.specs.Prelude.{option_map, unwrap_or, slice_get, Result, Ok, Err, if◌then◌else◌}
-use Rattle.std.specs.List.{list_any, range_with_len}
+use Rattle.std.specs.List.{list_any, list_all, range_with_len}
 use Rattle.std.specs.Ordering.{int_eq}
 use Rattle.llb_ops.specs.declared.file.Action.{Action}
 use Rattle.llb_cache.specs.declared.key.Key.{Key}
@@ -20,7 +20,9 @@ use Rattle.llb_loader.specs.Rules.{kind_mounts, mount_outputs}
 use Rattle.llb_mount.specs.declared.shown.Shown.{Shown}
 use Rattle.llb_mount.specs.View.{mount_at, with_tree_of}
 use Rattle.llb_applet.specs.declared.setting.Setting.{Setting}
-use Rattle.llb_applet.specs.declared.command.Command.{Command}
+use Rattle.llb_applet.specs.declared.join.Join.{Join}
+use Rattle.llb_applet.specs.declared.join.Join.TheVariants.{Then, And, Or}
+use Rattle.llb_applet.specs.declared.join.Joined.{Joined}
 use Rattle.llb_applet.specs.Commands.{run, status_of}
 use Rattle.llb_loader.specs.Graph.{Numbered}
 use Rattle.llb_loader.specs.Locals.{Local, local_name, tree_of_local}
@@ -41,12 +43,12 @@ pub record Build : Type 0 where
   pub locals : List Local
 
 -- one micro-step: the read of a source, an action of a file op, the laying of a merge's input over those before it, a command of
--- an exec in its cwd and env
+-- an exec in its cwd and env; of a command whether every later one is joined by And
 pub data MicroStep : Type 0 where
   ReadLocal : MicroStep
   Act : Action → MicroStep
   LayInput : ℤ → MicroStep
-  Run : Setting → Command → MicroStep
+  Run : Setting → Joined → Bool → MicroStep
 
 -- the micro-steps of a vertex, how many outputs it has, and of an exec the number of the output that each mount gives
 pub record Program : Type 0 where
@@ -55,12 +57,13 @@ pub record Program : Type 0 where
   pub given : List ℤ
 
 -- what a program has for itself: of a source its local tree, of a file op the trees of its inputs and the results so far, of
--- a merge the trees of its inputs and what is laid so far, of an exec its mounts, of which those that show caches, by number, are empty
+-- a merge the trees of its inputs and what is laid so far, of an exec its mounts, of which those that show caches, by number, are
+-- empty, and the status of the last command that ran, 0 before any has run
 pub data View : Type 0 where
   LocalTree : TreeMap → View
   Files : List TreeMap → List TreeMap → View
   Layers : List TreeMap → TreeMap → View
-  Mounted : List Shown → List ℕ → View
+  Mounted : List Shown → List ℕ → ℕ → View
 
 -- what micro-steps work on: a view of its own, and the trees of the cache instances that it holds, in the order of the needs
 pub record Work : Type 0 where
@@ -138,12 +141,26 @@ abbrev pub setting_of : Option Meta → Setting
 setting_of (Some m) = record { cwd = path_in m.cwd; env = m.env }
 setting_of None = record { cwd = []; env = [] }
 
+abbrev pub is_and : Join → Bool
+is_and And = true
+is_and Then = false
+is_and Or = false
+
+-- each of these commands is joined by And
+abbrev pub all_and : List Joined → Bool
+all_and cs = list_all (λ (c : Joined). is_and c.join) cs
+
+-- the micro-steps of a script
+abbrev pub runs_of : Setting → List Joined → List MicroStep
+runs_of setting [] = []
+runs_of setting (c ∷ cs) = Run setting c (all_and cs) ∷ runs_of setting cs
+
 -- the micro-steps of a kind; of an exec the commands of its script
-abbrev pub steps_of : Option Kind → Option (List Command) → List MicroStep
+abbrev pub steps_of : Option Kind → Option (List Joined) → List MicroStep
 steps_of (Some (kind.Source s)) script = ReadLocal ∷ []
 steps_of (Some (kind.File f)) script = map Act f.actions
 steps_of (Some (kind.Merge m)) script = map (λ (i : MergeInput). LayInput i.input) m.inputs
-steps_of (Some (kind.Exec x)) script = map (Run (setting_of x.meta)) (unwrap_or script [])
+steps_of (Some (kind.Exec x)) script = runs_of (setting_of x.meta) (unwrap_or script [])
 steps_of (Some (kind.Build b)) script = []
 steps_of (Some (kind.Diff d)) script = []
 steps_of None script = []
@@ -181,7 +198,7 @@ abbrev pub view_on : List Local → Vertex → Option Kind → List TreeMap → 
 view_on locals v (Some (kind.Source s)) inputs = LocalTree (local_tree locals v)
 view_on locals v (Some (kind.File f)) inputs = Files inputs []
 view_on locals v (Some (kind.Merge m)) inputs = Layers inputs empty_tree
-view_on locals v (Some (kind.Exec x)) inputs = Mounted (map (shown_of inputs) x.mounts) (map mount_of (needs_of v))
+view_on locals v (Some (kind.Exec x)) inputs = Mounted (map (shown_of inputs) x.mounts) (map mount_of (needs_of v)) 0
 view_on locals v (Some (kind.Build b)) inputs = Files inputs []
 view_on locals v (Some (kind.Diff d)) inputs = Files inputs []
 view_on locals v None inputs = Files inputs []
@@ -210,14 +227,14 @@ abbrev pub trees_in : View → List TreeMap
 trees_in (Files inputs results) = inputs ++ results
 trees_in (LocalTree t) = []
 trees_in (Layers inputs t) = inputs
-trees_in (Mounted mounts caches) = []
+trees_in (Mounted mounts caches last) = []
 
 -- one result more of a file op
 abbrev pub with_tree : View → TreeMap → View
 with_tree (Files inputs results) t = Files inputs (results ++ t ∷ [])
 with_tree (LocalTree own) t = LocalTree own
 with_tree (Layers inputs laid) t = Layers inputs laid
-with_tree (Mounted mounts caches) t = Mounted mounts caches
+with_tree (Mounted mounts caches last) t = Mounted mounts caches last
 
 abbrev pub with_result : ℕ → View → Result TreeMap ActFault → Result View VertexFault
 with_result a view (Ok t) = Ok (with_tree view t)
@@ -236,7 +253,7 @@ abbrev pub lay_on : ℤ → View → View
 lay_on i (Layers inputs t) = Layers inputs (lay t (base_in i inputs))
 lay_on i (LocalTree t) = LocalTree t
 lay_on i (Files inputs results) = Files inputs results
-lay_on i (Mounted mounts caches) = Mounted mounts caches
+lay_on i (Mounted mounts caches last) = Mounted mounts caches last
 
 -- the mounts of these numbers with these trees
 abbrev pub filled : List Shown → List ℕ → List TreeMap → List Shown
@@ -254,43 +271,63 @@ taken mounts (m ∷ ms) (t ∷ trees) = (mount_at mounts m).tree ∷ taken mount
 abbrev pub blanked : List Shown → List ℕ → List TreeMap → List Shown
 blanked mounts ms trees = filled mounts ms (map (λ t. empty_tree) trees)
 
--- a view with caches at mounts, parted into its own trees and those of the caches
+-- the view that a command with status 0 leaves, parted into its own trees and those of the caches
 abbrev pub parted : List ℕ → List TreeMap → List Shown → Work
-parted caches trees mounts = record { own = Mounted (blanked mounts caches trees) caches; trees = taken mounts caches trees }
+parted caches trees mounts = record { own = Mounted (blanked mounts caches trees) caches 0; trees = taken mounts caches trees }
 
--- what command c leaves of the mounts, or its status where that is not 0
-abbrev pub ran : ℕ → List ℕ → List TreeMap → Option (List Shown) → Result Work VertexFault
-ran c caches trees (Some mounts) = Ok (parted caches trees mounts)
-ran c caches trees None = Err (fault.Exit c (status_of None))
+-- the last status; what is no exec has none but 0
+abbrev pub last_of : View → ℕ
+last_of (Mounted mounts caches last) = last
+last_of (LocalTree t) = 0
+last_of (Files inputs results) = 0
+last_of (Layers inputs t) = 0
 
--- the work after command c, which sees the caches as they are now
-abbrev pub run_on : ℕ → Setting → Command → View → List TreeMap → Result Work VertexFault
-run_on c setting command (Mounted mounts caches) trees = ran c caches trees (run setting (filled mounts caches trees) command)
-run_on c setting command (LocalTree t) trees = Ok (record { own = LocalTree t; trees = trees })
-run_on c setting command (Files inputs results) trees = Ok (record { own = Files inputs results; trees = trees })
-run_on c setting command (Layers inputs t) trees = Ok (record { own = Layers inputs t; trees = trees })
+-- whether a command that is joined so runs after a last status; else it is skipped
+abbrev pub is_run : Join → ℕ → Bool
+is_run Then last = true
+is_run And last = last == 0
+is_run Or last = not (last == 0)
 
--- another view of its own
-abbrev pub with_own : Work → Result View VertexFault → Result Work VertexFault
-with_own work (Ok view) = Ok (record work { own = view })
-with_own work (Err f) = Err f
+abbrev pub no_fault : Work → Left
+no_fault work = record { work = work; fault = None }
 
--- the work after micro-step k, or its fault
-unfoldable pub micro_step : ℕ → MicroStep → Work → Result Work VertexFault
-micro_step k ReadLocal work = Ok work
-micro_step k (Act action) work = with_own work (act_on k action work.own)
-micro_step k (LayInput i) work = with_own work (Ok (lay_on i work.own))
-micro_step k (Run setting command) work = run_on k setting command work.own work.trees
+-- the work after a command that ran: what it made of the mounts, or the mounts as they were; and its status is the last one
+abbrev pub after_run : List Shown → List ℕ → List TreeMap → Option (List Shown) → Work
+after_run mounts caches trees (Some after) = parted caches trees after
+after_run mounts caches trees None = record { own = Mounted mounts caches (status_of None); trees = trees }
 
--- a micro-step that faults changes nothing
-abbrev pub tried : Work → Result Work VertexFault → Left
-tried work (Ok after) = record { work = after; fault = None }
+-- a status other than 0 of command c is the exec's fault where every later command is joined by And
+abbrev pub exit_of : ℕ → Bool → ℕ → Option VertexFault
+exit_of c ends status = if status == 0 then None else (if ends then Some (fault.Exit c status) else None)
+
+abbrev pub ran : ℕ → Bool → List Shown → List ℕ → List TreeMap → Option (List Shown) → Left
+ran c ends mounts caches trees after = record { work = after_run mounts caches trees after; fault = exit_of c ends (status_of after) }
+
+-- the work after command c, which sees the caches as they are now; a skipped command changes nothing
+abbrev pub run_on : ℕ → Setting → Joined → Bool → View → List TreeMap → Left
+run_on c setting command ends (Mounted mounts caches last) trees =
+    if is_run command.join last then ran c ends mounts caches trees (run setting (filled mounts caches trees) command.command)
+    else no_fault (record { own = Mounted mounts caches last; trees = trees })
+run_on c setting command ends (LocalTree t) trees = no_fault (record { own = LocalTree t; trees = trees })
+run_on c setting command ends (Files inputs results) trees = no_fault (record { own = Files inputs results; trees = trees })
+run_on c setting command ends (Layers inputs t) trees = no_fault (record { own = Layers inputs t; trees = trees })
+
+-- an action that faults changes nothing
+abbrev pub tried : Work → Result View VertexFault → Left
+tried work (Ok view) = no_fault (record work { own = view })
 tried work (Err f) = record { work = work; fault = Some f }
+
+-- what micro-step k leaves
+unfoldable pub micro_step : ℕ → MicroStep → Work → Left
+micro_step k ReadLocal work = no_fault work
+micro_step k (Act action) work = tried work (act_on k action work.own)
+micro_step k (LayInput i) work = no_fault (record work { own = lay_on i work.own })
+micro_step k (Run setting command ends) work = run_on k setting command ends work.own work.trees
 
 -- micro-step k of a program, where there is one
 abbrev pub step_on : ℕ → Option MicroStep → Work → Left
-step_on k None work = record { work = work; fault = None }
-step_on k (Some m) work = tried work (micro_step k m work)
+step_on k None work = no_fault work
+step_on k (Some m) work = micro_step k m work
 
 abbrev pub unless_faulted : Option VertexFault → Left → Left → Left
 unless_faulted None left next = next
@@ -320,7 +357,7 @@ result_for i (m ∷ steps) [] = empty_tree
 result_for i (Act a ∷ steps) (t ∷ results) = if is_output i a.output then t else result_for i steps results
 result_for i (ReadLocal ∷ steps) (t ∷ results) = result_for i steps results
 result_for i (LayInput n ∷ steps) (t ∷ results) = result_for i steps results
-result_for i (Run setting command ∷ steps) (t ∷ results) = result_for i steps results
+result_for i (Run setting command ends ∷ steps) (t ∷ results) = result_for i steps results
 
 -- the whole tree of the mount that gives the output of number i
 abbrev pub tree_for : ℕ → List ℤ → List Shown → TreeMap
@@ -336,7 +373,7 @@ output_from p (LocalTree t) zero = t
 output_from p (LocalTree t) (suc i) = empty_tree
 output_from p (Layers inputs t) zero = t
 output_from p (Layers inputs t) (suc i) = empty_tree
-output_from p (Mounted mounts caches) i = tree_for i p.given mounts
+output_from p (Mounted mounts caches last) i = tree_for i p.given mounts
 
 -- the outputs that are taken from what all micro-steps leave
 unfoldable pub outputs_of : Program → View → List TreeMap

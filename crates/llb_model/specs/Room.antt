@@ -1,17 +1,46 @@
 -- How many events may still come, and how many a whole run can have.
-use Rattle.std.specs.Prelude.{ℕ, ◌+◌, ◌-◌, List, [], ◌∷◌, length}
-use Rattle.std.specs.List.{sum_by}
+use Rattle.std.specs.Prelude.{ℕ, zero, suc, ◌+◌, ◌-◌, ◌*◌, ◌==◌, Bool, false, List, [], ◌∷◌, length, count_by, Option, Some, None, slice_get}
 use Rattle.llb_loader.specs.declared.graph.Vertex.{Vertex}
 use Rattle.llb_model.specs.Program.{Build, program_of}
 use Rattle.llb_model.specs.State.{Status, Waiting, Running, Settled, At, Idle, Runs, State, program_in}
+use Rattle.llb_model.specs.Table.{Event, Claim, Step, Settle, Cancel, Reply, Claimed, HasRead, Acted, HasMerged, HasRun}
+use Rattle.llb_model.specs.Table.{Skipped, Faulted, SettledDone, SettledFailed, Cancelled}
 
 -- the most events that a vertex can take: its claim, its micro-steps, its settle
 abbrev pub events_of : Vertex → ℕ
 events_of v = length (program_of v).steps + 2
 
--- the most events of a whole run
-abbrev pub most_events : Build → ℕ
-most_events b = sum_by events_of b.graph.vertices
+abbrev pub is_cancel_of : ℕ → Reply → Bool
+is_cancel_of v (Claimed job) = false
+is_cancel_of v HasRead = false
+is_cancel_of v (Acted a) = false
+is_cancel_of v (HasMerged i) = false
+is_cancel_of v (HasRun c s) = false
+is_cancel_of v (Skipped c) = false
+is_cancel_of v (Faulted f) = false
+is_cancel_of v (SettledDone u) = false
+is_cancel_of v (SettledFailed u) = false
+is_cancel_of v (Cancelled u k) = u == v
+
+-- how often a vertex was cancelled
+abbrev pub cancels_in : ℕ → List Reply → ℕ
+cancels_in v rs = count_by (is_cancel_of v) rs
+
+-- of each vertex, by number
+abbrev pub counts_from : ℕ → List Vertex → List Reply → List ℕ
+counts_from k [] rs = []
+counts_from k (v ∷ vs) rs = cancels_in k rs ∷ counts_from (k + 1) vs rs
+
+abbrev pub cancel_counts : Build → List Reply → List ℕ
+cancel_counts b rs = counts_from 0 b.graph.vertices rs
+
+-- the most events of a run: those of each vertex, once and once more for each time that it was cancelled
+abbrev pub most_from : ℕ → List Vertex → List Reply → ℕ
+most_from k [] rs = 0
+most_from k (v ∷ vs) rs = events_of v * (1 + cancels_in k rs) + most_from (k + 1) vs rs
+
+abbrev pub most_events : Build → List Reply → ℕ
+most_events b rs = most_from 0 b.graph.vertices rs
 
 -- of a vertex, before it is claimed
 abbrev pub to_come : Vertex → Status → ℕ
@@ -35,3 +64,32 @@ all_left b (a ∷ workers) = left_by b a + all_left b workers
 
 abbrev pub still_to_come : Build → State → ℕ
 still_to_come b s = all_to_come b.graph.vertices s.statuses + all_left b s.workers
+
+-- ---- room
+
+-- the room that the next claim of a vertex has still to take: where it waits after a cancel
+abbrev pub owed_by : Vertex → Status → ℕ → ℕ
+owed_by v Waiting zero = 0
+owed_by v Waiting (suc n) = events_of v
+owed_by v (Running w) n = 0
+owed_by v (Settled e) n = 0
+
+abbrev pub owed_from : ℕ → List Vertex → List Status → List Reply → ℕ
+owed_from k [] statuses rs = 0
+owed_from k (v ∷ vs) [] rs = 0
+owed_from k (v ∷ vs) (s ∷ statuses) rs = owed_by v s (cancels_in k rs) + owed_from (k + 1) vs statuses rs
+
+-- of all vertices
+abbrev pub owed : Build → List Status → List Reply → ℕ
+owed b statuses rs = owed_from 0 b.graph.vertices statuses rs
+
+abbrev pub owed_at : Option Vertex → ℕ → ℕ
+owed_at None n = 0
+owed_at (Some v) n = owed_by v Waiting n
+
+-- the room that an event takes, after these replies: a claim of a vertex that was cancelled
+abbrev pub room_taken : Build → List Reply → Event → ℕ
+room_taken b rs (Claim w v) = owed_at (slice_get b.graph.vertices v) (cancels_in v rs)
+room_taken b rs (Step w) = 0
+room_taken b rs (Settle w) = 0
+room_taken b rs (Cancel w) = 0

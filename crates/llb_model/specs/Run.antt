@@ -4,7 +4,7 @@ use Rattle.std.specs.Prelude.{Some, None, option_map, slice_get, if◌then◌els
 use Rattle.llb_model.specs.Program.{Build}
 use Rattle.llb_model.specs.Outcome.{Outcome, Ended, Blocked}
 use Rattle.llb_model.specs.State.{Status, Waiting, Running, Settled, At, Idle, Runs, State, is_ready, is_blocked, is_finished, program_in}
-use Rattle.llb_model.specs.Table.{Event, Claim, Step, Settle, Reply, worker_of, table}
+use Rattle.llb_model.specs.Table.{Event, Claim, Step, Settle, Cancel, Reply, worker_of, table}
 
 -- a run goes on from what an event gives, with its reply first
 abbrev pub after : Option (State × Reply) → (State → Option (State × List Reply)) → Option (State × List Reply)
@@ -64,6 +64,7 @@ claims_of [] = []
 claims_of (Claim w v ∷ es) = v ∷ claims_of es
 claims_of (Step w ∷ es) = claims_of es
 claims_of (Settle w ∷ es) = claims_of es
+claims_of (Cancel w ∷ es) = claims_of es
 
 -- each of some numbers is above another
 abbrev pub AllAbove : ℕ → List ℕ → Type 0

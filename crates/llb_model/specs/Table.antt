@@ -4,26 +4,29 @@ use Rattle.std.specs.Result.{result_ok}
 use Rattle.llb_cache.specs.declared.key.Key.{Key}
 use Rattle.llb_loader.specs.declared.graph.Vertex.{Vertex}
 use Rattle.llb_model.specs.declared.fault.VertexFault.{VertexFault}
-use Rattle.llb_model.specs.declared.fault.VertexFault.TheVariants as fault
 use Rattle.llb_model.specs.Caches.{Place, put_all}
-use Rattle.llb_model.specs.Program.{Build, MicroStep, ReadLocal, Act, LayInput, Run, Program, Work, Left, Start, program_of, needs_of, step_on}
+use Rattle.llb_model.specs.Program.{Build, MicroStep, ReadLocal, Act, LayInput, Run, Program, View, Work, Left, Start, program_of, needs_of, step_on}
+use Rattle.llb_model.specs.Program.{last_of, is_run}
 use Rattle.llb_model.specs.Outcome.{Ending, Done, Failed}
-use Rattle.llb_model.specs.State.{Status, Running, Settled, Execution, At, Idle, Runs, State, start_from, program_in, work_of, is_finished}
+use Rattle.llb_model.specs.State.{Status, Waiting, Running, Settled, Execution, At, Idle, Runs, State, start_from, program_in, work_of, is_finished}
 use Rattle.llb_model.specs.State.{next_step, ending_from, held, places_for, held_key, begin_at}
 use Rattle.llb_model.specs.ClaimCause as claim
 use Rattle.llb_model.specs.StepCause as step
 use Rattle.llb_model.specs.SettleCause as settle
+use Rattle.llb_model.specs.CancelCause as cancel
 
--- a worker claims a vertex, does the next micro-step of what it runs, ends what it runs
+-- a worker claims a vertex, does the next micro-step of what it runs, ends it, or gives it up
 pub data Event : Type 0 where
   Claim : ℕ → ℕ → Event
   Step : ℕ → Event
   Settle : ℕ → Event
+  Cancel : ℕ → Event
 
 abbrev pub worker_of : Event → ℕ
 worker_of (Claim w v) = w
 worker_of (Step w) = w
 worker_of (Settle w) = w
+worker_of (Cancel w) = w
 
 -- what a worker is to do; the work has the trees of the instances as they are at the claim, and these are named by their numbers, in
 -- the order of the needs
@@ -35,15 +38,18 @@ pub record Job : Type 0 where
   pub work : Work
   pub instances : List ℕ
 
+-- a cancel tells its vertex, and how many micro-steps were done
 pub data Reply : Type 0 where
   Claimed : Job → Reply
   HasRead : Reply
   Acted : ℕ → Reply
   HasMerged : ℕ → Reply
   HasRun : ℕ → ℕ → Reply
+  Skipped : ℕ → Reply
   Faulted : VertexFault → Reply
   SettledDone : ℕ → Reply
   SettledFailed : ℕ → Reply
+  Cancelled : ℕ → ℕ → Reply
 
 -- ---- a claim
 
@@ -98,28 +104,24 @@ claim_grant b s w v = claimed b s w v (claim_start s.statuses v (slice_get s.wor
 abbrev pub with_step : Execution → Left → Execution
 with_step x left = record x { done = x.done + 1; fault = left.fault; own = left.work.own }
 
--- the status with which a command ended
-abbrev pub exit_status : Option VertexFault → ℕ
-exit_status None = 0
-exit_status (Some (fault.Exit c s)) = s
-exit_status (Some (fault.Action a n)) = 0
+abbrev pub unless_failed : Option VertexFault → Reply → Reply
+unless_failed None reply = reply
+unless_failed (Some f) reply = Faulted f
 
--- by the micro-step that was done; a command's reply tells its status, whatever it is
-abbrev pub step_reply : ℕ → MicroStep → Option VertexFault → Reply
-step_reply k (Run setting command) fault = HasRun k (exit_status fault)
-step_reply k ReadLocal None = HasRead
-step_reply k ReadLocal (Some f) = Faulted f
-step_reply k (Act action) None = Acted k
-step_reply k (Act action) (Some f) = Faulted f
-step_reply k (LayInput i) None = HasMerged k
-step_reply k (LayInput i) (Some f) = Faulted f
+-- by the micro-step that was done, the view before it, and what it left; the reply of a command that ran has its status, whatever it is
+abbrev pub step_reply : ℕ → MicroStep → View → Left → Reply
+step_reply k ReadLocal before left = unless_failed left.fault HasRead
+step_reply k (Act action) before left = unless_failed left.fault (Acted k)
+step_reply k (LayInput i) before left = unless_failed left.fault (HasMerged k)
+step_reply k (Run setting command ends) before left =
+    if is_run command.join (last_of before) then HasRun k (last_of left.work.own) else Skipped k
 
 -- the trees are written back to the instances, also where a later micro-step fails
 abbrev pub after_step : State → ℕ → Execution → Left → State
 after_step s w x left = record s { workers = slice_set s.workers w (Runs (with_step x left)); store = put_all s.store x.places left.work.trees }
 
 abbrev pub step_by : State → ℕ → Execution → MicroStep → Left → State × Reply
-step_by s w x m left = (after_step s w x left, step_reply x.done m left.fault)
+step_by s w x m left = (after_step s w x left, step_reply x.done m x.own left)
 
 abbrev pub step_with : State → ℕ → Execution → Option MicroStep → Result (State × Reply) step.StepCause
 step_with s w x None = Err step.NothingLeft
@@ -134,15 +136,20 @@ stepped b s w (Some (Runs x)) = step_with s w x (next_step (program_in b x).step
 abbrev pub step_grant : Build → State → ℕ → Result (State × Reply) step.StepCause
 step_grant b s w = stepped b s w (slice_get s.workers w)
 
+-- ---- an end
+
+-- the vertex stands so, and the instances of the worker are free again
+abbrev pub after_end : State → ℕ → ℕ → Status → State
+after_end s w v status = record s { statuses = slice_set s.statuses v status; workers = slice_set s.workers w Idle }
+
 -- ---- a settle
 
 abbrev pub settle_reply : ℕ → Ending → Reply
 settle_reply v (Done trees) = SettledDone v
 settle_reply v (Failed f) = SettledFailed v
 
--- its instances are free again
 abbrev pub after_settle : State → ℕ → ℕ → Ending → State
-after_settle s w v e = record s { statuses = slice_set s.statuses v (Settled e); workers = slice_set s.workers w Idle }
+after_settle s w v e = after_end s w v (Settled e)
 
 abbrev pub settle_with : State → ℕ → ℕ → Ending → State × Reply
 settle_with s w v e = (after_settle s w v e, settle_reply v e)
@@ -157,9 +164,25 @@ settled b s w (Some (Runs x)) =
 abbrev pub settle_grant : Build → State → ℕ → Result (State × Reply) settle.SettleCause
 settle_grant b s w = settled b s w (slice_get s.workers w)
 
+-- ---- a cancel
+
+-- the vertex waits again, and the contents of caches stay as the micro-steps that were done have left them
+abbrev pub cancel_with : State → ℕ → ℕ → ℕ → State × Reply
+cancel_with s w v k = (after_end s w v Waiting, Cancelled v k)
+
+-- the worker gives up what it runs, finished or not
+abbrev pub cancelled : State → ℕ → Option At → Result (State × Reply) cancel.CancelCause
+cancelled s w None = Err cancel.NoWorker
+cancelled s w (Some Idle) = Err cancel.NotRunning
+cancelled s w (Some (Runs x)) = Ok (cancel_with s w x.vertex x.done)
+
+abbrev pub cancel_grant : State → ℕ → Result (State × Reply) cancel.CancelCause
+cancel_grant s w = cancelled s w (slice_get s.workers w)
+
 -- ---- the table
 
 unfoldable pub table : Build → State → Event → Option (State × Reply)
 table b s (Claim w v) = result_ok (claim_grant b s w v)
 table b s (Step w) = result_ok (step_grant b s w)
 table b s (Settle w) = result_ok (settle_grant b s w)
+table b s (Cancel w) = result_ok (cancel_grant s w)

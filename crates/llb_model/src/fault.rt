@@ -7,12 +7,12 @@ use llb_wire::Same;
 use std::error::Error;
 use std::fmt;
 
-/// Why a vertex fails: its first micro-step that could not be done.
+/// Why a vertex fails: an action that could not be done, or the status with which its commands ended.
 #[derive(Clone, Copy, Debug, PartialEq, Eq)]
 pub enum VertexFault {
     /// An action was refused: its number, and that of its fault, 21 to 26, or 52 for a text that is no pattern.
     Action(u32, u32),
-    /// A command ended with another status than 0: its number, and that status.
+    /// The last command that ran ended with another status than 0: its number, and that status.
     Exit(u32, u32),
 }
 

@@ -3,7 +3,7 @@ use Rattle.std.specs.Prelude.{ℕ, ◌^◌, ◌==◌, nat_lt, Bool, if◌then◌
 use Rattle.std.specs.List.{position_or_len, before_first, after_first}
 use Rattle.std.specs.Str.{is_utf8}
 use Rattle.llb_asm.specs.Values.{is_text, magnitude, then_in, below}
-use Rattle.llb_events.specs.declared.event.Event.TheVariants.{Claim, Step, Settle}
+use Rattle.llb_events.specs.declared.event.Event.TheVariants.{Claim, Step, Settle, Cancel}
 use Rattle.llb_stepper.specs.declared.stop.Break.TheVariants.{Claims, Settles, Fails}
 use Rattle.llb_session.specs.declared.request.Request.{Request}
 use Rattle.llb_session.specs.declared.request.Request.TheVariants as ask
@@ -52,6 +52,7 @@ behind word rest =
     else if is_text word (codes "claim") then option_map (λ (p : ℕ × ℕ). ask.Event (Claim p.0 p.1)) (pair_in rest)
     else if is_text word (codes "step") then option_map (λ w. ask.Event (Step w)) (number_in rest)
     else if is_text word (codes "settle") then option_map (λ w. ask.Event (Settle w)) (number_in rest)
+    else if is_text word (codes "cancel") then option_map (λ w. ask.Event (Cancel w)) (number_in rest)
     else if is_text word (codes "tree") then option_map (λ (p : ℕ × ℕ). ask.Tree p.0 p.1) (pair_in rest)
     else None
 

@@ -114,6 +114,9 @@ fn behind(word: &str, rest: &str) -> Option<Request>
     } else if word == "settle" {
         let w = number(rest)?;
         Some(Request::Event(Event::Settle(w)))
+    } else if word == "cancel" {
+        let w = number(rest)?;
+        Some(Request::Event(Event::Cancel(w)))
     } else if word == "tree" {
         let (v, i) = pair(rest)?;
         Some(Request::Tree(v, i))

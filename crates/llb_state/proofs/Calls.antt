@@ -23,7 +23,7 @@ use Rattle.llb_model.specs.SettleCause as no_settle
 use Rattle.llb_model.specs.SettleCause.{SettleCause}
 use Rattle.llb_model.specs.Table.{Claim, Step, Settle, Reply, or_not_ready, claim_start, claim_at, claim_unless, claimed, claim_grant}
 use Rattle.llb_model.specs.Table.{step_with, stepped, step_grant, with_step, step_reply}
-use Rattle.llb_model.specs.Table.{settle_with, settle_grant, settled, table}
+use Rattle.llb_model.specs.Table.{settle_with, settle_grant, settled, Cancel, cancel_with, cancel_grant, cancelled, table}
 use Rattle.llb_model.proofs.Lists.{inside}
 use Rattle.llb_model.proofs.Events.{Answer, ready_is}
 use Rattle.llb_model.proofs.Leases.{refuses_alike, takes_alike, makes_alike, writes_alike}
@@ -33,7 +33,7 @@ use Rattle.llb_needs.specs.Needs.{shut_key, unless_shut, places_taken}
 use Rattle.llb_state.specs.Board.{Seen, recorded}
 use Rattle.llb_state.specs.Rules.{faulted, claim_fault, claim_of, step_fault, Begun, begun_at, begun, Written, written_by}
 use Rattle.llb_events.specs.Faults.{claim_may_want}
-use Rattle.llb_state.specs.Rules.{worked_in, worked_by, left_at}
+use Rattle.llb_state.specs.Rules.{worked_in, worked_by, left_at, given_up_at}
 use Rattle.llb_state.specs.Views.{at_of, state_of}
 use Rattle.llb_state.specs.declared.stand.Desk.{Desk}
 use Rattle.llb_events.specs.declared.fault.ClaimFault.{ClaimFault}
@@ -72,6 +72,11 @@ step_done b s w a is = ap result_ok is
 pub settle_done : (b : Build) (s : State) (w : ℕ) (a : Answer) → settle_grant b s w ≡ Ok a → table b s (Settle w) ≡ Some a
 unfolding table
 settle_done b s w a is = ap result_ok is
+
+-- what the rule of a cancel grants, the table gives
+pub cancel_done : (b : Build) (s : State) (w : ℕ) (a : Answer) → cancel_grant s w ≡ Ok a → table b s (Cancel w) ≡ Some a
+unfolding table
+cancel_done b s w a is = ap result_ok is
 
 -- ---- a claim
 
@@ -326,7 +331,7 @@ stepped_as b ds rows w x there within =
             workers = slice_set (map at_of ds) w (Runs (with_step x left));
             store = sym (writes_alike rows x.places left.work.trees within) i;
           },
-          step_reply x.done m left.fault,
+          step_reply x.done m x.own left,
         )
 
 -- ---- a settle
@@ -368,3 +373,27 @@ can_settle b s w v stands is = by_worker (slice_get s.workers w) refl is
     by_worker None there is = absurd cc
     by_worker (Some Idle) there is = absurd cc
     by_worker (Some (Runs x)) there is = by_test x there (is_finished (program_in b x).steps x) refl is
+
+-- ---- a cancel
+
+pub record CanCancel (s : State) (w v n : ℕ) : Type 0 where
+  pub x : Execution
+  pub there : slice_get s.workers w ≡ Some (Runs x)
+  pub vertex : x.vertex ≡ v
+  pub grants : cancel_grant s w ≡ Ok (cancel_with s w v n)
+
+-- a worker that can give a vertex up runs it, so that the table grants its cancel
+pub can_cancel : (s : State) (w v n : ℕ) → given_up_at (slice_get s.workers w) ≡ Ok (v, n) → CanCancel s w v n
+can_cancel s w v n is = by_worker (slice_get s.workers w) refl is
+  where
+    by_worker : (o : Option At) → slice_get s.workers w ≡ o → given_up_at o ≡ Ok (v, n) → CanCancel s w v n
+    by_worker None there is = absurd cc
+    by_worker (Some Idle) there is = absurd cc
+    by_worker (Some (Runs x)) there is =
+        let same : ◌≡◌ {A = ℕ × ℕ} (x.vertex, x.done) (v, n) = inside_ok is in
+        record {
+          x = x;
+          there = there;
+          vertex = ap (λ p. p.0) same;
+          grants = ap (cancelled s w) there ∙ (λ i. Ok (cancel_with s w (same i).0 (same i).1));
+        }

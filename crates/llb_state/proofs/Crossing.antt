@@ -25,6 +25,8 @@ use Rattle.llb_state.specs.contracts.stand.Desk as desk
 use Rattle.llb_state.specs.contracts.stand.Execution as execution
 use Rattle.llb_state.specs.contracts.stand.Stand as stand
 use Rattle.llb_state.specs.contracts.events.Events as events
+use Rattle.llb_state.specs.contracts.history.History as history
+use Rattle.llb_state.specs.contracts.history.History.TheInside as history_inside
 
 setting_send : IsSend setting.the_row
 setting_send = setting_crosses.the_send
@@ -86,5 +88,11 @@ stands_send = as_row_send (vec.the_field stand.the_row heap.the_row ghosts) (Vec
 pub desks_send : IsSend (as_row (vec.the_field desk.the_row heap.the_row ghosts))
 desks_send = as_row_send (vec.the_field desk.the_row heap.the_row ghosts) (Vec-send desk.the_row desk_send)
 
-pub events_send : IsSend events.the_row
+events_send : IsSend events.the_row
 events_send = search (crosses, sendable) depth 60 fits 20000
+
+history_inside_send : IsSend history_inside.the_row
+history_inside_send = declared_send history_inside.the_type (as_row_send events.the_field events_send, (search (crosses, sendable) depth 20, tt))
+
+pub history_send : IsSend history.the_row
+history_send = view_send history_inside.the_row _ _ _ _ history_inside_send

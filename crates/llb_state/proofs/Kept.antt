@@ -1,5 +1,5 @@
 -- What the board's type keeps, as an event is done.
-use Rattle.std.proofs.Common.{◌≡◌, ℕ, ◌<◌, List, [], ◌∷◌, ◌++◌, map, length, inl, inr, refl, sym, ap, subst, ◌∙◌, arith, take, drop}
+use Rattle.std.proofs.Common.{◌≡◌, ℕ, ◌+◌, ◌<◌, List, [], ◌∷◌, ◌++◌, map, length, inl, inr, refl, sym, ap, subst, ◌∙◌, arith, take, drop}
 use Rattle.std.specs.Prelude.{Bool, true, false, Option, Some, None, Result, Ok, option_map, slice_get, slice_set, replicate}
 use Rattle.std.proofs.lemmas.List.{drop_all, take_all, append-nil}
 use Rattle.std.proofs.lemmas.List.Sums.{fold-append}
@@ -8,22 +8,24 @@ use Rattle.llb_tree.specs.Tree.{empty_tree}
 use Rattle.llb_loader.specs.declared.graph.Vertex.{Vertex}
 use Rattle.llb_loader.specs.Graph.{IsGraph}
 use Rattle.llb_model.specs.Program.{Build, program_at, step_on}
-use Rattle.llb_model.specs.State.{Status, Running, Settled, At, Idle, Runs, State, opening, program_in, work_of, is_finished, stopped}
+use Rattle.llb_model.specs.State.{Status, Waiting, Running, Settled, At, Idle, Runs, State, opening, program_in, work_of, is_finished, stopped}
 use Rattle.llb_model.specs.State.{is_failed, ending_of}
 use Rattle.llb_model.specs.Kept.{store_of}
 use Rattle.llb_model.specs.Leases.{AreLeased}
 use Rattle.llb_model.specs.Table.{Event, Step, Reply, SettledDone, SettledFailed, settle_reply, worker_of, with_step, claim_grant}
-use Rattle.llb_model.specs.Table.{step_grant, settle_grant, table}
+use Rattle.llb_model.specs.Table.{step_grant, settle_grant, cancel_grant, Cancelled, after_end, table}
 use Rattle.llb_model.specs.Outcome.{Ending, Done, Failed, ended}
 use Rattle.llb_model.specs.Run.{run}
 use Rattle.llb_model.proofs.Lists.{inside, get_set_same}
 use Rattle.llb_model.proofs.Events.{Answer, IsStep, step_is}
 use Rattle.llb_model.proofs.Runs.{run_more}
-use Rattle.llb_model.proofs.Rooms.{event_room, run_has_few}
+use Rattle.llb_model.specs.Room.{room_taken}
+use Rattle.llb_model.proofs.Owing.{IsRoomy, room_for_event, event_roomy}
 use Rattle.llb_model.proofs.Alone.{over_after}
 use Rattle.llb_model.proofs.Leasing.{claim_leases, claim_without}
 use Rattle.llb_model.specs.Caches.{Place}
 use Rattle.llb_state.specs.Caches.{written, places_at, rows_after}
+use Rattle.llb_state.specs.Events.{Space}
 use Rattle.llb_state.specs.Views.{status_of, at_of, leased_by, execution_of, state_of}
 use Rattle.llb_state.specs.Board.{Seen, Replays, opening_with, kept_next, kept_along, recorded}
 use Rattle.llb_state.specs.Rules.{faulted, step_fault, left_at}
@@ -34,9 +36,10 @@ use Rattle.llb_state.specs.declared.stand.Desk.{Desk}
 use Rattle.llb_state.specs.declared.stand.Desk.TheVariants as desk
 use Rattle.llb_state.specs.declared.stand.Execution as own
 use Rattle.llb_state.proofs.Lists.{map_set, set_same, length_map, get_map}
-use Rattle.llb_state.proofs.Calls.{Claims, LeasedNew, steps, CanSettle, left_if}
+use Rattle.llb_state.proofs.Calls.{Claims, LeasedNew, steps, CanSettle, CanCancel, left_if}
 use Rattle.llb_state.proofs.Sound.{consistent}
 use Rattle.llb_state.proofs.Marked.{marks_stay}
+use Rattle.llb_state.proofs.Spaces.{SpaceAfter}
 
 -- a board's data: what stands at the vertices, what the workers do, the lists of instances, the leases, the marks
 pub record Data : Type 0 where
@@ -52,16 +55,16 @@ seen_as b first d es = seen b first d.stands d.desks d.rows es
 abbrev pub state_as : Data → State
 state_as d = state_of d.stands d.desks d.rows
 
-abbrev pub Keeps : Build → List Row → Data → List Event → ℕ → Type 0
-Keeps b first d es capacity = IsKept (seen_as b first d es) d.desks d.out d.stop_marks capacity
+abbrev pub Keeps : Build → List Row → Data → List Event → Space → Type 0
+Keeps b first d es space = IsKept (seen_as b first d es) d.desks d.out d.stop_marks space
 
--- there is room for an event that is granted
-pub has_room : (b : Seen) (desks : List Desk) (out : Leases) (stop_marks : List Bool) (capacity : ℕ) (e : Event) (a : Answer)
-    → IsKept b desks out stop_marks capacity
-    → table b.build b.state e ≡ Some a → length b.events < capacity
-has_room b desks out stop_marks capacity e a kept granted =
-    let few = run_has_few b.build b.opening b.state b.events kept.replays.replies kept.replays.leads in
-    omega (arith, event_room b.build b.state e a granted, few, kept.room)
+-- there is room for an event that is granted, where it takes its own
+pub has_room : (b : Seen) (desks : List Desk) (out : Leases) (stop_marks : List Bool) (space : Space) (e : Event) (a : Answer)
+    → (kept : IsKept b desks out stop_marks space)
+    → table b.build b.state e ≡ Some a → length b.events < space.room + room_taken b.build kept.replays.replies e
+has_room b desks out stop_marks space e a kept granted =
+    let place = room_for_event b.build b.opening b.state b.events kept.replays.replies space.room e a kept.replays.leads kept.room granted in
+    omega (arith, place)
 
 -- what an event of a worker has to keep beside the run
 pub record Stays (b : Build) (w : ℕ) (d d' : Data) : Type 0 where
@@ -81,9 +84,10 @@ kept_more b s first rows t u es e r so_far granted =
     ∙ ap (option_map (λ (a : State × Reply). (a.0, rows_after rows a.0 (worker_of e)))) granted
 
 -- what a board's type keeps it keeps after a granted event, where leases, supplies, marks and lists of instances are as they should be
-pub kept_after : (b : Build) (first : List Row) (d d' : Data) (es : List Event) (capacity : ℕ) (e : Event) (r : Reply) → Keeps b first d es capacity
-    → table b (state_as d) e ≡ Some (state_as d', r) → Stays b (worker_of e) d d' → Keeps b first d' (es ++ e ∷ []) capacity
-kept_after b first d d' es capacity e r kept granted stays =
+pub kept_after : (b : Build) (first : List Row) (d d' : Data) (es : List Event) (space : Space) (e : Event) (r : Reply) → (kept : Keeps b first d es space)
+    → table b (state_as d) e ≡ Some (state_as d', r) → Stays b (worker_of e) d d' → (new : Space) → SpaceAfter b kept.replays.replies e r space new
+    → Keeps b first d' (es ++ e ∷ []) new
+kept_after b first d d' es space e r kept granted stays new after =
     let o = opening_with (length d.desks) first in
     let leads : run b (opening b o) (es ++ e ∷ []) ≡ Some (state_as d', kept.replays.replies ++ r ∷ [])
     = run_more b (opening b o) (state_as d) (state_as d') es kept.replays.replies e r kept.replays.leads granted in
@@ -99,7 +103,9 @@ kept_after b first d d' es capacity e r kept granted stays =
         leads = ap (λ n. run b (opening b (opening_with n first)) (es ++ e ∷ [])) same ∙ leads;
         keeps = ap (λ n. kept_along b (opening b (opening_with n first)) first (es ++ e ∷ [])) same ∙ keeps;
       };
-      room = kept.room;
+      room = subst (IsRoomy b (state_as d') (kept.replays.replies ++ r ∷ [])) (sym after.room)
+          (event_roomy b (state_as d) kept.replays.replies space.room e (state_as d', r) (consistent (seen_as b first d es) kept.replays) kept.room granted);
+      counted = after.counted;
       leased = stays.leased;
       supplies = stays.supplies;
       some = omega (arith, length_map at_of d'.desks, length_map at_of d.desks, same, some);
@@ -132,9 +138,9 @@ whole_written n new old same is =
     ap (λ l. take n (new ++ l)) (drop_all (length new) old (omega (arith, same))) ∙ ap (take n) (append-nil new) ∙ take_all n new (omega (arith, same, is))
 
 -- the same where some of the data is written otherwise
-pub kept_written : (b : Build) (first : List Row) (d d' : Data) (es : List Event) (capacity : ℕ) → d' ≡ d → Keeps b first d es capacity
-    → Keeps b first d' es capacity
-kept_written b first d d' es capacity same kept = subst (λ (x : Data). Keeps b first x es capacity) (sym same) kept
+pub kept_written : (b : Build) (first : List Row) (d d' : Data) (es : List Event) (space : Space) → d' ≡ d → Keeps b first d es space
+    → Keeps b first d' es space
+kept_written b first d d' es space same kept = subst (λ (x : Data). Keeps b first x es space) (sym same) kept
 
 -- ---- a claim
 
@@ -273,7 +279,7 @@ leaves b ds w l k x y o stands looked taken finished same ends =
     ∙ (λ i. Ok (y.vertex, Settled (ended (program_at (sym same i)) y.view y.fault)))
     ∙ ap (λ s. Ok (y.vertex, s)) (sym ends)
 
--- the board's data after a settle
+-- the board's data after a settle or a cancel
 abbrev pub settled : Data → ℕ → ℕ → Stand → Leases → List Bool → Data
 settled d w v s out stop_marks = record {
   stands = slice_set d.stands v s;
@@ -283,10 +289,9 @@ settled d w v s out stop_marks = record {
   stop_marks = stop_marks;
 }
 
-pub state_settled : (d : Data) (w v : ℕ) (s : Stand) (out : Leases) (stop_marks : List Bool) (e : Ending) → status_of s ≡ Settled e
-    → state_as (settled d w v s out stop_marks)
-    ≡ record { statuses = slice_set (map status_of d.stands) v (Settled e); workers = slice_set (map at_of d.desks) w Idle; store = store_of d.rows }
-state_settled d w v s out stop_marks e is = λ i. record {
+pub state_settled : (d : Data) (w v : ℕ) (s : Stand) (out : Leases) (stop_marks : List Bool) (t : Status) → status_of s ≡ t
+    → state_as (settled d w v s out stop_marks) ≡ after_end (state_as d) w v t
+state_settled d w v s out stop_marks t is = λ i. record {
   statuses = (map_set status_of d.stands v s ∙ ap (slice_set (map status_of d.stands) v) is) i;
   workers = map_set at_of d.desks w desk.Idle i;
   store = store_of d.rows;
@@ -295,7 +300,17 @@ state_settled d w v s out stop_marks e is = λ i. record {
 -- the machine's settle is what the board does
 pub settle_does : (b : Build) (d : Data) (w v : ℕ) (s : Stand) (out : Leases) (stop_marks : List Bool) (can : CanSettle b (state_as d) w v (status_of s))
     → settle_grant b (state_as d) w ≡ Ok (state_as (settled d w v s out stop_marks), settle_reply v can.ending)
-settle_does b d w v s out stop_marks can = can.grants ∙ (λ i. Ok (sym (state_settled d w v s out stop_marks can.ending can.is) i, settle_reply v can.ending))
+settle_does b d w v s out stop_marks can = can.grants ∙ (λ i. Ok (
+  sym (state_settled d w v s out stop_marks
+      (Settled can.ending) can.is) i,
+  settle_reply v can.ending,
+))
+
+-- the machine's cancel is what the board does
+pub cancel_does : (d : Data) (w v n : ℕ) (out : Leases) → CanCancel (state_as d) w v n
+    → cancel_grant (state_as d) w ≡ Ok (state_as (settled d w v stand.Waiting out d.stop_marks), Cancelled v n)
+cancel_does d w v n out can =
+    can.grants ∙ (λ i. Ok (sym (state_settled d w v stand.Waiting out d.stop_marks Waiting refl) i, Cancelled v n))
 
 -- a worker that is idle has no instances
 pub settle_rows : (d : Data) (w v : ℕ) (s : Stand) (out : Leases) (stop_marks : List Bool) (x : At) → slice_get (map at_of d.desks) w ≡ Some x
@@ -332,8 +347,8 @@ pub marks_kept : (b : Build) (ss : List Stand) (v : ℕ) (s : Stand) (old : Stat
 marks_kept b ss v s old at was is = ap (stopped b) (map_set status_of ss v s) ∙ marks_stay b.graph.vertices (map status_of ss) v old (status_of s) at was is
 
 -- what is over stays so after an event that is granted
-pub still_over : (b : Build) (first : List Row) (d d' : Data) (es : List Event) (capacity n : ℕ) (e : Event) (r : Reply) → IsGraph b.graph
-    → Keeps b first d es capacity
+pub still_over : (b : Build) (first : List Row) (d d' : Data) (es : List Event) (space : Space) (n : ℕ) (e : Event) (r : Reply) → IsGraph b.graph
+    → Keeps b first d es space
     → table b (state_as d) e ≡ Some (state_as d', r) → AreOver b (map status_of d.stands) n → AreOver b (map status_of d'.stands) n
-still_over b first d d' es capacity n e r graph kept given over v low =
+still_over b first d d' es space n e r graph kept given over v low =
     over_after b graph (state_as d) (state_as d') e r (consistent (seen_as b first d es) kept.replays) given v (over v low)

@@ -11,7 +11,7 @@ use Rattle.llb_model.specs.State.{At, Idle}
 use Rattle.llb_model.specs.Kept.{store_of}
 use Rattle.llb_model.specs.Leases.{AreLeased, put_each}
 use Rattle.llb_model.proofs.Kept.{shows_instances}
-use Rattle.llb_model.proofs.Leasing.{settle_gives_back, settle_without}
+use Rattle.llb_model.proofs.Leasing.{end_gives_back, end_without}
 use Rattle.llb_state.specs.Caches.{tree_of, IsOutIf, given_back}
 use Rattle.llb_state.specs.Views.{at_of, leased_by}
 use Rattle.llb_state.specs.declared.stand.Desk.{Desk}
@@ -53,8 +53,8 @@ leased_settled c ds w l leased at =
   where
     by_lease : (l : Option ℕ) → slice_get (map leased_by ds) w ≡ Some l
         → AreLeased (given_back c l).out (slice_set (map at_of ds) w Idle) (slice_set (map leased_by ds) w None)
-    by_lease None at = settle_without c.out (map at_of ds) (map leased_by ds) w leased at
-    by_lease (Some n) at = settle_gives_back c.out (map at_of ds) (map leased_by ds) w n leased at
+    by_lease None at = end_without c.out (map at_of ds) (map leased_by ds) w leased at
+    by_lease (Some n) at = end_gives_back c.out (map at_of ds) (map leased_by ds) w n leased at
 
 some_apart : (l : ℕ) → ◌≡◌ {A = Option (Option ℕ)} (Some None) (Some (Some l)) → ⊥
 some_apart l e = cc

@@ -15,7 +15,9 @@ pub mod Lent
 pub mod Begins
 pub mod Calls
 pub mod Sound
+pub mod Spaces
 pub mod Kept
+pub mod Skipping
 pub mod Stepping
 pub mod PutBack
 pub mod Alike

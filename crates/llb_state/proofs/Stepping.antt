@@ -194,7 +194,7 @@ written_back rows x z rows' r None distinct within is = absurd cc
 written_back rows x z rows' r (Some m) distinct within is =
     let trees = trees_at (store_of rows) x.places in
     let left = step_on x.done (Some m) (work_with x.own trees) in
-    let whole : ◌≡◌ {A = Written} (with_step x left, put_each rows x.places left.work.trees, step_reply x.done m left.fault) (z, rows', r) = inside_ok is in
+    let whole : ◌≡◌ {A = Written} (with_step x left, put_each rows x.places left.work.trees, step_reply x.done m x.own left) (z, rows', r) = inside_ok is in
     let count : length left.work.trees ≡ length x.places = step_keeps x.done (Some m) (work_with x.own trees)
     ∙ trees_count (store_of rows) x.places trees refl in
     sym (ap (λ (p : Written). p.1) whole)

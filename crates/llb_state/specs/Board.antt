@@ -1,6 +1,6 @@
 -- A board as contracts see it: what it was opened with, the machine's state, and the record of events; and what a call did.
 use Rattle.std.specs.Prelude.{◌≡◌, ◌≢◌, ℕ, List, [], ◌∷◌, ◌++◌, fold, option_map, slice_get, Option, Some, None, Result, Ok, Err, Bool}
-use Rattle.std.specs.Prelude.{true, is_some, ◌||◌, ◌&&◌}
+use Rattle.std.specs.Prelude.{true, is_some, unwrap_or, ◌||◌, ◌&&◌}
 use Rattle.std.specs.List.{list_any, list_all}
 use Rattle.llb_loader.specs.declared.graph.Edge.{Edge}
 use Rattle.llb_loader.specs.declared.graph.Vertex.{Vertex}
@@ -94,3 +94,7 @@ BlockedBehindAFailure b = (v : ℕ) (x : Vertex) → slice_get b.build.graph.ver
 abbrev pub OutcomeByInputs : Seen → Type 0
 OutcomeByInputs b = (v : ℕ) (x : Vertex) → slice_get b.build.graph.vertices v ≡ Some x
     → outcome b.build v ≡ Some (outcome_on b.build x (inputs_from (λ k. ending_in (outcome b.build k)) x.inputs))
+
+-- the replies of the record
+abbrev pub replies_in : Seen → List Reply
+replies_in b = unwrap_or (option_map (λ (a : State × List Reply). a.1) (run b.build (opening b.build b.opening) b.events)) []

@@ -1,8 +1,39 @@
--- The record of events, as contracts see it.
-use Rattle.std.specs.Prelude.{ℕ, List}
+-- The record of events, the room for it, and how often each vertex was cancelled, as contracts see them.
+use Rattle.std.specs.Prelude.{ℕ, zero, suc, ◌+◌, ◌-◌, List, get_or, slice_set}
 use Rattle.llb_model.specs.Table.{Event}
 
 -- the events so far, and how many there is room for
 pub record Recorded : Type 0 where
   pub list : List Event
   pub room : ℕ
+
+-- the room for events, and by number how often each vertex was cancelled
+pub record Space : Type 0 where
+  pub room : ℕ
+  pub cancels : List ℕ
+
+pub record HistoryValue : Type 0 where
+  pub list : List Event
+  pub space : Space
+
+-- the room that a claim takes of a vertex with that many events, cancelled n times before: none the first time
+abbrev pub taken : ℕ → ℕ → ℕ
+taken events zero = 0
+taken events (suc n) = events
+
+abbrev pub taken_by : ℕ → ℕ → Space → ℕ
+taken_by v events s = taken events (get_or s.cancels v 0)
+
+-- the room after a claim, and after one is taken back
+abbrev pub claimed : ℕ → ℕ → Space → Space
+claimed v events s = record s { room = s.room + taken_by v events s }
+
+abbrev pub unclaimed : ℕ → ℕ → Space → Space
+unclaimed v events s = record s { room = s.room - taken_by v events s }
+
+-- the counts after a cancel, and after one is taken back
+abbrev pub cancelled : ℕ → Space → Space
+cancelled v s = record s { cancels = slice_set s.cancels v (get_or s.cancels v 0 + 1) }
+
+abbrev pub uncancelled : ℕ → Space → Space
+uncancelled v s = record s { cancels = slice_set s.cancels v (get_or s.cancels v 0 - 1) }

@@ -1,7 +1,7 @@
--- What a board keeps so that no event to come needs memory for the record, which has room for a whole run, nor a settle memory for its outputs,
+-- What a board keeps so that no event to come needs memory for the record but a claim after a cancel, nor a settle memory for its outputs,
 -- that commands run where their exec says and see the caches that it shows, that each running worker has a lease of its instances, and that no
 -- search begins anew.
-use Rattle.std.specs.Prelude.{◌≡◌, ℕ, ◌<◌, ◌≤◌, Bool, true, ◌||◌, List, [], map, replicate, length, Option, Some, None, slice_get}
+use Rattle.std.specs.Prelude.{◌+◌, ◌≡◌, ℕ, ◌<◌, ◌≤◌, Bool, true, ◌||◌, List, [], map, replicate, length, Option, Some, None, slice_get}
 use Rattle.llb_tree.specs.Tree.{TreeMap, empty_tree}
 use Rattle.llb_applet.specs.declared.setting.Setting.{Setting}
 use Rattle.llb_loader.specs.declared.graph.Vertex.{Vertex}
@@ -15,7 +15,8 @@ use Rattle.llb_model.specs.Leases.{AreLeased}
 use Rattle.llb_model.specs.State.{Status, At, Idle, Runs, stopped, is_blocked}
 use Rattle.llb_model.specs.Run.{is_settled}
 use Rattle.llb_model.specs.Table.{Event}
-use Rattle.llb_model.specs.Room.{most_events}
+use Rattle.llb_model.specs.Room.{most_events, owed, cancel_counts}
+use Rattle.llb_state.specs.Events.{Space}
 use Rattle.llb_state.specs.Board.{Seen, Replays, opening_with}
 use Rattle.llb_execution.specs.Parts.{kind_setting, mounts_in, shown_in}
 use Rattle.llb_links.specs.Links.{Linked, IsLinked}
@@ -87,9 +88,10 @@ seen b first stands desks rows events = record {
   events = events;
 }
 
-pub record IsKept (b : Seen) (desks : List Desk) (out : Leases) (stop_marks : List Bool) (capacity : ℕ) : Type 0 where
+pub record IsKept (b : Seen) (desks : List Desk) (out : Leases) (stop_marks : List Bool) (space : Space) : Type 0 where
   pub replays : Replays b
-  pub room : most_events b.build ≤ capacity
+  pub room : space.room + owed b.build b.state.statuses replays.replies ≡ most_events b.build replays.replies
+  pub counted : space.cancels ≡ cancel_counts b.build replays.replies
   pub leased : AreLeased out b.state.workers (map leased_by desks)
   pub supplies : map ready_made desks ≡ map (needed b.build) b.state.workers
   pub some : 0 < length b.state.workers
@@ -101,7 +103,7 @@ abbrev pub AreOver : Build → List Status → ℕ → Type 0
 AreOver b statuses n = (v : ℕ) → v < n → (is_settled (slice_get statuses v) || is_blocked b statuses v) ≡ true
 
 -- and from where on a Ready vertex is looked for, and how many inputs of each are open
-pub record IsTracked (b : Seen) (desks : List Desk) (out : Leases) (stop_marks : List Bool) (links : Linked) (capacity first_open : ℕ) : Type 0 where
-  pub kept : IsKept b desks out stop_marks capacity
+pub record IsTracked (b : Seen) (desks : List Desk) (out : Leases) (stop_marks : List Bool) (links : Linked) (space : Space) (first_open : ℕ) : Type 0 where
+  pub kept : IsKept b desks out stop_marks space
   pub over : AreOver b.build b.state.statuses first_open
   pub linked : IsLinked b.build.graph.vertices (done_in b.state.statuses) links

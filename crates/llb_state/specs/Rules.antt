@@ -16,7 +16,10 @@ use Rattle.llb_model.specs.StepCause as no_step
 use Rattle.llb_model.specs.StepCause.{StepCause}
 use Rattle.llb_model.specs.SettleCause as no_settle
 use Rattle.llb_model.specs.SettleCause.{SettleCause}
-use Rattle.llb_model.specs.Table.{Claim, Step, Settle, Reply, Claimed, claim_grant, step_grant, settle_grant, execution_on, job_on, with_step, step_reply}
+use Rattle.llb_model.specs.CancelCause as no_cancel
+use Rattle.llb_model.specs.CancelCause.{CancelCause}
+use Rattle.llb_model.specs.Table.{Claim, Step, Settle, Cancel, Reply, Claimed, claim_grant, step_grant, settle_grant, cancel_grant, execution_on, job_on}
+use Rattle.llb_model.specs.Table.{with_step, step_reply}
 use Rattle.llb_state.specs.Board.{Seen, recorded}
 use Rattle.llb_execution.specs.Parts.{work_with}
 use Rattle.llb_needs.specs.Needs.{places_taken}
@@ -26,6 +29,8 @@ use Rattle.llb_events.specs.declared.fault.StepFault.{StepFault}
 use Rattle.llb_events.specs.declared.fault.StepFault.TheVariants as step
 use Rattle.llb_events.specs.declared.fault.SettleFault.{SettleFault}
 use Rattle.llb_events.specs.declared.fault.SettleFault.TheVariants as settle
+use Rattle.llb_events.specs.declared.fault.CancelFault.{CancelFault}
+use Rattle.llb_events.specs.declared.fault.CancelFault.TheVariants as cancel
 
 -- ---- what an event answers: what the table gives, with its cause as a fault
 
@@ -95,7 +100,7 @@ pub record Worked : Type 0 where
   pub reply : Reply
 
 abbrev pub worked_to : Execution → MicroStep → Left → Worked
-worked_to x m left = record { execution = with_step x left; trees = left.work.trees; reply = step_reply x.done m left.fault }
+worked_to x m left = record { execution = with_step x left; trees = left.work.trees; reply = step_reply x.done m x.own left }
 
 abbrev pub worked_by : Execution → List TreeMap → Option MicroStep → Result Worked StepFault
 worked_by x trees None = Err step.NothingLeft
@@ -137,3 +142,24 @@ abbrev pub left_at : Build → Option At → Result (ℕ × Status) SettleFault
 left_at b None = Err settle.NoWorker
 left_at b (Some Idle) = Err settle.NotRunning
 left_at b (Some (Runs x)) = if is_finished (program_in b x).steps x then Ok (x.vertex, Settled (ending_from (program_in b x) x)) else Err settle.NotFinished
+
+-- ---- what a cancel answers, and what it leaves
+
+abbrev pub cancel_fault : CancelCause → CancelFault
+cancel_fault no_cancel.NoWorker = cancel.NoWorker
+cancel_fault no_cancel.NotRunning = cancel.NotRunning
+
+abbrev pub cancel_of : Seen → ℕ → Result (Seen × Reply) CancelFault
+cancel_of b w = recorded b (Cancel w) cancel_fault (cancel_grant b.state w)
+
+abbrev pub cancel_memory : CancelFault → Bool
+cancel_memory e = false
+
+abbrev pub GivesCancel : {X Y : Type 0} → (X → Y) → Result X CancelFault → Result Y CancelFault → Type 0
+GivesCancel = answer.Gives cancel_memory
+
+-- the vertex that a worker gives up, and how many of its micro-steps were done
+abbrev pub given_up_at : Option At → Result (ℕ × ℕ) CancelFault
+given_up_at None = Err cancel.NoWorker
+given_up_at (Some Idle) = Err cancel.NotRunning
+given_up_at (Some (Runs x)) = Ok (x.vertex, x.done)

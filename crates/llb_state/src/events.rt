@@ -1,6 +1,6 @@
 //! The record of events: a list that grows by one event at a time, in room that was taken before.
 
-ghost use Rattle.std.specs.Prelude.{◌≡◌, ◌==◌, ◌≤◌, ◌<◌, ◌∷◌, ◌++◌, [], length, map, IfOk};
+ghost use Rattle.std.specs.Prelude.{◌≡◌, ◌==◌, ◌≤◌, ◌<◌, ◌∷◌, ◌++◌, [], length, map, IfOk, OnOk, OnErr, ◌+◌};
 ghost use Rattle.llb_state.specs.Undoing.{front};
 ghost use Rattle.llb_state.specs.Views.{event_of};
 
@@ -11,33 +11,38 @@ use std::marker::Model;
 /// Events in their order. Contracts see the list of them, and how many there is room for.
 pub struct Events {
     items: Vec<Event>,
+    // Up to how many memory is taken for.
+    room: usize,
 }
 
 // Written out, so that the crates above drop one by this one function.
 impl Drop for Events {
     fn drop(self) {
-        let Events { items: _ } = self;
+        let Events { items: _, room: _ } = self;
     }
 }
 
 impl Model for Events {
-    ghost use Rattle.std.specs.Prelude.{map, vec_capacity};
+    ghost use Rattle.std.specs.Prelude.{◌≤◌, map, vec_capacity};
     ghost use Rattle.llb_state.specs.Events.{Recorded};
     ghost use Rattle.llb_state.specs.Views.{event_of};
 
     ghost Value = { Recorded };
 
-    ghost view = { λ e. record { list = map event_of e.items.items; room = vec_capacity e.items } };
+    ghost view = { λ e. record { list = map event_of e.items.items; room = e.room } };
+
+    ghost invariant = { λ e. e.room ≤ vec_capacity e.items };
 }
 
 impl Events {
     /// None yet, with room for that many.
     pub fn with_room(alloc: Global, room: usize) -> Result<Events, AllocError>
         ensures none { IfOk result (λ e. e.list ≡ []) }
-        ensures room { IfOk result (λ e. room ≤ e.room) }
+        ensures room { IfOk result (λ e. e.room ≡ room) }
     {
         Ok(Events {
             items: Vec::with_capacity(alloc, room)?,
+            room,
         })
     }
 
@@ -58,14 +63,40 @@ impl Events {
         let _last = self.items.pop();
     }
 
-    /// The same events, with room for that many. 141 where memory is refused.
-    pub fn with_same(&self, alloc: Global, room: usize) -> Result<Events, Memory>
-        ensures list { IfOk result (λ e. e.list ≡ self.now.list) }
-        ensures room { IfOk result (λ e. room ≤ e.room) }
+    /// Room for that many more. 141 where memory is refused; then there is as much as before.
+    pub fn take_room(&mut self, more: usize) -> Result<(), Memory>
+        ensures list { self.new.list ≡ self.old.list }
+        ensures room { OnOk result (self.new.room ≡ self.old.room + more) }
+        ensures err { OnErr result (self.new.room ≡ self.old.room) }
     {
-        let mut items = Vec::with_capacity(alloc, room)?;
+        let Some(room) = self.room.checked_add(more) else {
+            return Err(Memory);
+        };
+        self.items.reserve(room.saturating_sub(self.items.len()))?;
+        self.room = room;
+        Ok(())
+    }
+
+    /// Room for that many fewer.
+    pub fn give_room(&mut self, more: usize)
+        requires { more ≤ self.old.room }
+        ensures list { self.new.list ≡ self.old.list }
+        ensures room { self.new.room + more ≡ self.old.room }
+    {
+        self.room -= more;
+    }
+
+    /// The same events, with as much room. 141 where memory is refused.
+    pub fn with_same(&self, alloc: Global) -> Result<Events, Memory>
+        ensures list { IfOk result (λ e. e.list ≡ self.now.list) }
+        ensures room { IfOk result (λ e. e.room ≡ self.now.room) }
+    {
+        let mut items = Vec::with_capacity(alloc, self.room)?;
         items.extend_from_slice(&self.items)?;
-        Ok(Events { items })
+        Ok(Events {
+            items,
+            room: self.room,
+        })
     }
 
     /// The events in their order.
@@ -95,6 +126,7 @@ impl Events {
     {
         Ok(Events {
             items: self.items.clone()?,
+            room: 0,
         })
     }
 }

@@ -1,14 +1,14 @@
 //! What a board begins with: all vertices wait, all workers are idle, the caches are kept as they were handed in, and the record has
 //! room for every event.
 
-ghost use Rattle.std.specs.Prelude.{◌≡◌, ◌≤◌, [], length, replicate, false, IfOk};
+ghost use Rattle.std.specs.Prelude.{◌≡◌, [], length, replicate, false, IfOk};
 ghost use Rattle.llb_model.specs.Room.{most_events};
 ghost use Rattle.llb_links.specs.Links.{IsLinked};
 ghost use Rattle.llb_state.specs.declared.stand.Desk.TheVariants as desk;
 ghost use Rattle.llb_state.specs.declared.stand.Stand.TheVariants as stand;
 
 use crate::build::Build;
-use crate::events::Events;
+use crate::history::History;
 use crate::stand::{Desk, Stand};
 use llb_cache::Caches;
 use llb_events::Memory;
@@ -24,7 +24,7 @@ pub struct Fresh {
     pub links: Links,
     /// The caches as they were handed in.
     pub start: Caches,
-    pub events: Events,
+    pub history: History,
 }
 
 /// For a graph, caches and that many workers. Out of memory alone refuses it.
@@ -34,8 +34,9 @@ pub fn opening(alloc: Global, build: &Build, caches: &Caches, workers: u32) -> R
     ensures stop_marks { IfOk result (λ f. f.stop_marks.items ≡ replicate (length build.now.graph.vertices) false) }
     ensures links { IfOk result (λ f. IsLinked build.now.graph.vertices (λ u. false) f.links) }
     ensures start { IfOk result (λ f. f.start ≡ caches.now) }
-    ensures events { IfOk result (λ f. f.events.list ≡ []) }
-    ensures room { IfOk result (λ f. most_events build.now ≤ f.events.room) }
+    ensures events { IfOk result (λ f. f.history.list ≡ []) }
+    ensures room { IfOk result (λ f. f.history.space.room ≡ most_events build.now []) }
+    ensures cancels { IfOk result (λ f. f.history.space.cancels ≡ replicate (length build.now.graph.vertices) 0) }
 {
     let count = build.vertices().len();
     Ok(Fresh {
@@ -44,7 +45,7 @@ pub fn opening(alloc: Global, build: &Build, caches: &Caches, workers: u32) -> R
         stop_marks: Vec::from_elem(alloc, false, count)?,
         links: Links::new(alloc, build.vertices())?,
         start: caches.copy()?,
-        events: Events::with_room(alloc, room(build))?,
+        history: History::new(alloc, room(build), count)?,
     })
 }
 
@@ -68,9 +69,9 @@ fn idle(alloc: Global, count: u32) -> Result<Vec<Desk>, AllocError>
     Ok(desks)
 }
 
-/// How many events may come in all.
-pub fn room(build: &Build) -> usize
-    ensures { result ≡ most_events build.now }
+// How many events may come in all.
+fn room(build: &Build) -> usize
+    ensures { result ≡ most_events build.now [] }
 {
     let mut all: usize = 0;
     let count = build.vertices().len() as u32;

@@ -1,7 +1,9 @@
 //! The instances of caches that a worker has: their lease, their trees for a micro-step and after it, and the lease given back. A
 //! worker whose vertex shows no cache has no lease.
 
-ghost use Rattle.std.specs.Prelude.{◌≡◌, ◌≢◌, ◌<◌, ◌^◌, map, length, AllPairs, IfOk, IfErr, OnErr, true};
+ghost use Rattle.std.specs.Prelude.{◌≡◌, ◌≢◌, ◌<◌, ◌^◌, map, length, AllPairs, IfOk, IfErr, OnOk, OnErr, Ok, true};
+ghost use Rattle.llb_events.specs.declared.fault.ClaimFault.TheVariants as claim;
+ghost use Rattle.llb_state.specs.Events.{claimed};
 ghost use Rattle.llb_cache.specs.Caches.{places_of, leases};
 ghost use Rattle.llb_cache.specs.Faults.{Gives};
 ghost use Rattle.llb_model.specs.Caches.{trees_at};
@@ -11,9 +13,10 @@ ghost use Rattle.llb_state.specs.Caches.{tree_of, leased_places, IsOutIf, given_
 ghost use Rattle.llb_state.specs.Views.{at_of, leased_by};
 ghost use Rattle.llb_state.specs.Rules.{step_memory};
 
+use crate::history::History;
 use crate::stand::Desk;
 use llb_cache::{Caches, Lease, LeaseFault, Need, Place};
-use llb_events::StepFault;
+use llb_events::{ClaimFault, StepFault};
 use llb_tree::Tree;
 use llb_wire::Many;
 use std::alloc::Global;
@@ -40,9 +43,9 @@ fn content(alloc: Global, caches: &Caches, place: &Place) -> Result<Tree, StepFa
     }
 }
 
-/// A lease of these needs, none where there are none. Their keys differ. 111 with the first locked key that is held, 112 where memory is
-/// refused; then the caches are as they were.
-pub fn lease_for(caches: &mut Caches, needs: Vec<Need>) -> Result<Option<Lease>, LeaseFault>
+// A lease of these needs, none where there are none. Their keys differ. 111 with the first locked key that is held, 112 where memory is
+// refused; then the caches are as they were.
+fn lease_for(caches: &mut Caches, needs: Vec<Need>) -> Result<Option<Lease>, LeaseFault>
     requires differ { AllPairs (λ n m. n.key ≢ m.key) needs.items }
     requires few { leases caches.old.out < 65536 }
     ensures gives { Gives (λ l. (l, caches.new)) result (lease_if caches.old needs.items) }
@@ -52,6 +55,33 @@ pub fn lease_for(caches: &mut Caches, needs: Vec<Need>) -> Result<Option<Lease>,
         return Ok(None);
     }
     Ok(Some(caches.lease(Many::new(needs))?))
+}
+
+/// A lease of these needs, none where there are none, and room for the events of the vertex that is claimed with them, where it was
+/// cancelled before: both, or neither. Want of memory alone refuses it; then caches and history are as they were.
+pub fn lease_with_room(
+    caches: &mut Caches,
+    history: &mut History,
+    needs: Vec<Need>,
+    v: u32,
+    events: usize,
+) -> Result<Option<Lease>, ClaimFault>
+    requires differ { AllPairs (λ n m. n.key ≢ m.key) needs.items }
+    requires few { leases caches.old.out < 65536 }
+    requires low { v < length history.old.space.cancels }
+    ensures gives { IfOk result (λ l. lease_if caches.old needs.items ≡ Ok (l, caches.new)) }
+    ensures list { history.new.list ≡ history.old.list }
+    ensures room { OnOk result (history.new.space ≡ claimed v events history.old.space) }
+    ensures memory { IfErr result (λ e. e ≡ claim.Memory) }
+    ensures err { OnErr result (caches.new ≡ caches.old) }
+    ensures back { OnErr result (history.new.space ≡ history.old.space) }
+{
+    history.take_room(v, events)?;
+    if let Ok(lease) = lease_for(caches, needs) {
+        return Ok(lease);
+    }
+    history.give_room(v, events);
+    Err(ClaimFault::Memory)
 }
 
 /// A lease that is out is given back, where there is one.

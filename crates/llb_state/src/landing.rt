@@ -1,6 +1,6 @@
 //! Whether a job is what a worker runs now, by value, and what its micro-steps left put in the place of what the worker had.
 
-ghost use Rattle.std.specs.Prelude.{◌≡◌, ◌↔◌, ◌<◌, ◌≤◌, ◌+◌, ◌^◌, ◌++◌, ℕ, Option, length, map, true, Some, slice_get, slice_set, is_some, IsTrue};
+ghost use Rattle.std.specs.Prelude.{◌≡◌, ◌↔◌, ◌<◌, ◌+◌, ◌^◌, ℕ, Option, length, map, true, Some, slice_get, slice_set, is_some, IsTrue};
 ghost use Rattle.std.specs.List.{list_any};
 ghost use Rattle.llb_model.specs.Caches as model;
 ghost use Rattle.llb_model.specs.Caches.{trees_at, Has};
@@ -8,7 +8,6 @@ ghost use Rattle.llb_model.specs.Program.{program_at};
 ghost use Rattle.llb_state.specs.declared.stand.Desk.TheVariants as desk;
 ghost use Rattle.llb_state.specs.declared.stand.Execution as own;
 ghost use Rattle.llb_model.specs.Kept.{store_of};
-ghost use Rattle.llb_model.specs.Landing.{steps_by};
 ghost use Rattle.llb_cache.specs.Caches.{trees_of};
 ghost use Rattle.llb_state.specs.Caches.{tree_of};
 ghost use Rattle.llb_needs.specs.Needs.{number_of};
@@ -17,11 +16,9 @@ ghost use Rattle.llb_state.specs.Views.{leased_by, execution_of};
 
 use crate::build::Build;
 use crate::copying::lease_of;
-use crate::events::Events;
 use crate::job::Job;
 use crate::stand::{Desk, Execution};
 use llb_cache::{Caches, Lease, Mode, Place};
-use llb_events::Event;
 use llb_execution::{Program, View};
 use llb_model::VertexFault;
 use llb_tree::Tree;
@@ -137,15 +134,4 @@ pub fn put_left(
         }
     }
     lease
-}
-
-/// That many micro-steps of a worker, for which there is room.
-pub fn record_steps(events: &mut Events, w: u32, count: u32)
-    requires { length events.old.list + count ≤ events.old.room }
-    ensures list { events.new.list ≡ events.old.list ++ steps_by w count }
-    ensures room { events.new.room ≡ events.old.room }
-{
-    for _i in 0..count {
-        events.push_reserved(Event::Step(w));
-    }
 }

@@ -1,12 +1,14 @@
 //! One micro-step of an execution, on its own view and the instances of caches that it has.
 
-ghost use Rattle.std.specs.Prelude.{◌≡◌, ◌<◌, ◌^◌, map, option_map, length, Some, None, OnErr};
+ghost use Rattle.std.specs.Prelude.{◌≡◌, ◌<◌, ◌^◌, List, map, option_map, length, Some, None, Ok, OnErr, IfNone, IfSome};
 ghost use Rattle.llb_wire.specs.Answer.{MemoryLast};
-ghost use Rattle.llb_execution.specs.Parts.{step_in};
-ghost use Rattle.llb_model.specs.Program.{program_at, program_of};
+ghost use Rattle.llb_execution.specs.Parts.{step_in, is_skipped};
+ghost use Rattle.llb_model.specs.Program as model;
+ghost use Rattle.llb_model.specs.Program.{Left, program_at, program_of, last_of};
 ghost use Rattle.llb_model.specs.Table as table;
 ghost use Rattle.llb_state.specs.Room.{supplies_of, supplies_for};
 ghost use Rattle.llb_state.specs.Rules.{step_memory, GivesStep, worked};
+ghost use Rattle.llb_tree.specs.Tree.{TreeMap};
 ghost use Rattle.llb_state.specs.Views.{execution_of, fault_or, step_reply};
 
 use crate::stand::Execution;
@@ -16,6 +18,48 @@ use llb_loader::Vertex;
 use llb_model::VertexFault;
 use llb_tree::Tree;
 use std::alloc::Global;
+
+/// The next micro-step of an execution, where it is a command that is skipped: it is counted, and nothing else changes. Takes no memory.
+pub fn skip(execution: &mut Execution, vertex: Option<&Vertex>) -> Option<Stepped>
+    requires few { length (program_at (option_map (λ v. v.now) vertex)).steps < 2 ^ 32 }
+    requires supplies { supplies_of execution.old ≡ supplies_for (option_map (λ v. v.now) vertex) }
+    ensures skips { IfSome result (λ r. (trees : List TreeMap) →
+        worked (program_at (option_map (λ v. v.now) vertex.entry)).steps (execution_of execution.old) trees
+        ≡ Ok (record { execution = execution_of execution.new; trees = trees; reply = step_reply r })) }
+    ensures supplies { supplies_of execution.new ≡ supplies_of execution.old }
+    ensures places { execution.new.places ≡ execution.old.places }
+    ensures none { IfNone result (execution.new ≡ execution.old) }
+{
+    if execution.fault.is_some() {
+        return None;
+    }
+    match vertex {
+        Some(vertex) => skip_next(execution, vertex),
+        None => None,
+    }
+}
+
+// The next micro-step of an execution that has not faulted, where it is skipped.
+fn skip_next(execution: &mut Execution, vertex: &Vertex) -> Option<Stepped>
+    requires clean { execution.old.fault ≡ None }
+    requires few { length (program_of vertex.now).steps < 2 ^ 32 }
+    requires supplies { supplies_of execution.old ≡ supplies_for (Some vertex.now) }
+    ensures skips { IfSome result (λ r. (trees : List TreeMap) → worked (program_of vertex.now).steps (execution_of execution.old) trees
+        ≡ Ok (record { execution = execution_of execution.new; trees = trees; reply = step_reply r })) }
+    ensures supplies { supplies_of execution.new ≡ supplies_of execution.old }
+    ensures places { execution.new.places ≡ execution.old.places }
+    ensures none { IfNone result (execution.new ≡ execution.old) }
+{
+    let done = execution.done;
+    let Some(next) = step_of(vertex, &execution.setting, done) else {
+        return None;
+    };
+    if !execution.view.skips(next) {
+        return None;
+    }
+    execution.done = done + 1;
+    Some(Stepped::Skipped(done))
+}
 
 /// The next micro-step of an execution, whose instances of caches have these trees: it leaves others of them. 137 where none is left,
 /// 141 where memory is refused; then the execution is as it was.
@@ -69,21 +113,34 @@ fn next_step(
     let Some(next) = step_of(vertex, &execution.setting, done) else {
         return Err(StepFault::NothingLeft);
     };
+    let skipped = execution.view.skips(next);
     let fault = execution.view.step(alloc, done, next, trees)?;
     execution.done = done + 1;
     execution.fault = fault;
-    Ok(told(next, done, fault))
+    Ok(told(next, done, skipped, execution.view.last(), fault))
 }
 
-// What a micro-step of that number answers.
-fn told(step: MicroStep<'_>, done: u32, fault: Option<VertexFault>) -> Stepped
-    ensures { step_reply result ≡ table.step_reply done (step_in step.entry) fault }
+// What a micro-step of that number answers, which was skipped or not, and left this last status and fault.
+fn told(
+    step: MicroStep<'_>,
+    done: u32,
+    skipped: bool,
+    last: u32,
+    fault: Option<VertexFault>,
+) -> Stepped
+    ensures { (before : model.View) (left : Left) → is_skipped (step_in step.entry) before ≡ skipped → last_of left.work.own ≡ last
+        → left.fault ≡ fault → step_reply result ≡ table.step_reply done (step_in step.entry) before left }
 {
     match step {
         MicroStep::ReadLocal => unless_faulted(fault, Stepped::Read),
         MicroStep::Act(_) => unless_faulted(fault, Stepped::Acted(done)),
         MicroStep::LayInput(_) => unless_faulted(fault, Stepped::Merged(done)),
-        MicroStep::Run(_, _) => Stepped::Ran(done, exit_status(fault)),
+        MicroStep::Run(_, _, _) => {
+            if skipped {
+                return Stepped::Skipped(done);
+            }
+            Stepped::Ran(done, last)
+        }
     }
 }
 
@@ -94,15 +151,5 @@ fn unless_faulted(fault: Option<VertexFault>, done: Stepped) -> Stepped
     match fault {
         Some(fault) => Stepped::Fault(fault),
         None => done,
-    }
-}
-
-// The status with which a command ended.
-fn exit_status(fault: Option<VertexFault>) -> u32
-    ensures { result ≡ table.exit_status fault }
-{
-    match fault {
-        Some(VertexFault::Exit(_, status)) => status,
-        _ => 0,
     }
 }

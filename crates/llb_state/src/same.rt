@@ -92,6 +92,7 @@ fn same_event(event: Event, other: Event) -> bool
         (Event::Claim(w, v), Event::Claim(u, o)) => w == u && v == o,
         (Event::Step(w), Event::Step(u)) => w == u,
         (Event::Settle(w), Event::Settle(u)) => w == u,
+        (Event::Cancel(w), Event::Cancel(u)) => w == u,
         _ => false,
     }
 }

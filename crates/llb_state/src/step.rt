@@ -17,18 +17,19 @@ ghost use Rattle.llb_state.specs.Room.{ready_made, needed, supplies_of, supplies
 ghost use Rattle.llb_state.specs.declared.stand.Desk.TheVariants as desk;
 ghost use Rattle.llb_wire.specs.Answer.{MemoryLast};
 ghost use Rattle.llb_state.specs.Rules.{faulted, claim_fault, step_fault, step_memory, begun, GivesStep, worked_in, GivesSettle, left_at};
+ghost use Rattle.llb_state.specs.Rules.{GivesCancel, given_up_at};
 ghost use Rattle.llb_events.specs.Faults.{GivesClaim};
 
 use crate::build::Build;
 use crate::ending::end;
 use crate::instances::{contents, write_back};
 use crate::job::Job;
-use crate::micro_step::step;
+use crate::micro_step::{skip, step};
 use crate::ready::{gathered, is_ready};
 use crate::stand::{Desk, Execution, Stand};
 use llb_applet::Setting;
 use llb_cache::{Caches, Lease, Need};
-use llb_events::{ClaimFault, SettleFault, StepFault, Stepped};
+use llb_events::{CancelFault, Cancelled, ClaimFault, SettleFault, StepFault, Stepped};
 use llb_execution::{Program, View, empty_trees, setting_of};
 use llb_links::Links;
 use llb_loader::Vertex;
@@ -187,6 +188,10 @@ fn step_of(
     if is_finished(execution, build.steps(execution.vertex)) {
         return Err(StepFault::NothingLeft);
     }
+    if let Some(stepped) = skip(execution, vertex) {
+        caches.is_exclusive();
+        return Ok(stepped);
+    }
     let mut trees = contents(alloc, caches, &execution.places)?;
     let stepped = step(alloc, execution, &mut trees, vertex)?;
     write_back(caches, lease, trees);
@@ -251,6 +256,33 @@ pub fn leave(
         Desk::Runs(lease, execution) => {
             let v = execution.vertex;
             Ok((v, end(execution, build.vertex(v)), lease))
+        }
+    }
+}
+
+/// A worker gives up what it runs, finished or not: the vertex with the micro-steps done, and the lease of its instances, where it has
+/// one. 131, 136; no memory.
+pub fn give_up(desks: &mut [Desk], w: u32) -> Result<(Cancelled, Option<Lease>), CancelFault>
+    ensures gives { GivesCancel (λ p. (p.0.vertex, p.0.done)) result (given_up_at (slice_get (map at_of desks.old) w)) }
+    ensures leased { IfOk result (λ p. slice_get (map leased_by desks.old) w ≡ Some p.1) }
+    ensures idle { OnOk result (desks.new ≡ slice_set desks.old w desk.Idle) }
+    ensures err { OnErr result (desks.new ≡ desks.old) }
+{
+    if w as usize >= desks.len() {
+        return Err(CancelFault::NoWorker);
+    }
+    match &desks[w as usize] {
+        Desk::Idle => return Err(CancelFault::NotRunning),
+        Desk::Runs(_, _) => {}
+    }
+    match mem::replace(&mut desks[w as usize], Desk::Idle) {
+        Desk::Idle => Err(CancelFault::NotRunning),
+        Desk::Runs(lease, execution) => {
+            let cancelled = Cancelled {
+                vertex: execution.vertex,
+                done: execution.done,
+            };
+            Ok((cancelled, lease))
         }
     }
 }

@@ -4,8 +4,11 @@ use Rattle.std.proofs.Common.{None, option_map, refl, sym, ap, ◌∙◌, arith,
 use Rattle.std.specs.Prelude.{slice_get, Result, Ok, Err, OnOk, OnErr}
 use Rattle.std.specs.List.{list_any}
 use Rattle.llb_model.specs.Run.{chosen}
-use Rattle.llb_model.specs.Table.{Event, Reply}
-use Rattle.llb_state.specs.Board.{Seen}
+use Rattle.llb_model.specs.Room.{still_to_come}
+use Rattle.llb_model.specs.State.{State}
+use Rattle.llb_model.specs.Table.{Event, Reply, table}
+use Rattle.llb_model.proofs.Alone.{chosen_comes_nearer}
+use Rattle.llb_state.specs.Board.{Seen, after_event}
 use Rattle.llb_stepper.specs.declared.stop.Break.{Break}
 use Rattle.llb_stepper.specs.declared.stop.Stop.{Stop}
 use Rattle.std.proofs.lemmas.Option.{slice_get-get_or, slice_get-map}
@@ -306,3 +309,21 @@ refused_at s t es i e f kept at refused = record {
 -- the event at a place of a list
 pub event_at : (es : List own.Event) (i : ℕ) (d : own.Event) → i < length es → slice_get (map event_of es) i ≡ Some (event_of (get_or es i d))
 event_at es i d lt = slice_get-map event_of es i ∙ ap (option_map event_of) (slice_get-get_or es i d lt)
+
+-- with a chosen event fewer events are still to come
+pub nearer : (s t : Stepping) (e : Event) (met : Bool) → MeetsOn s e t met → chosen s.board.build s.board.state ≡ Some e
+    → still_to_come t.board.build t.board.state < still_to_come s.board.build s.board.state
+nearer s t e met on is =
+    let near = answered_nearer s.board on.0 e on.1 is (table s.board.build s.board.state e) refl on.2 in
+    let same = ap (λ (x : Stepping). still_to_come x.board.build x.board.state) on.3 in
+    omega (arith, near, same)
+  where
+    answered_nearer : (b n : Seen) (e : Event) (r : Reply) → chosen b.build b.state ≡ Some e → (o : Option (State × Reply)) → table b.build b.state e ≡ o
+        → option_map {U = Seen × Reply} (λ a. (after_event b e a.0, a.1)) o ≡ Some (n, r)
+        → still_to_come n.build n.state < still_to_come b.build b.state
+    answered_nearer b n e r is None given leads = absurd cc
+    answered_nearer b n e r is (Some a) given leads =
+        let same : (let p : Seen × Reply = (after_event b e a.0, a.1) in p) ≡ (n, r) = inside leads in
+        let near = chosen_comes_nearer b.build b.state e a is given in
+        let come = ap (λ (p : Seen × Reply). still_to_come p.0.build p.0.state) same in
+        omega (arith, near, come)

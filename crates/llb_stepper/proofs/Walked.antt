@@ -7,10 +7,10 @@ use Rattle.std.specs.List.{list_any}
 use Rattle.std.specs.Result.{result_ok}
 use Rattle.llb_model.specs.Run.{chosen}
 use Rattle.llb_model.specs.State.{State}
-use Rattle.llb_model.specs.Table.{Event, Claim, Step, Settle, Reply, Claimed, HasRead, Acted, HasMerged, HasRun, Faulted, SettledDone, SettledFailed}
-use Rattle.llb_model.specs.Table.{claim_grant, step_grant, settle_grant, table}
+use Rattle.llb_model.specs.Table.{Event, Claim, Step, Settle, Cancel, Reply, Claimed, HasRead, Acted, HasMerged, HasRun, Skipped, Faulted}
+use Rattle.llb_model.specs.Table.{SettledDone, SettledFailed, Cancelled, claim_grant, step_grant, settle_grant, cancel_grant, table}
 use Rattle.llb_state.specs.Board.{Seen, ChosenIsGranted, after_event, recorded}
-use Rattle.llb_state.specs.Rules.{claim_fault, step_fault, settle_fault}
+use Rattle.llb_state.specs.Rules.{claim_fault, step_fault, settle_fault, cancel_fault}
 use Rattle.llb_board.specs.Undo.{told, told_as, undone, walk_of, CanUndo}
 use Rattle.llb_events.specs.declared.fault.WalkFault.{WalkFault}
 use Rattle.llb_events.specs.declared.fault.WalkFault.TheVariants as walk
@@ -44,6 +44,7 @@ unfolding table
 answers b n (Claim w v) q is = by_grant b n (Claim w v) q claim_fault walk.Claim (claim_grant b.build b.state w v) is
 answers b n (Step w) q is = by_grant b n (Step w) q step_fault walk.Step (step_grant b.build b.state w) is
 answers b n (Settle w) q is = by_grant b n (Settle w) q settle_fault walk.Settle (settle_grant b.build b.state w) is
+answers b n (Cancel w) q is = by_grant b n (Cancel w) q cancel_fault walk.Cancel (cancel_grant b.state w) is
 
 -- where the table grants an event, a walk is not refused
 grants_by : {C F : Type 0} (b : Seen) (e : Event) (fault : C → F) (out : F → WalkFault) (o : Result (State × Reply) C) (f : WalkFault)
@@ -56,6 +57,7 @@ unfolding table
 not_refused b (Claim w v) f granted is = grants_by b (Claim w v) claim_fault walk.Claim (claim_grant b.build b.state w v) f granted is
 not_refused b (Step w) f granted is = grants_by b (Step w) step_fault walk.Step (step_grant b.build b.state w) f granted is
 not_refused b (Settle w) f granted is = grants_by b (Settle w) settle_fault walk.Settle (settle_grant b.build b.state w) f granted is
+not_refused b (Cancel w) f granted is = grants_by b (Cancel w) cancel_fault walk.Cancel (cancel_grant b.state w) f granted is
 
 -- a breakpoint is met by what is told of a reply as by the reply
 met_told : (e : Event) (r : Reply) (k : Break) → meets_told e (told r) k ≡ meets e r k
@@ -65,17 +67,21 @@ met_told e HasRead (stop.Settles v) = refl
 met_told e (Acted a) (stop.Settles v) = refl
 met_told e (HasMerged i) (stop.Settles v) = refl
 met_told e (HasRun c status) (stop.Settles v) = refl
+met_told e (Skipped c) (stop.Settles v) = refl
 met_told e (Faulted f) (stop.Settles v) = refl
 met_told e (SettledDone u) (stop.Settles v) = refl
 met_told e (SettledFailed u) (stop.Settles v) = refl
+met_told e (Cancelled u k) (stop.Settles v) = refl
 met_told e (Claimed job) stop.Fails = refl
 met_told e HasRead stop.Fails = refl
 met_told e (Acted a) stop.Fails = refl
 met_told e (HasMerged i) stop.Fails = refl
 met_told e (HasRun c status) stop.Fails = refl
+met_told e (Skipped c) stop.Fails = refl
 met_told e (Faulted f) stop.Fails = refl
 met_told e (SettledDone u) stop.Fails = refl
 met_told e (SettledFailed u) stop.Fails = refl
+met_told e (Cancelled u k) stop.Fails = refl
 
 pub any_told : (e : Event) (r : Reply) (ks : List Break) → list_any (meets_told e (told r)) ks ≡ list_any (meets e r) ks
 any_told e r ks = ap (λ test. list_any test ks) (λ i k. met_told e r k i)

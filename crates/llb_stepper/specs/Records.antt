@@ -6,7 +6,8 @@ use Rattle.llb_ops.specs.declared.op.Kind.TheVariants.{Exec, Source, File, Build
 use Rattle.llb_loader.specs.declared.graph.Vertex.{Vertex}
 use Rattle.llb_model.specs.declared.fault.VertexFault.{VertexFault}
 use Rattle.llb_model.specs.declared.fault.VertexFault.TheVariants as vertex
-use Rattle.llb_model.specs.Table.{Event, Claim, Step, Settle, Reply, Claimed, HasRead, Acted, HasMerged, HasRun, Faulted, SettledDone, SettledFailed}
+use Rattle.llb_model.specs.Table.{Event, Claim, Step, Settle, Cancel, Reply, Claimed, HasRead, Acted, HasMerged, HasRun, Skipped, Faulted}
+use Rattle.llb_model.specs.Table.{SettledDone, SettledFailed, Cancelled}
 use Rattle.llb_state.specs.Board.{Seen}
 use Rattle.llb_stepper.specs.Stepping.{Stepping, answered}
 
@@ -24,6 +25,7 @@ abbrev pub event_text : Event → List ℕ
 event_text (Claim w v) = codes "claim " ++ (decimal w ++ (codes " " ++ decimal v))
 event_text (Step w) = codes "step " ++ decimal w
 event_text (Settle w) = codes "settle " ++ decimal w
+event_text (Cancel w) = codes "cancel " ++ decimal w
 
 abbrev pub done_text : ℕ → List ℕ
 done_text v = decimal v ++ codes " done"
@@ -49,6 +51,7 @@ abbrev pub vertex_of : Event → ℕ
 vertex_of (Claim w v) = v
 vertex_of (Step w) = 0
 vertex_of (Settle w) = 0
+vertex_of (Cancel w) = 0
 
 abbrev pub reply_text : List Vertex → Event → Reply → List ℕ
 reply_text vertices e (Claimed job) = claimed_text (slice_get vertices (vertex_of e))
@@ -56,9 +59,11 @@ reply_text vertices e HasRead = codes "read"
 reply_text vertices e (Acted a) = codes "acted " ++ decimal a
 reply_text vertices e (HasMerged i) = codes "merged " ++ decimal i
 reply_text vertices e (HasRun c status) = codes "ran " ++ pair_text c status
+reply_text vertices e (Skipped c) = codes "skipped " ++ decimal c
 reply_text vertices e (Faulted f) = fault_text f
 reply_text vertices e (SettledDone v) = done_text v
 reply_text vertices e (SettledFailed v) = failed_text v
+reply_text vertices e (Cancelled v k) = pair_text v k
 
 -- the line of an event, without its end
 abbrev pub record_text : List Vertex → ℕ → Event × Reply → List ℕ

@@ -2,7 +2,8 @@
 use Rattle.std.specs.Prelude.{◌≡◌, ℕ, zero, suc, ◌+◌, ◌<◌, ◌==◌, nat_lt, if◌then◌else◌, Bool, true, false, List, []}
 use Rattle.std.specs.Prelude.{◌∷◌, length, take, drop, Option, Some, None, option_map}
 use Rattle.std.specs.List.{list_any}
-use Rattle.llb_model.specs.Table.{Event, Claim, Step, Settle, Reply, Claimed, HasRead, Acted, HasMerged, HasRun, Faulted, SettledDone, SettledFailed, table}
+use Rattle.llb_model.specs.Table.{Event, Claim, Step, Settle, Cancel, Reply, Claimed, HasRead, Acted, HasMerged, HasRun, Skipped, Faulted}
+use Rattle.llb_model.specs.Table.{SettledDone, SettledFailed, Cancelled, table}
 use Rattle.llb_model.specs.State.{State}
 use Rattle.llb_model.specs.Run.{chosen}
 use Rattle.llb_state.specs.Board.{Seen, after_event}
@@ -40,6 +41,7 @@ abbrev pub claims : ℕ → Event → Bool
 claims v (Claim w u) = u == v
 claims v (Step w) = false
 claims v (Settle w) = false
+claims v (Cancel w) = false
 
 abbrev pub settles : ℕ → Reply → Bool
 settles v (SettledDone u) = u == v
@@ -49,7 +51,9 @@ settles v HasRead = false
 settles v (Acted a) = false
 settles v (HasMerged i) = false
 settles v (HasRun c status) = false
+settles v (Skipped c) = false
 settles v (Faulted f) = false
+settles v (Cancelled u k) = false
 
 abbrev pub has_failed : Reply → Bool
 has_failed (SettledFailed u) = true
@@ -59,7 +63,9 @@ has_failed HasRead = false
 has_failed (Acted a) = false
 has_failed (HasMerged i) = false
 has_failed (HasRun c status) = false
+has_failed (Skipped c) = false
 has_failed (Faulted f) = false
+has_failed (Cancelled u k) = false
 
 -- an event with its reply meets a breakpoint: a claim of the vertex, a settle of the vertex, a settle that failed
 abbrev pub meets : Event → Reply → Break → Bool

@@ -8,7 +8,7 @@ use Rattle.llb_board.specs.Undo.{told}
 use Rattle.llb_state.specs.Views.{event_of}
 use Rattle.llb_events.specs.declared.event.Event as own
 use Rattle.llb_events.specs.declared.event.Stepped.{Stepped}
-use Rattle.llb_events.specs.declared.event.Stepped.TheVariants.{Read, Acted, Merged, Ran, Fault}
+use Rattle.llb_events.specs.declared.event.Stepped.TheVariants.{Read, Acted, Merged, Ran, Skipped, Fault}
 use Rattle.llb_events.specs.declared.event.Settled.{Settled}
 use Rattle.llb_events.specs.declared.event.Settled.TheVariants as settled
 use Rattle.llb_board.specs.declared.walk.Reply.{Reply}
@@ -23,12 +23,14 @@ settles_told v (reply.Settled (settled.Done u)) = u == v
 settles_told v (reply.Settled (settled.Failed u)) = u == v
 settles_told v reply.Claimed = false
 settles_told v (reply.Stepped s) = false
+settles_told v (reply.Cancelled c) = false
 
 abbrev pub failed_told : Reply → Bool
 failed_told (reply.Settled (settled.Failed u)) = true
 failed_told (reply.Settled (settled.Done u)) = false
 failed_told reply.Claimed = false
 failed_told (reply.Stepped s) = false
+failed_told (reply.Cancelled c) = false
 
 -- an event with its reply meets a breakpoint
 abbrev pub meets_told : Event → Reply → Break → Bool
@@ -42,6 +44,7 @@ step_text Read = codes "read"
 step_text (Acted a) = codes "acted " ++ decimal a
 step_text (Merged i) = codes "merged " ++ decimal i
 step_text (Ran c status) = codes "ran " ++ pair_text c status
+step_text (Skipped c) = codes "skipped " ++ decimal c
 step_text (Fault f) = fault_text f
 
 abbrev pub settle_text : Settled → List ℕ
@@ -52,6 +55,7 @@ abbrev pub told_text : List Vertex → Event → Reply → List ℕ
 told_text vertices e reply.Claimed = claimed_text (slice_get vertices (vertex_of e))
 told_text vertices e (reply.Stepped s) = step_text s
 told_text vertices e (reply.Settled s) = settle_text s
+told_text vertices e (reply.Cancelled c) = pair_text c.vertex c.done
 
 -- the line of an event, without its end
 abbrev pub line_text : List Vertex → ℕ → Event → Reply → List ℕ

@@ -2,10 +2,10 @@
 
 ghost use Rattle.std.specs.Prelude.{◌≡◌, IfOk, option_map, string_bytes};
 ghost use Rattle.llb_state.specs.Views.{event_of};
-ghost use Rattle.llb_stepper.specs.Records.{kind_text, event_text, claimed_text, fault_text, vertex_of};
+ghost use Rattle.llb_stepper.specs.Records.{kind_text, event_text, claimed_text, pair_text, fault_text, vertex_of};
 ghost use Rattle.llb_stepper.specs.Told.{step_text, settle_text, told_text, line_text};
 
-use llb_board::{Event, Reply, Settled, Stepped};
+use llb_board::{Cancelled, Event, Reply, Settled, Stepped};
 use llb_loader::Vertex;
 use llb_model::VertexFault;
 use llb_ops::{Kind, Op};
@@ -35,6 +35,7 @@ fn event_text(alloc: Global, event: Event) -> Result<String, AllocError>
         Event::Claim(w, v) => format!(in alloc; "claim {w} {v}"),
         Event::Step(w) => format!(in alloc; "step {w}"),
         Event::Settle(w) => format!(in alloc; "settle {w}"),
+        Event::Cancel(w) => format!(in alloc; "cancel {w}"),
     }
 }
 
@@ -69,6 +70,7 @@ fn step_text(alloc: Global, stepped: Stepped) -> Result<String, AllocError>
         Stepped::Acted(a) => format!(in alloc; "acted {a}"),
         Stepped::Merged(i) => format!(in alloc; "merged {i}"),
         Stepped::Ran(c, status) => format!(in alloc; "ran {c} {status}"),
+        Stepped::Skipped(c) => format!(in alloc; "skipped {c}"),
         Stepped::Fault(fault) => fault_text(alloc, fault),
     }
 }
@@ -82,13 +84,21 @@ fn settle_text(alloc: Global, settled: Settled) -> Result<String, AllocError>
     }
 }
 
+// The vertex that was given up, and the micro-steps that were done.
+fn cancel_text(alloc: Global, cancelled: Cancelled) -> Result<String, AllocError>
+    ensures { IfOk result (λ s. string_bytes s ≡ pair_text cancelled.vertex cancelled.done) }
+{
+    let (v, done) = (cancelled.vertex, cancelled.done);
+    format!(in alloc; "{v} {done}")
+}
+
 // The vertex of a claim; of another event 0, which is not asked for.
 fn vertex_of(event: Event) -> u32
     ensures { result ≡ vertex_of (event_of event) }
 {
     match event {
         Event::Claim(_, v) => v,
-        Event::Step(_) | Event::Settle(_) => 0,
+        Event::Step(_) | Event::Settle(_) | Event::Cancel(_) => 0,
     }
 }
 
@@ -104,6 +114,7 @@ fn reply_text(
         Reply::Claimed => claimed_text(alloc, vertices.get(vertex_of(event) as usize)),
         Reply::Stepped(stepped) => step_text(alloc, stepped),
         Reply::Settled(settled) => settle_text(alloc, settled),
+        Reply::Cancelled(cancelled) => cancel_text(alloc, cancelled),
     }
 }
 

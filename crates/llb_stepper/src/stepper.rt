@@ -225,7 +225,6 @@ impl Stepper {
                     return Err(fault);
                 }
             }
-            let _ = self.board.events();
         }
         Ok(Stop {
             events: (self.depth() - before) as u64,

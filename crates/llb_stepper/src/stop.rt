@@ -33,11 +33,11 @@ impl Break {
         match self {
             Break::Claims(v) => match event {
                 Event::Claim(_, u) => u == v,
-                Event::Step(_) | Event::Settle(_) => false,
+                Event::Step(_) | Event::Settle(_) | Event::Cancel(_) => false,
             },
             Break::Settles(v) => match reply {
                 Reply::Settled(Settled::Done(u)) | Reply::Settled(Settled::Failed(u)) => u == v,
-                Reply::Claimed | Reply::Stepped(_) => false,
+                Reply::Claimed | Reply::Stepped(_) | Reply::Cancelled(_) => false,
             },
             Break::Fails => match reply {
                 Reply::Settled(Settled::Failed(_)) => true,

@@ -4,6 +4,168 @@ use super::sessions::{Way, are_stories};
 
 pub(crate) const WRITES_AND_FAILS: &str = "locked: write /c/a x && false; RESULT_0";
 
+const CANCELLED: &str = "
+    # An execution that is given up can be begun anew by another worker, and finds what it wrote.
+    @ 2: locked: append /c/l a && append /c/l b; locked: cp /c/l /seen; MERGES_0_1; RESULT_2
+    > claim 0 0
+    1 claim 0 0 -> exec 2
+    > step 0
+    2 step 0 -> ran 0 0
+    > cancel 0
+    3 cancel 0 -> 0 1
+    > status
+    0 ready
+    1 ready
+    2 waiting
+    > cancel 0
+    fault 171 136
+    > cancel 9
+    fault 171 131
+    > claim 1 0
+    4 claim 1 0 -> exec 2
+    > step 1
+    5 step 1 -> ran 0 0
+    > step 1
+    6 step 1 -> ran 1 0
+    > settle 1
+    7 settle 1 -> 0 done
+    > go
+    8 claim 0 1 -> exec 1
+    9 step 0 -> ran 0 0
+    10 settle 0 -> 1 done
+    11 claim 0 2 -> merge 2
+    12 step 0 -> merged 0
+    13 step 0 -> merged 1
+    14 settle 0 -> 2 done
+    end
+    > tree 1 0
+    d 0755 0 0 /
+    f 0644 0 0 610a610a620a /seen
+
+    # What is given up, finished or not, is taken back as any event, and so is the claim after it.
+    @ 2: locked: append /c/l a && append /c/l b; locked: cp /c/l /seen; MERGES_0_1; RESULT_2
+    > claim 0 0
+    1 claim 0 0 -> exec 2
+    > step 0
+    2 step 0 -> ran 0 0
+    > cancel 0
+    3 cancel 0 -> 0 1
+    > claim 1 1
+    4 claim 1 1 -> exec 1
+    > back
+    back 3
+    > claim 1 0
+    4 claim 1 0 -> exec 2
+    > back
+    back 3
+    > back
+    back 2
+    > status
+    0 running 0
+    1 ready
+    2 waiting
+    > claim 1 1
+    fault 171 135 k
+    > step 0
+    3 step 0 -> ran 1 0
+    > cancel 0
+    4 cancel 0 -> 0 2
+    > claim 1 1
+    5 claim 1 1 -> exec 1
+    > step 1
+    6 step 1 -> ran 0 0
+    > settle 1
+    7 settle 1 -> 1 done
+    > tree 1 0
+    d 0755 0 0 /
+    f 0644 0 0 610a620a /seen
+    > cancel 1
+    fault 171 136
+";
+
+#[test]
+fn an_execution_that_is_given_up_leaves_its_cache(rt: HostRuntime) {
+    are_stories(&rt, rt.alloc(), Way::Session, CANCELLED);
+}
+
+const JOINED: &str = "
+    # A command runs or is skipped by its join and the last status; a skipped one is a step too.
+    @ 1: locked: false || write /x a \\x3b false && true || true; RESULT_0
+    > go
+    1 claim 0 0 -> exec 5
+    2 step 0 -> ran 0 1
+    3 step 0 -> ran 1 0
+    4 step 0 -> ran 2 1
+    5 step 0 -> skipped 3
+    6 step 0 -> ran 4 0
+    7 settle 0 -> 0 done
+    end
+    > tree 0 0
+    d 0755 0 0 /
+    f 0644 0 0 610a /x
+
+    # An execution ends with a status other than 0 behind which no command may run, and else with its last command.
+    @ 1: locked: false && true && true; RESULT_0
+    > go
+    1 claim 0 0 -> exec 3
+    2 step 0 -> ran 0 1
+    3 settle 0 -> 0 failed
+    end
+    > status
+    0 failed command 0 status 1
+    @ 1: locked: true \\x3b false; RESULT_0
+    > go
+    1 claim 0 0 -> exec 2
+    2 step 0 -> ran 0 0
+    3 step 0 -> ran 1 1
+    4 settle 0 -> 0 failed
+    end
+    > status
+    0 failed command 1 status 1
+
+    # A skipped command is taken back as any step, and counts where its execution is given up.
+    @ 2: locked: false && write /c/a x || append /c/b y; locked: cp /c/b /seen; MERGES_0_1; RESULT_2
+    > claim 0 0
+    1 claim 0 0 -> exec 3
+    > step 0
+    2 step 0 -> ran 0 1
+    > step 0
+    3 step 0 -> skipped 1
+    > back
+    back 2
+    > step 0
+    3 step 0 -> skipped 1
+    > cancel 0
+    4 cancel 0 -> 0 2
+    > claim 1 0
+    5 claim 1 0 -> exec 3
+    > step 1
+    6 step 1 -> ran 0 1
+    > step 1
+    7 step 1 -> skipped 1
+    > step 1
+    8 step 1 -> ran 2 0
+    > settle 1
+    9 settle 1 -> 0 done
+    > go
+    10 claim 0 1 -> exec 1
+    11 step 0 -> ran 0 0
+    12 settle 0 -> 1 done
+    13 claim 0 2 -> merge 2
+    14 step 0 -> merged 0
+    15 step 0 -> merged 1
+    16 settle 0 -> 2 done
+    end
+    > tree 1 0
+    d 0755 0 0 /
+    f 0644 0 0 790a /seen
+";
+
+#[test]
+fn commands_run_by_their_joins_and_the_last_status(rt: HostRuntime) {
+    are_stories(&rt, rt.alloc(), Way::Session, JOINED);
+}
+
 const LOCKED: &str = "
     # A locked cache is had by one worker at a time, and is no part of an output.
     @ 2: locked: write /c/a x && listing /c /seen; locked: write /c/b y && listing /c /seen; MERGES_0_1; RESULT_2

@@ -43,11 +43,16 @@ fn is_settled(board: &mut Board, w: u32) -> bool {
     board.settle(w).is_ok()
 }
 
+fn is_cancelled(board: &mut Board, w: u32) -> bool {
+    board.cancel(w).is_ok()
+}
+
 pub(crate) fn is_event_done(board: &mut Board, event: Event) -> bool {
     match event {
         Event::Claim(w, v) => is_claimed(board, w, v),
         Event::Step(w) => is_stepped(board, w),
         Event::Settle(w) => is_settled(board, w),
+        Event::Cancel(w) => is_cancelled(board, w),
     }
 }
 

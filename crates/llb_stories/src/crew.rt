@@ -1,7 +1,7 @@
 //! Two workers, each in a thread of its own: a gate that holds each until the other has come.
 
 use super::runs::TWO_FILES;
-use super::told::is_so;
+use super::told::{is_so, row_holds};
 use super::written::board_of;
 use llb_board::{Event, Gate, Status, Stopped};
 use llb_work::{RunEnd, RunFault, run_workers};
@@ -96,11 +96,15 @@ fn two_workers_are_at_work_together(rt: HostRuntime) {
     is_so(&rt, told(&end, &gate) == Some((3, 7, 3)));
 }
 
-// Whether the run was stopped right after its claim of vertex 0.
+// Whether the run was stopped right after its claim of vertex 0, which the worker then gave up: the vertex is ready, no cache is held,
+// and the record and the worker's count have both events.
 fn is_stopped(end: &RunEnd) -> bool {
+    let [first, ..] = end.made;
     matches!(end.fault, Some(RunFault::Stopped))
-        && end.board.status(0) == Some(Status::Running(0))
-        && end.board.events().len() == 1
+        && end.board.status(0) == Some(Status::Ready)
+        && end.board.events().as_slice() == [Event::Claim(0, 0), Event::Cancel(0)].as_slice()
+        && end.board.caches().leases() == 0
+        && first == 2
 }
 
 #[test]
@@ -108,4 +112,19 @@ fn a_worker_alone_waits_for_nobody_and_is_stopped(rt: HostRuntime) {
     let board = board_of(&rt, rt.alloc(), TWO_FILES, "", 1);
     let end = run_workers(&rt, rt.alloc(), board, &Meet::new());
     is_so(&rt, is_stopped(&end));
+}
+
+// A cache that is locked, and one that its worker steps under the lock.
+const ON_CACHES: &[&str] = &[
+    "locked: write /c/a x; RESULT_0",
+    "shared: write /c/a x; RESULT_0",
+];
+
+#[test]
+fn a_worker_that_is_stopped_leaves_its_caches_free(rt: HostRuntime) {
+    for (at, definition) in ON_CACHES.iter().enumerate() {
+        let board = board_of(&rt, rt.alloc(), definition, "", 1);
+        let end = run_workers(&rt, rt.alloc(), board, &Meet::new());
+        row_holds(&rt, at, is_stopped(&end));
+    }
 }

@@ -12,6 +12,61 @@ pub(crate) const K_LOCKED: CacheRow = ("k", Mode::Locked, None);
 
 pub(crate) const K_SEEDED: CacheRow = ("k", Mode::Locked, Some(0));
 
+const GIVEN_UP: &str = "
+    # A worker that gives its execution up leaves the cache as it wrote it, and another runs the vertex anew.
+    @ 2: locked: append /c/l a && append /c/l b; RESULT_0
+    > job 0 0
+    0 at 0, 0 done
+    instance 0
+    d 0755 0 0 /
+    > step 0
+    > leases
+    1
+    > cancel 0
+    > leases
+    0
+    > worker 0
+    idle
+    > instance locked 0
+    d 0755 0 0 /
+    f 0644 0 0 610a /l
+    > cancel 0
+    refused
+    > cancel 9
+    refused
+    > job 1 0
+    1 at 0, 0 done
+    instance 0
+    d 0755 0 0 /
+    f 0644 0 0 610a /l
+    > step 1
+    > step 1
+    > settle 1
+    > instance locked 0
+    d 0755 0 0 /
+    f 0644 0 0 610a610a620a /l
+
+    # What is finished is given up too.
+    @ 1: MAKES_A; D_ON_0; RESULT_1
+    > job 0 0
+    0 at 0, 0 done
+    > step 0
+    > worker 0
+    runs 0, 1 done, true
+    > cancel 0
+    > worker 0
+    idle
+    > settle 0
+    refused
+    > job 0 0
+    0 at 0, 0 done
+";
+
+#[test]
+fn what_is_given_up_leaves_its_caches_as_it_wrote_them(rt: HostRuntime) {
+    are_stories(&rt, rt.alloc(), Way::Calls, GIVEN_UP);
+}
+
 const WORKERS: &str = "
     # A worker is idle, runs a vertex with some of its steps done, has finished it, and is idle again.
     @ 1: MAKES_A; D_ON_0; RESULT_1

@@ -44,6 +44,8 @@ const ON_A_SHARED_CACHE: &str =
 const SECOND_COMMAND_FAILS: &str =
     "locked: write /c/a x && false && true; locked: true; MERGES_0_1; RESULT_2";
 
+const APPENDS: &str = "locked: append /c/l a && append /c/l b; RESULT_0";
+
 // What worker w works out of vertex 0, or the number of the fault.
 fn outcome_from<G: Gate>(
     rt: &impl Abort,
@@ -110,6 +112,24 @@ const LANDINGS: &[Landing] = &[
     // It lands only where its worker has just that to do: not over another graph, nor once a step was done.
     (OTHER_FILES, TWO_FILES, CLAIMED, 0, 139),
     (TWO_FILES, TWO_FILES, "claim 0 0\nstep 0", 0, 139),
+    // The outcome of a claim that was given up lands where the vertex is claimed anew alike, and not for another worker, nor with what
+    // was written to its cache before.
+    (TWO_FILES, TWO_FILES, "claim 0 0\ncancel 0\nclaim 0 0", 0, 0),
+    (APPENDS, APPENDS, "claim 0 0\ncancel 0\nclaim 1 0", 1, 139),
+    (
+        APPENDS,
+        APPENDS,
+        "claim 0 0\nstep 0\ncancel 0\nclaim 0 0",
+        0,
+        139,
+    ),
+    (
+        APPENDS,
+        APPENDS,
+        "claim 0 0\nstep 0\ncancel 0\nclaim 1 0",
+        1,
+        139,
+    ),
     // A vertex with a shared cache can't land.
     (ON_A_SHARED_CACHE, ON_A_SHARED_CACHE, CLAIMED, 0, 140),
 ];

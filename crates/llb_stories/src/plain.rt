@@ -79,7 +79,23 @@ const EVALUATED: &str = "
     f 0644 0 0 6b0a /sub/g
     d 0755 0 0 /
 
-    # The first status other than 0 ends an exec.
+    # Commands run or are skipped by their joins and the last status, whose own is the exec's.
+    @ NONE: sh: false || write /x a \\x3b false && true || true; RESULT_0
+    0 done
+    d 0755 0 0 /
+    f 0644 0 0 610a /x
+    @ NONE: sh: true || write /x a && write /y b; RESULT_0
+    0 done
+    d 0755 0 0 /
+    f 0644 0 0 620a /y
+    @ NONE: sh: false && true && true; RESULT_0
+    0 failed command 0 status 1
+    @ NONE: sh: true \\x3b false; RESULT_0
+    0 failed command 1 status 1
+    @ NONE: sh: false || false && true; RESULT_0
+    0 failed command 1 status 1
+
+    # The first status other than 0 with only `&&` behind it ends an exec.
     @ EMPTY_AND_SUB: SOURCE_P; SOURCE_Q; FAILS_AT_1; RESULT_2
     0 done
     d 0755 0 0 /

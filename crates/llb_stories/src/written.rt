@@ -2,7 +2,8 @@
 //!
 //! Entries are separated by `; `. One is a name of `definitions` or `execution_definitions`, or a script on the empty tree at `/` and the
 //! cache `k` at `/c`, after the way in which the cache is shared: `locked: SCRIPT`, `private: SCRIPT` or `shared: SCRIPT`. A new instance
-//! begins empty, or, where the way is followed by ` on 0`, with what the first entry gives.
+//! begins empty, or, where the way is followed by ` on 0`, with what the first entry gives. `sh: SCRIPT` has no cache. A `;` of a script
+//! is written as `\x3b`.
 
 use super::definitions::ENTRIES;
 use super::execution_definitions::EXECUTIONS;
@@ -43,13 +44,17 @@ fn sharing_of(way: &str) -> u32 {
     }
 }
 
-fn push_on_cache(rt: &impl Abort, text: &mut String, way: &str, script: &str) {
-    let sharing = sharing_of(way);
-    let (inputs, begins) = if way.ends_with(" on 0") {
-        ("inputs {\ndigest %0\n}\n", "0")
+fn push_script(rt: &impl Abort, text: &mut String, way: &str, script: &str) {
+    if way == "sh" {
+        push_exec(rt, text, "", script);
+        text.push_str("}\n}\n").expect(rt, "memory");
     } else {
-        ("", "-1")
-    };
+        push_on_cache(rt, text, way, script);
+    }
+}
+
+// An exec up to its first mount, without its end.
+fn push_exec(rt: &impl Abort, text: &mut String, inputs: &str, script: &str) {
     write!(
         text,
         "op {{\n{inputs}exec {{\nmeta {{\nargs \"/bin/sh\"\nargs \"-c\"\nargs \"{script}\"\ncwd \"/\"\n}}\n"
@@ -57,6 +62,16 @@ fn push_on_cache(rt: &impl Abort, text: &mut String, way: &str, script: &str) {
     .expect(rt, "memory");
     text.push_str("mounts {\ninput -1\ndest \"/\"\n}\n")
         .expect(rt, "memory");
+}
+
+fn push_on_cache(rt: &impl Abort, text: &mut String, way: &str, script: &str) {
+    let sharing = sharing_of(way);
+    let (inputs, begins) = if way.ends_with(" on 0") {
+        ("inputs {\ndigest %0\n}\n", "0")
+    } else {
+        ("", "-1")
+    };
+    push_exec(rt, text, inputs, script);
     write!(
         text,
         "mounts {{\ninput {begins}\ndest \"/c\"\noutput -1\nmountType 3\ncacheOpt {{\nID \"k\"\nsharing {sharing}\n}}\n}}\n}}\n}}\n"
@@ -72,7 +87,7 @@ fn entry_named(name: &str) -> &'static str {
 
 fn push_entry(rt: &impl Abort, text: &mut String, entry: &str) {
     match entry.split_once(": ") {
-        Some((way, script)) => push_on_cache(rt, text, way, script),
+        Some((way, script)) => push_script(rt, text, way, script),
         None => text.push_str(entry_named(entry)).expect(rt, "memory"),
     }
 }

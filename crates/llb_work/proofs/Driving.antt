@@ -14,23 +14,28 @@ use Rattle.llb_loader.specs.Graph.{IsGraph}
 use Rattle.llb_model.specs.Consistent.{IsConsistent}
 use Rattle.llb_model.specs.Program.{Build}
 use Rattle.llb_model.specs.SettleCause.{SettleCause}
+use Rattle.llb_model.specs.CancelCause.{CancelCause}
 use Rattle.llb_model.specs.State.{State}
-use Rattle.llb_model.specs.Table.{Event, Claim, Step, Settle, Reply, worker_of, claim_grant, step_grant, settle_grant, table}
+use Rattle.llb_model.specs.Table.{Event, Claim, Step, Settle, Cancel, Reply, worker_of, claim_grant, step_grant, settle_grant, cancel_grant, table}
 use Rattle.llb_model.specs.Run.{run, events_by, chosen}
 use Rattle.llb_model.specs.Laws.{AreChosen}
 use Rattle.llb_model.proofs.Lists.{inside as some_inside}
 use Rattle.llb_model.proofs.Runs.{run_none, run_first, run_more}
-use Rattle.llb_model.proofs.Alone.{Ascends, alone_step}
+use Rattle.llb_model.specs.Room.{still_to_come}
+use Rattle.llb_model.proofs.Alone.{Ascends, alone_step, chosen_comes_nearer}
 use Rattle.llb_state.specs.Board.{Seen, ChosenIsGranted, after_event, recorded}
-use Rattle.llb_state.specs.Rules.{claim_of, claim_fault, GivesStep, step_of, step_fault, GivesSettle, settle_of, settle_fault}
+use Rattle.llb_state.specs.Rules.{claim_of, claim_fault, GivesStep, step_of, step_fault, GivesSettle, settle_of, settle_fault, GivesCancel, cancel_of}
+use Rattle.llb_state.specs.Rules.{cancel_fault}
 use Rattle.llb_events.specs.Faults.{GivesClaim}
-use Rattle.llb_state.specs.Views.{event_of, step_reply, settle_reply}
+use Rattle.llb_state.specs.Views.{event_of, step_reply, settle_reply, cancel_reply}
 use Rattle.llb_events.specs.declared.event.Event as event
 use Rattle.llb_events.specs.declared.event.Stepped.{Stepped}
 use Rattle.llb_events.specs.declared.event.Settled.{Settled}
 use Rattle.llb_events.specs.declared.fault.ClaimFault.{ClaimFault}
 use Rattle.llb_events.specs.declared.fault.StepFault.{StepFault}
 use Rattle.llb_events.specs.declared.fault.SettleFault.{SettleFault}
+use Rattle.llb_events.specs.declared.event.Cancelled.{Cancelled}
+use Rattle.llb_events.specs.declared.fault.CancelFault.{CancelFault}
 use Rattle.llb_work.specs.Alone.{Takes, IsLeft, Goes, TakesMemory}
 
 abbrev ok_of : {A F : Type 0} → A → Result A F
@@ -87,11 +92,19 @@ ascends_on b c e graph here is takes up =
     subst (λ x. Ascends x c.state c.events) (sym takes.build) (subst (Ascends b.build c.state) (sym takes.events)
     (alone_step b.build graph b.state c.state e takes.reply b.events here is takes.given up))
 
+-- with a chosen event fewer events are still to come
+pub nearer : (b c : Seen) (e : Event) → Takes b e c → chosen b.build b.state ≡ Some e
+    → still_to_come c.build c.state < still_to_come b.build b.state
+nearer b c e takes is =
+    let near = chosen_comes_nearer b.build b.state e (c.state, takes.reply) is takes.given in
+    let same = ap (λ x. still_to_come x c.state) takes.build in
+    omega (arith, near, same)
+
 -- an event makes the record longer by one
 pub longer : (b c : Seen) (e : Event) → Takes b e c → length c.events ≡ length b.events + 1
 longer b c e takes = ap length takes.events ∙ length-append b.events (e ∷ [])
 
--- ---- the three calls
+-- ---- the four calls
 
 -- a claim that is answered with a job is granted, and stands at the end of the record
 pub claim_takes : {J : Type 0} (reply : J → Reply) (b n : Seen) (w v : ℕ) (r : Result J ClaimFault)
@@ -125,6 +138,24 @@ settle_left b n w (Err e) gives refused = by_grant (settle_grant b.build b.state
     by_grant (Err cause) is = refl
     by_grant (Ok p) is = absurd cc
 
+-- a cancel that is answered without a fault is granted, and stands at the end of the record
+pub cancel_takes : (b n : Seen) (w : ℕ) (r : Result Cancelled CancelFault) → GivesCancel (λ s. (n, cancel_reply s)) r (cancel_of b w)
+    → is_ok r ≡ true → Takes b (Cancel w) n
+unfolding table
+cancel_takes b n w (Ok s) gives ok = takes_of b (Cancel w) cancel_fault (cancel_grant b.state w) n (cancel_reply s) refl gives
+cancel_takes b n w (Err e) gives ok = absurd cc
+
+-- a cancel that is refused is not granted
+pub cancel_left : (b n : Seen) (w : ℕ) (r : Result Cancelled CancelFault) → GivesCancel (λ s. (n, cancel_reply s)) r (cancel_of b w)
+    → is_ok r ≡ false → IsLeft b (Cancel w)
+unfolding table
+cancel_left b n w (Ok s) gives refused = absurd cc
+cancel_left b n w (Err e) gives refused = by_grant (cancel_grant b.state w) (gives refl)
+  where
+    by_grant : (o : Result (State × Reply) CancelCause) → recorded b (Cancel w) cancel_fault o ≡ Err e → result_ok o ≡ None
+    by_grant (Err cause) is = refl
+    by_grant (Ok p) is = absurd cc
+
 -- a chosen event that was not done takes memory
 pub left_over : (b : Seen) (e : Event) → ChosenIsGranted b → chosen b.build b.state ≡ Some e → IsLeft b e → TakesMemory (chosen b.build b.state)
 left_over b e granted is left = subst TakesMemory (sym is) (by_event e is left)
@@ -133,6 +164,7 @@ left_over b e granted is left = subst TakesMemory (sym is) (by_event e is left)
     by_event (Claim w v) is left = tt
     by_event (Step w) is left = tt
     by_event (Settle w) is left = let none : is_some (table b.build b.state (Settle w)) ≡ false = ap is_some left in absurd (cc (none, granted (Settle w) is))
+    by_event (Cancel w) is left = let none : is_some (table b.build b.state (Cancel w)) ≡ false = ap is_some left in absurd (cc (none, granted (Cancel w) is))
 
 -- a fact where a test is true, or false
 pub on_true : (b : Bool) (P : Type 0) → (b ≡ true → P) → OnTrue b P

@@ -2,7 +2,7 @@
 use Rattle.std.specs.Prelude.{◌≡◌, ℕ, ◌<◌, true, List, [], ◌∷◌, ◌++◌, length, drop, slice_index, Option, Some, None, ⊤}
 use Rattle.llb_model.specs.Program.{Build}
 use Rattle.llb_model.specs.State.{State, Opening, opening}
-use Rattle.llb_model.specs.Table.{Event, Claim, Step, Settle, Reply, table}
+use Rattle.llb_model.specs.Table.{Event, Claim, Step, Settle, Cancel, Reply, table}
 use Rattle.llb_model.specs.Run.{run, events_by, is_complete}
 use Rattle.llb_model.specs.Order.{at_first, order, claims_in}
 use Rattle.llb_model.specs.Laws.{AreChosen}
@@ -42,11 +42,12 @@ pub record EndsInClaimOrder (b : Build) (o : Opening) (es : List Event) (s : Sta
 abbrev pub MadeBy : Seen → Seen → List ℕ → Type 0
 MadeBy old new made = (w : ℕ) → w < 64 → slice_index made w ≡ events_by w (drop (length old.events) new.events)
 
--- an event that may end a run since it is out of memory: a settle takes none
+-- an event that may end a run since it is out of memory: a settle and a cancel take none
 abbrev pub TakesMemory : Option Event → Type 0
 TakesMemory (Some (Claim w v)) = ⊤
 TakesMemory (Some (Step w)) = ⊤
 TakesMemory (Some (Settle w)) = ⊥
+TakesMemory (Some (Cancel w)) = ⊥
 TakesMemory None = ⊥
 
 -- why an event was not done, where it takes no memory: it is not granted
@@ -54,3 +55,4 @@ abbrev pub IsLeft : Seen → Event → Type 0
 IsLeft b (Claim w v) = ⊤
 IsLeft b (Step w) = ⊤
 IsLeft b (Settle w) = table b.build b.state (Settle w) ≡ None
+IsLeft b (Cancel w) = table b.build b.state (Cancel w) ≡ None

@@ -2,7 +2,7 @@
 
 ghost use Rattle.std.specs.Prelude.{◌≡◌, ◌<◌, ◌==◌, ◌↔◌, ℕ, None, [], length, slice_get, slice_index, IfSome, true};
 ghost use Rattle.std.specs.Bool.{OnTrue, OnFalse};
-ghost use Rattle.llb_model.specs.Table.{Claim, Step, Settle, worker_of};
+ghost use Rattle.llb_model.specs.Table.{Claim, Step, Settle, Cancel, worker_of};
 ghost use Rattle.llb_state.specs.Views.{event_of};
 ghost use Rattle.llb_model.specs.Outcome.{outcome};
 ghost use Rattle.llb_model.specs.Run.{chosen, is_complete, claims_of, AreAscending, StandsPlainly};
@@ -39,6 +39,14 @@ fn settles(board: &mut Board, w: u32) -> bool
     board.settle(w).is_ok()
 }
 
+fn cancels(board: &mut Board, w: u32) -> bool
+    ensures taken { OnTrue result (Takes board.old (Cancel w) board.new) }
+    ensures kept { OnFalse result (board.new ≡ board.old) }
+    ensures left { OnFalse result (IsLeft board.old (Cancel w)) }
+{
+    board.cancel(w).is_ok()
+}
+
 /// Does one event; where that is refused, the board is as before.
 pub(crate) fn do_event(board: &mut Board, event: Event) -> bool
     ensures taken { OnTrue result (Takes board.old (event_of event) board.new) }
@@ -49,6 +57,7 @@ pub(crate) fn do_event(board: &mut Board, event: Event) -> bool
         Event::Claim(w, v) => claims(board, w, v),
         Event::Step(w) => steps(board, w),
         Event::Settle(w) => settles(board, w),
+        Event::Cancel(w) => cancels(board, w),
     }
 }
 
@@ -66,7 +75,6 @@ fn go_alone(board: &mut Board) -> bool
         if !do_event(board, event) {
             return false;
         }
-        let _ = board.events();
     }
     true
 }
@@ -76,7 +84,7 @@ pub(crate) fn worker_of(event: Event) -> u32
     ensures { result ≡ worker_of (event_of event) }
 {
     match event {
-        Event::Claim(w, _) | Event::Step(w) | Event::Settle(w) => w,
+        Event::Claim(w, _) | Event::Step(w) | Event::Settle(w) | Event::Cancel(w) => w,
     }
 }
 

@@ -141,6 +141,28 @@ impl<S: Gated> Desk<S> {
         settled
     }
 
+    // What a worker runs is given up, which counts for it.
+    fn cancel(&mut self, w: u32, mine: &mut Tally<S>) {
+        let Desk {
+            board,
+            start: _,
+            calls,
+            noted: _,
+        } = self;
+        let before = board.events().len();
+        let _ = granted::cancel(board, w);
+        count(calls, mine, before, board.events().len());
+    }
+
+    /// A worker gives up what it runs and notes why the run ends, in one hold: another worker never sees a vertex that is ready, in
+    /// no queue, and nothing noted.
+    pub(crate) fn give_up(&mut self, w: u32, noted: Noted, mine: &mut Tally<S>)
+        requires { may_be S.may_stop (Some noted) ≡ true }
+    {
+        self.cancel(w, mine);
+        self.note(noted);
+    }
+
     /// What a worker does in one hold, by what it comes with. `news` gets the numbers that it is then to put into the queue: those
     /// that a vertex left to it has made ready, the greatest first, and a number whose claim was held.
     pub(crate) fn turn(
@@ -169,7 +191,10 @@ impl<S: Gated> Desk<S> {
                 self.left(settled.ok(), news)
             }
             Some(At::Runs(_, _, false)) => match self.step(w, mine) {
-                Err(StepFault::Memory) => self.stop(),
+                Err(StepFault::Memory) => {
+                    self.give_up(w, Noted::Memory, mine);
+                    Turn::End
+                }
                 _ => Turn::Again,
             },
             Some(At::Idle) if self.is_over() => Turn::End,
@@ -213,7 +238,7 @@ impl<S: Gated> Desk<S> {
         self.noted.is_some() || self.board.is_complete()
     }
 
-    // Memory was refused.
+    // Memory was refused to a worker that runs nothing.
     fn stop(&mut self) -> Turn {
         self.note(Noted::Memory);
         Turn::End

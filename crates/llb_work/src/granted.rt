@@ -4,7 +4,8 @@ ghost use Rattle.std.specs.Prelude.{◌≤◌, length};
 ghost use Rattle.llb_work.specs.Crew.{GoesOn};
 
 use llb_board::{
-    Board, ClaimFault, Job, LandFault, Outcome, SettleFault, Settled, StepFault, Stepped,
+    Board, CancelFault, Cancelled, ClaimFault, Job, LandFault, Outcome, SettleFault, Settled,
+    StepFault, Stepped,
 };
 
 /// A worker takes a vertex. 131 to 135, 141.
@@ -29,6 +30,14 @@ pub(crate) fn settle(board: &mut Board, w: u32) -> Result<Settled, SettleFault>
     ensures longer { length board.old.events ≤ length board.new.events }
 {
     board.settle(w)
+}
+
+/// A worker gives up what it runs. 131, 136.
+pub(crate) fn cancel(board: &mut Board, w: u32) -> Result<Cancelled, CancelFault>
+    ensures goes { GoesOn board.old board.new }
+    ensures longer { length board.old.events ≤ length board.new.events }
+{
+    board.cancel(w)
 }
 
 /// What a worker has worked out away from the board is done on it, up to the settle.

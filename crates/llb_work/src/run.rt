@@ -25,9 +25,9 @@ use std::thread::Threads;
 ///
 /// 151 where memory is refused, 152 where the gate stops a worker, 153 where a thread cannot be started: the first that is met. Where
 /// memory is refused for the copies of the board, the queue or the workers' lists, no thread starts, and the board comes back as it was
-/// given. The worker that meets 151 or 152 leaves its vertex running; every other worker ends what it runs. 154 where the board that was
-/// kept under the lock from the beginning is found to be another one; it is in the fault. Else the board that comes back goes on from the
-/// given one by granted events, and `made` adds up to their number.
+/// given. The worker that meets 151 or 152 cancels what it runs and notes the fault, in one hold; every other worker ends what it runs. 154
+/// where the board that was kept under the lock from the beginning is found to be another one; it is in the fault. Else the board that comes
+/// back goes on from the given one by granted events, and `made` adds up to their number.
 pub fn run_workers<G: Gate + Sync, R: Threads + Wait + Sync>(
     rt: &R,
     alloc: Global,

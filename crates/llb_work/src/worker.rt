@@ -21,7 +21,7 @@ pub(crate) struct Kit<S: Ledger> {
 }
 
 /// Ends what its worker runs, then takes one number after another from the queue and works on the vertex, until the board is complete
-/// or a fault is noted. A worker that meets a fault itself notes it and ends at once.
+/// or a fault is noted. A worker that meets a fault itself gives up what it runs, notes the fault and ends at once.
 pub(crate) fn serve<S: Gated, G: Gate, R: Wait>(
     rt: &R,
     alloc: Global,
@@ -45,7 +45,7 @@ pub(crate) fn serve<S: Gated, G: Gate, R: Wait>(
         let turn = desk.lock(rt).turn(w, brought, &mut tally, &mut news);
         put_all(rt, queue, &mut pass, w, &mut news);
         match away(
-            rt, alloc, desk, queue, gate, w, &mut pass, &mut news, &backoff, turn,
+            rt, alloc, desk, queue, gate, w, &mut tally, &mut pass, &mut news, &backoff, turn,
         ) {
             Some(more) => brought = more,
             None => break,
@@ -62,6 +62,7 @@ fn away<S: Gated, G: Gate, R: Wait>(
     queue: &ReadyQueue,
     gate: &G,
     w: u32,
+    tally: &mut Tally<S>,
     pass: &mut ReadyPass,
     news: &mut Vec<u32>,
     backoff: &Backoff,
@@ -80,8 +81,8 @@ fn away<S: Gated, G: Gate, R: Wait>(
         Turn::End => None,
         Turn::Again => Some(Brought::Nothing),
         Turn::Next | Turn::Wait => Some(taken(rt, queue, pass, w, news)),
-        Turn::Pass(v) => passed(rt, desk, gate, w, v),
-        Turn::Work(job) => worked(rt, alloc, desk, gate, job),
+        Turn::Pass(v) => passed(rt, desk, gate, w, v, tally),
+        Turn::Work(job) => worked(rt, alloc, desk, gate, w, job, tally),
     }
 }
 
@@ -120,41 +121,44 @@ fn put_all<R: Wait>(rt: &R, queue: &ReadyQueue, pass: &mut ReadyPass, w: u32, ne
     }
 }
 
-// Passes the gate, or notes that it was stopped there.
+// Passes the gate, or gives the vertex up and notes that it was stopped there.
 fn passed<S: Gated, G: Gate, R: Wait>(
     rt: &R,
     desk: &Mutex<Desk<S>>,
     gate: &G,
     w: u32,
     v: u32,
+    tally: &mut Tally<S>,
 ) -> Option<Brought>
     requires { (w v : ℕ) → IsTrue (G.may_stop w v) → S.may_stop w v ≡ true }
 {
     match gate.pass(w, v) {
         Ok(()) => Some(Brought::Nothing),
         Err(_) => {
-            desk.lock(rt).note(Noted::Stopped(w, v));
+            desk.lock(rt).give_up(w, Noted::Stopped(w, v), tally);
             None
         }
     }
 }
 
-// What a job comes to, or notes why it comes to nothing.
+// What a job comes to, or gives its vertex up and notes why.
 fn worked<S: Gated, G: Gate, R: Wait>(
     rt: &R,
     alloc: Global,
     desk: &Mutex<Desk<S>>,
     gate: &G,
+    w: u32,
     job: Job,
+    tally: &mut Tally<S>,
 ) -> Option<Brought>
     requires { (w v : ℕ) → IsTrue (G.may_stop w v) → S.may_stop w v ≡ true }
 {
-    let (w, v) = (job.worker(), job.vertex());
+    let (worker, vertex) = (job.worker(), job.vertex());
     let noted = match work(alloc, job, gate) {
         Ok(outcome) => return Some(Brought::Outcome(outcome)),
-        Err(WorkFault::Stopped) => Noted::Stopped(w, v),
+        Err(WorkFault::Stopped) => Noted::Stopped(worker, vertex),
         Err(WorkFault::Memory) => Noted::Memory,
     };
-    desk.lock(rt).note(noted);
+    desk.lock(rt).give_up(w, noted, tally);
     None
 }

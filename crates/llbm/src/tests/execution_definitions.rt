@@ -79,7 +79,7 @@ op {
     meta {
       args "/bin/sh"
       args "-c"
-      args "true ; true"
+      args "true | true"
       cwd "/"
     }
     mounts {

@@ -57,6 +57,21 @@ const COPIES: &str = r#"
     f 4640 9 2 77 /d/b/w
     f 0600 1 1 63 /d/c
 
+    # A class takes one character of several.
+    > run p=A_G_H q=D_A_G < SOURCE_P; SOURCE_Q; act copy | src "/[g-h]" | dest "/" | mode -1 | allowWildcard true; RESULT
+    d 0755 0 0 /
+    d 0755 0 0 /d
+    f 0600 1 1 61 /d/a
+    d 0755 0 0 /d/g
+    f 0644 0 0 67 /g
+    f 0644 0 0 68 /h
+    > run p=A_G_H q=D_A_G < SOURCE_P; SOURCE_Q; act copy | src "/[^gs]" | dest "/" | mode -1 | allowWildcard true; RESULT
+    d 0755 0 0 /
+    d 0755 0 0 /d
+    f 0600 1 1 61 /d/a
+    d 0755 0 0 /d/g
+    f 0644 0 0 68 /h
+
     # A file against a directory is a conflict.
     > run p=A_G_H q=D_A_G < SOURCE_P; SOURCE_Q; act copy | src "/s" | dest "/d" | mode -1 | dirCopyContents true; RESULT
     ! failed 2 action 0 fault 24
@@ -73,7 +88,7 @@ const COPIES: &str = r#"
     > run p=A_G_H q=D_A_G < SOURCE_P; SOURCE_Q; act copy | src "/h" | dest "/e/b/c" | mode -1; RESULT
     ! failed 2 action 0 fault 21
     status 1
-    > run p=A_G_H q=D_A_G < SOURCE_P; SOURCE_Q; act copy | src "/[gh]" | dest "/d" | mode -1 | allowWildcard true; RESULT
+    > run p=A_G_H q=D_A_G < SOURCE_P; SOURCE_Q; act copy | src "/[gh" | dest "/d" | mode -1 | allowWildcard true; RESULT
     ! failed 2 action 0 fault 52
     status 1
     > run p=A_G_H q=D_A_G < SOURCE_P; SOURCE_Q; act copy | src "/?" | dest "/d" | mode -1 | allowWildcard true; RESULT

@@ -20,6 +20,37 @@ const TEXTS: &str = r#"
     0 exec steps 3 outputs 1 inputs -
     result 0.0
 
+    # Other words stand between calls too.
+    > show < sh true \x3b false || true && false; RESULT
+    0 exec steps 4 outputs 1 inputs -
+    result 0.0
+    > show < sh \x3b true; RESULT
+    ! fault 89 0 Script 73 0
+    status 2
+    > show < sh true ||; RESULT
+    ! fault 89 0 Script 73 7
+    status 2
+    > show < sh true \x3b && true; RESULT
+    ! fault 89 0 Script 73 7
+    status 2
+    > show < sh true || nosuch; RESULT
+    ! fault 89 0 Script 71 nosuch
+    status 2
+    > show < sh true | true; RESULT
+    ! fault 89 0 Script 73 5
+    status 2
+
+    # Commands run or are skipped by their joins and the last status.
+    > run < sh false || write /x a \x3b false && true || true; RESULT
+    d 0755 0 0 /
+    f 0644 0 0 610a /x
+    > run < sh false && true && true; RESULT
+    ! failed 0 command 0 status 1
+    status 1
+    > run < sh true \x3b false; RESULT
+    ! failed 0 command 1 status 1
+    status 1
+
     # Its first bad place is named.
     > show < sh true\x3b true; RESULT
     ! fault 89 0 Script 73 4

@@ -1,5 +1,5 @@
 use Rattle.std.proofs.Common.{◌≡◌, ◌+◌, length, drop, sym, ap, ◌∙◌, lit<, arith}
-use Rattle.std.specs.List.{flat_map, slice_split}
+use Rattle.std.specs.List.{flat_map}
 use Rattle.std.proofs.lemmas.Iterator.{YieldsList}
 use Rattle.std.proofs.lemmas.Iterator.Splits.{YieldsList-from_str_split}
 use Rattle.std.proofs.lemmas.Iterator.Consumers.{YieldsList-turn, YieldsList-end}
@@ -7,9 +7,10 @@ use Rattle.std.proofs.lemmas.List.{length_push, drop_all}
 use Rattle.std.proofs.lemmas.Result.{err_from_is_err_and}
 use Rattle.std.specs.Str.Pattern.{FindsChar}
 use Rattle.std.specs.Str.Iter.{split_steps, split_text, split_has_more, split_pattern}
-use Rattle.llb_applet.specs.Words.{parts_of, calls_of, is_and}
+use Rattle.llb_applet.specs.declared.join.Join.TheVariants.{Then}
+use Rattle.llb_applet.specs.Words.{parts_of, calls_from, calls_of}
 use Rattle.llb_applet.specs.Scripts.{commands_of}
-use Rattle.llb_applet.specs.Reading.{some_word, ahead, front, behind, with_call}
+use Rattle.llb_applet.specs.Reading.{some_word, ahead, behind, with_call}
 use Rattle.llb_applet.proofs.Looking.{at_drop}
 use Rattle.llb_applet.proofs.Gathering.{calls_in, behind_none, ahead_last}
 use Rattle.llb_applet.proofs.script.read_text.Goals as goal
@@ -27,7 +28,7 @@ goes_over c =
 pub loop-part-init : goal.loop-part-init
 loop-part-init c =
     let left = flat_map some_word (parts_of c.args.text.now) in
-    (λ i. behind (c.new.ensures.items i) (commands_of (length (c.new.ensures.items i)) (front (c.new-2.ensures.items i) (slice_split is_and left))))
+    (λ i. behind (c.new.ensures.items i) (commands_of (length (c.new.ensures.items i)) (calls_from left Then (c.new-2.ensures.items i))))
     ∙ behind_none _
     ∙ ap (commands_of 0) (calls_in c.args.text.now)
 

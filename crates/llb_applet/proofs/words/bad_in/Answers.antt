@@ -11,4 +11,4 @@ returns-clause-value c =
     let found : c.position.result ≡ position (λ b. not (is_word_byte b)) c.args.word.now =
     position_from_yields_List (λ b. not (is_word_byte b)) _ _ c.position.result c.position.ensures.ran
     (YieldsList-from_slice c.args.word.now cc) (λ x b q k. search (rules, tests)) in
-    found ∙ sym (bad_in-word c.args.called c.args.word.now (sym c.is_and.ensures ∙ c.if-is_and.false))
+    found ∙ sym (bad_in-word c.args.called c.args.word.now (sym c.is_separator.ensures ∙ c.if-is_separator.false))

@@ -40,8 +40,7 @@ returns-then-status-ne0-clause-left c =
     let trees = c.args.trees.now.items in
     let ends : List Shown → Option (List Shown) = λ mounts. run c.args.setting.now mounts c.args.command.now in
     let same : ends started ≡ ends (filled c.args.mounts.now numbers trees) = ap ends c.swap_all-spare.ensures.mounts in
-    λ k.
-    command_left (ends (filled c.args.mounts.now numbers trees)) c.args.mounts.now started ran.new.view back.mounts k c.from-then-status-ne0.result
+    command_left (ends (filled c.args.mounts.now numbers trees)) c.args.mounts.now started ran.new.view back.mounts c.from-then-status-ne0.result
     numbers trees back.trees.items
     (c.from-then-status-ne0.ensures ∙ c.in_ok-status.ensures.status ∙ ap status_of same)
     (c.in_ok-status.ensures.view ∙ ap (left started) same)
@@ -69,8 +68,7 @@ returns-clause-left c =
     let trees = c.args.trees.now.items in
     let ends : List Shown → Option (List Shown) = λ mounts. run c.args.setting.now mounts c.args.command.now in
     let same : ends started ≡ ends (filled c.args.mounts.now numbers trees) = ap ends c.swap_all-spare.ensures.mounts in
-    λ k.
-    command_left (ends (filled c.args.mounts.now numbers trees)) c.args.mounts.now started ran.new.view c.swap_all.new.mounts k 0
+    command_left (ends (filled c.args.mounts.now numbers trees)) c.args.mounts.now started ran.new.view c.swap_all.new.mounts 0
     numbers trees back.trees.items
     (sym c.if-status-ne0.false ∙ c.in_ok-status.ensures.status ∙ ap status_of same)
     (c.in_ok-status.ensures.view ∙ ap (left started) same)

@@ -38,6 +38,6 @@ returns c =
     let given = mount_outputs c.mounts_of.result.now in
     let mounts : c.into_vec-mounts.result.items ≡ c.in-Mounted.view = search rules in
     let shown = λ (m : List Shown). map (λ i. tree_for i given m) (range_with_len 0 n) in
-    outputs_of_mounts v c.in-Mounted.view c.in-Mounted.field-1.items given c.place_shown.result.items n (ap mount_outputs c.mounts_of.ensures)
-    (c.place_shown.ensures ∙ ap shown mounts)
+    outputs_of_mounts v c.in-Mounted.view c.in-Mounted.field-1.items c.in-Mounted.field-2 given c.place_shown.result.items n
+    (ap mount_outputs c.mounts_of.ensures) (c.place_shown.ensures ∙ ap shown mounts)
     ∙ ap (λ w. outputs_of (program_with v n) (own_of w)) (sym c.in-Mounted.is)

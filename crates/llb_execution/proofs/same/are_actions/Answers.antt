@@ -1,9 +1,9 @@
 use Rattle.std.proofs.Common.{◌≡◌, ◌↔◌, IsTrue, ℕ, ◌==◌, false, [], ◌∷◌, length, map, sym, ap, ◌∙◌, subst, rules}
-use Rattle.llb_model.specs.Program.{ReadLocal, Act, LayInput, Run}
+use Rattle.llb_model.specs.Program.{ReadLocal, Act, LayInput}
 use Rattle.llb_execution.specs.declared.program.Steps.{Steps}
 use Rattle.llb_execution.specs.declared.program.Steps.TheVariants as steps
 use Rattle.llb_execution.specs.Parts.{steps_in}
-use Rattle.llb_execution.proofs.Matching.{apart, acts_same}
+use Rattle.llb_execution.proofs.Matching.{apart, runs_apart, acts_same}
 use Rattle.llb_execution.proofs.same.are_actions.Goals as goal
 
 pub returns-in-Read : goal.returns-in-Read
@@ -25,7 +25,7 @@ returns-in-Commands c =
     let is : c.args.steps.now ≡ steps.Commands c.in-Commands.field-0 c.in-Commands.field-1 = search rules in
     let some : (length c.args.actions.now == 0) ≡ false = search rules in
     subst (λ (s : Steps). IsTrue false ↔ (steps_in s ≡ map Act c.args.actions.now)) (sym is)
-    (apart (Run c.in-Commands.field-0) Act (λ x y e. cc) c.in-Commands.field-1 c.args.actions.now some)
+    (runs_apart Act (λ y s c b e. cc) c.in-Commands.field-0 c.in-Commands.field-1 c.args.actions.now some)
 
 pub returns-in-Actions : goal.returns-in-Actions
 returns-in-Actions c =

@@ -1,10 +1,10 @@
 use Rattle.std.proofs.Common.{◌≡◌, ◌↔◌, IsTrue, ℕ, ◌==◌, false, [], ◌∷◌, length, map, sym, ◌∙◌, subst, rules}
 use Rattle.llb_ops.specs.declared.merge.MergeInput.{MergeInput}
-use Rattle.llb_model.specs.Program.{ReadLocal, Act, LayInput, Run}
+use Rattle.llb_model.specs.Program.{ReadLocal, Act, LayInput}
 use Rattle.llb_execution.specs.declared.program.Steps.{Steps}
 use Rattle.llb_execution.specs.declared.program.Steps.TheVariants as steps
 use Rattle.llb_execution.specs.Parts.{steps_in}
-use Rattle.llb_execution.proofs.Matching.{apart, layings_same}
+use Rattle.llb_execution.proofs.Matching.{apart, runs_apart, layings_same}
 use Rattle.llb_execution.proofs.same.are_layings.Goals as goal
 
 pub returns-in-Read : goal.returns-in-Read
@@ -26,7 +26,7 @@ returns-in-Commands c =
     let is : c.args.steps.now ≡ steps.Commands c.in-Commands.field-0 c.in-Commands.field-1 = search rules in
     let some : (length c.args.inputs.now == 0) ≡ false = search rules in
     subst (λ (s : Steps). IsTrue false ↔ (steps_in s ≡ map (λ (i : MergeInput). LayInput i.input) c.args.inputs.now)) (sym is)
-    (apart (Run c.in-Commands.field-0) (λ (i : MergeInput). LayInput i.input) (λ x y e. cc) c.in-Commands.field-1 c.args.inputs.now some)
+    (runs_apart (λ (i : MergeInput). LayInput i.input) (λ y s c b e. cc) c.in-Commands.field-0 c.in-Commands.field-1 c.args.inputs.now some)
 
 pub returns-in-Inputs : goal.returns-in-Inputs
 returns-in-Inputs c =

@@ -1,9 +1,9 @@
 use Rattle.std.proofs.Common.{◌≡◌, ◌↔◌, IsTrue, ℕ, false, [], ◌∷◌, refl, sym, subst, rules}
-use Rattle.llb_model.specs.Program.{ReadLocal, Act, LayInput, Run}
+use Rattle.llb_model.specs.Program.{ReadLocal, Act, LayInput}
 use Rattle.llb_execution.specs.declared.program.Steps.{Steps}
 use Rattle.llb_execution.specs.declared.program.Steps.TheVariants as steps
 use Rattle.llb_execution.specs.Parts.{steps_in}
-use Rattle.llb_execution.proofs.Matching.{apart}
+use Rattle.llb_execution.proofs.Matching.{apart, runs_apart}
 use Rattle.llb_execution.proofs.same.are_reads.Goals as goal
 
 pub returns-in-Actions : goal.returns-in-Actions
@@ -22,4 +22,4 @@ pub returns-in-Commands : goal.returns-in-Commands
 returns-in-Commands c =
     let is : c.args.steps.now ≡ steps.Commands c.in-Commands.field-0 c.in-Commands.field-1 = search rules in
     subst (λ (s : Steps). IsTrue false ↔ (steps_in s ≡ ReadLocal ∷ [])) (sym is)
-    (apart (Run c.in-Commands.field-0) (λ (u : ℕ). ReadLocal) (λ x y e. cc) c.in-Commands.field-1 (0 ∷ []) refl)
+    (runs_apart (λ (u : ℕ). ReadLocal) (λ y s c b e. cc) c.in-Commands.field-0 c.in-Commands.field-1 (0 ∷ []) refl)

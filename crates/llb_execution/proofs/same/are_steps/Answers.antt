@@ -1,9 +1,9 @@
 use Rattle.std.proofs.Common.{◌≡◌, ◌↔◌, IsTrue, List, map, Option, Some, sym, subst, rules}
-use Rattle.llb_applet.specs.declared.command.Command.{Command}
+use Rattle.llb_applet.specs.declared.join.Joined.{Joined}
 use Rattle.llb_ops.specs.declared.merge.MergeInput.{MergeInput}
 use Rattle.llb_ops.specs.declared.op.Kind.{Kind}
 use Rattle.llb_ops.specs.declared.op.Kind.TheVariants as kind
-use Rattle.llb_model.specs.Program.{LayInput, Run, setting_of, steps_of}
+use Rattle.llb_model.specs.Program.{LayInput, runs_of, setting_of, steps_of}
 use Rattle.llb_execution.specs.Parts.{steps_in}
 use Rattle.llb_execution.proofs.same.are_steps.Goals as goal
 
@@ -19,6 +19,6 @@ returns-in-Some-Exec c =
     let is : c.args.kind.now ≡ Some (kind.Exec c.in-Some-Exec.exec) = search rules in
     let meta = c.in-Some-Exec.exec.meta in
     subst (λ (k : Option Kind). IsTrue c.are_runs.result ↔ (steps_in c.args.steps.now ≡ steps_of k c.args.script.now)) (sym is)
-    (subst (λ (q : List Command). IsTrue c.are_runs.result ↔ (steps_in c.args.steps.now ≡ map (Run (setting_of meta)) q)) c.commands_of.ensures
-    (subst (λ x. IsTrue c.are_runs.result ↔ (steps_in c.args.steps.now ≡ map (Run (setting_of x.meta)) c.commands_of.result.now))
+    (subst (λ (q : List Joined). IsTrue c.are_runs.result ↔ (steps_in c.args.steps.now ≡ runs_of (setting_of meta) q)) c.commands_of.ensures
+    (subst (λ x. IsTrue c.are_runs.result ↔ (steps_in c.args.steps.now ≡ runs_of (setting_of x.meta) c.commands_of.result.now))
     c.get.ensures c.are_runs.ensures))

@@ -16,4 +16,4 @@ returns-in_ok-mounts-in-Some-Exec c =
     let is : c.args.vertex.now.op.kind ≡ Some (kind.Exec c.in-Some-Exec.exec) = search rules in
     let shown : map (shown_of c.args.inputs.items) c.in-Some-Exec.exec.mounts ≡ c.in_ok-mounts-in-Some-Exec.mounts = search rules in
     sym (ap (λ (k : Option Kind). view_on c.args.locals.now c.args.vertex.now k c.args.inputs.items) is
-    ∙ (λ i. Mounted (shown i) (sym c.requires.caches i)))
+    ∙ (λ i. Mounted (shown i) (sym c.requires.caches i) 0))

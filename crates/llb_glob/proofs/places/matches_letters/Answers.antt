@@ -1,4 +1,4 @@
-use Rattle.std.proofs.Common.{◌≤◌, subst, sym, set, replicate, length, drop, ◌≡◌, false, true, arith, ◌<◌}
+use Rattle.std.proofs.Common.{◌≤◌, subst, sym, set, replicate, length, drop, ◌∷◌, ◌≡◌, false, true, arith, ◌<◌}
 use Rattle.std.proofs.Math.Seq.{drop-length}
 use Rattle.llb_glob.specs.Places.{AreStarts}
 use Rattle.llb_glob.proofs.Moves.{first_starts, starts_back}
@@ -14,7 +14,10 @@ pub loop-k-preserved : goal.loop-k-preserved
 loop-k-preserved c =
     let some : 0 < c.loop-k.k = omega arith in
     let within : c.loop-k.k ≤ length c.args.items.now = omega arith in
-    starts_back c.args.items.now c.loop-k.k _ c.args.name.now c.loop-k.places c.step_back.new.places some within c.step_back.ensures c.loop-k.invariant
+    let item = c.index-items-k in
+    starts_back c.args.items.now c.loop-k.k item.result c.args.name.now c.loop-k.places c.step_back.new.places some within
+    (λ rest starts. subst (λ first. AreStarts (first ∷ rest) c.args.name.now c.step_back.new.places) item.is (c.step_back.ensures rest starts))
+    c.loop-k.invariant
 
 pub returns : goal.returns
 returns c =

@@ -1,4 +1,4 @@
-use Rattle.std.proofs.Common.{◌≡◌, ◌<◌, ℕ, ◌+◌, List, Some, length, sym, ap, subst, ◌∙◌, arith, rules}
+use Rattle.std.proofs.Common.{◌≡◌, ◌<◌, ℕ, ◌+◌, List, Some, length, refl, sym, ap, subst, ◌∙◌, arith, rules}
 use Rattle.std.specs.Prelude.{Ok, is_ok, slice_get}
 use Rattle.std.specs.List.{All}
 use Rattle.std.proofs.lemmas.Option.{slice_get_within}
@@ -6,7 +6,7 @@ use Rattle.llb_loader.specs.Rules.{kind_mounts}
 use Rattle.llb_model.specs.Caches.{Distinct}
 use Rattle.llb_model.specs.Program.{Left, program_of}
 use Rattle.llb_model.specs.Table.{Reply}
-use Rattle.llb_execution.specs.Parts.{shown_in, step_in}
+use Rattle.llb_execution.specs.Parts.{left_with, shown_in, step_in}
 use Rattle.llb_state.specs.Room.{Supplies}
 use Rattle.llb_state.specs.Rules.{worked_to}
 use Rattle.llb_state.specs.Views.{execution_of}
@@ -50,4 +50,5 @@ returns-clause-gives c =
       execution = record x { done = x.done + 1; fault = c.in_ok-fault.fault; own = c.step.new.self };
       trees = c.step.new.trees.items;
       reply = r;
-    })) (sym c.told.ensures)
+    })) (sym (c.told.ensures x.own (left_with c.step.new.self c.step.new.trees.items c.in_ok-fault.fault)
+    (sym c.skips-skipped.ensures) (sym c.last.ensures) refl))

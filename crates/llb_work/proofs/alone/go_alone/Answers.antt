@@ -4,7 +4,7 @@ use Rattle.llb_model.specs.Run.{chosen}
 use Rattle.llb_state.specs.Board.{Seen}
 use Rattle.llb_state.specs.Views.{event_of}
 use Rattle.llb_work.specs.Alone.{TakesMemory}
-use Rattle.llb_work.proofs.Driving.{goes_nil, goes_on, ascends_on, left_over}
+use Rattle.llb_work.proofs.Driving.{goes_nil, goes_on, ascends_on, nearer, left_over}
 use Rattle.llb_work.proofs.alone.go_alone.Goals as goal
 
 pub loop-event-init : goal.loop-event-init
@@ -20,6 +20,10 @@ loop-event-preserved c =
       goes_on c.args.board.now b c.do_event.new.board e c.loop-event.invariant.0 (sym c.in-Some.ensures) taken,
       λ none. ascends_on b c.do_event.new.board e c.is_graph.ensures c.is_consistent.ensures (sym c.in-Some.ensures) taken (c.loop-event.invariant.1 none),
     )
+
+pub loop-event-smaller : goal.loop-event-smaller
+loop-event-smaller c =
+    nearer c.loop-event.board c.do_event.new.board (event_of c.in-Some.event) c.if-not-do_event.ensures.taken (sym c.in-Some.ensures)
 
 pub returns-then-not-do_event-clause-stops : goal.returns-then-not-do_event-clause-stops
 returns-then-not-do_event-clause-stops c =

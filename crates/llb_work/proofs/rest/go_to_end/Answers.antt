@@ -1,6 +1,6 @@
-use Rattle.std.proofs.Common.{ap, arith, length, refl, ◌∙◌}
+use Rattle.std.proofs.Common.{ap, arith, length, refl, sym, ◌∙◌}
 use Rattle.llb_state.specs.Views.{event_of}
-use Rattle.llb_work.proofs.Driving.{longer}
+use Rattle.llb_work.proofs.Driving.{longer, nearer}
 use Rattle.llb_work.proofs.Afters.{goes_nowhere, goes_further, takes_one}
 use Rattle.llb_work.proofs.rest.go_to_end.Goals as goal
 
@@ -29,3 +29,7 @@ loop-event-preserved c =
       omega
           (arith, c.add_one.ensures, longer b n e taken, c.loop-event.invariant.1),
     )
+
+pub loop-event-smaller : goal.loop-event-smaller
+loop-event-smaller c =
+    nearer c.loop-event.board c.do_event.new.board (event_of c.in-Some.event) c.if-not-do_event.ensures.taken (sym c.in-Some.ensures)

@@ -1,7 +1,7 @@
 -- The record goes on, and each event is counted; fewer can come with each.
-use Rattle.std.proofs.Common.{◌≡◌, ◌+◌, ◌-◌, length}
+use Rattle.std.proofs.Common.{◌≡◌, ◌+◌, length}
 use Rattle.std.specs.Prelude.{sum}
-use Rattle.llb_model.specs.Room.{most_events}
+use Rattle.llb_model.specs.Room.{still_to_come}
 use Rattle.llb_work.specs.Crew.{GoesOn}
 use Rattle.llb_work.proofs.rest.go_to_end.Given as goal
 
@@ -9,4 +9,4 @@ abbrev pub invariant-loop-event : goal.invariant-loop-event
 invariant-loop-event l = GoesOn l.initial.board l.board × (sum l.made + length l.initial.board.events ≡ sum l.initial.made + length l.board.events)
 
 abbrev pub decreases-loop-event : goal.decreases-loop-event
-decreases-loop-event l = most_events l.board.build - length l.board.events
+decreases-loop-event l = still_to_come l.board.build l.board.state

@@ -9,6 +9,6 @@ use Rattle.llb_board.proofs.board.Board.caches.Goals as goal
 pub returns-clause-leased : goal.returns-clause-leased
 returns-clause-leased c =
     let i = c.self.inside in
-    let b = seen i.build i.start.rows i.stands.items i.desks.items i.caches.rows i.events.list in
+    let b = seen i.build i.start.rows i.stands.items i.desks.items i.caches.rows i.history.list in
     let holds = leased_holds_as i.caches.out b.state.workers (map leased_by i.desks.items) c.self.invariant.kept.leased in
     subst (λ (s : Seen). HoldsAs i.caches.out s.state.workers) c.self.view_is holds

@@ -21,7 +21,7 @@ is_run_of-requires-clause-vertex c =
     let runs : slice_get (map at_of b.desks.items) c.args.w ≡ Some (Runs x)
     = ap (λ (ds : List Desk). slice_get (map at_of ds) c.args.w) (sym c.deref.ensures.value) ∙ sym c.in-Some-Runs.ensures
     ∙ ap (λ d. Some (at_of d)) c.in-Some-Runs.field-0-is in
-    runs_vertex (seen b.build b.start.rows b.stands.items b.desks.items b.caches.rows b.events.list) c.self.invariant.kept.replays c.args.w x runs
+    runs_vertex (seen b.build b.start.rows b.stands.items b.desks.items b.caches.rows b.history.list) c.self.invariant.kept.replays c.args.w x runs
 
 pub is_run_of-requires-clause-within : goal.is_run_of-requires-clause-within
 is_run_of-requires-clause-within c =

@@ -1,6 +1,5 @@
-use Rattle.std.proofs.Common.{◌≤◌, ◌∙◌, map, sym, ap, subst, arith}
-use Rattle.llb_model.specs.Room.{most_events}
-use Rattle.llb_model.specs.Program.{Build}
+use Rattle.std.proofs.Common.{◌∙◌, map, ap}
+use Rattle.llb_state.specs.Events.{HistoryValue}
 use Rattle.llb_state.specs.Room.{ready_made}
 use Rattle.llb_state.specs.Views.{at_of, leased_by}
 use Rattle.llb_board.proofs.Copies.{Parts, tracked_same}
@@ -15,7 +14,7 @@ invariant_of-result c =
       stands = b.stands.items;
       desks = b.desks.items;
       caches = b.caches;
-      events = b.events.list;
+      events = b.history.list;
       marks = b.stop_marks.items;
       links = b.links;
     } in
@@ -25,15 +24,12 @@ invariant_of-result c =
       stands = c.in_ok-copied_stands.field-0.items;
       desks = c.in_ok-copied_desks.field-0.items;
       caches = c.in_ok-copy-2.field-0;
-      events = c.in_ok-with_same.field-0.list;
+      events = c.in_ok-copy-5.field-0.list;
       marks = c.in_ok-from_slice.field-0.items;
       links = c.in_ok-copy-4.field-0;
     } in
     let desks = c.deref-2.ensures.value in
-    let room = c.in_ok-with_same.ensures.room in
-    let most = c.room.ensures in
-    let enough : most_events b.build ≤ c.in_ok-with_same.field-0.room = omega (arith, room, most) in
-    tracked_same p q b.events.room c.in_ok-with_same.field-0.room b.first_open
+    tracked_same p q b.history.space c.in_ok-copy-5.field-0.space b.first_open
     (record {
       build = c.in_ok-copy.ensures;
       first = ap (λ x. x.rows) c.in_ok-copy-3.ensures;
@@ -42,9 +38,9 @@ invariant_of-result c =
       leases = c.in_ok-copied_desks.ensures.leases ∙ ap (map leased_by) desks;
       made = c.in_ok-copied_desks.ensures.made ∙ ap (map ready_made) desks;
       caches = c.in_ok-copy-2.ensures;
-      events = c.in_ok-with_same.ensures.list;
+      events = ap (λ (h : HistoryValue). h.list) c.in_ok-copy-5.ensures;
       marks = c.in_ok-from_slice.ensures.items ∙ c.deref-3.ensures.value;
       links = c.in_ok-copy-4.ensures;
     })
-    (subst (λ (x : Build). most_events x ≤ c.in_ok-with_same.field-0.room) (sym c.in_ok-copy.ensures) enough)
+    (ap (λ (h : HistoryValue). h.space) c.in_ok-copy-5.ensures)
     c.self.invariant

@@ -33,14 +33,14 @@ desk_so : (c : After-put_left-lease) → HasDesk c.self.inside.build (before c) 
 unfolding before
 desk_so c =
     let b = c.self.inside in
-    has_desk b.build b.start.rows (before c) b.events.list c.args.w c.args.outcome.job
+    has_desk b.build b.start.rows (before c) b.history.list c.args.w c.args.outcome.job
     (subst (λ (m : Seen). CanLand m c.args.w c.args.outcome.job) (sym c.self.view_is) c.requires)
 
 pub put_left-lease-requires-clause-few : goal.put_left-lease-requires-clause-few
 put_left-lease-requires-clause-few c =
     λ l x at.
     let b = c.self.inside in
-    let few = few_steps b.build b.start.rows (data_of b.stands.items b.desks.items b.caches b.stop_marks.items) b.events.list c.args.w c.args.outcome l x
+    let few = few_steps b.build b.start.rows (data_of b.stands.items b.desks.items b.caches b.stop_marks.items) b.history.list c.args.w c.args.outcome l x
     (subst (λ (m : Seen). CanLand m c.args.w c.args.outcome.job) (sym c.self.view_is) c.requires) c.is_whole.ensures at in
     let count = c.into_left-count.ensures.count in
     omega (arith, few, count)
@@ -51,7 +51,7 @@ write_back-requires-clause-count c =
     let p = (goal.at.write_back-requires-clause-count c).After-put_left-lease in
     let b = c.self.inside in
     let k = desk_so p in
-    leased_count b.build b.start.rows (before p) b.events.list b.events.room c.args.w k.l k.own (outcome p) c.self.invariant.kept k.at
+    leased_count b.build b.start.rows (before p) b.history.list b.history.space c.args.w k.l k.own (outcome p) c.self.invariant.kept k.at
     c.is_exclusive.ensures.apart c.is_exclusive.ensures.there
     c.vertices.ensures.graph k.run (whole p) c.put_left-lease.result c.put_left-lease.ensures.leased
 
@@ -61,7 +61,7 @@ write_back-requires-clause-few c =
     let p = (goal.at.write_back-requires-clause-few c).After-put_left-lease in
     let b = c.self.inside in
     let k = desk_so p in
-    few_trees b.build b.start.rows (before p) b.events.list b.events.room c.args.w k.l k.own (outcome p) c.self.invariant.kept k.at
+    few_trees b.build b.start.rows (before p) b.history.list b.history.space c.args.w k.l k.own (outcome p) c.self.invariant.kept k.at
     c.is_exclusive.ensures.apart c.is_exclusive.ensures.there
     c.vertices.ensures.graph k.run (whole p)
 
@@ -71,7 +71,7 @@ record_steps-requires c =
     let p = (goal.at.record_steps-requires c).After-put_left-lease in
     let b = c.self.inside in
     let k = desk_so p in
-    room b.build b.start.rows (before p) b.events.list b.events.room c.args.w k.l k.own (outcome p) c.self.invariant.kept k.at c.is_exclusive.ensures.apart
+    room b.build b.start.rows (before p) b.history.list b.history.space c.args.w k.l k.own (outcome p) c.self.invariant.kept k.at c.is_exclusive.ensures.apart
     c.is_exclusive.ensures.there
     c.vertices.ensures.graph k.run (whole p)
 
@@ -81,15 +81,15 @@ invariant_of-self c =
     let p = (goal.at.invariant_of-self c).After-put_left-lease in
     let b = c.self.inside in
     let k = desk_so p in
-    let is = data_is b.build b.start.rows (before p) b.events.list b.events.room c.args.w k.l k.own (outcome p) c.self.invariant.kept k.at
+    let is = data_is b.build b.start.rows (before p) b.history.list b.history.space c.args.w k.l k.own (outcome p) c.self.invariant.kept k.at
     c.is_exclusive.ensures.apart c.is_exclusive.ensures.there
     c.vertices.ensures.graph k.run (whole p) c.put_left-lease.result c.put_left-lease.new.desks.items c.write_back.new.caches.rows
     c.write_back.new.caches.out c.put_left-lease.ensures.leased
     c.put_left-lease.ensures.left c.write_back.ensures.rows c.write_back.ensures.out in
     record {
-      kept = rw (c.record_steps.ensures.list, c.record_steps.ensures.room)
-          (kept_written b.build b.start.rows _ _ (b.events.list ++ steps_by c.args.w c.into_left-count.result.0) b.events.room is
-          (keeps b.build b.start.rows (before p) b.events.list b.events.room c.args.w k.l k.own (outcome p) c.self.invariant.kept k.at
+      kept = rw (c.record_steps.ensures.list, c.record_steps.ensures.space)
+          (kept_written b.build b.start.rows _ _ (b.history.list ++ steps_by c.args.w c.into_left-count.result.0) b.history.space is
+          (keeps b.build b.start.rows (before p) b.history.list b.history.space c.args.w k.l k.own (outcome p) c.self.invariant.kept k.at
           c.is_exclusive.ensures.apart c.is_exclusive.ensures.there
           c.vertices.ensures.graph k.run (whole p)));
       over = c.self.invariant.over;
@@ -102,16 +102,16 @@ returns c =
     let p = (goal.at.returns c).After-put_left-lease in
     let b = c.self.inside in
     let k = desk_so p in
-    let is = data_is b.build b.start.rows (before p) b.events.list b.events.room c.args.w k.l k.own (outcome p) c.self.invariant.kept k.at
+    let is = data_is b.build b.start.rows (before p) b.history.list b.history.space c.args.w k.l k.own (outcome p) c.self.invariant.kept k.at
     c.is_exclusive.ensures.apart c.is_exclusive.ensures.there
     c.vertices.ensures.graph k.run (whole p) c.put_left-lease.result c.put_left-lease.new.desks.items c.write_back.new.caches.rows
     c.write_back.new.caches.out c.put_left-lease.ensures.leased
     c.put_left-lease.ensures.left c.write_back.ensures.rows c.write_back.ensures.out in
-    let new : Seen = seen b.build b.start.rows b.stands.items c.put_left-lease.new.desks.items c.write_back.new.caches.rows c.record_steps.new.events.list in
-    let done = through b.build b.start.rows (before p) b.events.list b.events.room c.args.w k.l k.own (outcome p) c.self.invariant.kept k.at
+    let new : Seen = seen b.build b.start.rows b.stands.items c.put_left-lease.new.desks.items c.write_back.new.caches.rows c.record_steps.new.self.list in
+    let done = through b.build b.start.rows (before p) b.history.list b.history.space c.args.w k.l k.own (outcome p) c.self.invariant.kept k.at
     c.is_exclusive.ensures.apart c.is_exclusive.ensures.there
     c.vertices.ensures.graph k.run (whole p) in
     subst (λ (v : OutcomeValue). IsThrough c.args.self.now c.args.w v.count new) (outcome_is p)
     (subst (λ (m : Seen). IsThrough m c.args.w c.into_left-count.result.0 new) c.self.view_is
-    (subst (λ (n : Seen). IsThrough (seen_as b.build b.start.rows (before p) b.events.list) c.args.w c.into_left-count.result.0 n)
+    (subst (λ (n : Seen). IsThrough (seen_as b.build b.start.rows (before p) b.history.list) c.args.w c.into_left-count.result.0 n)
     (λ i. seen_as b.build b.start.rows (sym is i) (sym c.record_steps.ensures.list i)) done))

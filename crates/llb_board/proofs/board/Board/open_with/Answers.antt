@@ -19,7 +19,7 @@ invariant_of-result c =
     let may : may_work c.args.workers ≡ true = sym c.may_work.ensures ∙ c.if-not-may_work.false in
     record {
       kept = kept_open c.args.build _ c.args.workers _ _ _ c.args.caches.rows c.args.caches.out _ _
-          (record { stands = e.stands; desks = e.desks; events = e.events; marks = e.stop_marks; room = e.room })
+          (record { stands = e.stands; desks = e.desks; events = e.events; marks = e.stop_marks; room = e.room; cancels = e.cancels })
           (ap (λ (c : CachesValue). c.rows) e.start) c.requires (some_work c.args.workers may) (few_work c.args.workers may);
       over = λ v low. absurd (omega (arith, low));
       linked = subst (λ S. IsLinked c.args.build.graph.vertices (done_in S) c.in-Ok.fresh.links) (sym (ap (map status_of) e.stands

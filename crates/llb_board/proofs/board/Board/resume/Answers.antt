@@ -5,7 +5,7 @@ use Rattle.std.proofs.lemmas.Option.{slice_get-get_or}
 use Rattle.llb_model.specs.ByNumber.{by_number}
 use Rattle.llb_model.specs.State.{next_stopped, stopped}
 use Rattle.llb_model.proofs.Stopped.{stopped_length}
-use Rattle.llb_board.specs.Undo.{Resume, Displaced, undone, CanUndo}
+use Rattle.llb_board.specs.Undo.{Resume, Displaced, undone, CanUndo, space_before}
 use Rattle.llb_state.specs.Undoing.{left_in, caches_in, front}
 use Rattle.llb_state.specs.Room.{IsTracked, seen}
 use Rattle.llb_state.specs.Views.{status_of}
@@ -16,25 +16,28 @@ use Rattle.llb_board.proofs.Claiming.{data_of}
 use Rattle.llb_board.proofs.Undone.{on_true, on_false, undone_is}
 use Rattle.llb_state.specs.OpenInputs.{done_in}
 use Rattle.llb_state.proofs.Behind.{low_user, users_counted, counts_fit, linked_resumed}
-use Rattle.llb_board.proofs.Undos.{tracked, over_written, low_vertex, low_graph, places_resumed, resume_leaves}
+use Rattle.llb_board.proofs.Undos.{tracked, over_written, low_vertex, low_graph, places_resumed, resume_leaves, end_count, end_space}
 use Rattle.llb_board.proofs.board.Board.resume.Goals as goal
 use Rattle.llb_board.proofs.board.Board.resume.Goals.{After-put_caches}
 
 pub put_caches-requires : goal.put_caches-requires
 put_caches-requires c =
     let b = c.self.inside in
-    places_resumed b.build b.start.rows b.stands.items b.desks.items b.caches b.stop_marks.items b.events.list b.events.room c.self.invariant.kept c.args.w
+    places_resumed b.build b.start.rows b.stands.items b.desks.items b.caches b.stop_marks.items b.history.list b.history.space c.self.invariant.kept
+    c.args.end c.args.w
     c.args.execution c.args.before
-    (subst (CanUndo (record { back = Resume c.args.w (left_in c.args.execution); caches = caches_in c.args.before })) (sym c.self.view_is) c.requires)
+    (subst (CanUndo (record { back = Resume c.args.end c.args.w (left_in c.args.execution); caches = caches_in c.args.before }))
+    (sym c.self.view_is) c.requires)
     (slice_set b.desks.items c.args.w (desk.Runs None c.args.execution)) refl
 
 pub index_mut-requires-2 : goal.index_mut-requires-2
 index_mut-requires-2 c =
     let b = c.self.inside in
     let len : vec_len b.stands ≡ length b.stands.items = search rules in
-    let low = low_vertex b.build b.start.rows b.stands.items b.desks.items b.caches b.stop_marks.items b.events.list b.events.room c.self.invariant.kept
-    c.args.w c.args.execution c.args.before
-    (subst (CanUndo (record { back = Resume c.args.w (left_in c.args.execution); caches = caches_in c.args.before })) (sym c.self.view_is) c.requires) in
+    let low = low_vertex b.build b.start.rows b.stands.items b.desks.items b.caches b.stop_marks.items b.history.list b.history.space c.self.invariant.kept
+    c.args.end c.args.w c.args.execution c.args.before
+    (subst (CanUndo (record { back = Resume c.args.end c.args.w (left_in c.args.execution); caches = caches_in c.args.before }))
+    (sym c.self.view_is) c.requires) in
     omega (arith, low, len)
 
 pub mark_anew-requires : goal.mark_anew-requires
@@ -45,9 +48,11 @@ mark_anew-requires c =
 low_in_graph : (c : After-put_caches) → c.args.execution.vertex < length c.self.inside.build.graph.vertices
 low_in_graph c =
     let b = c.self.inside in
-    low_graph b.build b.start.rows b.stands.items b.desks.items b.caches b.stop_marks.items b.events.list b.events.room c.self.invariant.kept c.args.w
+    low_graph b.build b.start.rows b.stands.items b.desks.items b.caches b.stop_marks.items b.history.list b.history.space c.self.invariant.kept c.args.end
+    c.args.w
     c.args.execution c.args.before
-    (subst (CanUndo (record { back = Resume c.args.w (left_in c.args.execution); caches = caches_in c.args.before })) (sym c.self.view_is) c.requires)
+    (subst (CanUndo (record { back = Resume c.args.end c.args.w (left_in c.args.execution); caches = caches_in c.args.before }))
+    (sym c.self.view_is) c.requires)
 
 pub open_anew-requires-clause-low : goal.open_anew-requires-clause-low
 open_anew-requires-clause-low c =
@@ -72,11 +77,12 @@ invariant_of-self c =
     let b = c.self.inside in
     let x = c.args.execution in
     let ss = b.stands.items in
-    let u : Displaced = record { back = Resume c.args.w (left_in x); caches = caches_in c.args.before } in
+    let u : Displaced = record { back = Resume c.args.end c.args.w (left_in x); caches = caches_in c.args.before } in
     let can = subst (CanUndo u) (sym c.self.view_is) c.requires in
     let new = slice_set ss x.vertex (stand.Running c.args.w) in
     let marks = c.mark_anew.new.stop_marks.items in
-    let low = low_vertex b.build b.start.rows ss b.desks.items b.caches b.stop_marks.items b.events.list b.events.room c.self.invariant.kept c.args.w x
+    let low = low_vertex b.build b.start.rows ss b.desks.items b.caches b.stop_marks.items b.history.list b.history.space c.self.invariant.kept c.args.end
+    c.args.w x
     c.args.before can in
     let is : slice_set ss x.vertex c.replace-had.new.dest ≡ new = ap (slice_set ss x.vertex) c.replace-had.ensures.after in
     let at : slice_get ss x.vertex ≡ Some c.replace-had.result
@@ -86,7 +92,8 @@ invariant_of-self c =
     ∙ (λ i. by_number (next_stopped (map status_of (c.deref.ensures.value i))) [] (c.vertices-vertices.ensures.all i))
     ∙ ap (λ (l : List Stand). stopped b.build (map status_of l)) is in
     let same : c.has_failed.result ≡ false → marks ≡ b.stop_marks.items = λ done. on_false c.has_failed.result _ c.mark_anew.ensures.same done in
-    let leaves = resume_leaves b.build b.start.rows ss b.desks.items b.caches b.stop_marks.items b.events.list b.events.room c.self.invariant.kept c.args.w
+    let leaves = resume_leaves b.build b.start.rows ss b.desks.items b.caches b.stop_marks.items b.history.list b.history.space c.self.invariant.kept
+    c.args.end c.args.w
     x c.args.before can
     c.replace-had.result c.has_failed.result (slice_set b.desks.items c.args.w (desk.Runs None x)) c.put_caches.new.desks.items c.put_caches.new.caches
     marks refl
@@ -99,13 +106,16 @@ invariant_of-self c =
     })
     at c.has_failed.ensures anew same in
     let least = c.min-self-inside.ensures in
-    rw (c.take_back.ensures.list, c.take_back.ensures.room)
-    (subst (λ (l : List Stand). IsTracked (seen b.build b.start.rows l c.put_caches.new.desks.items c.put_caches.new.caches.rows (front b.events.list))
+    rw (c.take_back_end.ensures.list, c.take_back_end.ensures.space)
+    (subst (λ (l : List Stand). IsTracked (seen b.build b.start.rows l c.put_caches.new.desks.items c.put_caches.new.caches.rows (front b.history.list))
     c.put_caches.new.desks.items
-    c.put_caches.new.caches.out marks c.open_anew.new.links b.events.room c.min-self-inside.result) (sym is)
-    (tracked b.build b.start.rows ss b.desks.items b.caches b.stop_marks.items b.events.list b.events.room c.self.invariant.kept
-    (data_of new c.put_caches.new.desks.items c.put_caches.new.caches marks) c.open_anew.new.links u c.min-self-inside.result can leaves
-    (over_written b.build b.start.rows ss b.desks.items b.caches b.stop_marks.items b.events.list b.events.room c.self.invariant.kept x.vertex
+    c.put_caches.new.caches.out marks c.open_anew.new.links (space_before c.args.end x.vertex b.history.space) c.min-self-inside.result) (sym is)
+    (tracked b.build b.start.rows ss b.desks.items b.caches b.stop_marks.items b.history.list b.history.space c.self.invariant.kept
+    (data_of new c.put_caches.new.desks.items c.put_caches.new.caches marks) c.open_anew.new.links u c.min-self-inside.result
+    (space_before c.args.end x.vertex b.history.space) can
+    (end_space b.build b.start.rows ss b.desks.items b.caches b.stop_marks.items b.history.list b.history.space c.self.invariant.kept c.args.end c.args.w x
+    c.args.before can) leaves
+    (over_written b.build b.start.rows ss b.desks.items b.caches b.stop_marks.items b.history.list b.history.space c.self.invariant.kept x.vertex
     (stand.Running c.args.w) b.first_open
     c.min-self-inside.result
     (omega (arith, least, min-le_left b.first_open x.vertex)) (omega (arith, least, min-le_right b.first_open x.vertex)) c.self.invariant.over)
@@ -119,11 +129,12 @@ returns c =
     let b = c.self.inside in
     let x = c.args.execution in
     let ss = b.stands.items in
-    let u : Displaced = record { back = Resume c.args.w (left_in x); caches = caches_in c.args.before } in
+    let u : Displaced = record { back = Resume c.args.end c.args.w (left_in x); caches = caches_in c.args.before } in
     let can = subst (CanUndo u) (sym c.self.view_is) c.requires in
     let new = slice_set ss x.vertex (stand.Running c.args.w) in
     let marks = c.mark_anew.new.stop_marks.items in
-    let low = low_vertex b.build b.start.rows ss b.desks.items b.caches b.stop_marks.items b.events.list b.events.room c.self.invariant.kept c.args.w x
+    let low = low_vertex b.build b.start.rows ss b.desks.items b.caches b.stop_marks.items b.history.list b.history.space c.self.invariant.kept c.args.end
+    c.args.w x
     c.args.before can in
     let is : slice_set ss x.vertex c.replace-had.new.dest ≡ new = ap (slice_set ss x.vertex) c.replace-had.ensures.after in
     let at : slice_get ss x.vertex ≡ Some c.replace-had.result
@@ -133,7 +144,8 @@ returns c =
     ∙ (λ i. by_number (next_stopped (map status_of (c.deref.ensures.value i))) [] (c.vertices-vertices.ensures.all i))
     ∙ ap (λ (l : List Stand). stopped b.build (map status_of l)) is in
     let same : c.has_failed.result ≡ false → marks ≡ b.stop_marks.items = λ done. on_false c.has_failed.result _ c.mark_anew.ensures.same done in
-    let leaves = resume_leaves b.build b.start.rows ss b.desks.items b.caches b.stop_marks.items b.events.list b.events.room c.self.invariant.kept c.args.w
+    let leaves = resume_leaves b.build b.start.rows ss b.desks.items b.caches b.stop_marks.items b.history.list b.history.space c.self.invariant.kept
+    c.args.end c.args.w
     x c.args.before can
     c.replace-had.result c.has_failed.result (slice_set b.desks.items c.args.w (desk.Runs None x)) c.put_caches.new.desks.items c.put_caches.new.caches
     marks refl
@@ -145,7 +157,15 @@ returns c =
           c.put_caches.ensures.caches;
     })
     at c.has_failed.ensures anew same in
-    (λ i. seen b.build b.start.rows (is i) c.put_caches.new.desks.items c.put_caches.new.caches.rows (c.take_back.ensures.list i))
+    (λ i. seen b.build b.start.rows (is i) c.put_caches.new.desks.items c.put_caches.new.caches.rows (c.take_back_end.ensures.list i))
     ∙ undone_is b.build b.start.rows (data_of ss b.desks.items b.caches b.stop_marks.items)
-    (data_of new c.put_caches.new.desks.items c.put_caches.new.caches marks) b.events.list u leaves
+    (data_of new c.put_caches.new.desks.items c.put_caches.new.caches marks) b.history.list u leaves
     ∙ ap (undone u) c.self.view_is
+
+pub take_back_end-requires : goal.take_back_end-requires
+take_back_end-requires c =
+    let b = c.self.inside in
+    end_count b.build b.start.rows b.stands.items b.desks.items b.caches b.stop_marks.items b.history.list b.history.space c.self.invariant.kept c.args.end
+    c.args.w c.args.execution c.args.before
+    (subst (CanUndo (record { back = Resume c.args.end c.args.w (left_in c.args.execution); caches = caches_in c.args.before })) (sym c.self.view_is)
+    c.requires)

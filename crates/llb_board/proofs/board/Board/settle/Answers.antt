@@ -55,36 +55,36 @@ Can c = let b = c.self.inside in
 
 abbrev can : (c : In_ok-v) → Can c
 can c = let b = c.self.inside in
-    ends b.build b.start.rows b.stands.items b.desks.items b.caches b.stop_marks.items b.events.list b.events.room c.args.w c.in_ok-v.v c.in_ok-v.lease
+    ends b.build b.start.rows b.stands.items b.desks.items b.caches b.stop_marks.items b.history.list b.history.space c.args.w c.in_ok-v.v c.in_ok-v.lease
     c.in_ok-v.stand
     c.self.invariant.kept (is_left c) (is_leased c)
 
 -- the data after it, with these marks
 abbrev data_with : In_ok-v → List Bool → Data
 data_with c marks = let b = c.self.inside in
-    after b.build b.start.rows b.stands.items b.desks.items b.caches b.stop_marks.items b.events.list b.events.room c.args.w c.in_ok-v.v c.in_ok-v.lease
+    after b.build b.start.rows b.stands.items b.desks.items b.caches b.stop_marks.items b.history.list b.history.space c.args.w c.in_ok-v.v c.in_ok-v.lease
     c.in_ok-v.stand
     c.self.invariant.kept (is_left c) (is_leased c) marks
 
 granted : (c : In_ok-v) → settle_grant c.self.inside.build (state_of c.self.inside.stands.items c.self.inside.desks.items c.self.inside.caches.rows) c.args.w
     ≡ Ok (state_as (data_with c c.self.inside.stop_marks.items), settle_reply c.in_ok-v.v (can c).ending)
 granted c = let b = c.self.inside in
-    grants b.build b.start.rows b.stands.items b.desks.items b.caches b.stop_marks.items b.events.list b.events.room c.args.w c.in_ok-v.v c.in_ok-v.lease
+    grants b.build b.start.rows b.stands.items b.desks.items b.caches b.stop_marks.items b.history.list b.history.space c.args.w c.in_ok-v.v c.in_ok-v.lease
     c.in_ok-v.stand
     c.self.invariant.kept (is_left c) (is_leased c) b.stop_marks.items
 
 answered : (c : In_ok-v) → settle_of c.args.self.now c.args.w
     ≡ Ok (
-      seen_as c.self.inside.build c.self.inside.start.rows (data_with c c.self.inside.stop_marks.items) (c.self.inside.events.list ++ Settle c.args.w ∷ []),
+      seen_as c.self.inside.build c.self.inside.start.rows (data_with c c.self.inside.stop_marks.items) (c.self.inside.history.list ++ Settle c.args.w ∷ []),
       settle_reply c.in_ok-v.v (can c).ending,
     )
 answered c =
     let b = c.self.inside in
     ap (λ (n : Seen). settle_of n c.args.w) (sym c.self.view_is)
-    ∙ recorded_as b.build b.start.rows (data_of b.stands.items b.desks.items b.caches b.stop_marks.items) (data_with c b.stop_marks.items) b.events.list
+    ∙ recorded_as b.build b.start.rows (data_of b.stands.items b.desks.items b.caches b.stop_marks.items) (data_with c b.stop_marks.items) b.history.list
     (Settle c.args.w) settle_fault _
     (settle_reply c.in_ok-v.v (can c).ending) (granted c) (length_set b.desks.items c.args.w desk.Idle)
-    (rows_stay b.build b.start.rows b.stands.items b.desks.items b.caches b.stop_marks.items b.events.list b.events.room c.args.w c.in_ok-v.v c.in_ok-v.lease
+    (rows_stay b.build b.start.rows b.stands.items b.desks.items b.caches b.stop_marks.items b.history.list b.history.space c.args.w c.in_ok-v.v c.in_ok-v.lease
     c.in_ok-v.stand
     c.self.invariant.kept (is_left c) (is_leased c) b.stop_marks.items)
 
@@ -92,16 +92,16 @@ answered c =
 
 keeps_with : (c : In_ok-v) (marks : List Bool) → marks ≡ stopped c.self.inside.build
     (map status_of (slice_set c.self.inside.stands.items c.in_ok-v.v c.in_ok-v.stand))
-    → Keeps c.self.inside.build c.self.inside.start.rows (data_with c marks) (c.self.inside.events.list ++ Settle c.args.w ∷ []) c.self.inside.events.room
+    → Keeps c.self.inside.build c.self.inside.start.rows (data_with c marks) (c.self.inside.history.list ++ Settle c.args.w ∷ []) c.self.inside.history.space
 keeps_with c marks are = let b = c.self.inside in
-    keeps b.build b.start.rows b.stands.items b.desks.items b.caches b.stop_marks.items b.events.list b.events.room c.args.w c.in_ok-v.v c.in_ok-v.lease
+    keeps b.build b.start.rows b.stands.items b.desks.items b.caches b.stop_marks.items b.history.list b.history.space c.args.w c.in_ok-v.v c.in_ok-v.lease
     c.in_ok-v.stand
     c.self.invariant.kept (is_left c) (is_leased c) marks are
 
 over_so : (c : In_ok-v) → IsGraph c.self.inside.build.graph
     → AreOver c.self.inside.build (map status_of (slice_set c.self.inside.stands.items c.in_ok-v.v c.in_ok-v.stand)) c.self.inside.first_open
 over_so c graph = let b = c.self.inside in
-    stay_over b.build b.start.rows b.stands.items b.desks.items b.caches b.stop_marks.items b.events.list b.events.room c.args.w c.in_ok-v.v c.in_ok-v.lease
+    stay_over b.build b.start.rows b.stands.items b.desks.items b.caches b.stop_marks.items b.history.list b.history.space c.args.w c.in_ok-v.v c.in_ok-v.lease
     c.in_ok-v.stand
     c.self.invariant.kept (is_left c) (is_leased c) b.first_open graph c.self.invariant.over
 
@@ -111,7 +111,7 @@ pub give_back-requires : goal.give_back-requires
 give_back-requires c =
     let p = (goal.at.give_back-requires c).In_ok-v in
     let b = c.self.inside in
-    is_out b.build b.start.rows b.stands.items b.desks.items b.caches b.stop_marks.items b.events.list b.events.room c.args.w c.in_ok-v.v c.in_ok-v.lease
+    is_out b.build b.start.rows b.stands.items b.desks.items b.caches b.stop_marks.items b.history.list b.history.space c.args.w c.in_ok-v.v c.in_ok-v.lease
     c.in_ok-v.stand
     c.self.invariant.kept (is_left p) (is_leased p)
 
@@ -122,7 +122,7 @@ index_mut-requires c =
     let len : vec_len b.stands ≡ length b.stands.items = search rules in
     omega (
       arith,
-      low b.build b.start.rows b.stands.items b.desks.items b.caches b.stop_marks.items b.events.list b.events.room c.args.w c.in_ok-v.v
+      low b.build b.start.rows b.stands.items b.desks.items b.caches b.stop_marks.items b.history.list b.history.space c.args.w c.in_ok-v.v
           c.in_ok-v.lease c.in_ok-v.stand
           c.self.invariant.kept (is_left p) (is_leased p),
       len,
@@ -131,21 +131,22 @@ index_mut-requires c =
 pub push_reserved-requires : goal.push_reserved-requires
 push_reserved-requires c =
     let b = c.self.inside in
-    has_room (seen b.build b.start.rows b.stands.items b.desks.items b.caches.rows b.events.list) b.desks.items b.caches.out b.stop_marks.items b.events.room
-    (Settle c.args.w) _
+    let place = has_room (seen b.build b.start.rows b.stands.items b.desks.items b.caches.rows b.history.list) b.desks.items b.caches.out b.stop_marks.items
+    b.history.space (Settle c.args.w) _
     c.self.invariant.kept
-    (settle_done b.build (state_of b.stands.items b.desks.items b.caches.rows) c.args.w _ (granted (goal.at.push_reserved-requires c).In_ok-v))
+    (settle_done b.build (state_of b.stands.items b.desks.items b.caches.rows) c.args.w _ (granted (goal.at.push_reserved-requires c).In_ok-v)) in
+    omega (arith, place)
 
 -- the vertex is one of the graph's, and was Running
 low_vertex : (c : In_ok-v) → c.in_ok-v.v < length c.self.inside.build.graph.vertices
 low_vertex c = let b = c.self.inside in
-    low_graph b.build b.start.rows b.stands.items b.desks.items b.caches b.stop_marks.items b.events.list b.events.room c.args.w c.in_ok-v.v c.in_ok-v.lease
+    low_graph b.build b.start.rows b.stands.items b.desks.items b.caches b.stop_marks.items b.history.list b.history.space c.args.w c.in_ok-v.v c.in_ok-v.lease
     c.in_ok-v.stand
     c.self.invariant.kept (is_left c) (is_leased c)
 
 was_running : (c : In_ok-v) → slice_get (map status_of c.self.inside.stands.items) c.in_ok-v.v ≡ Some (Running c.args.w)
 was_running c = let b = c.self.inside in
-    running b.build b.start.rows b.stands.items b.desks.items b.caches b.stop_marks.items b.events.list b.events.room c.args.w c.in_ok-v.v c.in_ok-v.lease
+    running b.build b.start.rows b.stands.items b.desks.items b.caches b.stop_marks.items b.history.list b.history.space c.args.w c.in_ok-v.v c.in_ok-v.lease
     c.in_ok-v.stand
     c.self.invariant.kept (is_left c) (is_leased c)
 
@@ -219,8 +220,8 @@ invariant_of-self-then-failed c =
     let is_done_not : is_done (ending_of (Some (status_of c.in_ok-v.stand))) ≡ false
     = not_done (status_of c.in_ok-v.stand) (sym c.has_failed-failed.ensures ∙ c.if-failed.true) in
     record {
-      kept = rw (c.push_reserved.ensures.list, c.push_reserved.ensures.room)
-          (kept_written b.build b.start.rows (data_with p c.spread.new.marks) _ _ b.events.room
+      kept = rw (c.push_reserved.ensures.list, c.push_reserved.ensures.space)
+          (kept_written b.build b.start.rows (data_with p c.spread.new.marks) _ _ b.history.space
           (λ i. record {
             stands = new;
             desks = desks_are p i;
@@ -288,8 +289,8 @@ invariant_of-self-2 c =
     = ap (λ k. is_done (ending_of (Some k))) (can p).is
     ∙ then_done (can p).ending (ap (λ k. is_failed (ending_of (Some k))) (sym (can p).is) ∙ sym c.has_failed-failed.ensures ∙ c.if-failed.false) in
     record {
-      kept = rw (c.push_reserved.ensures.list, c.push_reserved.ensures.room)
-          (kept_written b.build b.start.rows (data_with p b.stop_marks.items) _ _ b.events.room
+      kept = rw (c.push_reserved.ensures.list, c.push_reserved.ensures.space)
+          (kept_written b.build b.start.rows (data_with p b.stop_marks.items) _ _ b.history.space
           (λ i. record {
             stands = new;
             desks = desks_are p i;

@@ -21,7 +21,7 @@ look_waiting ready marked (Settled (Done trees)) = refl
 look_waiting ready marked (Settled (Failed f)) = refl
 
 now : After-look → Seen
-now c = let b = c.self.inside in seen b.build b.start.rows b.stands.items b.desks.items b.caches.rows b.events.list
+now c = let b = c.self.inside in seen b.build b.start.rows b.stands.items b.desks.items b.caches.rows b.history.list
 
 stands_so : (c : After-look) → slice_get (map status_of c.self.inside.stands.items) c.args.v ≡ Some (status_of c.in_ok-stand.stand.now)
 stands_so c = ap (λ l. slice_get (map status_of l) c.args.v) (sym c.deref.ensures.value) ∙ sym c.in_ok-stand.ensures

@@ -1,7 +1,8 @@
 use Rattle.std.proofs.Common.{◌≡◌, ap, sym, ◌∙◌, arith, to_z, of_z, w64}
 use Rattle.std.proofs.lemmas.Int.{to_z-of_z}
 use Rattle.std.specs.Prelude.{Some, None}
-use Rattle.llb_model.specs.Program.{lay_on, step_on}
+use Rattle.llb_model.specs.Program.{all_and, lay_on, run_on, step_on}
+use Rattle.std.proofs.lemmas.Result.{IfOk-weaker}
 use Rattle.llb_execution.specs.Parts.{step_in, work_with, left_with}
 use Rattle.llb_execution.specs.declared.micro_step.MicroStep.{MicroStep}
 use Rattle.llb_execution.proofs.Stepping.{read, laid, has_run}
@@ -21,11 +22,14 @@ returns-in_ok-lay-in-LayInput-clause-left c =
     ∙ laid c.args.k c.in-LayInput.input c.args.self.now trees
     ∙ sym (ap (λ (m : MicroStep). step_on c.args.k (Some (step_in m)) (work_with c.args.self.now trees)) c.in-LayInput.is)
 
-pub returns-in_ok-status-in-Run-clause-left : goal.returns-in_ok-status-in-Run-clause-left
-returns-in_ok-status-in-Run-clause-left c =
+pub returns-in-Run-clause-left : goal.returns-in-Run-clause-left
+returns-in-Run-clause-left c =
     let view = c.args.self.now in
     let trees = c.args.trees.now.items in
-    ap (λ fault. left_with c.run.new.self c.run.new.trees.items fault) c.exit_of.ensures
-    ∙ c.in_ok-status-in-Run.ensures.left c.args.k
-    ∙ sym (has_run c.args.k c.in-Run.setting.now c.in-Run.command.now view trees)
-    ∙ sym (ap (λ (m : MicroStep). step_on c.args.k (Some (step_in m)) (work_with view trees)) c.in-Run.is)
+    let run = c.in-Run in
+    IfOk-weaker c.run.result
+    (λ fault. left_with c.run.new.self c.run.new.trees.items fault ≡ run_on c.args.k run.setting.now run.command.now (all_and run.later.now) view trees)
+    (λ fault. left_with c.run.new.self c.run.new.trees.items fault ≡ step_on c.args.k (Some (step_in c.args.step)) (work_with view trees))
+    (λ fault left. left ∙ has_run c.args.k run.setting.now run.command.now (all_and run.later.now) view trees
+    ∙ sym (ap (λ (m : MicroStep). step_on c.args.k (Some (step_in m)) (work_with view trees)) run.is))
+    c.run.ensures.left

@@ -1,55 +1,48 @@
+use Rattle.std.proofs.Common.{◌≡◌, ◌+◌, Bool, Ok, ap, sym, ◌∙◌, drop, append-nil}
 use Rattle.std.specs.Str.{chars}
-use Rattle.std.proofs.Common.{Bool, true, false, ◌≡◌, cond, [], ◌++◌, ◌+◌, Err, Ok, option_to_list, ap, sym, ◌∙◌, drop, append-nil}
 use Rattle.std.proofs.lemmas.Result.{err_from_is_err_and}
-use Rattle.llb_glob.specs.Items.{items_of}
-use Rattle.llb_glob.proofs.Cutting.{items_from}
-use Rattle.llb_glob.proofs.Cutting.{behind, behind_none, cut_more, cut_stops, cut_ends}
-use Rattle.llb_glob.specs.declared.fault.PatternFault.TheVariants.{BadPattern}
+use Rattle.llb_glob.specs.Items.{behind, is_whole, ended, items_from, items_of}
+use Rattle.llb_glob.specs.Reading.{ahead}
+use Rattle.llb_glob.proofs.Cutting.{behind_none, at_drop, cut_ends}
 use Rattle.llb_glob.proofs.part.Part.read.Goals as goal
-use Rattle.llb_glob.proofs.part.Part.read.Goals.{After-loop-letter, in-Some+in_ok-push, in_default}
+use Rattle.llb_glob.proofs.part.Part.read.Goals.{After-loop-letter}
 
 pub loop-letter-init : goal.loop-letter-init
-loop-letter-init c = ap (λ items. behind items (items_of c.as_slice-letter-items.result.now)) c.new-items.ensures.items ∙ behind_none _
+loop-letter-init c =
+    let letters = c.as_slice-letter-items.result.now in
+    (λ i. behind (c.new.ensures.items i) (items_from letters (c.start.ensures i) (c.new-2.ensures i))) ∙ behind_none _
 
--- what is pushed is what the character says
 pub loop-letter-preserved : goal.loop-letter-preserved
 loop-letter-preserved c =
     let letters = c.as_slice-letter-items.result.now in
-    let before = c.loop-letter.items.items in
-    let said = c.in_ok-said.said in
-    let says = sym c.cut.ensures ∙ c.in_ok-said.was in
-    let more =
-    cut_more c.loop-letter.quoted letters c.loop-letter.letter-index c.letter-item.result c.loop-letter-test.true c.letter-item.is
-    said says c.is_none-quoted.result c.is_none-quoted.ensures before (items_of letters) c.loop-letter.invariant in
-    let items : c.match-said.items.items ≡ before ++ option_to_list said =
-    elim c.match-said.branch [
-      | in-Some+in_ok-push w ↦ ap (λ v. v.items) w.items-is ∙ w.in_ok-push.ensures.items ∙ ap (λ s. before ++ option_to_list s) (sym w.in-Some.is)
-      | in_default w ↦ ap (λ v. v.items) w.items-is ∙ sym (append-nil before) ∙ ap (λ s. before ++ option_to_list s) (sym w.in_default.is)
-    ] in
-    ap (λ xs. behind xs (items_from c.is_none-quoted.result (drop (c.loop-letter.letter-index + 1) letters))) items ∙ more
+    let here = at_drop letters c.loop-letter.letter-index c.letter-item.result c.loop-letter-test.true c.letter-item.is in
+    sym (c.in_ok-take.ensures (drop (c.loop-letter.letter-index + 1) letters)) ∙ ap (ahead c.loop-letter.reading) (sym here) ∙ c.loop-letter.invariant
 
-pub returns-in_err-said : goal.returns-in_err-said
-returns-in_err-said c =
+pub returns-in_err-take : goal.returns-in_err-take
+returns-in_err-take c =
     let letters = c.as_slice-letter-items.result.now in
-    let says = sym c.cut.ensures ∙ c.in_err-said.was in
+    let here = at_drop letters c.loop-letter.letter-index c.letter-item.result c.loop-letter-test.true c.letter-item.is in
     let p = err_from_is_err_and c.from_residual.result c.from_residual.ensures.1 in
-    rw (p.1, p.2) (λ _.
-    ap items_of (sym (c.as_slice-letter-items.ensures.all ∙ c.of-letters.ensures))
-    ∙ cut_stops c.loop-letter.quoted letters c.loop-letter.letter-index c.letter-item.result c.loop-letter-test.true c.letter-item.is
-    c.in_err-said.field-0.0 says c.loop-letter.items.items (items_of letters) c.loop-letter.invariant)
-
--- what there is at the end, after a `\` or not
-ended : (c : After-loop-letter) (quoted : Bool) → c.loop-letter.quoted ≡ quoted
-    → items_of (chars c.args.text.now) ≡ behind c.loop-letter.items.items (cond quoted (Err BadPattern) (Ok []))
-ended c quoted is =
-    let letters = c.as_slice-letter-items.result.now in
-    let ends = cut_ends c.loop-letter.quoted letters c.loop-letter.letter-index c.loop-letter-test.false in
+    rw (p.1, p.2) (λ known.
     ap items_of (sym (c.as_slice-letter-items.ensures.all ∙ c.of-letters.ensures))
     ∙ sym c.loop-letter.invariant
-    ∙ ap (behind c.loop-letter.items.items) (ends ∙ ap (λ q. cond q (Err BadPattern) (Ok [])) is)
+    ∙ ap (ahead c.loop-letter.reading) here
+    ∙ c.in_err-take.ensures (drop (c.loop-letter.letter-index + 1) letters) known)
 
-pub returns-then-quoted : goal.returns-then-quoted
-returns-then-quoted c = λ _. ended (goal.at.returns-then-quoted c).After-loop-letter true c.if-quoted.true
+-- what there is at the end
+at_end : (c : After-loop-letter) (whole : Bool) → is_whole c.loop-letter.reading.cursor ≡ whole
+    → items_of (chars c.args.text.now) ≡ behind c.loop-letter.reading.items.items (ended whole)
+at_end c whole is =
+    let letters = c.as_slice-letter-items.result.now in
+    let reading = c.loop-letter.reading in
+    ap items_of (sym (c.as_slice-letter-items.ensures.all ∙ c.of-letters.ensures))
+    ∙ sym c.loop-letter.invariant
+    ∙ ap (behind reading.items.items) (cut_ends reading.cursor reading.class letters c.loop-letter.letter-index c.loop-letter-test.false ∙ ap ended is)
+
+pub returns-then-not-is_whole : goal.returns-then-not-is_whole
+returns-then-not-is_whole c = λ _. at_end (goal.at.returns-then-not-is_whole c).After-loop-letter _ (sym c.is_whole.ensures ∙ c.if-not-is_whole.true)
 
 pub returns : goal.returns
-returns c = ended (goal.at.returns c).After-loop-letter false c.if-quoted.false ∙ ap Ok (append-nil c.loop-letter.items.items)
+returns c =
+    at_end (goal.at.returns c).After-loop-letter _ (sym c.is_whole.ensures ∙ c.if-not-is_whole.false)
+    ∙ ap Ok (append-nil c.loop-letter.reading.items.items)

@@ -2,7 +2,7 @@ use Rattle.std.proofs.Common.{◌-◌, length, sym, ap, subst}
 use Rattle.llb_state.specs.Views.{event_of}
 use Rattle.llb_stepper.specs.Rules.{MeetsOn}
 use Rattle.llb_stepper.specs.Stepping.{Stepping}
-use Rattle.llb_stepper.proofs.Stops.{none_chosen, one_chosen, stops_chosen, done_since, chosen_as}
+use Rattle.llb_stepper.proofs.Stops.{nearer, none_chosen, one_chosen, stops_chosen, done_since, chosen_as}
 use Rattle.llb_stepper.proofs.Walked.{memory_alone, chosen_granted}
 use Rattle.llb_stepper.proofs.stepper.Stepper.go.Goals as goal
 
@@ -34,3 +34,9 @@ loop-event-preserved c =
           c.self.view_is) met,
       c.loop-event.invariant.1,
     )
+
+pub loop-event-smaller : goal.loop-event-smaller
+loop-event-smaller c =
+    let e = event_of c.in-Some.event in
+    let met = subst (MeetsOn c.loop-event.self e c.walk.new.self) c.in-Ok-false.field-0-test c.in-Ok-false.ensures.met in
+    nearer c.loop-event.self c.walk.new.self e _ met (chosen_as _ c.loop-event.self e c.in-Some.ensures c.self.view_is)

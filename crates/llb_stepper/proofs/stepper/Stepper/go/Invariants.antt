@@ -1,6 +1,6 @@
 -- The chosen events so far; fewer can come with each.
-use Rattle.std.proofs.Common.{◌≡◌, ◌-◌, length}
-use Rattle.llb_model.specs.Room.{most_events}
+use Rattle.std.proofs.Common.{◌≡◌, length}
+use Rattle.llb_model.specs.Room.{still_to_come}
 use Rattle.llb_stepper.proofs.Stops.{Chosen}
 use Rattle.llb_stepper.proofs.stepper.Stepper.go.Given as goal
 
@@ -8,4 +8,4 @@ abbrev pub invariant-loop-event : goal.invariant-loop-event
 invariant-loop-event l = Chosen l.fn.self l.self × (l.before ≡ length l.fn.self.past)
 
 abbrev pub decreases-loop-event : goal.decreases-loop-event
-decreases-loop-event l = most_events l.self.board.build - length l.self.board.events
+decreases-loop-event l = still_to_come l.self.board.build l.self.board.state

@@ -3,8 +3,8 @@ use Rattle.std.specs.Prelude.{not, slice_get}
 use Rattle.llb_state.specs.Board.{Seen}
 use Rattle.llb_state.specs.Undoing.{caches_in}
 use Rattle.llb_state.specs.declared.stand.Desk.TheVariants as desk
-use Rattle.llb_board.proofs.Walks.{IsAt, marks_settle, unasked}
-use Rattle.llb_board.proofs.board.Board.before_settle.Goals as goal
+use Rattle.llb_board.proofs.Walks.{IsAt, marks_end, unasked}
+use Rattle.llb_board.proofs.board.Board.before_end.Goals as goal
 
 pub returns-in_ok-caches-in-Some-Runs-clause-marks : goal.returns-in_ok-caches-in-Some-Runs-clause-marks
 returns-in_ok-caches-in-Some-Runs-clause-marks c =
@@ -19,6 +19,6 @@ returns-in_ok-caches-in-Some-Runs-clause-marks c =
       there = there;
     } in
     let len : vec_len x.places ≡ length x.places.items = search rules in
-    marks_settle c.args.self.now b.build b.desks.items c.args.w l x c.in_ok-left-in-Some-Runs.left (caches_in c.in_ok-caches-in-Some-Runs.caches) (not
+    marks_end c.args.self.now c.args.end b.build b.desks.items c.args.w l x c.in_ok-left-in-Some-Runs.left (caches_in c.in_ok-caches-in-Some-Runs.caches) (not
     c.is_empty.result) at c.in_ok-left-in-Some-Runs.ensures
     c.in_ok-caches-in-Some-Runs.ensures (unasked x.places.items (vec_len x.places) c.is_empty.result len c.is_empty.ensures)

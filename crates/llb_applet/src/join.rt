@@ -1,0 +1,65 @@
+//! How the commands of a script follow each other.
+
+ghost use Rattle.std.specs.Prelude.{◌≡◌, Ok};
+ghost use Rattle.llb_applet.specs.Faults.{Gives};
+
+use crate::command::Command;
+use crate::fault::ScriptFault;
+use llb_wire::Same;
+
+/// When a command runs: the separator before it says so. The last status is that of the last command that ran.
+#[derive(Clone, Copy)]
+pub enum Join {
+    /// The first of a script, and one after `;`: it always runs.
+    Then,
+    /// After `&&`: it runs where the last status is 0.
+    And,
+    /// After `||`: it runs where the last status is not 0.
+    Or,
+}
+
+/// A command of a script.
+pub struct Joined {
+    pub join: Join,
+    pub command: Command,
+}
+
+// Written out, so that what owns one drops it by this one function.
+impl Drop for Joined {
+    fn drop(self) {
+        let Joined {
+            join: _,
+            command: _,
+        } = self;
+    }
+}
+
+impl Joined {
+    /// An equal second owner; 74 `Memory`.
+    pub fn copy(&self) -> Result<Joined, ScriptFault>
+        ensures { Gives (λ c. c) result (Ok self.now) }
+    {
+        let command = self.command.copy()?;
+        Ok(Joined {
+            join: self.join,
+            command,
+        })
+    }
+}
+
+impl Same for Join {
+    fn same(&self, other: &Join) -> bool {
+        match (self, other) {
+            (Join::Then, Join::Then) => true,
+            (Join::And, Join::And) => true,
+            (Join::Or, Join::Or) => true,
+            _ => false,
+        }
+    }
+}
+
+impl Same for Joined {
+    fn same(&self, other: &Joined) -> bool {
+        self.join.same(&other.join) && self.command.same(&other.command)
+    }
+}

@@ -1,0 +1,46 @@
+-- Which characters a class matches, as a relation and as a test; and how a class is built, item by item.
+use Rattle.std.specs.Prelude.{ℕ, ◌≤◌, nat_le, ◌⊎◌, Bool, true, false, not, ◌&&◌, List, [], ◌∷◌}
+use Rattle.std.specs.List.{list_any}
+use Rattle.llb_glob.specs.declared.class.Span.{Span}
+use Rattle.llb_glob.specs.ClassValue.{ClassValue}
+
+-- a character is in an item by its scalar value; an item whose low end is above its high end is empty
+abbrev pub IsInSpan : Span → ℕ → Type 0
+IsInSpan span c = (span.low ≤ c) × (c ≤ span.high)
+
+abbrev pub IsInSome : List Span → ℕ → Type 0
+IsInSome [] c = ⊥
+IsInSome (span ∷ spans) c = IsInSpan span c ⊎ IsInSome spans c
+
+-- a class matches what is in one of its items or, where it excludes, what is in none
+abbrev pub Excluding : Bool → Type 0 → Type 0
+Excluding false P = P
+Excluding true P = ¬ P
+
+abbrev pub ClassTakes : ClassValue → ℕ → Type 0
+ClassTakes class c = Excluding class.excludes (IsInSome class.spans c)
+
+-- the relation as tests
+abbrev pub is_in_span : Span → ℕ → Bool
+is_in_span span c = nat_le span.low c && nat_le c span.high
+
+abbrev pub excluding : Bool → Bool → Bool
+excluding false b = b
+excluding true b = not b
+
+abbrev pub class_takes : ClassValue → ℕ → Bool
+class_takes class c = excluding class.excludes (list_any (λ span. is_in_span span c) class.spans)
+
+-- ---- how a class is built
+
+abbrev pub none_yet : ClassValue
+none_yet = record { excludes = false; spans = [] }
+
+abbrev pub one_alone : ℕ → Span
+one_alone c = record { low = c; high = c }
+
+-- the items, where the last one has another high end
+abbrev pub extended : List Span → ℕ → List Span
+extended [] high = []
+extended (span ∷ []) high = record span { high = high } ∷ []
+extended (span ∷ next ∷ spans) high = span ∷ extended (next ∷ spans) high

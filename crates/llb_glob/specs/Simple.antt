@@ -1,0 +1,38 @@
+-- How a pattern is read in which no `[` is but after a `\`: without classes, each item of a part is one character, or a `\` and the one after it. A law of the
+-- crate says that such a pattern is read so.
+use Rattle.std.specs.Prelude.{ℕ, ◌==◌, if◌then◌else◌, List, [], ◌∷◌, Result, Ok, Err}
+use Rattle.std.specs.Str.{chars}
+use Rattle.llb_wire.specs.Answer.{◌>>=◌}
+use Rattle.llb_tree.specs.Path.{path_of}
+use Rattle.llb_tree.specs.declared.fault.TreeFault.{TreeFault}
+use Rattle.llb_glob.specs.declared.fault.PatternFault.{PatternFault}
+use Rattle.llb_glob.specs.declared.fault.PatternFault.TheVariants.{BadPattern}
+use Rattle.llb_glob.specs.declared.item.Item.{Item}
+use Rattle.llb_glob.specs.declared.item.Item.TheVariants.{Run, One}
+use Rattle.llb_glob.specs.declared.item.Letter.TheVariants.{Any, Only}
+
+-- a character that is no `\` and not after one
+abbrev pub simple_item : ℕ → Result Item PatternFault
+simple_item c =
+    if c == 91 then Err BadPattern
+    else (if c == 42 then Ok Run
+    else (if c == 63 then Ok (One Any) else Ok (One (Only c))))
+
+-- a `\` and the character after it are one item, and so is each other character
+abbrev pub simple_items : List ℕ → Result (List Item) PatternFault
+simple_items [] = Ok []
+simple_items (c ∷ []) = if c == 92 then Err BadPattern else (simple_item c >>= λ item. Ok (item ∷ []))
+simple_items (c ∷ d ∷ cs) =
+    if c == 92 then (simple_items cs >>= λ items. Ok (One (Only d) ∷ items))
+    else (simple_item c >>= λ item. simple_items (d ∷ cs) >>= λ items. Ok (item ∷ items))
+
+abbrev pub each_simple : List (List ℕ) → Result (List (List Item)) PatternFault
+each_simple [] = Ok []
+each_simple (name ∷ names) = simple_items (chars name) >>= λ part. each_simple names >>= λ parts. Ok (part ∷ parts)
+
+abbrev pub simple_path : Result (List (List ℕ)) TreeFault → Result (List (List Item)) PatternFault
+simple_path (Ok names) = each_simple names
+simple_path (Err e) = Err BadPattern
+
+abbrev pub simple_pattern_of : List ℕ → Result (List (List Item)) PatternFault
+simple_pattern_of text = simple_path (path_of text)

@@ -1,0 +1,27 @@
+//! What holds of the reading of patterns.
+
+ghost use Rattle.std.specs.Prelude.{◌≡◌, ◌↔◌, List, Ok, Err};
+ghost use Rattle.llb_glob.specs.declared.item.Item.{Item};
+ghost use Rattle.llb_glob.specs.Pattern.{pattern_of};
+ghost use Rattle.llb_glob.specs.Simple.{simple_pattern_of};
+ghost use Rattle.llb_glob.specs.Spelling.{SpellsPattern};
+
+use crate::fault::PatternFault;
+
+/// A text is read as the pattern that it spells by the grammar, which knows of no reading of parts. It is a bad pattern
+/// exactly where it spells none, and no text spells two patterns.
+pub fn reads_by_the_grammar(text: &str)
+    ensures spelled { (parts : List (List Item)) → (pattern_of text.now ≡ Ok parts) ↔ SpellsPattern parts text.now }
+    ensures refused { (pattern_of text.now ≡ Err PatternFault.BadPattern) ↔ ((parts : List (List Item)) → ¬ SpellsPattern parts text.now) }
+    ensures one { (parts others : List (List Item)) → SpellsPattern parts text.now → SpellsPattern others text.now → parts ≡ others }
+{
+    let _ = text;
+}
+
+/// A pattern that is read without classes, with each `[` after a `\`, is read the same with them: classes change no other
+/// pattern.
+pub fn reads_without_classes(text: &str)
+    ensures { (parts : List (List Item)) → simple_pattern_of text.now ≡ Ok parts → pattern_of text.now ≡ Ok parts }
+{
+    let _ = text;
+}

@@ -1,0 +1,156 @@
+//! The history of a board: the record of its events, in room that was taken before, and how often each vertex was cancelled.
+
+ghost use Rattle.std.specs.Prelude.{◌≡◌, ◌+◌, ◌<◌, ◌≤◌, ◌∷◌, ◌++◌, [], length, replicate, get_or, IfOk, OnOk, OnErr};
+ghost use Rattle.llb_model.specs.Landing.{steps_by};
+ghost use Rattle.llb_model.specs.Table as table;
+ghost use Rattle.llb_state.specs.Events.{claimed, unclaimed, cancelled, uncancelled, taken_by};
+ghost use Rattle.llb_state.specs.Undoing.{front};
+ghost use Rattle.llb_state.specs.Views.{event_of};
+
+use crate::events::Events;
+use llb_events::{Event, Memory};
+use std::alloc::{AllocError, Global};
+use std::marker::Model;
+
+/// Events, and by number how often each vertex was cancelled. Contracts see the list of events, the room for them, and the counts.
+pub struct History {
+    events: Events,
+    cancels: Vec<usize>,
+}
+
+// Written out, so that the crates above drop one by this one function.
+impl Drop for History {
+    fn drop(self) {
+        let History {
+            events: _,
+            cancels: _,
+        } = self;
+    }
+}
+
+impl Model for History {
+    ghost use Rattle.llb_state.specs.Events.{HistoryValue};
+
+    ghost Value = { HistoryValue };
+
+    ghost view = { λ h. record { list = h.events.list; space = record { room = h.events.room; cancels = h.cancels.items } } };
+}
+
+impl History {
+    /// No events yet, with room for that many, of that many vertices.
+    pub fn new(alloc: Global, room: usize, vertices: usize) -> Result<History, AllocError>
+        ensures none { IfOk result (λ h. h.list ≡ []) }
+        ensures room { IfOk result (λ h. h.space.room ≡ room) }
+        ensures cancels { IfOk result (λ h. h.space.cancels ≡ replicate vertices 0) }
+    {
+        Ok(History {
+            events: Events::with_room(alloc, room)?,
+            cancels: Vec::from_elem(alloc, 0, vertices)?,
+        })
+    }
+
+    /// The record.
+    pub fn events(&self) -> &Events
+        ensures list { result.now.list ≡ self.now.list }
+        ensures room { result.now.room ≡ self.now.space.room }
+    {
+        &self.events
+    }
+
+    /// One event more, for which there is room.
+    pub fn push_reserved(&mut self, event: Event)
+        requires { length self.old.list < self.old.space.room }
+        ensures list { self.new.list ≡ self.old.list ++ event_of event ∷ [] }
+        ensures space { self.new.space ≡ self.old.space }
+    {
+        self.events.push_reserved(event);
+    }
+
+    /// A cancel, for which there is room, of a vertex that was cancelled at most once for each event so far.
+    pub fn push_cancel(&mut self, w: u32, v: u32)
+        requires room { length self.old.list < self.old.space.room }
+        requires low { v < length self.old.space.cancels }
+        requires few { get_or self.old.space.cancels v 0 ≤ length self.old.list }
+        ensures list { self.new.list ≡ self.old.list ++ table.Cancel w ∷ [] }
+        ensures space { self.new.space ≡ cancelled v self.old.space }
+    {
+        self.events.push_reserved(Event::Cancel(w));
+        let count = self.cancels[v as usize];
+        let _ = self.events.len();
+        self.cancels[v as usize] = count + 1;
+    }
+
+    /// That many micro-steps of a worker, for which there is room.
+    pub fn record_steps(&mut self, w: u32, count: u32)
+        requires { length self.old.list + count ≤ self.old.space.room }
+        ensures list { self.new.list ≡ self.old.list ++ steps_by w count }
+        ensures space { self.new.space ≡ self.old.space }
+    {
+        for _i in 0..count {
+            self.events.push_reserved(Event::Step(w));
+        }
+    }
+
+    /// All events but the last.
+    pub fn take_back(&mut self)
+        ensures list { self.new.list ≡ front self.old.list }
+        ensures space { self.new.space ≡ self.old.space }
+    {
+        self.events.take_back();
+    }
+
+    /// All events but the last, which was a cancel of a vertex.
+    pub fn take_back_cancel(&mut self, v: u32)
+        requires { v < length self.old.space.cancels }
+        ensures list { self.new.list ≡ front self.old.list }
+        ensures space { self.new.space ≡ uncancelled v self.old.space }
+    {
+        self.events.take_back();
+        let count = self.cancels[v as usize];
+        self.cancels[v as usize] = count.saturating_sub(1);
+    }
+
+    /// Room for the events of a vertex that is claimed, where it was cancelled before. 141 where memory is refused.
+    pub fn take_room(&mut self, v: u32, events: usize) -> Result<(), Memory>
+        requires { v < length self.old.space.cancels }
+        ensures list { self.new.list ≡ self.old.list }
+        ensures ok { OnOk result (self.new.space ≡ claimed v events self.old.space) }
+        ensures err { OnErr result (self.new.space ≡ self.old.space) }
+    {
+        let more = self.claim_takes(v, events);
+        self.events.take_room(more)
+    }
+
+    /// That room is given back.
+    pub fn give_room(&mut self, v: u32, events: usize)
+        requires low { v < length self.old.space.cancels }
+        requires there { taken_by v events self.old.space ≤ self.old.space.room }
+        ensures list { self.new.list ≡ self.old.list }
+        ensures space { self.new.space ≡ unclaimed v events self.old.space }
+    {
+        let less = self.claim_takes(v, events);
+        self.events.give_room(less);
+    }
+
+    // How much room a claim takes.
+    fn claim_takes(&self, v: u32, events: usize) -> usize
+        requires { v < length self.now.space.cancels }
+        ensures { result ≡ taken_by v events self.now.space }
+    {
+        if self.cancels[v as usize] == 0 {
+            0
+        } else {
+            events
+        }
+    }
+
+    /// The same history, with as much room. 141 where memory is refused.
+    pub fn copy(&self, alloc: Global) -> Result<History, Memory>
+        ensures { IfOk result (λ h. h ≡ self.now) }
+    {
+        Ok(History {
+            events: self.events.with_same(alloc)?,
+            cancels: Vec::from_slice(alloc, &self.cancels)?,
+        })
+    }
+}

@@ -1,0 +1,14 @@
+use Rattle.std.proofs.Common.{arith, ap, length, ◌∙◌}
+use Rattle.llb_work.proofs.Afters.{after_more}
+use Rattle.llb_work.proofs.desk.Desk.cancel.Goals as goal
+
+pub invariant_of-self : goal.invariant_of-self
+invariant_of-self g c =
+    let old = c.args.self.now in
+    let before = c.len-before.ensures ∙ ap length c.events.ensures.all in
+    let now = c.len.ensures ∙ ap length c.events-2.ensures.all in
+    record {
+      after = after_more old.start old.board c.cancel.new.board old.after c.cancel.ensures.goes;
+      counted = omega (arith, before, now, c.count.ensures, old.counted);
+      stops = old.stops;
+    }
