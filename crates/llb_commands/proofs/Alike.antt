@@ -6,7 +6,8 @@ use Rattle.llb_treetext.specs.TreeText.{tree_text}
 use Rattle.llb_ops.specs.declared.fault.OpFault.{OpFault}
 use Rattle.llb_ops.specs.Definition.{definition_of, definition_bytes}
 use Rattle.llb_ops.specs.Laws.{AreReadAgain}
-use Rattle.llb_asm.specs.Reading.{HasOneAnswer}
+use Rattle.llb_asm.specs.Lines.{kept}
+use Rattle.llb_asm.specs.Reading.{HasOneAnswer, StandsFor}
 use Rattle.llb_loader.specs.Graph.{Numbered}
 use Rattle.llb_loader.specs.Laws.{HasOneAnswerIn}
 use Rattle.llb_loader.specs.Link.{IsGraphOf}
@@ -14,7 +15,8 @@ use Rattle.llb_loader.specs.Load.{rows_from, IsGraphIn}
 use Rattle.llb_loader.specs.Locals.{Local}
 use Rattle.llb_model.specs.State.{State}
 use Rattle.llb_commands.specs.Answer.{build_of, result_in, IsEnd, Yields}
-use Rattle.llb_commands.specs.Assembly.{RunsAlike}
+use Rattle.llb_commands.specs.Aim.{LoadsAsOne}
+use Rattle.llb_commands.specs.Assembly.{RunsAlike, IsAssembled}
 
 -- what stands in the place of an `Ok` or a `Some`
 abbrev ok_of : {A F : Type 0} → A → Result A F → A
@@ -62,3 +64,18 @@ runs_alike text bytes entries once graphs again are stands read locals definitio
 
     loaded : IsGraphIn bytes y.graph
     loaded = moved definition bytes entries y.graph (ap definition_of same ∙ again bytes are read) read y.loaded
+
+-- what a text is assembled to has the entries that the text stands for, where a definition has them
+read_again : (text bytes : List ℕ) (entries : List (List ℕ)) → HasOneAnswer text → AreReadAgain entries → AreBytes bytes → StandsFor (kept text) entries
+    → definition_of bytes ≡ Ok entries → (definition : List ℕ) → IsAssembled text definition → definition_of definition ≡ Ok entries
+read_again text bytes entries once again are stands read definition assembled =
+    ap definition_of (assembled.same ∙ ap definition_bytes (once.entries assembled.entries entries assembled.stands stands)) ∙ again bytes are read
+
+-- so it has the definition's graph, and no other
+pub loads_as_one : (text bytes : List ℕ) (entries : List (List ℕ)) (graph : Numbered) → HasOneAnswer text → HasOneAnswerIn bytes → AreReadAgain entries
+    → AreBytes bytes → IsGraphIn bytes graph → LoadsAsOne text bytes entries graph
+loads_as_one text bytes entries graph once graphs again are loaded stands read definition other assembled =
+    let read_so = read_again text bytes entries once again are stands read definition assembled in (
+      moved bytes definition entries graph read read_so loaded,
+      λ is. graphs.graphs other graph (moved definition bytes entries other read_so read is) loaded,
+    )

@@ -10,3 +10,4 @@ pub mod Texts
 pub mod Numbers
 mod StepFacts
 pub mod Stepped
+mod Always

@@ -11,5 +11,6 @@ pub mod Sources
 pub use Rattle.std.specs.Io.KnownBytes.{Appends, Consumes, IsAtEnd, Keeps}
 pub mod Assembly
 pub mod AssemblyParts
+pub mod Aim
 pub mod Stepping
 pub mod Commands

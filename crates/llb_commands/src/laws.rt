@@ -1,10 +1,13 @@
 //! What holds of texts, definitions and runs together.
 
+ghost use Rattle.llb_commands.specs.Aim.{Aim, IsAccepted};
 ghost use Rattle.llb_commands.specs.Assembly.{RunsAlike};
 
 use llb_asm::one_answer;
-use llb_loader::one_answer_in;
+use llb_board::Board;
+use llb_loader::{Graph, one_answer_in};
 use llb_ops::{Entries, definition_is_read_again};
+use llb_stepper::{Stepper, past_is_the_records, replay_is_the_run, tells_the_run};
 use llb_wire::Bytes;
 
 /// For a text that stands for some entries: the definition that it is assembled to, and any bytes that have these entries, run on the
@@ -16,4 +19,33 @@ pub fn assembled_runs_alike(text: &[u8], entries: &Entries, bytes: &Bytes)
     one_answer_in(bytes.as_slice());
     definition_is_read_again(entries);
     bytes.is_bytes();
+}
+
+/// The aim of the machine. For every definition that is loaded as a graph, and a board and a stepper over it, on all local trees and by any
+/// number of workers: after every interleaving of events the board's state and replies are the written table's on its record; no two
+/// executions hold one locked cache at once; every settled vertex with no cache mount at or before it has the graph's plain outcome; and a
+/// text that stands for the definition's entries is assembled to bytes that load as this graph, over which the stepper's state
+/// and lines are the table's.
+pub fn aim(
+    text: &[u8],
+    definition: &Bytes,
+    entries: &Entries,
+    graph: &Graph,
+    board: &Board,
+    stepper: &Stepper,
+)
+    ensures { IsAccepted definition.now graph.now board.now stepper.now → Aim text.now definition.now entries.now graph.now board.now stepper.now }
+{
+    graph.is_graph();
+    one_answer(text);
+    one_answer_in(definition.as_slice());
+    definition.is_bytes();
+    definition_is_read_again(entries);
+    board.replays();
+    board.has_workers();
+    let stepped = stepper.board();
+    stepped.replays();
+    past_is_the_records(stepper);
+    tells_the_run(stepper);
+    replay_is_the_run(board);
 }

@@ -1,3 +1,5 @@
 pub mod Stops
 pub mod Walked
 pub mod Recorded
+pub mod Lines
+pub mod Replayed

@@ -16,11 +16,11 @@ use Rattle.llb_stepper.specs.Records.{record_at, replied}
 use Rattle.llb_stepper.specs.Stepping.{Stepping, answered}
 use Rattle.llb_stepper.specs.Told.{told_pair}
 
-at_end : {A : Type 0} (xs : List A) (y : A) → slice_get (xs ++ y ∷ []) (length xs) ≡ Some y
+pub at_end : {A : Type 0} (xs : List A) (y : A) → slice_get (xs ++ y ∷ []) (length xs) ≡ Some y
 at_end [] y = refl
 at_end (x ∷ xs) y = at_end xs y
 
-in_front : {A : Type 0} (xs ys : List A) (i : ℕ) (x : A) → slice_get xs i ≡ Some x → slice_get (xs ++ ys) i ≡ Some x
+pub in_front : {A : Type 0} (xs ys : List A) (i : ℕ) (x : A) → slice_get xs i ≡ Some x → slice_get (xs ++ ys) i ≡ Some x
 in_front [] ys i x is = absurd (omega (arith, slice_get_within [] i x is))
 in_front (z ∷ xs) ys zero x is = is
 in_front (z ∷ xs) ys (suc i) x is = in_front xs ys i x is

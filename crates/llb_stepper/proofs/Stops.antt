@@ -20,8 +20,8 @@ use Rattle.llb_board.specs.declared.walk.Reply as short
 use Rattle.llb_stepper.specs.declared.fault.StepperFault.{StepperFault}
 use Rattle.llb_stepper.specs.declared.fault.StepperFault.TheVariants as fault
 use Rattle.llb_stepper.specs.Rules.{IsRefusedAt, MeetsOn, done_by, done_of, stepper_memory}
-use Rattle.llb_stepper.specs.Stepping.{Stepping, GoesBack, IsStop, IsGo, AreChosen, ChosenThen, answered, line, meets, meets_by, meets_any, meets_at}
-use Rattle.llb_stepper.specs.Stepping.{meets_from, run_on, then_on}
+use Rattle.llb_stepper.specs.Stepping.{Stepping, GoesBack, IsStop, IsGo, PastIsTheRecords, AreChosen, ChosenThen, answered, line, meets}
+use Rattle.llb_stepper.specs.Stepping.{meets_by, meets_any, meets_at, meets_from, run_on, then_on}
 
 abbrev Answer : Type 0
 Answer = Seen × Reply
@@ -135,14 +135,15 @@ stop_at n hit = record { events = n; at_break = hit }
 
 -- it meets one, and is the first
 pub stops : (s t u : Stepping) (es : List Event) (i n : ℕ) (e : Event) → n + length s.past ≡ length u.past → GoneTo s es t i → slice_get es i ≡ Some e
-    → MeetsOn t e u true
+    → MeetsOn t e u true → PastIsTheRecords u
     → IsStop s es u (stop_at n true)
-stops s t u es i n e count kept at met =
+stops s t u es i n e count kept at met records =
     let g = gone_on s t u es i e true kept at met in
     let m : n ≡ suc i = omega (arith, count, g.3) in
     record {
       leads = ap (λ k. run_on s.board (take k es)) m ∙ g.0;
       past = ap (λ k. drop k (line u)) m ∙ g.1;
+      records = records;
       breaks = g.2;
       shortest = λ k lt. kept.none k (omega (arith, m));
       ends = (i, (omega (arith, m), g.4));
@@ -150,12 +151,13 @@ stops s t u es i n e count kept at met =
 
 -- all were done
 pub ends_all : (s t : Stepping) (es : List Event) (i n : ℕ) → n + length s.past ≡ length t.past → i ≡ length es → GoneTo s es t i
-    → IsStop s es t (stop_at n false)
-ends_all s t es i n count all kept =
+    → PastIsTheRecords t → IsStop s es t (stop_at n false)
+ends_all s t es i n count all kept records =
     let m : n ≡ i = omega (arith, count, kept.depth) in
     record {
       leads = ap (λ k. run_on s.board (take k es)) m ∙ kept.leads;
       past = ap (λ k. drop k (line t)) m ∙ kept.past;
+      records = records;
       breaks = kept.breaks;
       shortest = λ k lt. kept.none k (omega (arith, m));
       ends = (m ∙ all, λ k lt. kept.none k (omega (arith, m)));
@@ -249,20 +251,20 @@ one_chosen s t u e c is met =
 
 -- and one that meets one
 pub stops_chosen : (s t u : Stepping) (n : ℕ) (e : Event) → n + length s.past ≡ length u.past → Chosen s t → chosen t.board.build t.board.state ≡ Some e
-    → MeetsOn t e u true → IsGo s u (stop_at n true)
-stops_chosen s t u n e count c is met = record {
+    → MeetsOn t e u true → PastIsTheRecords u → IsGo s u (stop_at n true)
+stops_chosen s t u n e count c is met records = record {
   events = c.events ++ e ∷ [];
   are = are_more s.board t.board met.0 met.1 c.events e c.are (all_of s t c.events c.gone) is met.2;
-  stop = stops s t u (c.events ++ e ∷ []) (length c.events) n e count (longer s t c.events e c.gone) (at_end c.events e) met;
+  stop = stops s t u (c.events ++ e ∷ []) (length c.events) n e count (longer s t c.events e c.gone) (at_end c.events e) met records;
   ends = λ no. absurd cc;
 }
 
 pub ends_chosen : (s t : Stepping) (n : ℕ) → n + length s.past ≡ length t.past → Chosen s t → chosen t.board.build t.board.state ≡ None
-    → IsGo s t (stop_at n false)
-ends_chosen s t n count c none = record {
+    → PastIsTheRecords t → IsGo s t (stop_at n false)
+ends_chosen s t n count c none records = record {
   events = c.events;
   are = c.are;
-  stop = ends_all s t c.events (length c.events) n count refl c.gone;
+  stop = ends_all s t c.events (length c.events) n count refl c.gone records;
   ends = λ no.
       none;
 }

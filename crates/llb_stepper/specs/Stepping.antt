@@ -1,10 +1,10 @@
 -- A stepper as contracts see it, and what its calls do: one event, one back, and the events up to a stop.
-use Rattle.std.specs.Prelude.{◌≡◌, ℕ, zero, suc, ◌+◌, ◌<◌, ◌==◌, nat_lt, if◌then◌else◌, Bool, true, false, List, []}
+use Rattle.std.specs.Prelude.{◌≡◌, ℕ, zero, suc, ◌+◌, ◌-◌, slice_get, ◌<◌, ◌==◌, nat_lt, if◌then◌else◌, Bool, true, false, List, []}
 use Rattle.std.specs.Prelude.{◌∷◌, length, take, drop, Option, Some, None, option_map}
 use Rattle.std.specs.List.{list_any}
 use Rattle.llb_model.specs.Table.{Event, Claim, Step, Settle, Cancel, Reply, Claimed, HasRead, Acted, HasMerged, HasRun, Skipped, Faulted}
 use Rattle.llb_model.specs.Table.{SettledDone, SettledFailed, Cancelled, table}
-use Rattle.llb_model.specs.State.{State}
+use Rattle.llb_model.specs.State.{State, opening}
 use Rattle.llb_model.specs.Run.{chosen}
 use Rattle.llb_state.specs.Board.{Seen, after_event}
 use Rattle.llb_stepper.specs.declared.stop.Break.{Break}
@@ -103,6 +103,19 @@ meets_at breaks b [] k = false
 meets_at breaks b (e ∷ es) zero = meets_any breaks b e
 meets_at breaks b (e ∷ es) (suc k) = meets_from (answered b e) (λ c. meets_at breaks c es k)
 
+-- a board of the same opening, on which nothing has happened
+abbrev pub at_first : Seen → Seen
+at_first b = record b { state = opening b.build b.opening; rows = b.first; events = [] }
+
+-- the events of a board's record, done one by one on a board of its opening, lead to it
+abbrev pub IsReplayed : Seen → Type 0
+IsReplayed b = run_on (at_first b) b.events ≡ Some b
+
+-- the boards before are those to which the record leads without its last events
+abbrev pub PastIsTheRecords : Stepping → Type 0
+PastIsTheRecords s = (k : ℕ) (c : Seen) → slice_get s.past k ≡ Some c
+    → run_on (at_first s.board) (take (length s.board.events - (k + 1)) s.board.events) ≡ Some c
+
 -- the board now, and those before it
 abbrev pub line : Stepping → List Seen
 line s = s.board ∷ s.past
@@ -116,6 +129,7 @@ EndsAt false breaks b es n = (n ≡ length es) × ((k : ℕ) → k < n → meets
 pub record IsStop (s : Stepping) (es : List Event) (t : Stepping) (p : Stop) : Type 0 where
   pub leads : run_on s.board (take p.events es) ≡ Some t.board
   pub past : drop p.events (line t) ≡ line s
+  pub records : PastIsTheRecords t
   pub breaks : t.breaks ≡ s.breaks
   pub shortest : (k : ℕ) → k + 1 < p.events → meets_at s.breaks s.board es k ≡ false
   pub ends : EndsAt p.at_break s.breaks s.board es p.events

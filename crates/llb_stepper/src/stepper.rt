@@ -5,8 +5,8 @@ ghost use Rattle.std.specs.Prelude.{OnOk, OnErr, Some, string_bytes};
 ghost use Rattle.llb_model.specs.Run.{chosen};
 ghost use Rattle.llb_state.specs.Views.{event_of};
 ghost use Rattle.llb_stepper.specs.Rules.{GivesEvent, done_of, stepper_memory, IsRefusedAt, MeetsOn, ChosenIsDone, ThereAndBack};
-ghost use Rattle.llb_stepper.specs.Stepping.{GoesBack, IsStop, IsGo, line, lesser};
-ghost use Rattle.llb_stepper.specs.Records.{record_at, record_text};
+ghost use Rattle.llb_stepper.specs.Stepping.{GoesBack, IsStop, IsGo, IsReplayed, PastIsTheRecords, line, lesser};
+ghost use Rattle.llb_stepper.specs.Records.{record_at, record_text, TellsTheRun};
 ghost use Rattle.llb_stepper.specs.Told.{seen_pair, told_pair};
 ghost use Rattle.llb_stepper.specs.declared.fault.StepperFault.TheVariants as fault;
 
@@ -214,6 +214,7 @@ impl Stepper {
             chosen_is_granted(&self.board);
             match self.walk(event) {
                 Ok(true) => {
+                    past_is_the_records(self);
                     return Ok(Stop {
                         events: (self.depth() - before) as u64,
                         at_break: true,
@@ -226,6 +227,7 @@ impl Stepper {
                 }
             }
         }
+        past_is_the_records(self);
         Ok(Stop {
             events: (self.depth() - before) as u64,
             at_break: false,
@@ -242,6 +244,7 @@ impl Stepper {
         for event in events {
             match self.walk(*event) {
                 Ok(true) => {
+                    past_is_the_records(self);
                     return Ok(Stop {
                         events: (self.depth() - start) as u64,
                         at_break: true,
@@ -254,6 +257,7 @@ impl Stepper {
                 }
             }
         }
+        past_is_the_records(self);
         Ok(Stop {
             events: (self.depth() - start) as u64,
             at_break: false,
@@ -273,4 +277,25 @@ pub fn there_and_back(stepper: &Stepper)
     ensures { ThereAndBack stepper.now }
 {
     let _ = &stepper.board;
+}
+
+/// A law: the boards before are those to which the record leads without its last events, however these were done.
+pub fn past_is_the_records(stepper: &Stepper)
+    ensures { PastIsTheRecords stepper.now }
+{
+    let _ = &stepper.board;
+}
+
+/// A law: the events and replies that the lines of a record tell are those of the run of the whole record from the board's opening.
+pub fn tells_the_run(stepper: &Stepper)
+    ensures { TellsTheRun stepper.now }
+{
+    let _ = &stepper.board;
+}
+
+/// A law: the record of a board, whoever did its events, replayed on a board of the same opening, leads to the board.
+pub fn replay_is_the_run(board: &Board)
+    ensures { IsReplayed board.now }
+{
+    board.replays();
 }

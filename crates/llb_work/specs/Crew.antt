@@ -1,9 +1,10 @@
 -- What workers round one lock do to a board.
-use Rattle.std.specs.Prelude.{◌≡◌, ℕ, ◌+◌, ◌++◌, List, length, take, drop, sum, Some, option_map}
+use Rattle.std.specs.Prelude.{◌≡◌, ℕ, ◌+◌, ◌++◌, List, [], length, take, drop, sum, Some, option_map}
+use Rattle.llb_model.specs.Program.{Build}
 use Rattle.llb_model.specs.State.{State}
 use Rattle.llb_model.specs.Table.{Event, Reply}
 use Rattle.llb_model.specs.Run.{run}
-use Rattle.llb_state.specs.Board.{Seen}
+use Rattle.llb_state.specs.Board.{Seen, opened}
 
 -- events that are granted one after another, at the end of the record
 pub record GoesOn (old new : Seen) : Type 0 where
@@ -29,3 +30,10 @@ pub record IsAfter (start found : Seen) : Type 0 where
 -- the sum of what was made is the number of events added
 abbrev pub Counts : List ℕ → Seen → Seen → Type 0
 Counts made old new = sum made + length old.events ≡ length new.events
+
+-- a board over no graph, on which nothing has happened: it stands where no board is given
+abbrev pub no_build : Build
+no_build = record { graph = record { vertices = []; result = record { vertex = 0; index = 0 } }; locals = [] }
+
+abbrev pub nothing : Seen
+nothing = opened no_build 0 []

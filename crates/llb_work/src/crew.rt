@@ -82,9 +82,11 @@ pub(crate) fn run_crew<S: Gated + Send + Sync, G: Gate + Sync, R: Threads + Wait
     requires parts { (blank.parts ≡ S.parts) × (blank.parts ≡ n) }
     requires few { n ≤ 64 }
     requires same { start ≡ board }
+    requires given { board ≡ S.given }
     requires stop { (w v : ℕ) → IsTrue (G.may_stop w v) → S.may_stop w v ≡ true }
-    ensures after { IsAfter result.start result.board }
-    ensures made { Counts result.made result.start result.board }
+    ensures start { result.start ≡ board }
+    ensures after { IsAfter board result.board }
+    ensures made { Counts result.made board result.board }
     ensures stops { may_be S.may_stop result.noted ≡ true }
 {
     let Some(supply) = make_supply::<S>(alloc, &board, n) else {
@@ -121,8 +123,9 @@ pub(crate) fn run_crew<S: Gated + Send + Sync, G: Gate + Sync, R: Threads + Wait
 // Nothing was done, since memory was refused.
 fn undone(board: Board, start: Board) -> Left
     requires same { start ≡ board }
-    ensures after { IsAfter result.start result.board }
-    ensures made { Counts result.made result.start result.board }
+    ensures start { result.start ≡ board }
+    ensures after { IsAfter board result.board }
+    ensures made { Counts result.made board result.board }
     ensures noted { result.noted ≡ Some Noted.Memory }
 {
     Left {

@@ -1,5 +1,5 @@
 //! What lies under the lock: the board, the board that the run began from, the book of what was made, and the fault that was noted
-//! first. Its type keeps that the record went on from the beginning by granted events, each of which is counted.
+//! first. Its type keeps that the record went on from the board that was given by granted events, each of which is counted.
 
 ghost use Rattle.std.specs.Prelude.{◌≡◌, ◌+◌, length, true, Some};
 ghost use Rattle.std.specs.Coded.{codes};
@@ -25,8 +25,9 @@ pub(crate) struct Desk<S: Gated> {
     pub start: Board,
     pub calls: Book<S>,
     pub noted: Option<Noted>,
-    pub ghost after: { IsAfter start board } by { Prim.hlevel (codes, coded_tree, coded_store) },
-    pub ghost counted: { calls.total + length start.events ≡ length board.events },
+    pub ghost kept: { start ≡ S.given } by { Prim.hlevel (codes, coded_tree, coded_store) },
+    pub ghost after: { IsAfter S.given board } by { Prim.hlevel (codes, coded_tree, coded_store) },
+    pub ghost counted: { calls.total + length S.given.events ≡ length board.events },
     pub ghost stops: { may_be S.may_stop noted ≡ true },
 }
 
@@ -59,7 +60,8 @@ pub(crate) enum Turn {
 
 /// A desk on which nothing was done.
 pub(crate) fn make_desk<S: Gated>(board: Board, start: Board, calls: Book<S>) -> Desk<S>
-    requires same { start ≡ board }
+    requires kept { start ≡ S.given }
+    requires given { board ≡ S.given }
     requires empty { calls.total ≡ 0 }
 {
     Desk {

@@ -1,6 +1,8 @@
 //! What a worker notes under the lock, and what it has made.
 
 ghost use Rattle.std.specs.Prelude.{◌≡◌, ◌+◌, ◌≤◌, ℕ, Bool, true};
+ghost use Rattle.llb_state.specs.Board.{Seen};
+ghost use Rattle.llb_work.specs.Crew.{nothing};
 
 use std::marker::Brand;
 use std::sync::ledger::{Book, Ledger, Share};
@@ -16,13 +18,17 @@ pub(crate) enum Noted {
     Thread,
 }
 
-/// The ledger of a run, which knows where the run's gate may stop.
+/// The ledger of a run, which knows where the run's gate may stop, and the board that was given.
 pub(crate) trait Gated: Ledger {
     ghost may_stop: { ℕ → ℕ → Bool };
+
+    ghost given: { Seen };
 }
 
 impl Gated for Brand {
     ghost may_stop = { λ w v. true };
+
+    ghost given = { nothing };
 }
 
 /// What a worker has made, with its share of the ledger.

@@ -2,7 +2,6 @@
 
 ghost use Rattle.std.specs.Prelude.{◌≡◌, ◌≤◌, ◌+◌, ◌⊎◌, ℕ, Bool, sum, length, true, false, Some, None};
 ghost use Rattle.llb_model.specs.Run.{is_complete};
-ghost use Rattle.llb_state.specs.Board.{Seen};
 ghost use Rattle.llb_work.specs.Crew.{GoesOn, Counts};
 ghost use Rattle.llb_work.specs.RunEnds.{is_foreign, may_be, StopsSomewhere, Leads};
 
@@ -25,17 +24,17 @@ use std::thread::Threads;
 ///
 /// 151 where memory is refused, 152 where the gate stops a worker, 153 where a thread cannot be started: the first that is met. Where
 /// memory is refused for the copies of the board, the queue or the workers' lists, no thread starts, and the board comes back as it was
-/// given. The worker that meets 151 or 152 cancels what it runs and notes the fault, in one hold; every other worker ends what it runs. 154
-/// where the board that was kept under the lock from the beginning is found to be another one; it is in the fault. Else the board that comes
-/// back goes on from the given one by granted events, and `made` adds up to their number.
+/// given. The worker that meets 151 or 152 cancels what it runs and notes the fault, in one hold; every other worker ends what it runs. The
+/// board that comes back goes on from the given one by granted events, and `made` adds up to their number. 154, that the board which was
+/// kept under the lock from the beginning is found to be another one, never comes.
 pub fn run_workers<G: Gate + Sync, R: Threads + Wait + Sync>(
     rt: &R,
     alloc: Global,
     board: Board,
     gate: &G,
 ) -> RunEnd
-    ensures leads { is_foreign result.fault ≡ false → Leads board result.made result.board }
-    ensures foreign { (b : Seen) → result.fault ≡ Some (RunFault.Foreign b) → ¬ (b ≡ board) }
+    ensures leads { Leads board result.made result.board }
+    ensures own { is_foreign result.fault ≡ false }
     ensures complete { result.fault ≡ None → is_complete result.board.build result.board.state ≡ true }
     ensures stopped { result.fault ≡ Some RunFault.Stopped → StopsSomewhere G.may_stop }
 {

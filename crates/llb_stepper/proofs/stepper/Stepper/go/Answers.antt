@@ -17,7 +17,7 @@ returns-in-Ok-true-clause-goes c =
     stops_chosen c.args.self.now c.loop-event.self c.walk.new.self (c.depth.result - c.depth-before.result) e
     (done_since c.args.self.now c.loop-event.self c.walk.new.self e _ (length so_far.events) c.depth-before.result c.depth.result so_far.gone.depth met
     c.loop-event.invariant.1 c.depth.ensures)
-    so_far (chosen_as _ c.loop-event.self e c.in-Some.ensures c.self.view_is) met
+    so_far (chosen_as _ c.loop-event.self e c.in-Some.ensures c.self.view_is) met c.past_is_the_records.ensures
 
 pub returns-in-Err-clause-refused : goal.returns-in-Err-clause-refused
 returns-in-Err-clause-refused c =

@@ -18,7 +18,7 @@ returns-in-Ok-true-clause-stops c =
     (done_since c.args.self.now c.loop-event.self c.walk.new.self e _ i c.depth-start.result c.depth.result c.loop-event.invariant.0.depth met
     c.loop-event.invariant.1
     c.depth.ensures)
-    c.loop-event.invariant.0 (event_at es i (event.Claim 0 0) c.loop-event-test.true) met
+    c.loop-event.invariant.0 (event_at es i (event.Claim 0 0) c.loop-event-test.true) met c.past_is_the_records.ensures
 
 pub returns-in-Err-clause-refused : goal.returns-in-Err-clause-refused
 returns-in-Err-clause-refused c =

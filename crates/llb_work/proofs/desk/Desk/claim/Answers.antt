@@ -8,7 +8,8 @@ invariant_of-self g c =
     let before = c.len-before.ensures ∙ ap length c.events.ensures.all in
     let now = c.len.ensures ∙ ap length c.events-2.ensures.all in
     record {
-      after = after_more old.start old.board c.claim-claimed.new.board old.after c.claim-claimed.ensures.goes;
+      kept = old.kept;
+      after = after_more g.S.Gated.given old.board c.claim-claimed.new.board old.after c.claim-claimed.ensures.goes;
       counted = omega (arith, before, now, c.count.ensures, old.counted);
       stops = old.stops;
     }

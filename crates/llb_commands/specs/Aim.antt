@@ -1,0 +1,51 @@
+-- The aim of the machine, phrase by phrase: over a text, a definition and its entries, the graph that it is loaded as, a board and a stepper.
+use Rattle.std.specs.Prelude.{◌≡◌, ◌≤◌, ◌<◌, ℕ, List, length, Some, Ok}
+use Rattle.llb_ops.specs.Definition.{definition_of}
+use Rattle.llb_asm.specs.Lines.{kept}
+use Rattle.llb_asm.specs.Reading.{StandsFor}
+use Rattle.llb_loader.specs.Graph.{Numbered}
+use Rattle.llb_loader.specs.Load.{IsGraphIn}
+use Rattle.llb_model.specs.State.{opening}
+use Rattle.llb_model.specs.Table.{Reply}
+use Rattle.llb_model.specs.Run.{run}
+use Rattle.llb_state.specs.Board.{Seen, Replays, SettledArePlain}
+use Rattle.llb_board.specs.Headline.{LockedOnce}
+use Rattle.llb_stepper.specs.Records.{TellsTheRun}
+use Rattle.llb_stepper.specs.Stepping.{Stepping, PastIsTheRecords, IsReplayed}
+use Rattle.llb_commands.specs.Assembly.{IsAssembled}
+
+-- The definition is accepted: it is loaded as the graph. The machine's board is over the graph, with some local trees, and so is the stepper's.
+pub record IsAccepted (definition : List ℕ) (graph : Numbered) (board : Seen) (stepper : Stepping) : Type 0 where
+  pub loaded : IsGraphIn definition graph
+  pub board_over : board.build.graph ≡ graph
+  pub stepper_over : stepper.board.build.graph ≡ graph
+
+-- on all local trees, by any number of workers and after every interleaving of events: wherever a run of the table leads from an opening over the graph
+abbrev pub AfterAll : Numbered → (Seen → Type 0) → Type 0
+AfterAll graph Holds = (b : Seen) (replies : List Reply) → b.build.graph ≡ graph
+    → run b.build (opening b.build b.opening) b.events ≡ Some (b.state, replies) → Holds b
+
+-- what a text is assembled to, where it stands for the entries of the definition, is loaded as the graph, and as no other
+abbrev pub LoadsAsOne : List ℕ → List ℕ → List (List ℕ) → Numbered → Type 0
+LoadsAsOne text definition entries graph = StandsFor (kept text) entries → definition_of definition ≡ Ok entries → (assembled : List ℕ) (other : Numbered)
+    → IsAssembled text assembled → IsGraphIn assembled graph × (IsGraphIn assembled other → other ≡ graph)
+
+pub record Aim (text definition : List ℕ) (entries : List (List ℕ)) (graph : Numbered) (board : Seen) (stepper : Stepping) : Type 0 where
+  -- any number of workers, from 1 to 64
+  pub some_workers : 0 < length board.state.workers
+  pub few_workers : length board.state.workers ≤ 64
+  -- after every interleaving of atomic steps the machine's state and replies are the written table's on the recorded events
+  pub replays : Replays board
+  -- no two executions hold one locked cache at once
+  pub locked_once : AfterAll graph LockedOnce
+  -- every settled vertex with no cache mount at or before it has the graph's plain outcome
+  pub plain : AfterAll graph SettledArePlain
+  -- assembled text and loaded bytes read as one graph
+  pub one_graph : LoadsAsOne text definition entries graph
+  -- and so does the stepper: its state is the table's on its record, each board that `back` can come to is that of the record without its last events,
+  -- and its lines tell the events and replies of that run
+  pub stepper_state : Replays stepper.board
+  pub stepper_past : PastIsTheRecords stepper
+  pub stepper_lines : TellsTheRun stepper
+  -- and the machine's record, replayed, leads to the machine's board
+  pub stepper_replays : IsReplayed board
