@@ -1,6 +1,6 @@
 //! How the commands of a script follow each other.
 
-ghost use Rattle.std.specs.Prelude.{◌≡◌, Ok};
+ghost use Rattle.std.specs.Prelude.{Ok};
 ghost use Rattle.llb_applet.specs.Faults.{Gives};
 
 use crate::command::Command;

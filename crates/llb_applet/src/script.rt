@@ -1,7 +1,7 @@
 //! Scripts. A text is looked through without memory first, so that a refusal is told apart from out of memory, and then its
 //! calls are made into commands.
 
-ghost use Rattle.std.specs.Prelude.{◌≡◌, ◌+◌, ◌≤◌, ◌<◌, ◌^◌, ◌++◌, ◌∷◌, [], List, ℕ, length, OnOk, IsTrue, slice_index_or, Ok};
+ghost use Rattle.std.specs.Prelude.{◌≡◌, ◌+◌, ◌<◌, ◌++◌, ◌∷◌, [], List, ℕ, length, OnOk, IsTrue, slice_index_or, Ok};
 ghost use Rattle.llb_applet.specs.Faults.{Gives, MemoryLast};
 ghost use Rattle.llb_applet.specs.Scripts.{is_shell, script_of, commands_in, commands_of};
 ghost use Rattle.llb_applet.specs.Words.{calls_of, first_call};

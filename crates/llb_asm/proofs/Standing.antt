@@ -225,7 +225,7 @@ parts_are earlier (x ∷ xs) (here, bytes) (form, forms) count (short, shorts) s
     (parts_are (earlier ++ x.0 ∷ []) xs bytes forms (omega (arith, count, length-append earlier (x.0 ∷ []))) shorts
     (subst (λ l. length (definition_bytes l) ≤ definition_limit) (sym grouped) small))
 
-pub reads_back : (entries : List (List ℕ)) → ReadsBack entries
+pub reads_back : (entries : List (List ℕ)) → AllByRecursion AreBytes entries → ReadsBack entries
 reads_back entries bytes is xs formed =
     let same = formed.same in
     let limits = limited entries is in

@@ -1,7 +1,6 @@
 -- The one text that is written of entries.
 use Rattle.std.specs.Prelude.{◌≡◌, ℕ, ◌+◌, ◌*◌, if◌then◌else◌, List, [], ◌∷◌, ◌++◌, map, codes, position, replicate, Option, Some, None, Ok}
-use Rattle.std.specs.List.{flat_map, AllByRecursion}
-use Rattle.llb_wire.specs.Spelling.{AreBytes}
+use Rattle.std.specs.List.{flat_map}
 use Rattle.llb_wire.specs.Digest.{digest_text}
 use Rattle.llb_wire.specs.Hexadecimal.{hex_text}
 use Rattle.llb_ops.specs.declared.op.Op.{Op}
@@ -116,8 +115,8 @@ plain_text xs = text_of_lines (plain_lines [] xs)
 
 -- ---- the law
 
--- the text of the entries of a definition, in bytes, stands for these entries
+-- the text of the entries of a definition stands for these entries
 abbrev pub ReadsBack : List (List ℕ) → Type 0
 ReadsBack entries =
-    AllByRecursion AreBytes entries → definition_of (definition_bytes entries) ≡ Ok entries → (xs : List Formed) → AreFormed entries xs
+    definition_of (definition_bytes entries) ≡ Ok entries → (xs : List Formed) → AreFormed entries xs
     → StandsFor (kept (plain_text xs)) entries

@@ -16,5 +16,7 @@ pub fn one_answer(text: &[u8])
 pub fn reads_back(entries: &Entries)
     ensures { ReadsBack entries.now }
 {
-    let _ = entries;
+    for entry in entries.as_slice() {
+        entry.is_bytes();
+    }
 }

@@ -1,6 +1,6 @@
 -- What holds of caches holds after each call.
 use Rattle.std.proofs.Common.{◌≡◌, ◌≢◌, ℕ, ◌<◌, ◌≤◌, Bool, true, false, cond, List, [], ◌∷◌, length, map, get_or, Some, None, refl, sym, ap}
-use Rattle.std.proofs.Common.{◌∙◌, subst, arith, inl, inr, true≢false, find}
+use Rattle.std.proofs.Common.{◌∙◌, subst, arith, inl, inr, true≢false, find, slice_set}
 use Rattle.std.specs.List.{All, AllPairs, AllByRecursion, Contains}
 use Rattle.std.proofs.lemmas.List.Elements.{All-from_recursion}
 use Rattle.llb_tree.specs.Tree.{TreeMap}
@@ -8,9 +8,9 @@ use Rattle.llb_cache.specs.declared.key.Key.{Key}
 use Rattle.llb_cache.specs.declared.need.Need.{Need}
 use Rattle.llb_cache.specs.declared.need.Place.{Place}
 use Rattle.llb_cache.specs.Caches.{CachesValue, Row, Leases, Taken, place_for, taken, made_all, is_shut, is_held, leases, granted}
-use Rattle.llb_cache.specs.Caches.{free_lease, put, given_back, trees_of, IsCaches, IsExclusive, Has, AreApart, AreThere}
+use Rattle.llb_cache.specs.Caches.{free_lease, put, given_back, trimmed, trees_of, IsCaches, IsExclusive, Has, AreApart, AreThere}
 use Rattle.llb_cache.specs.Members.{In, in_contained, in_map, pairs_map}
-use Rattle.llb_cache.specs.Leased.{held_by, lease_cases, lease_short, back_cases, back_short}
+use Rattle.llb_cache.specs.Leased.{held_by, lease_cases, lease_short, back_cases, back_short, trimmed_twice, trimmed_lease, trimmed_nothing}
 use Rattle.llb_cache.specs.Numbers.{number_within, number_free, number_next}
 use Rattle.llb_cache.specs.Rows.{IsNext, all_grow, all_there, all_few, put_counts}
 
@@ -100,25 +100,39 @@ lease_keeps c needs is few differ none =
       ];
       few = all_few c.rows (taken out needs) is.few (small_all out needs few);
       short = lease_short out new is.short few;
+      ends = trimmed_lease out lease new is.ends;
     }
 
 -- ---- the other calls
 
+-- no cache and no lease
+pub nothing_kept : IsCaches (record { rows = []; out = [] })
+nothing_kept = record {
+  exclusive = λ a b ps qs p at. absurd cc;
+  apart = λ a ps at. absurd cc;
+  there = λ a ps at. absurd cc;
+  few = λ k. omega arith;
+  short = omega arith;
+  ends = trimmed_nothing;
+}
+
 -- with no lease more, and no instance less
 fewer : (c d : CachesValue) → IsCaches c → ((a : ℕ) (ps : List Place) → Has d.out a ps → Has c.out a ps) → length d.out ≤ length c.out
-    → ((k : Key) → length (trees_of d.rows k) ≡ length (trees_of c.rows k)) → IsCaches d
-fewer c d is before short same = record {
+    → ((k : Key) → length (trees_of d.rows k) ≡ length (trees_of c.rows k)) → trimmed d.out ≡ d.out → IsCaches d
+fewer c d is before short same ends = record {
   exclusive = λ a b ps qs p at bt mine theirs alone. is.exclusive a b ps qs p (before a ps at) (before b qs bt) mine theirs alone;
   apart = λ a ps at. is.apart a ps (before a ps at);
   there = λ a ps at k d below. let old = is.there a ps (before a ps at) k d below in let e = same (get_or ps k d).key in omega (arith, old, e);
   few = λ k. let e = same k in let old = is.few k in omega (arith, e, old);
   short = let s = is.short in omega (arith, s, short);
+  ends = ends;
 }
 
 -- a tree that is written to an instance leaves all that holds of caches
 pub put_keeps : (c : CachesValue) (p : Place) (tree : TreeMap) → IsCaches c → IsCaches (record c { rows = put c.rows p tree })
-put_keeps c p tree is = fewer c (record c { rows = put c.rows p tree }) is (λ a ps at. at) (omega arith) (λ k. put_counts c.rows p tree k)
+put_keeps c p tree is = fewer c (record c { rows = put c.rows p tree }) is (λ a ps at. at) (omega arith) (λ k. put_counts c.rows p tree k) is.ends
 
 -- a lease that is given back leaves all that holds of caches
 pub back_keeps : (c : CachesValue) (lease : ℕ) → IsCaches c → IsCaches (given_back c lease)
 back_keeps c lease is = fewer c (given_back c lease) is (λ a ps at. back_cases c.out lease a ps at) (back_short c.out lease) (λ k. refl)
+    (trimmed_twice (slice_set c.out lease None))

@@ -202,3 +202,4 @@ pub record IsCaches (c : CachesValue) : Type 0 where
   pub there : AreThere c.rows c.out
   pub few : AreFew c.rows
   pub short : length c.out ≤ 65536
+  pub ends : trimmed c.out ≡ c.out

@@ -195,6 +195,56 @@ pub trimmed_nothing : trimmed [] ≡ []
 unfolding trimmed
 trimmed_nothing = refl
 
+-- what is trimmed stays so: after a lease is given back, and after one more is out
+pub trimmed_twice : (out : Leases) → trimmed (trimmed out) ≡ trimmed out
+unfolding trimmed
+trimmed_twice [] = refl
+trimmed_twice (Some ps ∷ out) = ap (λ o. Some ps ∷ o) (trimmed_twice out)
+trimmed_twice (None ∷ out) = go (trimmed out) (trimmed_twice out)
+  where
+    go : (less : Leases) → trimmed less ≡ less → trimmed (before less) ≡ before less
+    go [] same = refl
+    go (o ∷ less) same = ap before same
+
+nothing_before : (less out : Leases) → before less ≡ None ∷ out → less ≡ out
+nothing_before [] out e = absurd cc
+nothing_before (o ∷ less) out e = cc
+
+before_set : (out : Leases) (n : ℕ) (o : Option (List Place)) → before out ≡ None ∷ out → before (slice_set out n o) ≡ None ∷ slice_set out n o
+before_set [] n o e = absurd cc
+before_set (x ∷ out) zero o e = refl
+before_set (x ∷ out) (suc n) o e = refl
+
+trimmed_set : (out : Leases) (n : ℕ) (ps : List Place) → trimmed out ≡ out → trimmed (slice_set out n (Some ps)) ≡ slice_set out n (Some ps)
+unfolding trimmed
+trimmed_set [] n ps same = refl
+trimmed_set (Some qs ∷ out) zero ps same = ap (λ o. Some ps ∷ o) cc
+trimmed_set (Some qs ∷ out) (suc n) ps same = ap (λ o. Some qs ∷ o) (trimmed_set out n ps cc)
+trimmed_set (None ∷ out) zero ps same = ap (λ o. Some ps ∷ o) (nothing_before (trimmed out) out same)
+trimmed_set (None ∷ out) (suc n) ps same =
+    let less = nothing_before (trimmed out) out same in
+    ap before (trimmed_set out n ps less) ∙ before_set out n (Some ps) (ap before (sym less) ∙ same)
+
+pub trimmed_lease : (out : Leases) (n : ℕ) (ps : List Place) → trimmed out ≡ out → trimmed (with_lease out n ps) ≡ with_lease out n ps
+trimmed_lease out n ps same = go (nat_lt n (length out))
+  where
+    go : (b : Bool) → trimmed (cond b (slice_set out n (Some ps)) (out ++ Some ps ∷ [])) ≡ cond b (slice_set out n (Some ps)) (out ++ Some ps ∷ [])
+    go true = trimmed_set out n ps same
+    go false = trimmed_some out ps
+
+-- where no lease is out, there is nothing
+pub none_out : (out : Leases) → trimmed out ≡ out → leases out ≡ 0 → out ≡ []
+unfolding trimmed
+none_out [] same none = refl
+none_out (Some ps ∷ out) same none =
+    let one : leases (Some ps ∷ out) ≡ 1 + leases out = sum_by-cons (λ (o : Option (List Place)). cond (is_some o) 1 0) (Some ps) out in
+    absurd (omega (arith, none, one))
+none_out (None ∷ out) same none =
+    let less = nothing_before (trimmed out) out same in
+    let one : leases (None ∷ out) ≡ 0 + leases out = sum_by-cons (λ (o : Option (List Place)). cond (is_some o) 1 0) None out in
+    let rest = none_out out less (omega (arith, none, one)) in
+    let e = ap before (less ∙ rest) in absurd cc
+
 -- one number more, of a lease that is out, and of one that is not
 pub trimmed_at_some : (out : Leases) (i : ℕ) (o : Option (List Place)) → i < length out → o ≡ get_or out i o → is_some o ≡ true
     → trimmed (take (i + 1) out) ≡ take (i + 1) out

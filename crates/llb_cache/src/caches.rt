@@ -245,7 +245,8 @@ impl Caches {
     }
 
     /// A law: no two leases have one instance of a locked or a private key, nor have two needs of one lease; what a lease
-    /// has is there; and no key has more than 65,536 instances.
+    /// has is there; no key has more than 65,536 instances; and the last number of the list of leases is that of one that is
+    /// out, so that the list is empty where none is.
     pub fn is_exclusive(&self)
         ensures { IsCaches self.now }
     {

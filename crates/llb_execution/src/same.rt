@@ -1,7 +1,7 @@
 //! Whether two views are the same by value, and whether a program is that of a vertex. Nothing here takes memory: the vertex's own
 //! program is not made, but each part of the one at hand is compared with what the vertex says.
 
-ghost use Rattle.std.specs.Prelude.{◌≡◌, ◌↔◌, IsTrue, [], ◌∷◌, map, slice_get, unwrap_or};
+ghost use Rattle.std.specs.Prelude.{◌≡◌, ◌↔◌, IsTrue, [], ◌∷◌, map};
 ghost use Rattle.llb_loader.specs.Rules.{mount_outputs};
 ghost use Rattle.llb_model.specs.Program.{ReadLocal, Act, LayInput, runs_of, program_of, steps_of, setting_of, path_in};
 ghost use Rattle.llb_ops.specs.declared.merge.MergeInput as merge_input;

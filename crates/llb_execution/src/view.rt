@@ -1,7 +1,7 @@
 //! What a program works on, which owns its data: it begins on the trees of the vertex's inputs, each micro-step changes it, and the
 //! outputs are taken from it at the end. Stands on what one action, one laying and one command do.
 
-ghost use Rattle.std.specs.Prelude.{◌≡◌, ◌<◌, ℕ, List, length, map, option_map, replicate, unwrap_or, Some, None, IfOk, OnOk, OnErr};
+ghost use Rattle.std.specs.Prelude.{◌≡◌, ◌<◌, List, length, map, option_map, replicate, unwrap_or, Some, None, IfOk, OnOk, OnErr};
 ghost use Rattle.std.specs.List.{All};
 ghost use Rattle.llb_tree.specs.Tree.{TreeMap, empty_tree};
 ghost use Rattle.llb_merge.specs.Laying.{lay};

@@ -1,7 +1,7 @@
 //! Classes of characters, as `[a-z]` in a pattern. A class is built item by item while its part is read. It knows nothing
 //! of the text that spells it.
 
-ghost use Rattle.std.specs.Prelude.{◌≡◌, ◌↔◌, ◌++◌, false, true, [], ◌∷◌, IsTrue, OnOk, OnErr};
+ghost use Rattle.std.specs.Prelude.{◌≡◌, ◌↔◌, ◌++◌, false, true, [], ◌∷◌, IsTrue, OnOk};
 ghost use Rattle.std.specs.List.{list_any};
 ghost use Rattle.llb_glob.specs.Class.{ClassTakes, is_in_span, none_yet, one_alone, extended};
 

@@ -20,6 +20,7 @@ pub mod Stores
 pub mod Claims
 pub mod Separate
 pub mod Others
+pub mod Cuts
 pub mod Tracks
 pub mod Whole
 pub mod Dense

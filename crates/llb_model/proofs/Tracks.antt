@@ -1,22 +1,21 @@
 -- A run keeps step with its claim order: what runs has done the first micro-steps of what the order did at the claim. The order does as many of them as
 -- the replies to come tell, so these are looked at too.
 use Rattle.std.proofs.Common.{◌≡◌, ◌≢◌, ℕ, zero, suc, ◌+◌, Bool, true, false, List, [], ◌∷◌, length, map, Option, Some, None, unwrap_or, inl, inr, refl}
-use Rattle.std.proofs.Common.{sym, ap, subst, ◌∙◌, cond, arith}
+use Rattle.std.proofs.Common.{sym, ap, subst, ◌∙◌, arith}
 use Rattle.std.specs.Prelude.{slice_get, slice_set, replicate}
-use Rattle.std.proofs.lemmas.Bool.{ne_eqb, eq-eqb}
 use Rattle.llb_loader.specs.declared.graph.Vertex.{Vertex}
 use Rattle.llb_tree.specs.Tree.{TreeMap}
 use Rattle.llb_model.specs.declared.fault.VertexFault.{VertexFault}
 use Rattle.llb_model.specs.Caches.{Place, Store, content, Hold, Has, Distinct}
-use Rattle.llb_model.specs.Program.{Build, MicroStep, ReadLocal, Act, LayInput, Run, Program, View, Need, Work, Left, Start, program_of}
-use Rattle.llb_model.specs.Program.{program_at, needs_of, base_in, last_of, is_run, step_on, unless_faulted, go_on, part, whole}
-use Rattle.llb_model.specs.Outcome.{Ending, Done, Failed, ending}
+use Rattle.llb_model.specs.Program.{Build, MicroStep, Program, View, Need, Work, Left, Start, program_of}
+use Rattle.llb_model.specs.Program.{program_at, needs_of, base_in, step_on, unless_faulted, go_on, part, whole}
+use Rattle.llb_model.specs.Outcome.{Ending, ending}
 use Rattle.llb_model.specs.State.{Status, Waiting, Running, Settled, Execution, Idle, Runs, State, Opening, opening, ending_of, ending_at}
 use Rattle.llb_model.specs.State.{ready, program_in, is_finished, next_step, work_of, ending_from, held, IsFree, first_trees, begin_at}
-use Rattle.llb_model.specs.Table.{Event, Claim, Step, Settle, Cancel, Reply, Claimed, HasRead, Acted, HasMerged, HasRun, Skipped, Faulted}
-use Rattle.llb_model.specs.Table.{SettledDone, SettledFailed, Cancelled, execution_on, claim_at, with_step, after_step, after_end, after_settle}
-use Rattle.llb_model.specs.Table.{unless_failed, step_reply, settle_reply, table}
-use Rattle.llb_model.specs.Order.{Order, at_first, cut_in, named, done_of, stands_after, whole_at, run_whole, after_whole}
+use Rattle.llb_model.specs.Table.{Event, Claim, Step, Settle, Cancel, Reply, Cancelled}
+use Rattle.llb_model.specs.Table.{execution_on, claim_at, with_step, after_step, after_end, after_settle}
+use Rattle.llb_model.specs.Table.{settle_reply, table}
+use Rattle.llb_model.specs.Order.{Order, at_first, cut_in, named, done_of, stands_after, whole_at, run_whole}
 use Rattle.llb_model.specs.Laws.{HasDistinctNeeds}
 use Rattle.llb_model.proofs.Lists.{some_of, got_set, get_set_same, get_set_other, got_replicate, each_unit}
 use Rattle.llb_model.proofs.Stores.{kept_all, has_or, hold_moved, hold_all, hold_trees, hold_length, hold_same}
@@ -26,6 +25,7 @@ use Rattle.llb_model.proofs.Events.{Answer, IsReady, ready_as, claim_places, cla
 use Rattle.llb_model.proofs.Outcomes.{inputs_mono}
 use Rattle.llb_model.proofs.Plain.{ending_settled}
 use Rattle.llb_model.proofs.Separate.{IsSeparate, TakesFree, opening_separate, event_separate}
+use Rattle.llb_model.proofs.Cuts.{cuts, step_cuts, uncut_here, uncut_later, cut_here, cut_later, after_reply, step_stays, settle_stays}
 
 -- all places count
 abbrev pub any : Place → Type 0
@@ -393,73 +393,6 @@ module _ (b : Build) (s : State) (o : Order) (cut : ℕ → Option ℕ) (tracks 
       p = program_of own.vertex
 
 -- ---- events
-
--- how claims end, by the replies to come
-abbrev pub cuts : List Reply → ℕ → Option ℕ
-cuts rs v = cut_in v rs
-
--- a step ends no claim
-unless_cuts : (f : Option VertexFault) (r : Reply) (rs : List Reply) → cuts (r ∷ rs) ≡ cuts rs → cuts (unless_failed f r ∷ rs) ≡ cuts rs
-unless_cuts None r rs same = same
-unless_cuts (Some f) r rs same = refl
-
-step_cuts : (k : ℕ) (m : MicroStep) (own : View) (left : Left) (rs : List Reply) → cuts (step_reply k m own left ∷ rs) ≡ cuts rs
-step_cuts k ReadLocal own left rs = unless_cuts left.fault HasRead rs refl
-step_cuts k (Act action) own left rs = unless_cuts left.fault (Acted k) rs refl
-step_cuts k (LayInput i) own left rs = unless_cuts left.fault (HasMerged k) rs refl
-step_cuts k (Run setting command ends) own left rs = by_run (is_run command.join (last_of own))
-  where
-    by_run : (b : Bool) → cuts (cond b (HasRun k (last_of left.work.own)) (Skipped k) ∷ rs) ≡ cuts rs
-    by_run true = refl
-    by_run false = refl
-
--- a settle and a cancel end that of their vertex, and no other
-uncut_here : (v : ℕ) (e : Ending) (rs : List Reply) → cut_in v (settle_reply v e ∷ rs) ≡ None
-uncut_here v (Done trees) rs = ap (λ t. cond t None (cut_in v rs)) (eq-eqb v v refl)
-uncut_here v (Failed f) rs = ap (λ t. cond t None (cut_in v rs)) (eq-eqb v v refl)
-
-uncut_later : (u : ℕ) (e : Ending) (rs : List Reply) (v : ℕ) → v ≢ u → cut_in v (settle_reply u e ∷ rs) ≡ cut_in v rs
-uncut_later u (Done trees) rs v other = ap (λ t. cond t None (cut_in v rs)) (ne_eqb u v (λ e. other (sym e)))
-uncut_later u (Failed f) rs v other = ap (λ t. cond t None (cut_in v rs)) (ne_eqb u v (λ e. other (sym e)))
-
-cut_here : (v k : ℕ) (rs : List Reply) → cut_in v (Cancelled v k ∷ rs) ≡ Some k
-cut_here v k rs = ap (λ t. cond t (some_of k) (cut_in v rs)) (eq-eqb v v refl)
-
-cut_later : (u k : ℕ) (rs : List Reply) (v : ℕ) → v ≢ u → cut_in v (Cancelled u k ∷ rs) ≡ cut_in v rs
-cut_later u k rs v other = ap (λ t. cond t (some_of k) (cut_in v rs)) (ne_eqb u v (λ e. other (sym e)))
-
--- the claim order after a reply, where those replies are to come
-abbrev pub after_reply : Build → Order → Reply → List Reply → Order
-after_reply b o (Claimed job) rs = after_whole b o (named job.vertex job.instances (cut_in job.vertex rs))
-after_reply b o HasRead rs = o
-after_reply b o (Acted a) rs = o
-after_reply b o (HasMerged i) rs = o
-after_reply b o (HasRun c s) rs = o
-after_reply b o (Skipped c) rs = o
-after_reply b o (Faulted f) rs = o
-after_reply b o (SettledDone v) rs = o
-after_reply b o (SettledFailed v) rs = o
-after_reply b o (Cancelled v k) rs = o
-
--- a reply that is no claim leaves it
-unless_stays : (b : Build) (o : Order) (f : Option VertexFault) (r : Reply) (rs : List Reply) → after_reply b o r rs ≡ o
-    → after_reply b o (unless_failed f r) rs ≡ o
-unless_stays b o None r rs same = same
-unless_stays b o (Some f) r rs same = refl
-
-step_stays : (b : Build) (o : Order) (k : ℕ) (m : MicroStep) (own : View) (left : Left) (rs : List Reply) → after_reply b o (step_reply k m own left) rs ≡ o
-step_stays b o k ReadLocal own left rs = unless_stays b o left.fault HasRead rs refl
-step_stays b o k (Act action) own left rs = unless_stays b o left.fault (Acted k) rs refl
-step_stays b o k (LayInput i) own left rs = unless_stays b o left.fault (HasMerged k) rs refl
-step_stays b o k (Run setting command ends) own left rs = by_run (is_run command.join (last_of own))
-  where
-    by_run : (b' : Bool) → after_reply b o (cond b' (HasRun k (last_of left.work.own)) (Skipped k)) rs ≡ o
-    by_run true = refl
-    by_run false = refl
-
-settle_stays : (b : Build) (o : Order) (v : ℕ) (e : Ending) (rs : List Reply) → after_reply b o (settle_reply v e) rs ≡ o
-settle_stays b o v (Done trees) rs = refl
-settle_stays b o v (Failed f) rs = refl
 
 -- an event keeps step with the claim order, where no running worker has what a claim takes
 pub event_tracks : (b : Build) → HasDistinctNeeds b → (s : State) (o : Order) (e : Event) (a : Answer) (rs : List Reply) → Tracks b s o (cuts (a.1 ∷ rs))

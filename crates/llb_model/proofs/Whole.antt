@@ -16,7 +16,8 @@ use Rattle.llb_model.proofs.Events.{Answer}
 use Rattle.llb_model.proofs.Runs.{run_none, run_first}
 use Rattle.llb_model.proofs.Alone.{IsNextOf, chosen_is}
 use Rattle.llb_model.proofs.Separate.{alone, alone_free, TakesFree}
-use Rattle.llb_model.proofs.Tracks.{any, Agrees, agree_settled, Tracks, cuts, after_reply, event_tracks, opening_tracks}
+use Rattle.llb_model.proofs.Cuts.{cuts, after_reply}
+use Rattle.llb_model.proofs.Tracks.{any, Agrees, agree_settled, Tracks, event_tracks, opening_tracks}
 
 -- ---- runs with their claim order
 

@@ -1,6 +1,6 @@
 //! Bytes in texts: lower-case hexadecimal, and a dash for none; and the text of a digest.
 
-ghost use Rattle.std.specs.Prelude.{◌≡◌, ◌++◌, IfOk, OnOk, codes, string_bytes};
+ghost use Rattle.std.specs.Prelude.{◌≡◌, ◌++◌, IfOk, OnOk, OnErr, codes, string_bytes};
 ghost use Rattle.std.specs.List.{list_all};
 ghost use Rattle.std.specs.Option.{option_map};
 ghost use Rattle.hex.specs.Hex.{encode_lower};
@@ -15,9 +15,11 @@ use std::alloc::{AllocError, Global};
 // How many bytes the text of a digest has.
 const DIGEST_LENGTH: usize = 71;
 
-/// Puts the lower-case hexadecimal digits of bytes after a text, `-` where there are none.
+/// Puts the lower-case hexadecimal digits of bytes after a text, `-` where there are none. Where it fails, the text is
+/// unchanged.
 pub fn push_hex(alloc: Global, text: &mut String, bytes: &[u8]) -> Result<(), AllocError>
-    ensures { OnOk result (string_bytes text.new ≡ string_bytes text.old ++ hex_text bytes.now) }
+    ensures ok { OnOk result (string_bytes text.new ≡ string_bytes text.old ++ hex_text bytes.now) }
+    ensures err { OnErr result (string_bytes text.new ≡ string_bytes text.old) }
 {
     if bytes.is_empty() {
         text.push_str("-")?;

@@ -53,7 +53,7 @@ impl<T> Many<T> {
         self.items.is_empty()
     }
 
-    /// Where the memory of the items comes from.
+    /// Where the memory of the items comes from. No clause speaks of it: contracts see no allocator, and there is one.
     pub fn allocator(&self) -> Global {
         *self.items.allocator()
     }
