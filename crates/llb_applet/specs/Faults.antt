@@ -1,6 +1,7 @@
 -- How the calls of this crate answer: what their rule gives, or out of memory. A rule is a function into values
 -- or faults that never gives out of memory.
-use Rattle.std.specs.Prelude.{◌≡◌, Bool, true, false, ◌||◌, Result, Ok, Err, is_ok}
+use Rattle.std.specs.Prelude.{◌≡◌, ℕ, Bool, true, false, ◌||◌, List, ◌++◌, Result, Ok, Err, is_ok, codes}
+use Rattle.std.specs.Fmt.{decimal}
 use Rattle.llb_wire.specs.Answer as answer
 use Rattle.llb_applet.specs.declared.fault.ScriptFault.{ScriptFault}
 use Rattle.llb_applet.specs.declared.fault.ScriptFault.TheVariants.{NoApplet, Usage, ShellSyntax, Memory}
@@ -28,3 +29,10 @@ names_word (Err Memory) = false
 abbrev pub MemoryLast : {X Y : Type 0} → Result X ScriptFault → Result Y ScriptFault → Type 0
 MemoryLast (Ok x) rule = Unit {0}
 MemoryLast (Err e) rule = is_memory e ≡ true → (is_ok rule || names_word rule) ≡ true
+
+-- what a fault prints: its number, and its argument
+abbrev pub script_text : ScriptFault → List ℕ
+script_text (NoApplet word) = codes "71 " ++ word
+script_text (Usage number) = codes "72 " ++ decimal number
+script_text (ShellSyntax place) = codes "73 " ++ decimal place
+script_text Memory = codes "74"

@@ -1,27 +1,42 @@
 //! Why a script is refused, and a command that is out of memory. A fault prints what stands after the word `fault` in a
 //! refusal: its number, and its argument. Refusals of memory of any kind become `Memory` by `?`.
 
+ghost use Rattle.std.specs.Prelude.{Some};
+ghost use Rattle.llb_applet.specs.Faults.{script_text};
+
 use llb_tree::TreeFault;
 use llb_wire::Text;
 use std::alloc::{AllocError, AllocFailed};
+use std::{error, fmt};
 use thiserror::Error;
 
 /// Why a script is refused.
-#[derive(Debug, Drop, Error)]
+#[derive(Debug, Drop)]
 pub enum ScriptFault {
     /// 71 WORD: the first word of a call, WORD, is no applet's name.
-    #[error("71 {0}")]
     NoApplet(Text),
     /// 72 N: in call N, from 0, the words after an applet's name are none of its forms.
-    #[error("72 {0}")]
     Usage(usize),
     /// 73 PLACE: the text is not calls with separators between them; its first bad byte is at PLACE, from 0.
-    #[error("73 {0}")]
     ShellSyntax(usize),
     /// 74: memory was refused.
-    #[error("74")]
     Memory,
 }
+
+impl fmt::Display for ScriptFault {
+    ghost output = { λ e. Some (script_text e) };
+
+    fn fmt<W: fmt::Write>(&self, f: &mut fmt::Formatter<W>) -> fmt::Result {
+        match self {
+            ScriptFault::NoApplet(word) => write!(f, "71 {word}"),
+            ScriptFault::Usage(number) => write!(f, "72 {number}"),
+            ScriptFault::ShellSyntax(place) => write!(f, "73 {place}"),
+            ScriptFault::Memory => write!(f, "74"),
+        }
+    }
+}
+
+impl error::Error for ScriptFault {}
 
 impl From<AllocError> for ScriptFault {
     ghost use Rattle.std.specs.Prelude.{◌≡◌};

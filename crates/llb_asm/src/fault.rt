@@ -1,48 +1,73 @@
 //! Why a text is not assembled, or entries are not written. A fault prints what stands after the word `fault` in a refusal: its
 //! number, and then its arguments.
 
+ghost use Rattle.std.specs.Prelude.{Some};
+ghost use Rattle.llb_asm.specs.Faults.{asm_text, rule_text};
+
 use llb_wire::Memory;
-use thiserror::Error;
+use std::{error, fmt};
 
 /// The rule that a line breaks.
-#[derive(Clone, Copy, Debug, PartialEq, Eq, Error)]
+#[derive(Clone, Copy, Debug, PartialEq, Eq)]
 pub enum Rule {
     /// The line is not UTF-8, or no item can be told in it.
-    #[error("Syntax")]
     Syntax,
     /// The message at hand has no field of that name.
-    #[error("UnknownField")]
     UnknownField,
     /// The field may not stand after the one before it.
-    #[error("Order")]
     Order,
     /// The field has no value that is spelled so.
-    #[error("BadValue")]
     BadValue,
     /// The line passes a limit of a definition.
-    #[error("OverLimit")]
     OverLimit,
     /// The line is the last one, and an entry is not closed.
-    #[error("Unclosed")]
     Unclosed,
 }
 
+impl fmt::Display for Rule {
+    ghost output = { λ e. Some (rule_text e) };
+
+    fn fmt<W: fmt::Write>(&self, f: &mut fmt::Formatter<W>) -> fmt::Result {
+        match self {
+            Rule::Syntax => write!(f, "Syntax"),
+            Rule::UnknownField => write!(f, "UnknownField"),
+            Rule::Order => write!(f, "Order"),
+            Rule::BadValue => write!(f, "BadValue"),
+            Rule::OverLimit => write!(f, "OverLimit"),
+            Rule::Unclosed => write!(f, "Unclosed"),
+        }
+    }
+}
+
+impl error::Error for Rule {}
+
 /// Why a text is not assembled, or entries are not written. Lines are counted from 1.
-#[derive(Clone, Copy, Debug, PartialEq, Eq, Error)]
+#[derive(Clone, Copy, Debug, PartialEq, Eq)]
 pub enum AsmFault {
     /// 161 N RULE: line N breaks the rule.
-    #[error("161 {0} {1}")]
     Line(u64, Rule),
     /// 162 N: a label of line N names no earlier entry.
-    #[error("162 {0}")]
     UnknownLabel(u64),
     /// 163: memory was refused.
-    #[error("163")]
     Memory,
     /// 164: the writer failed.
-    #[error("164")]
     Write,
 }
+
+impl fmt::Display for AsmFault {
+    ghost output = { λ e. Some (asm_text e) };
+
+    fn fmt<W: fmt::Write>(&self, f: &mut fmt::Formatter<W>) -> fmt::Result {
+        match self {
+            AsmFault::Line(line, rule) => write!(f, "161 {line} {rule}"),
+            AsmFault::UnknownLabel(line) => write!(f, "162 {line}"),
+            AsmFault::Memory => write!(f, "163"),
+            AsmFault::Write => write!(f, "164"),
+        }
+    }
+}
+
+impl error::Error for AsmFault {}
 
 impl From<Memory> for AsmFault {
     ghost use Rattle.std.specs.Prelude.{◌≡◌};

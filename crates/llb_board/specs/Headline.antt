@@ -6,7 +6,8 @@ use Rattle.llb_model.specs.Caches.{Place, content, Has, IsExclusive}
 use Rattle.llb_model.specs.Laws.{with_content, with_content_after}
 use Rattle.llb_model.specs.State.{Execution, Runs, State}
 use Rattle.llb_model.specs.Table.{Event, Reply, worker_of, table}
-use Rattle.llb_state.specs.Board.{Seen, Replays, SettledArePlain}
+use Rattle.llb_model.specs.Order.{at_first, order, claims_in, StandsIn}
+use Rattle.llb_state.specs.Board.{Seen, Replays, SettledArePlain, replies_in}
 
 -- a running worker has an instance
 pub record HasPlace (b : Seen) (w : ℕ) (p : Place) : Type 0 where
@@ -32,6 +33,10 @@ OthersLeave b = (w : ℕ) (p : Place) → HasPlace b w p → IsExclusive p.key.m
 abbrev pub OthersIgnore : Seen → Type 0
 OthersIgnore b = (w : ℕ) (p : Place) → HasPlace b w p → IsExclusive p.key.mode → (e : Event) (tree : TreeMap) → worker_of e ≢ w
     → table b.build (with_content p tree b.state) e ≡ option_map (with_content_after p tree) (table b.build b.state e)
+
+-- the settled vertices and the free instances stand as the claims of the record leave them, each run at its claim
+abbrev pub StandsInClaimOrder : Seen → Type 0
+StandsInClaimOrder b = StandsIn b.state (order b.build (at_first b.build b.opening.store) (claims_in (replies_in b)))
 
 pub record Headline (b : Seen) : Type 0 where
   -- after every interleaving of events the state and the replies are the written table's on the recorded events

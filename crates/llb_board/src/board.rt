@@ -2,7 +2,7 @@
 //! type keeps that the record is a run of the table to where the board is, that it has room for every event to come but those of a
 //! vertex that is claimed again after a cancel, and that each running worker has a lease of its instances of caches.
 
-ghost use Rattle.std.specs.Prelude.{◌≡◌, ◌<◌, ◌≤◌, ◌+◌, length, true, is_some, option_map, OnErr, IfErr, IfOk};
+ghost use Rattle.std.specs.Prelude.{◌≡◌, ◌<◌, ◌≤◌, ◌+◌, [], length, true, is_some, option_map, OnErr, IfErr, IfOk};
 ghost use Rattle.llb_model.specs.Outcome.{output_in};
 ghost use Rattle.llb_model.specs.State.{ending_at, missing_local};
 ghost use Rattle.llb_model.specs.Room.{most_events, owed, still_to_come};
@@ -333,13 +333,13 @@ impl Board {
         &self.caches
     }
 
-    /// The graph, the local trees and the caches as they are now come back, the leases of running workers given back. No memory.
+    /// The graph, the local trees and the caches as they are now come back, with no lease out. No memory.
     pub fn into_parts(self) -> (Graph, Locals, Caches)
         ensures graph { result.0 ≡ self.build.graph }
         ensures locals { result.1 ≡ self.build.locals }
         ensures rows { result.2.rows ≡ self.rows }
         ensures contents { store_of result.2.rows ≡ self.state.store }
-        ensures free { leases result.2.out ≡ 0 }
+        ensures free { result.2.out ≡ [] }
     {
         let Board {
             alloc: _,
@@ -354,6 +354,7 @@ impl Board {
             history: _,
         } = self;
         give_all_back(&mut caches, &desks);
+        caches.is_exclusive();
         let (graph, locals) = build.into_parts();
         (graph, locals, caches)
     }

@@ -8,7 +8,7 @@ ghost use Rattle.llb_model.specs.Consistent.{IsConsistent};
 ghost use Rattle.llb_model.specs.Landing.{LandsAsBlock};
 ghost use Rattle.llb_model.specs.Laws as machine;
 ghost use Rattle.llb_state.specs.Board.{SettledArePlain, ChosenIsGranted, OthersKeep, OneWorkerEach, ReadyBehindDone, BlockedBehindAFailure, OutcomeByInputs};
-ghost use Rattle.llb_board.specs.Headline.{Headline};
+ghost use Rattle.llb_board.specs.Headline.{Headline, StandsInClaimOrder};
 
 use crate::board::Board;
 
@@ -105,10 +105,13 @@ pub fn stays_dense(board: &Board)
 
 /// Where no cache is shared, after any list of granted events the settled vertices and the free instances of caches stand as
 /// if each claimed vertex had been run at its claim, in the order of the claims: whole, or as far as it came where it was cancelled.
+/// So they do on this board, in the order of the claims of its record.
 pub fn runs_in_claim_order(board: &Board)
-    ensures { machine.NoShared board.now.build → machine.RunsInClaimOrder board.now.build }
+    ensures after { machine.NoShared board.now.build → machine.RunsInClaimOrder board.now.build }
+    ensures here { machine.NoShared board.now.build → StandsInClaimOrder board.now }
 {
     board.is_graph();
+    board.replays();
 }
 
 /// One driver that does the chosen events leaves all vertices and all instances of caches so, shared ones included.

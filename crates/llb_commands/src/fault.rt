@@ -12,18 +12,29 @@ use llb_wire::Text;
 use llb_work::RunFault;
 use std::alloc::AllocError;
 use std::io::Write;
-use thiserror::Error;
+use std::{error, fmt};
 
 /// Why a text of the program's own is not out.
-#[derive(Clone, Copy, Debug, PartialEq, Eq, Error)]
+#[derive(Clone, Copy, Debug, PartialEq, Eq)]
 pub enum OutputFault {
     /// 182: the writer failed.
-    #[error("182")]
     Write,
     /// 184: memory was refused for a line of the text.
-    #[error("184")]
     Memory,
 }
+
+impl fmt::Display for OutputFault {
+    ghost output = { λ e. Some (output_text e) };
+
+    fn fmt<W: fmt::Write>(&self, f: &mut fmt::Formatter<W>) -> fmt::Result {
+        match self {
+            OutputFault::Write => write!(f, "182"),
+            OutputFault::Memory => write!(f, "184"),
+        }
+    }
+}
+
+impl error::Error for OutputFault {}
 
 impl From<AllocError> for OutputFault {
     ghost use Rattle.std.specs.Prelude.{◌≡◌};
@@ -37,55 +48,66 @@ impl From<AllocError> for OutputFault {
 }
 
 /// Why the program ends without its answer.
-#[derive(Debug, Drop, Error)]
+#[derive(Debug, Drop)]
 pub enum ProgramFault {
     /// 81 to 90: the definition is refused.
-    #[error("{0}")]
     Refused(LoadFault),
     /// 91: memory was refused while the definition was loaded.
-    #[error("91")]
     Loading,
     /// 121: a local source has no tree; its name.
-    #[error("121 {0}")]
     MissingLocal(Text),
     /// 122: the number of workers is 0 or more than 64.
-    #[error("122")]
     Workers,
     /// 123: memory was refused while the board was opened.
-    #[error("123")]
     Opening,
     /// 151: memory was refused in the run; 153: a thread could not be started. 152 and 154 stand for a gate that stops and a board that is
     /// another: no run of the program ends so.
-    #[error("{0}")]
     Run(RunFault),
     /// 34 and 35: the result's text is not out.
-    #[error("{0}")]
     Print(PrintFault),
     /// 182 and 184: a text of the program's own is not out.
-    #[error("{0}")]
     Output(OutputFault),
     /// 1 to 4 and 11 to 13: a definition that is to be written as a text does not read.
-    #[error("{0}")]
     Unread(OpFault),
     /// 14: memory was refused while entries were read or written.
-    #[error("14")]
     Entries,
     /// 161 and 162: a line of a text is refused.
-    #[error("{0}")]
     Assembling(AsmFault),
     /// 163 and 164: memory was refused while a text was read, or it is not out.
-    #[error("{0}")]
     Text(AsmFault),
     /// 185: a text, or the commands of a session, have more than 67,108,864 bytes.
-    #[error("185")]
     TooLong,
     /// 181: a read failed, or the bound on reads was met.
-    #[error("181")]
     Read,
     /// 184: memory was refused to the program itself.
-    #[error("184")]
     Memory,
 }
+
+impl fmt::Display for ProgramFault {
+    ghost output = { λ e. Some (program_text e) };
+
+    fn fmt<W: fmt::Write>(&self, f: &mut fmt::Formatter<W>) -> fmt::Result {
+        match self {
+            ProgramFault::Refused(fault) => write!(f, "{fault}"),
+            ProgramFault::Loading => write!(f, "91"),
+            ProgramFault::MissingLocal(name) => write!(f, "121 {name}"),
+            ProgramFault::Workers => write!(f, "122"),
+            ProgramFault::Opening => write!(f, "123"),
+            ProgramFault::Run(fault) => write!(f, "{fault}"),
+            ProgramFault::Print(fault) => write!(f, "{fault}"),
+            ProgramFault::Output(fault) => write!(f, "{fault}"),
+            ProgramFault::Unread(fault) => write!(f, "{fault}"),
+            ProgramFault::Entries => write!(f, "14"),
+            ProgramFault::Assembling(fault) => write!(f, "{fault}"),
+            ProgramFault::Text(fault) => write!(f, "{fault}"),
+            ProgramFault::TooLong => write!(f, "185"),
+            ProgramFault::Read => write!(f, "181"),
+            ProgramFault::Memory => write!(f, "184"),
+        }
+    }
+}
+
+impl error::Error for ProgramFault {}
 
 /// The status for a fault, once its line is out: 2 for a refusal of the input, else 3.
 pub fn refusal<E: Write>(fault: &ProgramFault, err: &mut E) -> u8

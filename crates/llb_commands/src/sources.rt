@@ -15,27 +15,38 @@ use llb_wire::Text;
 use std::alloc::Global;
 use std::io;
 use std::io::{Read, Write};
-use thiserror::Error;
+use std::{error, fmt};
 
 /// Why a local source has no tree.
-#[derive(Clone, Copy, Debug, Error)]
+#[derive(Clone, Copy, Debug)]
 pub enum SourceFault {
     /// 181: a file of a local source was not opened, a read of it failed, or its bound on reads was met.
-    #[error("181")]
     Read,
     /// 185: the file of a local source has more than 67,108,864 bytes.
-    #[error("185")]
     TooLong,
     /// 31 to 34: the file of a local source is read as no tree.
-    #[error("{0}")]
     Text(TextFault),
     /// 184: memory was refused while the file of a local source was read.
-    #[error("184")]
     Reading,
     /// 92: memory was refused while the tree of a local source was kept.
-    #[error("92")]
     Adding,
 }
+
+impl fmt::Display for SourceFault {
+    ghost output = { λ e. Some (source_text e) };
+
+    fn fmt<W: fmt::Write>(&self, f: &mut fmt::Formatter<W>) -> fmt::Result {
+        match self {
+            SourceFault::Read => write!(f, "181"),
+            SourceFault::TooLong => write!(f, "185"),
+            SourceFault::Text(fault) => write!(f, "{fault}"),
+            SourceFault::Reading => write!(f, "184"),
+            SourceFault::Adding => write!(f, "92"),
+        }
+    }
+}
+
+impl error::Error for SourceFault {}
 
 /// Files that are opened by name.
 pub trait Sources {

@@ -1,8 +1,15 @@
--- How the loader answers, and what becomes of the faults of ops.
-use Rattle.std.specs.Prelude.{ℕ, Bool, true, false, Result}
+-- How the loader answers, what becomes of the faults of ops, and what a fault prints.
+use Rattle.std.specs.Prelude.{ℕ, Bool, true, false, List, ◌++◌, Result, codes}
+use Rattle.std.specs.Fmt.{decimal}
 use Rattle.llb_wire.specs.Answer as answer
 use Rattle.llb_ops.specs.declared.fault.OpFault.{OpFault}
 use Rattle.llb_ops.specs.declared.fault.OpFault.TheVariants as op
+use Rattle.llb_applet.specs.Faults.{script_text}
+use Rattle.llb_ops.specs.Faults.{op_text}
+use Rattle.llb_loader.specs.declared.fault.Feature.{Feature}
+use Rattle.llb_loader.specs.declared.fault.Feature.TheVariants as feature
+use Rattle.llb_loader.specs.declared.fault.Rule.{Rule}
+use Rattle.llb_loader.specs.declared.fault.Rule.TheVariants as rule
 use Rattle.llb_loader.specs.declared.fault.LoadFault.{LoadFault}
 use Rattle.llb_loader.specs.declared.fault.LoadFault.TheVariants as fault
 
@@ -24,3 +31,52 @@ definition_fault f = fault.Definition f
 abbrev pub row_fault : ℕ → OpFault → LoadFault
 row_fault k op.Memory = fault.Memory
 row_fault k f = fault.Entry k f
+
+-- ---- what a fault prints: its number and its arguments, features and rules by their names
+
+abbrev pub feature_text : Feature → List ℕ
+feature_text feature.DiffOp = codes "DiffOp"
+feature_text feature.BuildOp = codes "BuildOp"
+feature_text feature.Source = codes "Source"
+feature_text feature.SecretMount = codes "SecretMount"
+feature_text feature.SshMount = codes "SshMount"
+feature_text feature.SecretEnv = codes "SecretEnv"
+feature_text feature.Action = codes "Action"
+feature_text feature.Unpack = codes "Unpack"
+feature_text feature.Patterns = codes "Patterns"
+feature_text feature.OwnerByName = codes "OwnerByName"
+feature_text feature.CopyField = codes "CopyField"
+
+abbrev pub rule_text : Rule → List ℕ
+rule_text rule.NoKind = codes "NoKind"
+rule_text rule.LocalName = codes "LocalName"
+rule_text rule.NoActions = codes "NoActions"
+rule_text rule.ActionInput = codes "ActionInput"
+rule_text rule.ActionOutput = codes "ActionOutput"
+rule_text rule.NoMeta = codes "NoMeta"
+rule_text rule.NoArgs = codes "NoArgs"
+rule_text rule.NoMounts = codes "NoMounts"
+rule_text rule.NoRoot = codes "NoRoot"
+rule_text rule.BadPath = codes "BadPath"
+rule_text rule.SameDest = codes "SameDest"
+rule_text rule.MountKind = codes "MountKind"
+rule_text rule.MountInput = codes "MountInput"
+rule_text rule.MountOutput = codes "MountOutput"
+rule_text rule.NoCacheOpt = codes "NoCacheOpt"
+rule_text rule.Sharing = codes "Sharing"
+rule_text rule.CacheTwice = codes "CacheTwice"
+rule_text (rule.Script f) = codes "Script " ++ script_text f
+rule_text rule.MergeInput = codes "MergeInput"
+
+abbrev pub load_text : LoadFault → List ℕ
+load_text (fault.Definition f) = codes "81 " ++ op_text f
+load_text (fault.Entry row f) = codes "82 " ++ (decimal row ++ (codes " " ++ op_text f))
+load_text fault.TooFew = codes "83"
+load_text (fault.Collision row) = codes "84 " ++ decimal row
+load_text fault.NoResult = codes "85"
+load_text (fault.UnknownDigest row input) = codes "86 " ++ (decimal row ++ (codes " " ++ decimal input))
+load_text fault.Cycle = codes "87"
+load_text (fault.Unsupported row x) = codes "88 " ++ (decimal row ++ (codes " " ++ feature_text x))
+load_text (fault.Invalid row r) = codes "89 " ++ (decimal row ++ (codes " " ++ rule_text r))
+load_text (fault.BadIndex row input) = codes "90 " ++ (decimal row ++ (codes " " ++ decimal input))
+load_text fault.Memory = codes "91"

@@ -1,50 +1,64 @@
 //! Why rows are no graph. A fault prints what stands after the word `fault` in a refusal: its number and
 //! its arguments, features and rules by their names. Refusals of memory of any kind become `Memory` by `?`.
 
+ghost use Rattle.std.specs.Prelude.{Some};
+ghost use Rattle.llb_loader.specs.Faults.{load_text, feature_text, rule_text};
+
 use llb_applet::ScriptFault;
 use llb_ops::OpFault;
 use llb_tree::TreeFault;
 use std::alloc::{AllocError, AllocFailed};
-use std::fmt;
+use std::{error, fmt};
 use thiserror::Error;
 
 /// Why rows are no graph: the first fault in this order, the least row, then the least input.
-#[derive(Debug, Drop, Error)]
+#[derive(Debug, Drop)]
 pub enum LoadFault {
     /// 81: the definition is not readable; its fault follows.
-    #[error("81 {0}")]
     Definition(OpFault),
     /// 82: the bytes of row k are no op; their fault follows.
-    #[error("82 {0} {1}")]
     Entry(u32, OpFault),
     /// 83: there are fewer than two distinct rows.
-    #[error("83")]
     TooFew,
     /// 84: row k has an earlier row's digest and other bytes.
-    #[error("84 {0}")]
     Collision(u32),
     /// 85: the terminal has no input.
-    #[error("85")]
     NoResult,
     /// 86: input i of row k names no row.
-    #[error("86 {0} {1}")]
     UnknownDigest(u32, u32),
     /// 87: the reached rows have a cycle.
-    #[error("87")]
     Cycle,
     /// 88: the op of row k has a feature that is not taken; its name follows.
-    #[error("88 {0} {1:?}")]
     Unsupported(u32, Feature),
     /// 89: the op of row k breaks a rule; its name follows.
-    #[error("89 {0} {1}")]
     Invalid(u32, Rule),
     /// 90: input i of row k has the index of no output.
-    #[error("90 {0} {1}")]
     BadIndex(u32, u32),
     /// 91: memory was refused.
-    #[error("91")]
     Memory,
 }
+
+impl fmt::Display for LoadFault {
+    ghost output = { λ e. Some (load_text e) };
+
+    fn fmt<W: fmt::Write>(&self, f: &mut fmt::Formatter<W>) -> fmt::Result {
+        match self {
+            LoadFault::Definition(fault) => write!(f, "81 {fault}"),
+            LoadFault::Entry(row, fault) => write!(f, "82 {row} {fault}"),
+            LoadFault::TooFew => write!(f, "83"),
+            LoadFault::Collision(row) => write!(f, "84 {row}"),
+            LoadFault::NoResult => write!(f, "85"),
+            LoadFault::UnknownDigest(row, input) => write!(f, "86 {row} {input}"),
+            LoadFault::Cycle => write!(f, "87"),
+            LoadFault::Unsupported(row, feature) => write!(f, "88 {row} {feature}"),
+            LoadFault::Invalid(row, rule) => write!(f, "89 {row} {rule}"),
+            LoadFault::BadIndex(row, input) => write!(f, "90 {row} {input}"),
+            LoadFault::Memory => write!(f, "91"),
+        }
+    }
+}
+
+impl error::Error for LoadFault {}
 
 /// What an op can have that is not taken; of several the first.
 #[derive(Clone, Copy, Debug, PartialEq, Eq)]
@@ -71,6 +85,27 @@ pub enum Feature {
     OwnerByName,
     /// A copy with a field that it doesn't name.
     CopyField,
+}
+
+/// A feature prints its name.
+impl fmt::Display for Feature {
+    ghost output = { λ x. Some (feature_text x) };
+
+    fn fmt<W: fmt::Write>(&self, f: &mut fmt::Formatter<W>) -> fmt::Result {
+        match self {
+            Feature::DiffOp => write!(f, "DiffOp"),
+            Feature::BuildOp => write!(f, "BuildOp"),
+            Feature::Source => write!(f, "Source"),
+            Feature::SecretMount => write!(f, "SecretMount"),
+            Feature::SshMount => write!(f, "SshMount"),
+            Feature::SecretEnv => write!(f, "SecretEnv"),
+            Feature::Action => write!(f, "Action"),
+            Feature::Unpack => write!(f, "Unpack"),
+            Feature::Patterns => write!(f, "Patterns"),
+            Feature::OwnerByName => write!(f, "OwnerByName"),
+            Feature::CopyField => write!(f, "CopyField"),
+        }
+    }
 }
 
 /// The rules that ops meet, in the order in which they are checked.
@@ -118,10 +153,29 @@ pub enum Rule {
 
 /// A rule prints its name, and that of scripts the script's fault after it.
 impl fmt::Display for Rule {
+    ghost output = { λ r. Some (rule_text r) };
+
     fn fmt<W: fmt::Write>(&self, f: &mut fmt::Formatter<W>) -> fmt::Result {
         match self {
+            Rule::NoKind => write!(f, "NoKind"),
+            Rule::LocalName => write!(f, "LocalName"),
+            Rule::NoActions => write!(f, "NoActions"),
+            Rule::ActionInput => write!(f, "ActionInput"),
+            Rule::ActionOutput => write!(f, "ActionOutput"),
+            Rule::NoMeta => write!(f, "NoMeta"),
+            Rule::NoArgs => write!(f, "NoArgs"),
+            Rule::NoMounts => write!(f, "NoMounts"),
+            Rule::NoRoot => write!(f, "NoRoot"),
+            Rule::BadPath => write!(f, "BadPath"),
+            Rule::SameDest => write!(f, "SameDest"),
+            Rule::MountKind => write!(f, "MountKind"),
+            Rule::MountInput => write!(f, "MountInput"),
+            Rule::MountOutput => write!(f, "MountOutput"),
+            Rule::NoCacheOpt => write!(f, "NoCacheOpt"),
+            Rule::Sharing => write!(f, "Sharing"),
+            Rule::CacheTwice => write!(f, "CacheTwice"),
             Rule::Script(fault) => write!(f, "Script {fault}"),
-            rule => write!(f, "{rule:?}"),
+            Rule::MergeInput => write!(f, "MergeInput"),
         }
     }
 }

@@ -1,6 +1,7 @@
--- How the calls on messages answer.
-use Rattle.std.specs.Prelude.{Bool, true, false, Result}
+-- How the calls on messages answer, and what a fault prints.
+use Rattle.std.specs.Prelude.{ℕ, Bool, true, false, List, Result, codes}
 use Rattle.llb_wire.specs.Answer as answer
+use Rattle.llb_wire.specs.Faults.{wire_text}
 use Rattle.llb_ops.specs.declared.fault.OpFault.{OpFault}
 use Rattle.llb_ops.specs.declared.fault.OpFault.TheVariants.{Wire, WrongWireType, NotUtf8, OverLimit, Memory}
 
@@ -15,3 +16,11 @@ is_memory OverLimit = false
 -- what a call answers, seen by view, is what the rule gives
 abbrev pub Gives : {X Y : Type 0} → (X → Y) → Result X OpFault → Result Y OpFault → Type 0
 Gives = answer.Gives is_memory
+
+-- the number
+abbrev pub op_text : OpFault → List ℕ
+op_text (Wire fault) = wire_text fault
+op_text WrongWireType = codes "11"
+op_text NotUtf8 = codes "12"
+op_text OverLimit = codes "13"
+op_text Memory = codes "14"

@@ -1,28 +1,42 @@
 //! Why bytes are not read as a message. A fault prints what stands after the word `fault` in a refusal.
 
+ghost use Rattle.std.specs.Prelude.{Some};
+ghost use Rattle.llb_ops.specs.Faults.{op_text};
+
 use llb_wire::{Memory, WireFault};
 use std::alloc::AllocFailed;
-use thiserror::Error;
+use std::{error, fmt};
 
 /// Why a message could not be read: the first fault, in the order in which messages are looked at.
-#[derive(Clone, Copy, Debug, PartialEq, Eq, Error)]
+#[derive(Clone, Copy, Debug, PartialEq, Eq)]
 pub enum OpFault {
     /// 1 to 4: a record is not readable.
-    #[error("{0}")]
     Wire(WireFault),
     /// 11: a named field has another wire type than its kind has.
-    #[error("11")]
     WrongWireType,
     /// 12: the bytes of a string are not UTF-8.
-    #[error("12")]
     NotUtf8,
     /// 13: there are more bytes, entries or records of one field than the limits allow.
-    #[error("13")]
     OverLimit,
     /// 14: memory was refused.
-    #[error("14")]
     Memory,
 }
+
+impl fmt::Display for OpFault {
+    ghost output = { λ e. Some (op_text e) };
+
+    fn fmt<W: fmt::Write>(&self, f: &mut fmt::Formatter<W>) -> fmt::Result {
+        match self {
+            OpFault::Wire(fault) => write!(f, "{fault}"),
+            OpFault::WrongWireType => write!(f, "11"),
+            OpFault::NotUtf8 => write!(f, "12"),
+            OpFault::OverLimit => write!(f, "13"),
+            OpFault::Memory => write!(f, "14"),
+        }
+    }
+}
+
+impl error::Error for OpFault {}
 
 impl From<WireFault> for OpFault {
     ghost use Rattle.std.specs.Prelude.{◌≡◌};

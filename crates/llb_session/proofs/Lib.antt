@@ -4,3 +4,4 @@ pub mod Lines
 pub mod Talking
 pub mod Heard
 pub mod Ending
+pub mod Told

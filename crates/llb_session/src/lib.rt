@@ -5,6 +5,7 @@
 mod answering;
 mod conversation;
 mod fault;
+pub mod laws;
 mod request;
 mod text;
 

@@ -1,5 +1,6 @@
-pub mod Stops
-pub mod Walked
+pub mod Grown
 pub mod Recorded
 pub mod Lines
 pub mod Replayed
+pub mod Stops
+pub mod Walked

@@ -1,118 +1,90 @@
--- The replies that a stepper tells of its record are those of the run of the record.
-use Rattle.std.proofs.Common.{◌≡◌, ℕ, zero, suc, ◌+◌, ◌-◌, ◌<◌, ◌≤◌, ◌&&◌, Bool, true, false, cond, List, [], ◌∷◌, ◌++◌, length, reverse, get_or}
-use Rattle.std.proofs.Common.{Option, Some, None, option_map, refl, sym, ap, ◌∙◌, subst, arith}
+-- The replies that a stepper tells of its record are those of the run of the record, since the boards before are those of the record.
+use Rattle.std.proofs.Common.{◌≡◌, ℕ, zero, suc, ◌+◌, ◌-◌, ◌<◌, ◌≤◌, ◌&&◌, Bool, true, false, cond, List, [], ◌∷◌, ◌++◌, length, take, get_or}
+use Rattle.std.proofs.Common.{Option, Some, None, option_map, refl, sym, ap, ◌∙◌, arith}
 use Rattle.std.proofs.lemmas.Bool.{leb-true}
-use Rattle.std.proofs.lemmas.List.{length-append}
+use Rattle.std.proofs.lemmas.List.{append-nil}
 use Rattle.std.proofs.lemmas.Option.{slice_get_within, slice_get-get_or}
 use Rattle.std.specs.Prelude.{slice_get, nat_le}
 use Rattle.llb_model.specs.Program.{Build}
 use Rattle.llb_model.specs.State.{State, opening}
 use Rattle.llb_model.specs.Table.{Event, Reply, table}
 use Rattle.llb_model.specs.Run.{run}
-use Rattle.llb_model.proofs.Runs.{run_more, run_first, run_none}
+use Rattle.llb_model.proofs.Events.{Answer}
+use Rattle.llb_model.proofs.Lists.{inside}
+use Rattle.llb_model.proofs.Runs.{run_one, run_first, run_none}
+use Rattle.llb_model.proofs.Runs as runs
 use Rattle.llb_state.specs.Board.{Seen, after_event}
-use Rattle.llb_board.specs.Undo.{undone}
-use Rattle.llb_board.specs.declared.walk.Walked.{Walked}
-use Rattle.llb_stepper.specs.Kept.{past_of, AreWalked}
 use Rattle.llb_stepper.specs.Records.{record_at, replied, TellsTheRun}
-use Rattle.llb_stepper.specs.Stepping.{Stepping, answered}
-use Rattle.llb_stepper.proofs.Recorded.{at_end, in_front, done_here}
-
--- as many replies as events
-run_length : (b : Build) (s t : State) (es : List Event) (rs : List Reply) → run b s es ≡ Some (t, rs) → length rs ≡ length es
-run_length b s t [] rs given = ap length (run_none b s t rs given).1
-run_length b s t (e ∷ es) rs given =
-    let r = run_first b s e es t rs given in
-    ap length r.replies ∙ ap suc (run_length b r.a.0 t es r.rest r.goes_on)
+use Rattle.llb_stepper.specs.Stepping.{Stepping, PastIsTheRecords, answered, at_first, run_on}
+use Rattle.llb_stepper.proofs.Recorded.{done_here}
+use Rattle.llb_stepper.proofs.Grown.{grew, shifted, went}
 
 abbrev from_opening : Seen → List Event → Option (State × List Reply)
 from_opening b es = run b.build (opening b.build b.opening) es
 
--- a board after one event more
-pub record Grew (before b : Seen) (e : Event) (r : Reply) : Type 0 where
-  pub build : b.build ≡ before.build
-  pub opened : b.opening ≡ before.opening
-  pub first : b.first ≡ before.first
-  pub events : b.events ≡ before.events ++ e ∷ []
-  pub granted : table before.build before.state e ≡ Some (b.state, r)
+-- ---- boards and states
 
-pub grew : (before b : Seen) (e : Event) (r : Reply) → answered before e ≡ Some (b, r) → Grew before b e r
-grew before b e r given = by_table (table before.build before.state e) refl given
-  where
-    by_table : (o : Option (State × Reply)) → table before.build before.state e ≡ o
-        → option_map {U = Seen × Reply} (λ a. (after_event before e a.0, a.1)) o ≡ Some (b, r) → Grew before b e r
-    by_table None at is = absurd cc
-    by_table (Some a) at is =
-        let same : (let p : Seen × Reply = (after_event before e a.0, a.1) in p) ≡ (b, r) = cc in
-        record {
-          build = ap (λ (p : Seen × Reply). p.0.build) (sym same);
-          opened = ap (λ (p : Seen × Reply). p.0.opening) (sym same);
-          first = ap (λ (p : Seen × Reply). p.0.first) (sym same);
-          events = ap (λ (p : Seen × Reply). p.0.events) (sym same);
-          granted = at ∙ ap (λ (p : Seen × Reply). Some (p.0.state, p.1)) same;
-        }
+-- an event in front of a run
+run_from : (b : Build) (s t : State) (e : Event) (es : List Event) (r : Reply) (u : State) (rs : List Reply) → table b s e ≡ Some (t, r)
+    → run b t es ≡ Some (u, rs) → run b s (e ∷ es) ≡ Some (u, r ∷ rs)
+run_from b s t e es r u rs given goes = runs.run_on b s t u (e ∷ []) es (r ∷ []) rs (run_one b s t e r given) goes
 
-ran_inside : {x y : State × List Reply} → ◌≡◌ {A = Option (State × List Reply)} (Some x) (Some y) → x ≡ y
-ran_inside e = cc
+-- a board after events: the run leads to its state
+pub record Reached (x y : Seen) (es : List Event) : Type 0 where
+  pub replies : List Reply
+  pub runs : run x.build x.state es ≡ Some (y.state, replies)
+  pub build : y.build ≡ x.build
+  pub opened : y.opening ≡ x.opening
+  pub events : y.events ≡ x.events ++ es
 
--- the replies of its run are those of the run before, and one more
-replies_more : (before b : Seen) (e : Event) (r : Reply) (rest replies : List Reply) (t : State) → Grew before b e r
-    → from_opening before before.events ≡ Some (before.state, rest) → from_opening b b.events ≡ Some (t, replies) → replies ≡ rest ++ r ∷ []
-replies_more before b e r rest replies t g ran whole =
-    let more = run_more before.build (opening before.build before.opening) before.state b.state before.events rest e r ran g.granted in
-    let there : from_opening b b.events ≡ from_opening before (before.events ++ e ∷ []) =
-    ap (λ x. run x (opening x b.opening) b.events) g.build ∙ ap (λ o. run before.build (opening before.build o) b.events) g.opened
-    ∙ ap (from_opening before) g.events in
-    ap (λ (x : State × List Reply). x.1) (ran_inside (sym whole ∙ there ∙ more))
-
--- the event of which that many are after it, and its reply in the run of the record
-record Told (b : Seen) (us : List Walked) (k : ℕ) (replies : List Reply) : Type 0 where
-  event : Event
-  reply : Reply
-  at : slice_get b.events (length b.events - (k + 1)) ≡ Some event
-  given : replied (slice_get (past_of b us) k) (Some event) ≡ Some (event, reply)
-  there : slice_get replies (length b.events - (k + 1)) ≡ Some reply
-
-told_at : (us : List Walked) (b : Seen) (k : ℕ) (w : Walked) (t : State) (replies : List Reply) → AreWalked b us → slice_get us k ≡ Some w
-    → from_opening b b.events ≡ Some (t, replies) → Told b us k replies
-told_at [] b k w t replies are is whole = absurd (omega (arith, slice_get_within [] k w is))
-told_at (u ∷ us) b zero w t replies are is whole =
-    let before = undone u.undo b in
-    let f = are.1 in
-    let g = grew before b f.event f.reply f.given in
-    let ran = are.0.replays in
-    let count : length b.events ≡ length before.events + 1 = ap length g.events ∙ length-append before.events (f.event ∷ []) in
-    let place : length b.events - (0 + 1) ≡ length before.events = omega (arith, count) in
-    let many : length ran.replies ≡ length before.events = run_length before.build (opening before.build before.opening) before.state before.events ran.replies
-    ran.leads in
+pub reached : (es : List Event) (x y : Seen) → run_on x es ≡ Some y → Reached x y es
+unfolding run_on run
+reached [] x y leads =
+    let same : x ≡ y = inside leads in
     record {
-      event = f.event;
-      reply = f.reply;
-      at = ap (slice_get b.events) place ∙ ap (λ es. slice_get es (length before.events)) g.events ∙ at_end before.events f.event;
-      given = ap (λ (o : Option (Seen × Reply)). option_map {U = Event × Reply} (λ (p : Seen × Reply). (f.event, p.1)) o) f.given;
-      there = ap (slice_get replies) (place ∙ sym many)
-          ∙ ap (λ rs. slice_get rs (length ran.replies)) (replies_more before b f.event f.reply ran.replies replies t g ran.leads whole)
-          ∙ at_end ran.replies f.reply;
+      replies = [];
+      runs = ap (λ (z : Seen). Some (z.state, [])) same;
+      build = ap (λ (z : Seen). z.build) (sym same);
+      opened = ap (λ (z : Seen). z.opening) (sym same);
+      events = ap (λ (z : Seen). z.events) (sym same) ∙ sym (append-nil x.events);
     }
-told_at (u ∷ us) b (suc k) w t replies are is whole =
-    let before = undone u.undo b in
-    let f = are.1 in
-    let g = grew before b f.event f.reply f.given in
-    let ran = are.0.replays in
-    let r = told_at us before k w before.state ran.replies are.2 is ran.leads in
-    let count : length b.events ≡ length before.events + 1 = ap length g.events ∙ length-append before.events (f.event ∷ []) in
-    let within = slice_get_within before.events (length before.events - (k + 1)) r.event r.at in
-    let place : length b.events - (suc k + 1) ≡ length before.events - (k + 1) = omega (arith, count) in
+reached (e ∷ es) x y leads =
+    let p = went (answered x e) (λ z. run_on z es) y leads in
+    let g = grew x p.0.0 e p.0.1 p.1 in
+    let r = reached es p.0.0 y p.2 in
     record {
-      event = r.event;
-      reply = r.reply;
-      at = ap (slice_get b.events) place ∙ ap (λ es. slice_get es (length before.events - (k + 1))) g.events
-          ∙ in_front before.events (f.event ∷ []) (length before.events - (k + 1)) r.event r.at;
-      given = r.given;
-      there = ap (slice_get replies) place
-          ∙ ap (λ rs. slice_get rs (length before.events - (k + 1))) (replies_more before b f.event f.reply ran.replies replies t g ran.leads whole)
-          ∙ in_front ran.replies (f.reply ∷ []) (length before.events - (k + 1)) r.reply r.there;
+      replies = p.0.1 ∷ r.replies;
+      runs = run_from x.build x.state p.0.0.state e es p.0.1 y.state r.replies g.granted (ap (λ b. run b p.0.0.state es) (sym g.build) ∙ r.runs);
+      build = r.build ∙ g.build;
+      opened = r.opened ∙ g.opened;
+      events = r.events ∙ ap (λ l. l ++ es) g.events ∙ shifted x.events e es;
     }
+
+-- the record of a board after more events
+pub ran_on : (x y : Seen) (es : List Event) (rs : List Reply) → from_opening x x.events ≡ Some (x.state, rs) → run_on x es ≡ Some y
+    → (replies : List Reply) × (from_opening y y.events ≡ Some (y.state, replies))
+ran_on x y es rs ran leads =
+    let r = reached es x y leads in (
+      rs ++ r.replies,
+      ap (λ b. run b (opening b y.opening) y.events) r.build ∙ ap (λ o. run x.build (opening x.build o) y.events) r.opened ∙ ap (from_opening x) r.events
+          ∙ runs.run_on x.build (opening x.build x.opening) x.state y.state x.events es rs r.replies ran r.runs,
+    )
+
+-- event k of a run is granted where the events before it lead, with reply k
+pub replied_at : (b : Build) (s t u : State) (es : List Event) (k : ℕ) (e : Event) (rs qs : List Reply) → run b s es ≡ Some (t, rs)
+    → run b s (take k es) ≡ Some (u, qs) → slice_get es k ≡ Some e → (a : Answer) × (table b u e ≡ Some a) × (slice_get rs k ≡ Some a.1)
+replied_at b s t u [] k e rs qs whole front at = absurd cc
+replied_at b s t u (f ∷ es) zero e rs qs whole front at =
+    let r = run_first b s f es t rs whole in
+    let here : s ≡ u = (run_none b s u qs front).0 in
+    let event : f ≡ e = cc in
+    (r.a, ap (λ x. table b x e) (sym here) ∙ ap (table b s) (sym event) ∙ r.given, ap (λ l. slice_get l 0) r.replies)
+replied_at b s t u (f ∷ es) (suc k) e rs qs whole front at =
+    let r = run_first b s f es t rs whole in
+    let q = run_first b s f (take k es) u qs front in
+    let same : r.a ≡ q.a = inside (sym r.given ∙ q.given) in
+    let next = replied_at b r.a.0 t u es k e r.rest q.rest r.goes_on (ap (λ (x : Answer). run b x.0 (take k es)) same ∙ q.goes_on) at in
+    (next.0, next.1, ap (λ l. slice_get l (suc k)) r.replies ∙ next.2)
 
 -- ---- as a stepper is seen
 
@@ -151,13 +123,7 @@ one_reply e x r o this that =
     let same : ◌≡◌ {A = Option (Event × Reply)} (Some (e, x)) (Some (e, r)) = sym this ∙ that in
     let inner : ◌≡◌ {A = Event × Reply} (e, x) (e, r) = cc in ap (λ (p : Event × Reply). p.1) inner
 
--- what was done here is what a walked event was
-walked_at : (us : List Walked) (b : Seen) (k : ℕ) (c : Seen) → slice_get (past_of b us) k ≡ Some c → (w : Walked) × (slice_get us k ≡ Some w)
-walked_at [] b k c is = absurd (omega (arith, slice_get_within [] k c is))
-walked_at (u ∷ us) b zero c is = (u, refl)
-walked_at (u ∷ us) b (suc k) c is = walked_at us (undone u.undo b) k c is
-
-module _ (b : Seen) (ws : List Walked) (s : Stepping) (are : AreWalked b (reverse ws)) (board : b ≡ s.board) (past : past_of b (reverse ws) ≡ s.past) where
+module _ (s : Stepping) (records : PastIsTheRecords s) where
   abbrev after_it : ℕ → ℕ
   after_it i = length s.board.events - i
 
@@ -166,17 +132,17 @@ module _ (b : Seen) (ws : List Walked) (s : Stepping) (are : AreWalked b (revers
       → i ≤ length s.board.events → slice_get s.board.events (i - 1) ≡ Some e → slice_get s.past (after_it i) ≡ Some c
       → (q : Reply) × (replied (slice_get s.past (after_it i)) (Some e) ≡ Some (e, q)) × (slice_get replies (i - 1) ≡ Some q)
   at_line i e t replies c whole low high at found =
-      let k = after_it i in
-      let w = walked_at (reverse ws) b k c (ap (λ us. slice_get us k) past ∙ found) in
-      let q = told_at (reverse ws) b k w.0 t replies are w.1 (ap (λ (x : Seen). from_opening x x.events) board ∙ whole) in
-      let place : length b.events - (k + 1) ≡ i - 1 = omega (arith, low, high, ap (λ (x : Seen). length x.events) board) in
-      let events : Some q.event ≡ Some e =
-      sym q.at ∙ ap (slice_get b.events) place ∙ ap (λ (x : Seen). slice_get x.events (i - 1)) board ∙ at in
-      let event : q.event ≡ e = cc in
-      let given : replied (slice_get s.past k) (Some e) ≡ Some (e, q.reply) =
-      ap (λ us. replied (slice_get us k) (Some e)) (sym past)
-      ∙ subst (λ x. replied (slice_get (past_of b (reverse ws)) k) (Some x) ≡ Some (x, q.reply)) event q.given in
-      (q.reply, given, ap (slice_get replies) (sym place) ∙ q.there)
+      let place : length s.board.events - (after_it i + 1) ≡ i - 1 = omega (arith, low, high) in
+      let leads : run_on (at_first s.board) (take (i - 1) s.board.events) ≡ Some c =
+      ap (λ n. run_on (at_first s.board) (take n s.board.events)) (sym place) ∙ records (after_it i) c found in
+      let r = reached (take (i - 1) s.board.events) (at_first s.board) c leads in
+      let q = replied_at s.board.build (opening s.board.build s.board.opening) t c.state s.board.events (i - 1) e replies r.replies whole r.runs at in
+      let granted : table c.build c.state e ≡ Some q.0 = ap (λ b. table b c.state e) r.build ∙ q.1 in
+      let given : replied (slice_get s.past (after_it i)) (Some e) ≡ Some (e, q.0.1) =
+      ap (λ o. replied o (Some e)) found
+      ∙ ap (λ (o : Option Answer). option_map {U = Event × Reply} (λ (p : Seen × Reply). (e, p.1)) (option_map {U = Seen × Reply} (λ (a : Answer).
+          (after_event c e a.0, a.1)) o)) granted in
+      (q.0.1, given, q.2)
 
   tells_one : (i : ℕ) (e : Event) (r : Reply) (t : State) (replies : List Reply) → from_opening s.board s.board.events ≡ Some (t, replies)
       → record_at s i ≡ Some (e, r) → (slice_get s.board.events (i - 1) ≡ Some e) × (slice_get replies (i - 1) ≡ Some r)

@@ -15,7 +15,7 @@ use Rattle.llb_board.specs.Undo.{undone}
 use Rattle.llb_board.specs.declared.walk.Walked.{Walked}
 use Rattle.llb_stepper.specs.Kept.{past_of, AreWalked}
 use Rattle.llb_stepper.specs.Stepping.{Stepping, PastIsTheRecords, answered, at_first, run_on, then_on}
-use Rattle.llb_stepper.proofs.Lines.{Grew, grew}
+use Rattle.llb_stepper.proofs.Grown.{Grew, grew, shifted}
 
 abbrev Kept : Type 0
 Kept = State × List Row
@@ -29,10 +29,6 @@ later x t rows es = record x { state = t; rows = rows; events = es }
 
 kept_inside : {x y : Kept} → ◌≡◌ {A = Option Kept} (Some x) (Some y) → x ≡ y
 kept_inside e = cc
-
-shifted : (xs : List Event) (e : Event) (es : List Event) → (xs ++ e ∷ []) ++ es ≡ xs ++ e ∷ es
-shifted [] e es = refl
-shifted (x ∷ xs) e es = ap (λ l. x ∷ l) (shifted xs e es)
 
 one : (x : Seen) (e : Event) (es : List Event) (a : State × Reply) → table x.build x.state e ≡ Some a → run_on x (e ∷ es) ≡ run_on (after_event x e a.0) es
 unfolding run_on

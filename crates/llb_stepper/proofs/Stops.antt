@@ -22,6 +22,8 @@ use Rattle.llb_stepper.specs.declared.fault.StepperFault.TheVariants as fault
 use Rattle.llb_stepper.specs.Rules.{IsRefusedAt, MeetsOn, done_by, done_of, stepper_memory}
 use Rattle.llb_stepper.specs.Stepping.{Stepping, GoesBack, IsStop, IsGo, PastIsTheRecords, AreChosen, ChosenThen, answered, line, meets}
 use Rattle.llb_stepper.specs.Stepping.{meets_by, meets_any, meets_at, meets_from, run_on, then_on}
+use Rattle.llb_stepper.proofs.Grown.{went}
+use Rattle.llb_stepper.proofs.Lines.{reached}
 
 abbrev Answer : Type 0
 Answer = Seen × Reply
@@ -37,11 +39,8 @@ pub record GoneTo (s : Stepping) (es : List Event) (t : Stepping) (i : ℕ) : Ty
 -- what a loop backwards keeps
 pub record BackTo (s t : Stepping) (i : ℕ) : Type 0 where
   pub past : line t ≡ drop i (line s)
+  pub build : t.board.build ≡ s.board.build
   pub breaks : t.breaks ≡ s.breaks
-
-went : (o : Option Answer) (go : Seen → Option Seen) (c : Seen) → then_on o go ≡ Some c → (p : Answer) × (o ≡ Some p) × (go p.0 ≡ Some c)
-went None go c e = absurd cc
-went (Some p) go c e = (p, refl, e)
 
 inside : {A : Type 0} {x y : A} → Some x ≡ Some y → x ≡ y
 inside e = cc
@@ -91,7 +90,11 @@ pub one_fewer : {A E : Type 0} (s t u : Stepping) (i : ℕ) (r : Result A E) →
 one_fewer s t u i (Ok x) kept lt ok err =
     let n : i + 1 ≡ suc i = omega arith in
     let e : drop i (line s) ≡ t.board ∷ line u = sym kept.past ∙ ap (λ l. t.board ∷ l) ok.past in
-    subst (BackTo s u) (sym n) (record { past = sym (drop_tail i (line s) (line u) t.board e); breaks = ok.breaks ∙ kept.breaks })
+    subst (BackTo s u) (sym n) (record {
+      past = sym (drop_tail i (line s) (line u) t.board e);
+      build = ok.build ∙ kept.build;
+      breaks = ok.breaks ∙ kept.breaks;
+    })
 one_fewer s t u i (Err x) kept lt ok err =
     absurd (omega (arith, ap length kept.past, length-drop i (line s), ap length err))
 
@@ -143,6 +146,7 @@ stops s t u es i n e count kept at met records =
     record {
       leads = ap (λ k. run_on s.board (take k es)) m ∙ g.0;
       past = ap (λ k. drop k (line u)) m ∙ g.1;
+      build = (reached (take (suc i) es) s.board u.board g.0).build;
       records = records;
       breaks = g.2;
       shortest = λ k lt. kept.none k (omega (arith, m));
@@ -157,6 +161,7 @@ ends_all s t es i n count all kept records =
     record {
       leads = ap (λ k. run_on s.board (take k es)) m ∙ kept.leads;
       past = ap (λ k. drop k (line t)) m ∙ kept.past;
+      build = (reached (take i es) s.board t.board kept.leads).build;
       records = records;
       breaks = kept.breaks;
       shortest = λ k lt. kept.none k (omega (arith, m));

@@ -30,9 +30,10 @@ onward s b = record s { board = b; past = s.board ∷ s.past }
 abbrev pub lesser : ℕ → ℕ → ℕ
 lesser a b = if nat_lt a b then a else b
 
--- one event fewer, and breakpoints as they were
+-- one event fewer, over the same build, and breakpoints as they were
 pub record GoesBack (s t : Stepping) : Type 0 where
   pub past : s.past ≡ t.board ∷ t.past
+  pub build : t.board.build ≡ s.board.build
   pub breaks : t.breaks ≡ s.breaks
 
 -- ---- breakpoints
@@ -129,6 +130,7 @@ EndsAt false breaks b es n = (n ≡ length es) × ((k : ℕ) → k < n → meets
 pub record IsStop (s : Stepping) (es : List Event) (t : Stepping) (p : Stop) : Type 0 where
   pub leads : run_on s.board (take p.events es) ≡ Some t.board
   pub past : drop p.events (line t) ≡ line s
+  pub build : t.board.build ≡ s.board.build
   pub records : PastIsTheRecords t
   pub breaks : t.breaks ≡ s.breaks
   pub shortest : (k : ℕ) → k + 1 < p.events → meets_at s.breaks s.board es k ≡ false

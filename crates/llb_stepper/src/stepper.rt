@@ -186,6 +186,7 @@ impl Stepper {
     fn back_by(&mut self, count: usize)
         requires { count ≤ length self.old.past }
         ensures line { line self.new ≡ drop count (line self.old) }
+        ensures build { self.new.board.build ≡ self.old.board.build }
         ensures breaks { self.new.breaks ≡ self.old.breaks }
     {
         for _i in 0..count {
@@ -196,6 +197,7 @@ impl Stepper {
     /// So many of the last events are taken back, or all that were done here where they are fewer; breakpoints stay. No memory.
     pub fn back_many(&mut self, count: usize)
         ensures line { line self.new ≡ drop (lesser count (length self.old.past)) (line self.old) }
+        ensures build { self.new.board.build ≡ self.old.board.build }
         ensures breaks { self.new.breaks ≡ self.old.breaks }
     {
         let depth = self.depth();

@@ -1,6 +1,7 @@
 -- How the calls of this crate answer: what their rule gives, or out of memory. A rule is a function into values
 -- or faults that never gives out of memory.
-use Rattle.std.specs.Prelude.{ℕ, List, Bool, true, false, Option, Result}
+use Rattle.std.specs.Prelude.{ℕ, List, ◌++◌, Bool, true, false, Option, Result, codes}
+use Rattle.std.specs.Fmt.{decimal}
 use Rattle.llb_wire.specs.Answer as answer
 use Rattle.llb_treetext.specs.Output as output
 use Rattle.llb_treetext.specs.declared.fault.TextFault.{TextFault}
@@ -30,3 +31,14 @@ is_refused_memory print.Write = false
 -- a text is out, or a prefix of it where memory was refused or the sink has failed
 abbrev pub Prints : Option (List ℕ) → Option (List ℕ) → Bool → List ℕ → Result (Unit {0}) PrintFault → Type 0
 Prints = output.Writes is_refused_memory
+
+-- what a fault prints: its number, and its line
+abbrev pub reading_text : TextFault → List ℕ
+reading_text (text.BadLine line) = codes "31 " ++ decimal line
+reading_text (text.Order line) = codes "32 " ++ decimal line
+reading_text (text.NoParent line) = codes "33 " ++ decimal line
+reading_text text.Memory = codes "34"
+
+abbrev pub printing_text : PrintFault → List ℕ
+printing_text print.Memory = codes "34"
+printing_text print.Write = codes "35"

@@ -1,26 +1,40 @@
 //! Why a text of a tree is not read, and why a tree's text is not out. A fault prints what stands after the word
 //! `fault` in a refusal: its number, and then its arguments.
 
+ghost use Rattle.std.specs.Prelude.{Some};
+ghost use Rattle.llb_treetext.specs.Faults.{reading_text, printing_text};
+
 use llb_wire::Memory;
 use std::alloc::AllocError;
-use thiserror::Error;
+use std::{error, fmt};
 
 /// Why a text is not read as a tree, or a tree has no digest. Lines are counted from 1.
-#[derive(Clone, Copy, Debug, PartialEq, Eq, Error)]
+#[derive(Clone, Copy, Debug, PartialEq, Eq)]
 pub enum TextFault {
     /// 31 N: line N is no line of an entry, or it has no end.
-    #[error("31 {0}")]
     BadLine(u64),
     /// 32 N: the path of line N is not above that of the line before, or line 1 is not that of the root.
-    #[error("32 {0}")]
     Order(u64),
     /// 33 N: the directory that the path of line N is in does not stand before it.
-    #[error("33 {0}")]
     NoParent(u64),
     /// 34: memory was refused.
-    #[error("34")]
     Memory,
 }
+
+impl fmt::Display for TextFault {
+    ghost output = { λ e. Some (reading_text e) };
+
+    fn fmt<W: fmt::Write>(&self, f: &mut fmt::Formatter<W>) -> fmt::Result {
+        match self {
+            TextFault::BadLine(line) => write!(f, "31 {line}"),
+            TextFault::Order(line) => write!(f, "32 {line}"),
+            TextFault::NoParent(line) => write!(f, "33 {line}"),
+            TextFault::Memory => write!(f, "34"),
+        }
+    }
+}
+
+impl error::Error for TextFault {}
 
 impl From<AllocError> for TextFault {
     ghost use Rattle.std.specs.Prelude.{◌≡◌};
@@ -45,12 +59,23 @@ impl From<Memory> for TextFault {
 }
 
 /// Why a tree's text is not out.
-#[derive(Clone, Copy, Debug, PartialEq, Eq, Error)]
+#[derive(Clone, Copy, Debug, PartialEq, Eq)]
 pub enum PrintFault {
     /// 34: memory was refused.
-    #[error("34")]
     Memory,
     /// 35: the writer failed.
-    #[error("35")]
     Write,
 }
+
+impl fmt::Display for PrintFault {
+    ghost output = { λ e. Some (printing_text e) };
+
+    fn fmt<W: fmt::Write>(&self, f: &mut fmt::Formatter<W>) -> fmt::Result {
+        match self {
+            PrintFault::Memory => write!(f, "34"),
+            PrintFault::Write => write!(f, "35"),
+        }
+    }
+}
+
+impl error::Error for PrintFault {}

@@ -1,5 +1,5 @@
 -- Read first Answer (how an answer is stated, in every crate), Spelling (the grammar of the wire), Reading (a record from left to right, with its first
--- fault) and Records, then Sink (what takes bytes), Hexadecimal, Digest and Hashing. Laws are for those who rest on the grammar.
+-- fault) and Records, then Sink (what takes bytes), Hexadecimal, Digest, Hashing and Faults. Laws are for those who rest on the grammar.
 pub mod Answer
 pub mod Spelling
 pub mod Reading
@@ -10,3 +10,4 @@ pub use Rattle.std.specs.Io.KnownBytes.{Appends, Keeps}
 pub mod Hashing
 pub mod Digest
 pub mod Hexadecimal
+pub mod Faults

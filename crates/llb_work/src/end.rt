@@ -1,25 +1,38 @@
 //! What a run gives back.
 
+ghost use Rattle.std.specs.Prelude.{Some};
+ghost use Rattle.llb_work.specs.Faults.{run_text};
+
 use llb_board::Board;
-use std::fmt;
-use thiserror::Error;
+use std::{error, fmt};
 
 /// Why a run ended before it was complete.
-#[derive(Drop, Error)]
+#[derive(Drop)]
 pub enum RunFault {
     /// 151: memory was refused.
-    #[error("151")]
     Memory,
     /// 152: the gate stopped a worker.
-    #[error("152")]
     Stopped,
     /// 153: a thread could not be started.
-    #[error("153")]
     Thread,
-    /// 154: the board that the run began from, as it was kept under the lock, is another one than was given.
-    #[error("154")]
+    /// 154: the board that the run began from, as it was kept under the lock, is another one than was given. No run ends so.
     Foreign(Board),
 }
+
+impl fmt::Display for RunFault {
+    ghost output = { λ e. Some (run_text e) };
+
+    fn fmt<W: fmt::Write>(&self, f: &mut fmt::Formatter<W>) -> fmt::Result {
+        match self {
+            RunFault::Memory => write!(f, "151"),
+            RunFault::Stopped => write!(f, "152"),
+            RunFault::Thread => write!(f, "153"),
+            RunFault::Foreign(_) => write!(f, "154"),
+        }
+    }
+}
+
+impl error::Error for RunFault {}
 
 impl fmt::Debug for RunFault {
     fn fmt<W: fmt::Write>(&self, f: &mut fmt::Formatter<W>) -> fmt::Result {

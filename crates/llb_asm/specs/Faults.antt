@@ -1,0 +1,21 @@
+-- What a fault of a text of entries prints: its number, and its line and rule.
+use Rattle.std.specs.Prelude.{ℕ, List, ◌++◌, codes}
+use Rattle.std.specs.Fmt.{decimal}
+use Rattle.llb_asm.specs.declared.fault.Rule.{Rule}
+use Rattle.llb_asm.specs.declared.fault.Rule.TheVariants as rule
+use Rattle.llb_asm.specs.declared.fault.AsmFault.{AsmFault}
+use Rattle.llb_asm.specs.declared.fault.AsmFault.TheVariants as fault
+
+abbrev pub rule_text : Rule → List ℕ
+rule_text rule.Syntax = codes "Syntax"
+rule_text rule.UnknownField = codes "UnknownField"
+rule_text rule.Order = codes "Order"
+rule_text rule.BadValue = codes "BadValue"
+rule_text rule.OverLimit = codes "OverLimit"
+rule_text rule.Unclosed = codes "Unclosed"
+
+abbrev pub asm_text : AsmFault → List ℕ
+asm_text (fault.Line line r) = codes "161 " ++ (decimal line ++ (codes " " ++ rule_text r))
+asm_text (fault.UnknownLabel line) = codes "162 " ++ decimal line
+asm_text fault.Memory = codes "163"
+asm_text fault.Write = codes "164"

@@ -1,0 +1,31 @@
+-- The lines that a `go` prints are those of the run of the record.
+use Rattle.std.proofs.Common.{◌≡◌, ◌+◌, ◌<◌, ℕ, List, length, take, option_map, Some, ap, arith, length-append, length-drop}
+use Rattle.std.proofs.lemmas.List.{length-take}
+use Rattle.llb_model.specs.Table.{Event, Reply}
+use Rattle.llb_state.specs.Board.{Replays}
+use Rattle.llb_stepper.specs.Records.{record_at, record_text}
+use Rattle.llb_stepper.specs.Stepping.{Stepping, line}
+use Rattle.llb_stepper.proofs.Lines.{reached, ran_on, tells}
+use Rattle.llb_session.specs.Answers.{GrantsGo}
+use Rattle.llb_session.specs.Texts.{ended}
+use Rattle.llb_session.specs.Told.{GoTellsTheRun}
+
+pub go_tells : (s : Stepping) → Replays s.board → GoTellsTheRun s
+go_tells s here text t granted =
+    let stop = granted.goes.stop in
+    let n = granted.stop.events in
+    let es : List Event = take n granted.goes.events in
+    let ran = ran_on s.board t.board es here.replies here.leads stop.leads in
+    let added : length t.board.events ≡ length s.board.events + length es =
+    ap length (reached es s.board t.board stop.leads).events ∙ length-append s.board.events es in
+    let few : length es ≤ n = omega (arith, length-take n granted.goes.events) in
+    let back = ap length stop.past in
+    let dropped = length-drop n (line t) in
+    record {
+      replies = ran.0;
+      runs = ran.1;
+      each = λ i e r low at there.
+          let told : record_at t i ≡ Some (e, r) =
+          (tells t stop.records).all i e r t.board.state ran.0 ran.1 (omega (arith, low)) (omega (arith, low, added, few, back, dropped)) at there in
+          ap (λ o. ended (option_map (record_text t.board.build.graph.vertices i) o)) told;
+    }

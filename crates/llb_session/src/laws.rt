@@ -1,0 +1,12 @@
+//! What holds of the answers of a session.
+
+ghost use Rattle.llb_session.specs.Told.{GoTellsTheRun};
+
+use llb_stepper::Stepper;
+
+/// A law: the lines that a session's `go` prints are those of the run of the whole record, event for event and reply for reply.
+pub fn go_tells_the_run(stepper: &Stepper)
+    ensures { GoTellsTheRun stepper.now }
+{
+    stepper.board().replays();
+}

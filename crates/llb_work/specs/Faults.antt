@@ -1,0 +1,10 @@
+-- What a fault of a run prints: its number.
+use Rattle.std.specs.Prelude.{ℕ, List, codes}
+use Rattle.llb_work.specs.declared.end.RunFault.{RunFault}
+use Rattle.llb_work.specs.declared.end.RunFault.TheVariants as fault
+
+abbrev pub run_text : RunFault → List ℕ
+run_text fault.Memory = codes "151"
+run_text fault.Stopped = codes "152"
+run_text fault.Thread = codes "153"
+run_text (fault.Foreign board) = codes "154"
