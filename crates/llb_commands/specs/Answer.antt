@@ -1,5 +1,6 @@
 -- What the program answers to the bytes that it reads.
-use Rattle.std.specs.Prelude.{◌≡◌, ◌≤◌, ◌<◌, ◌⊎◌, ℕ, true, false, List, length, Option, Some, None, IfSome, slice_get}
+use Rattle.std.specs.Prelude.{◌≡◌, ◌≤◌, ◌<◌, ◌⊎◌, ℕ, zero, suc, true, false, List, [], ◌++◌, length, codes, Option, Some, None, IfSome, slice_get}
+use Rattle.std.specs.Fmt.{decimal}
 use Rattle.std.specs.Io.KnownBytes.{Appends, Keeps}
 use Rattle.llb_wire.specs.Sink.{PartOut}
 use Rattle.llb_tree.specs.Tree.{TreeMap}
@@ -16,8 +17,15 @@ use Rattle.llb_model.specs.Table.{Event, Reply}
 use Rattle.llb_model.specs.Run.{run, is_complete, StandsPlainly}
 use Rattle.llb_model.specs.Laws.{HasNoCaches}
 use Rattle.llb_treetext.specs.TreeText.{tree_text}
+use Rattle.llb_model.specs.Failure.{failure_text}
+use Rattle.llb_state.specs.Views.{look_at}
+use Rattle.llb_events.specs.declared.event.Status.{Status}
+use Rattle.llb_events.specs.declared.event.Status.TheVariants as look
 use Rattle.llb_board.specs.Opening.{may_work}
 use Rattle.llb_work.specs.Alone.{EndsInClaimOrder}
+use Rattle.llb_commands.specs.declared.fault.ProgramFault.{ProgramFault}
+use Rattle.llb_commands.specs.declared.fault.ProgramFault.TheVariants as fault
+use Rattle.llb_commands.specs.Faults.{TellsWhy}
 use Rattle.llb_commands.specs.GraphText.{graph_text}
 
 -- a run is over a graph and the local trees
@@ -80,21 +88,19 @@ pub record YieldsNone (workers : ℕ) (locals : List Local) (bytes : List ℕ) :
   pub result : result_in state graph ≡ None
   pub fails : FailsBy state graph.result.vertex
 
--- bytes that are no definition of a graph
-abbrev pub IsRefused : List ℕ → Type 0
-IsRefused bytes = (e : LoadFault) × IsRefusalIn bytes e
+-- bytes that are no definition of a graph, and the fault that says why
+abbrev pub IsRefused : ProgramFault → List ℕ → Type 0
+IsRefused p bytes = (e : LoadFault) × IsRefusalIn bytes e × (p ≡ fault.Refused e)
 
--- a local source of a graph has no tree
-abbrev pub Lacks : List Local → Numbered → Type 0
-Lacks locals g = (name : List ℕ) × (missing_local locals g.vertices ≡ Some name)
+-- no board is opened on a graph, and why: the first local source without a tree; or all have one, and the number of workers is 0 or more than 64
+abbrev pub IsUnopened : List Local → Numbered → ℕ → ProgramFault → Type 0
+IsUnopened locals g workers (fault.MissingLocal name) = missing_local locals g.vertices ≡ Some name
+IsUnopened locals g workers fault.Workers = (missing_local locals g.vertices ≡ None) × (may_work workers ≡ false)
+IsUnopened locals g workers _ = ⊥
 
--- no board is opened on a graph: a local tree is missing, or the number of workers is 0 or more than 64
-abbrev pub IsUnopened : List Local → Numbered → ℕ → Type 0
-IsUnopened locals g workers = Lacks locals g ⊎ (may_work workers ≡ false)
-
--- bytes that are no definition of a graph, or of one on which no run is begun
-abbrev pub IsNotRun : ℕ → List Local → List ℕ → Type 0
-IsNotRun workers locals bytes = IsRefused bytes ⊎ ((g : Numbered) × IsGraphIn bytes g × IsUnopened locals g workers)
+-- bytes that are no definition of a graph, or of one on which no run is begun, and why
+abbrev pub IsNotRun : ℕ → List Local → ProgramFault → List ℕ → Type 0
+IsNotRun workers locals p bytes = IsRefused p bytes ⊎ ((g : Numbered) × IsGraphIn bytes g × IsUnopened locals g workers p)
 
 -- a prefix of the text that the bytes yield is out, and no more
 abbrev pub YieldsPart : ℕ → List Local → Option (List ℕ) → Option (List ℕ) → List ℕ → Type 0
@@ -104,14 +110,31 @@ YieldsPart workers locals out out' bytes = (text : List ℕ) × Yields workers l
 abbrev pub YieldsAll : ℕ → List Local → Option (List ℕ) → Option (List ℕ) → List ℕ → Type 0
 YieldsAll workers locals out out' bytes = (text : List ℕ) × Yields workers locals bytes text × Appends out out' text
 
+-- ---- the lines of failures
+
+-- the line of a vertex that has failed
+abbrev pub failed_line : ℕ → Option Status → List ℕ
+failed_line v (Some (look.Failed f)) = codes "failed " ++ (decimal v ++ (codes " " ++ (failure_text f ++ codes "\n")))
+failed_line v _ = []
+
+-- a line for each vertex below a number that has failed
+unfoldable pub failed_lines : Build → State → ℕ → List ℕ
+failed_lines b s zero = []
+failed_lines b s (suc v) = failed_lines b s v ++ failed_line v (look_at b s v)
+
+-- the result is no tree, and the lines of all failures are out
+abbrev pub FailsAll : ℕ → List Local → Option (List ℕ) → Option (List ℕ) → List ℕ → Type 0
+FailsAll workers locals err err' bytes = (y : YieldsNone workers locals bytes)
+    × Appends err err' (failed_lines (build_of locals y.graph) y.state (length y.graph.vertices))
+
 -- How a run by that many workers ends. 0: the text of the result is out, and nothing else. 1: a vertex failed, so that the result is no tree, and nothing is
--- out. 2: the bytes are refused, a local tree is missing, or there are no workers or too many, and nothing is out. 3: a device, a thread or memory failed;
--- nothing is out, or a prefix of the text.
-abbrev pub Runs : ℕ → List Local → Option (List ℕ) → Option (List ℕ) → Option (List ℕ) → ℕ → Type 0
-Runs workers locals input out out' status =
-    ((status ≡ 0) × IfSome input (YieldsAll workers locals out out'))
-    ⊎ (((status ≡ 1) × Keeps out out' × IfSome input (YieldsNone workers locals))
-    ⊎ (((status ≡ 2) × Keeps out out' × IfSome input (IsNotRun workers locals))
+-- out but the lines of the failures. 2: the bytes are refused, a local tree is missing, or there are no workers or too many, and nothing is out but the line
+-- that says which. 3: a device, a thread or memory failed; nothing is out, or a prefix of the text.
+abbrev pub Runs : ℕ → List Local → Option (List ℕ) → Option (List ℕ) → Option (List ℕ) → Option (List ℕ) → Option (List ℕ) → ℕ → Type 0
+Runs workers locals input out out' err err' status =
+    ((status ≡ 0) × Keeps err err' × IfSome input (YieldsAll workers locals out out'))
+    ⊎ (((status ≡ 1) × Keeps out out' × IfSome input (FailsAll workers locals err err'))
+    ⊎ (((status ≡ 2) × Keeps out out' × TellsWhy (IsNotRun workers locals) input err err')
     ⊎ ((status ≡ 3) × (Keeps out out' ⊎ IfSome input (YieldsPart workers locals out out')))))
 
 -- the text of the graph of the bytes is out, and nothing else
@@ -122,10 +145,10 @@ DrawsAll out out' bytes = (g : Numbered) × IsGraphIn bytes g × Appends out out
 abbrev pub DrawsPart : Option (List ℕ) → Option (List ℕ) → List ℕ → Type 0
 DrawsPart out out' bytes = (g : Numbered) × IsGraphIn bytes g × PartOut out out' (graph_text g)
 
--- How a show ends. 0: the text of the graph is out, and nothing else. 2: the bytes are refused, and nothing is out. 3: a device or memory
--- failed; nothing is out, or a prefix of the text.
-abbrev pub Draws : Option (List ℕ) → Option (List ℕ) → Option (List ℕ) → ℕ → Type 0
-Draws input out out' status =
-    ((status ≡ 0) × IfSome input (DrawsAll out out'))
-    ⊎ (((status ≡ 2) × Keeps out out' × IfSome input IsRefused)
+-- How a show ends. 0: the text of the graph is out, and nothing else. 2: the bytes are refused, and nothing is out but the line that says why. 3: a device or
+-- memory failed; nothing is out, or a prefix of the text.
+abbrev pub Draws : Option (List ℕ) → Option (List ℕ) → Option (List ℕ) → Option (List ℕ) → Option (List ℕ) → ℕ → Type 0
+Draws input out out' err err' status =
+    ((status ≡ 0) × Keeps err err' × IfSome input (DrawsAll out out'))
+    ⊎ (((status ≡ 2) × Keeps out out' × TellsWhy IsRefused input err err')
     ⊎ ((status ≡ 3) × (Keeps out out' ⊎ IfSome input (DrawsPart out out'))))

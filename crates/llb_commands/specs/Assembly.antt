@@ -12,6 +12,11 @@ use Rattle.llb_asm.specs.declared.fault.AsmFault.TheVariants.{Line, UnknownLabel
 use Rattle.llb_asm.specs.Plain.{Formed, AreFormed, plain_text}
 use Rattle.llb_loader.specs.Locals.{Local}
 use Rattle.llb_commands.specs.Answer.{Yields}
+use Rattle.llb_ops.specs.declared.fault.OpFault.TheVariants.{OverLimit}
+use Rattle.llb_loader.specs.declared.fault.LoadFault.TheVariants.{Definition}
+use Rattle.llb_commands.specs.declared.fault.ProgramFault.{ProgramFault}
+use Rattle.llb_commands.specs.declared.fault.ProgramFault.TheVariants as fault
+use Rattle.llb_commands.specs.Faults.{TellsWhy}
 use Rattle.llb_commands.specs.Sources.{limit}
 
 -- the definition of the entries that a text stands for
@@ -28,12 +33,12 @@ refuses_a_line Memory = false
 refuses_a_line Write = false
 
 -- a line of a text is refused: the first one, with its first fault
-abbrev pub HasFaultyLine : List ℕ → Type 0
-HasFaultyLine text = (e : AsmFault) × (refuses_a_line e ≡ true) × asm.Assembles text (Err e)
+abbrev pub HasFaultyLine : ProgramFault → List ℕ → Type 0
+HasFaultyLine p text = (e : AsmFault) × (refuses_a_line e ≡ true) × asm.Assembles text (Err e) × (p ≡ fault.Assembling e)
 
--- a text that stands for none: it is too long, or one of its lines is refused
-abbrev pub IsNoText : List ℕ → Type 0
-IsNoText text = (limit < length text) ⊎ HasFaultyLine text
+-- a text that stands for none, and why: it is too long, or one of its lines is refused
+abbrev pub IsNoText : ProgramFault → List ℕ → Type 0
+IsNoText p text = ((limit < length text) × (p ≡ fault.TooLong)) ⊎ HasFaultyLine p text
 
 -- the text that is written of the entries of a definition
 pub record IsDisassembled (definition text : List ℕ) : Type 0 where
@@ -43,9 +48,10 @@ pub record IsDisassembled (definition text : List ℕ) : Type 0 where
   pub are : AreFormed entries forms
   pub same : text ≡ plain_text forms
 
--- a definition that does not read
-abbrev pub IsUnread : List ℕ → Type 0
-IsUnread definition = (e : OpFault) × (definition_of definition ≡ Err e)
+-- a definition that does not read, and why: its own fault, told as that of a graph's definition where it is too long to be looked at
+abbrev pub IsUnread : ProgramFault → List ℕ → Type 0
+IsUnread p definition = ((e : OpFault) × (definition_of definition ≡ Err e) × (p ≡ fault.Unread e))
+    ⊎ ((limit < length definition) × (p ≡ fault.Refused (Definition OverLimit)))
 
 -- what comes of the input is out, and nothing else
 abbrev pub IsOut : (List ℕ → List ℕ → Type 0) → Option (List ℕ) → Option (List ℕ) → List ℕ → Type 0
@@ -55,20 +61,21 @@ IsOut Comes out out' input = (text : List ℕ) × Comes input text × Appends ou
 abbrev pub IsPartOut : (List ℕ → List ℕ → Type 0) → Option (List ℕ) → Option (List ℕ) → List ℕ → Type 0
 IsPartOut Comes out out' input = (text : List ℕ) × Comes input text × PartOut out out' text
 
--- How a command ends that writes what comes of its input. 0: all of it is out, and nothing else. 2: the input is refused, and nothing is
--- out. 3: a device or memory failed; nothing is out, or a prefix of it.
-abbrev pub Ends : (List ℕ → List ℕ → Type 0) → (List ℕ → Type 0) → Option (List ℕ) → Option (List ℕ) → Option (List ℕ) → ℕ → Type 0
-Ends Comes IsRefused input out out' status =
-    ((status ≡ 0) × IfSome input (IsOut Comes out out'))
-    ⊎ (((status ≡ 2) × Keeps out out' × IfSome input IsRefused)
+-- How a command ends that writes what comes of its input. 0: all of it is out, and nothing else. 2: the input is refused, and nothing is out but the line that
+-- says why. 3: a device or memory failed; nothing is out, or a prefix of it.
+abbrev pub Ends : (List ℕ → List ℕ → Type 0) → (ProgramFault → List ℕ → Type 0) → Option (List ℕ) → Option (List ℕ) → Option (List ℕ) → Option (List ℕ)
+    → Option (List ℕ) → ℕ → Type 0
+Ends Comes IsRefused input out out' err err' status =
+    ((status ≡ 0) × Keeps err err' × IfSome input (IsOut Comes out out'))
+    ⊎ (((status ≡ 2) × Keeps out out' × TellsWhy IsRefused input err err')
     ⊎ ((status ≡ 3) × (Keeps out out' ⊎ IfSome input (IsPartOut Comes out out'))))
 
 -- a text is assembled to the definition of the entries that it stands for
-abbrev pub Assembles : Option (List ℕ) → Option (List ℕ) → Option (List ℕ) → ℕ → Type 0
+abbrev pub Assembles : Option (List ℕ) → Option (List ℕ) → Option (List ℕ) → Option (List ℕ) → Option (List ℕ) → ℕ → Type 0
 Assembles = Ends IsAssembled IsNoText
 
 -- a definition is written as the text of its entries
-abbrev pub Disassembles : Option (List ℕ) → Option (List ℕ) → Option (List ℕ) → ℕ → Type 0
+abbrev pub Disassembles : Option (List ℕ) → Option (List ℕ) → Option (List ℕ) → Option (List ℕ) → Option (List ℕ) → ℕ → Type 0
 Disassembles = Ends IsDisassembled IsUnread
 
 -- the definition that a text is assembled to runs to the text of the result to which any bytes run whose entries are those that the text stands for

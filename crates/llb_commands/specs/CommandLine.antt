@@ -4,7 +4,7 @@ use Rattle.std.specs.Prelude.{Option, Some, None, is_some, option_map, option_an
 use Rattle.std.specs.Borrow.{Bor}
 use Rattle.std.specs.List.{position_or_len, before_first, after_first}
 use Rattle.std.specs.Str.Parse.{digits_value, without_leading_plus}
-use Rattle.std.specs.Io.KnownBytes.{Appends}
+use Rattle.llb_commands.specs.Faults.{TellsLine}
 use Rattle.clap.specs.Words.{App, Kinds, Row, Rule, Text, all_of, first_of, new_app, new_rule, one_of, with_rule, with_subcommand}
 use Rattle.clap.specs.ValueTests.{is_unsigned_in}
 use Rattle.clap.specs.declared.builder.action.ArgAction.TheVariants.{Append, Set}
@@ -167,13 +167,10 @@ words_text (Words None) = codes "183"
 words_text (Words (Some word)) = codes "183 " ++ word.now
 words_text Memory = codes "184"
 
-abbrev pub words_line : WordsFault → List ℕ
-words_line e = codes "fault " ++ (words_text e ++ codes "\n")
-
 abbrev pub words_status : WordsFault → ℕ
 words_status (Words w) = 2
 words_status Memory = 3
 
--- the line is out, and the status is the fault's; or the writer failed
+-- the line of the fault is out, and the status is the fault's; or the line could not be written, and the status is 3
 abbrev pub TellsWords : Option (List ℕ) → Option (List ℕ) → WordsFault → ℕ → Type 0
-TellsWords err err' e status = ((status ≡ words_status e) × Appends err err' (words_line e)) ⊎ (status ≡ 3)
+TellsWords err err' e = TellsLine err err' (words_text e) (words_status e)

@@ -1,30 +1,72 @@
--- How each command ends.
-use Rattle.std.specs.Prelude.{◌≡◌, ◌⊎◌, ℕ, List, Option, Some, None}
+-- How each command ends, and the program.
+use Rattle.std.specs.Prelude.{◌⊎◌, ℕ, List, [], Option, Some, None, Ok, Err}
+use Rattle.std.specs.Borrow.{Bor}
 use Rattle.std.specs.Io.KnownBytes.{Keeps}
+use Rattle.clap.specs.Words.{Text, fault_of, subcommand_of}
 use Rattle.llb_loader.specs.Locals.{Local}
 use Rattle.llb_commands.specs.Answer.{Runs, Draws}
 use Rattle.llb_commands.specs.Assembly.{Assembles, Disassembles}
+use Rattle.llb_commands.specs.CommandLine.{llbm_app, given, IsByWords, Says, TellsWords}
+use Rattle.llb_commands.specs.Sources.{Gathers, TellsSource}
 use Rattle.llb_commands.specs.Stepping.{Steps}
+use Rattle.llb_commands.specs.declared.sources.SourceFault.{SourceFault}
 use Rattle.llb_commands.specs.declared.words.Command.{Command}
 use Rattle.llb_commands.specs.declared.words.Command.TheVariants.{Run, Show, Step, Assemble, Disassemble}
 use Rattle.llb_commands.specs.declared.words.Line.{Line}
-use Rattle.std.specs.Borrow.{Bor}
+use Rattle.llb_commands.specs.declared.words.WordsFault.{WordsFault}
+use Rattle.llb_commands.specs.declared.words.WordsFault.TheVariants.{Words}
 
--- a session over the definition in a file; where no file is named, or it is not opened, nothing is out
-abbrev pub StepsAt : {S : Type 0} → (S → List ℕ → Option (List ℕ)) → Option (Bor (List ℕ)) → S → ℕ → List Local → Option (List ℕ) → Option (List ℕ)
+-- what files have, where it is known
+abbrev pub Shelf : Type 0
+Shelf = List ℕ → Option (List ℕ)
+
+-- a session over the definition in a file; where no file is named, or it is not opened or not read, nothing is out but the line that says so
+abbrev pub StepsAt : Shelf → Option (Bor (List ℕ)) → ℕ → List Local → Option (List ℕ) → Option (List ℕ) → Option (List ℕ) → Option (List ℕ)
     → Option (List ℕ) → Option (List ℕ) → ℕ → Type 0
-StepsAt bytes None sources workers locals commands commands' out out' status = Keeps out out' × ((status ≡ 2) ⊎ (status ≡ 3))
-StepsAt bytes (Some file) sources workers locals commands commands' out out' status =
-    Steps locals workers (bytes sources file.now) commands commands' out out' status
+StepsAt files None workers locals commands commands' out out' err err' status = Keeps out out' × TellsWords err err' (Words None) status
+StepsAt files (Some file) workers locals commands commands' out out' err err' status =
+    Steps locals workers (files file.now) commands commands' out out' err err' status
 
-abbrev pub PerformsAs : {S : Type 0} → (S → List ℕ → Option (List ℕ)) → S → Command → Line → List Local → Option (List ℕ) → Option (List ℕ) → Option (List ℕ)
+abbrev pub PerformsAs : Shelf → Command → Line → List Local → Option (List ℕ) → Option (List ℕ) → Option (List ℕ) → Option (List ℕ) → Option (List ℕ)
     → Option (List ℕ) → ℕ → Type 0
-PerformsAs bytes sources Run line locals input input' = Runs line.workers locals input
-PerformsAs bytes sources Show line locals input input' = Draws input
-PerformsAs bytes sources Step line locals input input' = StepsAt bytes line.file sources line.workers locals input input'
-PerformsAs bytes sources Assemble line locals input input' = Assembles input
-PerformsAs bytes sources Disassemble line locals input input' = Disassembles input
+PerformsAs files Run line locals input input' = Runs line.workers locals input
+PerformsAs files Show line locals input input' = Draws input
+PerformsAs files Step line locals input input' = StepsAt files line.file line.workers locals input input'
+PerformsAs files Assemble line locals input input' = Assembles input
+PerformsAs files Disassemble line locals input input' = Disassembles input
 
-abbrev pub Performs : {S : Type 0} → (S → List ℕ → Option (List ℕ)) → S → Line → List Local → Option (List ℕ) → Option (List ℕ) → Option (List ℕ)
-    → Option (List ℕ) → ℕ → Type 0
-Performs bytes sources line = PerformsAs bytes sources line.command line
+abbrev pub Performs : Shelf → Line → List Local → Option (List ℕ) → Option (List ℕ) → Option (List ℕ) → Option (List ℕ) → Option (List ℕ) → Option (List ℕ)
+    → ℕ → Type 0
+Performs files line = PerformsAs files line.command line
+
+-- The words are refused, and a line says so.
+pub record IsRefusedByWords (words : List Text) (out out' err err' : Option (List ℕ)) (status : ℕ) : Type 0 where
+  pub fault : WordsFault
+  pub refused : IsByWords (fault_of llbm_app words) (given (subcommand_of llbm_app words)) (Err fault)
+  pub none : Keeps out out'
+  pub told : TellsWords err err' fault status
+
+-- They name a local source that has no tree, and a line says why.
+pub record LacksSource (files : Shelf) (line : Line) (out out' err err' : Option (List ℕ)) (status : ℕ) : Type 0 where
+  pub fault : SourceFault
+  pub gathered : Gathers files line.locals [] (Err fault)
+  pub none : Keeps out out'
+  pub told : TellsSource err err' fault status
+
+-- Or the command is done on the trees of the local sources.
+pub record IsDone (files : Shelf) (line : Line) (input input' out out' err err' : Option (List ℕ)) (status : ℕ) : Type 0 where
+  pub locals : List Local
+  pub gathered : Gathers files line.locals [] (Ok locals)
+  pub done : Performs files line locals input input' out out' err err' status
+
+pub record IsAsked (files : Shelf) (words : List Text) (input input' out out' err err' : Option (List ℕ)) (status : ℕ) : Type 0 where
+  pub line : Line
+  pub taken : IsByWords (fault_of llbm_app words) (given (subcommand_of llbm_app words)) (Ok line)
+  pub says : Says (subcommand_of llbm_app words) line
+  pub does : LacksSource files line out out' err err' status ⊎ IsDone files line input input' out out' err err' status
+
+-- the whole program
+abbrev pub IsProgram : Shelf → List Text → Option (List ℕ) → Option (List ℕ) → Option (List ℕ) → Option (List ℕ) → Option (List ℕ) → Option (List ℕ) → ℕ
+    → Type 0
+IsProgram files words input input' out out' err err' status =
+    IsRefusedByWords words out out' err err' status ⊎ IsAsked files words input input' out out' err err' status

@@ -1,7 +1,8 @@
 -- Read first Answer (what a run answers to the bytes that it reads) with GraphText and Output, then Assembly (asm and dis), Stepping (a session),
--- CommandLine (what the words say), Sources (files of local sources), Bounded (a bounded reading) and Commands (how each command ends). Running and
--- AssemblyParts are the parts of these.
+-- CommandLine (what the words say), Sources (files of local sources), Bounded (a bounded reading), Faults (what a fault prints, with its status) and
+-- Commands (how each command ends, and the program). Running and AssemblyParts are the parts of these.
 pub mod Bounded
+pub mod Faults
 pub mod Answer
 pub mod Running
 pub mod Output

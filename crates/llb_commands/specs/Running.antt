@@ -1,5 +1,5 @@
 -- The parts of a run, each with what it tells of the bytes.
-use Rattle.std.specs.Prelude.{◌≡◌, ◌⊎◌, ℕ, List, Option, Some, None, Result, Ok, Err, IfSome, ⊤, if◌then◌else◌}
+use Rattle.std.specs.Prelude.{◌≡◌, ◌⊎◌, ℕ, List, length, Option, Some, None, Result, Ok, Err, IfSome, ⊤, if◌then◌else◌}
 use Rattle.std.specs.Io.KnownBytes.{Appends, Keeps}
 use Rattle.llb_wire.specs.Sink.{PartOut}
 use Rattle.llb_tree.specs.Tree.{TreeMap}
@@ -10,6 +10,8 @@ use Rattle.llb_state.specs.Board.{Seen}
 use Rattle.llb_model.specs.Consistent.{IsConsistent}
 use Rattle.llb_treetext.specs.TreeText.{tree_text}
 use Rattle.llb_commands.specs.Answer.{build_of, IsEnd, YieldsNone, YieldsAll, YieldsPart, IsRefused, IsNotRun, DrawsAll, DrawsPart}
+use Rattle.llb_commands.specs.Answer.{failed_lines}
+use Rattle.llb_commands.specs.Faults.{Tells}
 use Rattle.llb_commands.specs.declared.fault.ProgramFault.{ProgramFault}
 use Rattle.llb_commands.specs.declared.fault.ProgramFault.TheVariants.{Refused, MissingLocal, Workers, Loading, Read, Memory, Unread, Assembling, TooLong}
 use Rattle.llb_commands.specs.declared.bounded.ReadFault.{ReadFault}
@@ -40,9 +42,9 @@ IsRefusal (Assembling e) = ⊤
 IsRefusal TooLong = ⊤
 IsRefusal _ = ⊥
 
--- a refusal of the input stands only where the input is refused
-abbrev pub TellsRefusal : (List ℕ → Type 0) → Option (List ℕ) → ProgramFault → Type 0
-TellsRefusal IsSo input e = IsRefusal e → IfSome input IsSo
+-- a refusal of the input stands only where the input is refused, and for this cause
+abbrev pub TellsRefusal : (ProgramFault → List ℕ → Type 0) → Option (List ℕ) → ProgramFault → Type 0
+TellsRefusal IsSo input e = IsRefusal e → IfSome input (IsSo e)
 
 -- the graph of the input, or why there is none
 abbrev pub Loads : Option (List ℕ) → Result Numbered ProgramFault → Type 0
@@ -55,24 +57,29 @@ pub record IsFinished (workers : ℕ) (locals : List Local) (g : Numbered) (b : 
   pub ended : IsEnd workers (build_of locals g) b.state
   pub here : IsConsistent (build_of locals g) b.state
 
--- a tree is out where there is one
-abbrev pub Shows : {B : Type 0} → Option (List ℕ) → Option (List ℕ) → Option TreeMap → Result (Option B) ProgramFault → Type 0
-Shows out out' tree (Ok None) = (t : TreeMap) × (tree ≡ Some t) × Appends out out' (tree_text t)
-Shows out out' tree (Ok (Some b)) = (tree ≡ None) × Keeps out out'
-Shows out out' tree (Err e) = (¬ IsRefusal e) × ((t : TreeMap) × (tree ≡ Some t) × PartOut out out' (tree_text t))
+-- a tree is out where there is one; where there is none, the board comes back
+abbrev pub Shows : Seen → Option (List ℕ) → Option (List ℕ) → Option TreeMap → Result (Option Seen) ProgramFault → Type 0
+Shows board out out' tree (Ok None) = (t : TreeMap) × (tree ≡ Some t) × Appends out out' (tree_text t)
+Shows board out out' tree (Ok (Some b)) = (b ≡ board) × (tree ≡ None) × Keeps out out'
+Shows board out out' tree (Err e) = (¬ IsRefusal e) × ((t : TreeMap) × (tree ≡ Some t) × PartOut out out' (tree_text t))
+
+-- a board on which a run has ended whose result is no tree
+abbrev pub YieldsNoneOn : ℕ → List Local → Seen → List ℕ → Type 0
+YieldsNoneOn workers locals b bytes = (y : YieldsNone workers locals bytes) × (y.state ≡ b.state) × (build_of locals y.graph ≡ b.build)
 
 -- the text is out; or the result is no tree, or a fault stands, and at most a prefix of the text is out
-abbrev pub Answers : {B : Type 0} → ℕ → List Local → Option (List ℕ) → Option (List ℕ) → Option (List ℕ) → Result (Option B) ProgramFault → Type 0
+abbrev pub Answers : ℕ → List Local → Option (List ℕ) → Option (List ℕ) → Option (List ℕ) → Result (Option Seen) ProgramFault → Type 0
 Answers workers locals input out out' (Ok None) = IfSome input (YieldsAll workers locals out out')
-Answers workers locals input out out' (Ok (Some b)) = Keeps out out' × IfSome input (YieldsNone workers locals)
+Answers workers locals input out out' (Ok (Some b)) = Keeps out out' × IfSome input (YieldsNoneOn workers locals b)
 Answers workers locals input out out' (Err e) =
     (Keeps out out' × TellsRefusal (IsNotRun workers locals) input e) ⊎ ((¬ IsRefusal e) × IfSome input (YieldsPart workers locals out out'))
 
--- the exit status for an answer: 0 for a text that is out, 1 where there is none, 2 for a refusal, and 3 where a device fails after any of them
-abbrev pub Tells : {B : Type 0} → Option (List ℕ) → Option (List ℕ) → Result (Option B) ProgramFault → ℕ → Type 0
-Tells out out' (Ok None) status = Keeps out out' × ((status ≡ 0) ⊎ (status ≡ 3))
-Tells out out' (Ok (Some b)) status = Keeps out out' × ((status ≡ 1) ⊎ (status ≡ 3))
-Tells out out' (Err e) status = Keeps out out' × ((status ≡ 3) ⊎ ((status ≡ 2) × IsRefusal e))
+-- the exit status for an answer, with its lines: 0 for a text that is out, 1 where there is none, 2 for a refusal, and 3 where a device fails after any of them
+abbrev pub Ends : Option (List ℕ) → Option (List ℕ) → Option (List ℕ) → Option (List ℕ) → Result (Option Seen) ProgramFault → ℕ → Type 0
+Ends out out' err err' (Ok None) status = Keeps out out' × (((status ≡ 0) × Keeps err err') ⊎ (status ≡ 3))
+Ends out out' err err' (Ok (Some b)) status =
+    Keeps out out' × (((status ≡ 1) × Appends err err' (failed_lines b.build b.state (length b.build.graph.vertices))) ⊎ (status ≡ 3))
+Ends out out' err err' (Err e) status = Keeps out out' × Tells err err' e status
 
 -- the text of the graph is out; or a fault stands, and at most a prefix of the text is out
 abbrev pub ShowsIn : Option (List ℕ) → Option (List ℕ) → Option (List ℕ) → Result (Unit {0}) ProgramFault → Type 0

@@ -7,12 +7,17 @@ use Rattle.llb_treetext.specs.Reading.{Answers, MemoryIsLast}
 use Rattle.llb_loader.specs.Locals as given
 use Rattle.llb_loader.specs.Locals.{with_local}
 use Rattle.llb_commands.specs.declared.words.Local.{Local}
+use Rattle.llb_commands.specs.Faults.{TellsLine, source_text}
 use Rattle.llb_commands.specs.declared.sources.SourceFault.{SourceFault}
 use Rattle.llb_commands.specs.declared.sources.SourceFault.TheVariants.{Read, TooLong, Text, Reading, Adding}
 
 -- the most bytes that the text of a tree may have
 abbrev pub limit : ℕ
 limit = 67108864
+
+-- the most reads in which the end of an input has to be met
+abbrev pub most_reads : ℕ
+most_reads = 134217728
 
 -- What is read of bytes: the tree whose text they are, or why they are none's. A device or memory may fail at any bytes, but the reading of the
 -- text needs memory only where the bytes are a tree's.
@@ -46,3 +51,7 @@ source_status TooLong = 2
 source_status (Text e) = if is_memory e then 3 else 2
 source_status Reading = 3
 source_status Adding = 3
+
+-- the line of the fault is out, and the status is the fault's; or the line could not be written, and the status is 3
+abbrev pub TellsSource : Option (List ℕ) → Option (List ℕ) → SourceFault → ℕ → Type 0
+TellsSource err err' e = TellsLine err err' (source_text e) (source_status e)

@@ -1,6 +1,6 @@
 -- How a stepping session over the run of a definition ends.
 use Rattle.std.specs.Prelude.{◌≡◌, ◌⊎◌, ℕ, List, [], Option, Result, Ok, Err, IfSome}
-use Rattle.std.specs.Io.KnownBytes.{Keeps}
+use Rattle.std.specs.Io.KnownBytes.{Appends, Keeps}
 use Rattle.llb_loader.specs.Graph.{Numbered}
 use Rattle.llb_loader.specs.Load.{IsGraphIn}
 use Rattle.llb_loader.specs.Locals.{Local}
@@ -11,7 +11,8 @@ use Rattle.llb_session.specs.declared.fault.SessionFault.{SessionFault}
 use Rattle.llb_session.specs.declared.fault.SessionFault.TheVariants as session
 use Rattle.llb_commands.specs.Answer.{build_of, IsRefused, IsUnopened}
 use Rattle.llb_commands.specs.Running.{TellsRefusal}
-use Rattle.llb_commands.specs.Sources.{limit}
+use Rattle.llb_commands.specs.Faults.{TellsWhy, fault_line, program_text}
+use Rattle.llb_commands.specs.Sources.{limit, most_reads}
 use Rattle.llb_commands.specs.declared.fault.OutputFault.TheVariants as output
 use Rattle.llb_commands.specs.declared.fault.ProgramFault.{ProgramFault}
 use Rattle.llb_commands.specs.declared.fault.ProgramFault.TheVariants as fault
@@ -20,9 +21,9 @@ use Rattle.llb_commands.specs.declared.fault.ProgramFault.TheVariants as fault
 abbrev pub begun : List Local → Numbered → ℕ → Stepping
 begun locals g workers = record { board = opened (build_of locals g) workers []; past = []; breaks = [] }
 
--- bytes that are no definition of a graph, or of one on which no board is opened
-abbrev pub IsNotOpened : List Local → ℕ → List ℕ → Type 0
-IsNotOpened locals workers bytes = IsRefused bytes ⊎ ((g : Numbered) × IsGraphIn bytes g × IsUnopened locals g workers)
+-- bytes that are no definition of a graph, or of one on which no board is opened, and why
+abbrev pub IsNotOpened : List Local → ℕ → ProgramFault → List ℕ → Type 0
+IsNotOpened locals workers p bytes = IsRefused p bytes ⊎ ((g : Numbered) × IsGraphIn bytes g × IsUnopened locals g workers p)
 
 -- a session over the graph of the bytes: what is said to the commands is out
 pub record IsSession (locals : List Local) (workers : ℕ) (commands commands' out out' : Option (List ℕ)) (result : Result (Unit {0}) SessionFault)
@@ -30,11 +31,12 @@ pub record IsSession (locals : List Local) (workers : ℕ) (commands commands' o
   pub graph : Numbered
   pub loaded : IsGraphIn bytes graph
   pub end : Stepping
-  pub talks : Converses limit (begun locals graph workers) end commands commands' out out' result
+  pub talks : Converses limit most_reads (begun locals graph workers) end commands commands' out out' result
 
 -- how a fault of a session is passed on
 abbrev pub session_fault : SessionFault → ProgramFault
-session_fault session.Read = fault.Read
+session_fault (session.Failed kind) = fault.Read
+session_fault (session.Unending interrupted) = fault.Read
 session_fault session.Write = fault.Output output.Write
 session_fault session.Memory = fault.Memory
 session_fault session.TooLong = fault.TooLong
@@ -52,10 +54,12 @@ abbrev pub IsBroken : List Local → ℕ → Option (List ℕ) → Option (List 
 IsBroken locals workers commands commands' out out' bytes = (f : SessionFault) × IsSession locals workers commands commands' out out' (Err f) bytes
 
 -- How the command ends. 0: the session went on to its end. 2: the bytes are refused, a local tree is missing, or the number of workers is none, and nothing
--- is out; or there were too many bytes of commands. 3: a device or memory failed; nothing is out, or what was said up to there.
-abbrev pub Steps : List Local → ℕ → Option (List ℕ) → Option (List ℕ) → Option (List ℕ) → Option (List ℕ) → Option (List ℕ) → ℕ → Type 0
-Steps locals workers file commands commands' out out' status =
-    ((status ≡ 0) × IfSome file (IsSession locals workers commands commands' out out' (Ok tt)))
-    ⊎ (((status ≡ 2) × ((Keeps out out' × IfSome file (IsNotOpened locals workers))
-    ⊎ IfSome file (IsSession locals workers commands commands' out out' (Err session.TooLong))))
+-- is out but the line that says which; or there were too many bytes of commands, which a line says. 3: a device or memory failed; nothing is out, or what was
+-- said up to there.
+abbrev pub Steps : List Local → ℕ → Option (List ℕ) → Option (List ℕ) → Option (List ℕ) → Option (List ℕ) → Option (List ℕ) → Option (List ℕ)
+    → Option (List ℕ) → ℕ → Type 0
+Steps locals workers file commands commands' out out' err err' status =
+    ((status ≡ 0) × Keeps err err' × IfSome file (IsSession locals workers commands commands' out out' (Ok tt)))
+    ⊎ (((status ≡ 2) × ((Keeps out out' × TellsWhy (IsNotOpened locals workers) file err err')
+    ⊎ (IfSome file (IsSession locals workers commands commands' out out' (Err session.TooLong)) × Appends err err' (fault_line (program_text fault.TooLong)))))
     ⊎ ((status ≡ 3) × (Keeps out out' ⊎ IfSome file (IsBroken locals workers commands commands' out out'))))

@@ -96,7 +96,7 @@ pub fn asm_over<R: Read, W: Write, E: Write>(
     out: &mut W,
     err: &mut E,
 ) -> u8
-    ensures { Assembles (R.remaining input.old) (W.contents out.old) (W.contents out.new) result }
+    ensures { Assembles (R.remaining input.old) (W.contents out.old) (W.contents out.new) (E.contents err.old) (E.contents err.new) result }
 {
     match assembled(alloc, input, out) {
         Ok(()) => 0,

@@ -74,7 +74,7 @@ pub fn dis_over<R: Read, W: Write, E: Write>(
     out: &mut W,
     err: &mut E,
 ) -> u8
-    ensures { Disassembles (R.remaining input.old) (W.contents out.old) (W.contents out.new) result }
+    ensures { Disassembles (R.remaining input.old) (W.contents out.old) (W.contents out.new) (E.contents err.old) (E.contents err.new) result }
 {
     match disassembled(alloc, input, out) {
         Ok(()) => 0,

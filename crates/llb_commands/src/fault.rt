@@ -1,8 +1,8 @@
 //! Why the program ends without its answer, and the status that it then ends with. A fault prints what stands after the
 //! word `fault`, and takes no memory for it.
 
-ghost use Rattle.std.specs.Prelude.{◌≡◌, ◌⊎◌};
-ghost use Rattle.llb_commands.specs.Running.{IsRefusal};
+ghost use Rattle.std.specs.Prelude.{Some};
+ghost use Rattle.llb_commands.specs.Faults.{output_text, program_text, Tells};
 
 use llb_asm::AsmFault;
 use llb_loader::LoadFault;
@@ -109,9 +109,9 @@ impl fmt::Display for ProgramFault {
 
 impl error::Error for ProgramFault {}
 
-/// The status for a fault, once its line is out: 2 for a refusal of the input, else 3.
+/// The status for a fault, once its line is out: 2 for a refusal of the input, else 3. 3 too where the line can't be written.
 pub fn refusal<E: Write>(fault: &ProgramFault, err: &mut E) -> u8
-    ensures { result ≡ 3 ⊎ ((result ≡ 2) × IsRefusal fault.now) }
+    ensures { Tells (E.contents err.old) (E.contents err.new) fault.now result }
 {
     if writeln!(err, "fault {fault}").is_err() {
         return 3;

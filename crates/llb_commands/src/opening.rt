@@ -19,7 +19,7 @@ pub(crate) fn opened(
     workers: u32,
 ) -> Result<Board, ProgramFault>
     ensures board { IfOk result (λ b. b ≡ opened (build_of locals graph) workers []) }
-    ensures fault { IfErr result (λ e. IsRefusal e → IsUnopened locals graph workers) }
+    ensures fault { IfErr result (λ e. IsRefusal e → IsUnopened locals graph workers e) }
 {
     match Board::open(alloc, graph, locals, Caches::new(alloc), workers) {
         Ok(board) => Ok(board),

@@ -1,22 +1,37 @@
-//! What a line asks for is done: one of the commands, over the line's readers, writers and local trees.
+//! What the words ask for is done: one of the commands, over the readers, writers and local trees; and the program whole.
 
-ghost use Rattle.llb_commands.specs.Commands.{Performs, StepsAt};
+ghost use Rattle.std.specs.Prelude.{map};
+ghost use Rattle.llb_commands.specs.Commands.{IsProgram, Performs, StepsAt};
+ghost use Rattle.llb_commands.specs.Running.{Loads};
 
 use crate::assembling::asm_over;
+use crate::command_line::command_of;
 use crate::disassembling::dis_over;
-use crate::fault::{ProgramFault, refusal};
+use crate::fault::ProgramFault;
+use crate::input::loaded;
 use crate::run::run_many_over;
 use crate::show::show_over;
-use crate::sources::Sources;
-use crate::stepping::step_over;
+use crate::sources::{Sources, locals_of, source_refusal};
+use crate::stepping::session_over;
 use crate::words::{Command, Line, WordsFault, words_refusal};
-use llb_loader::Locals;
+use llb_loader::{Graph, Locals};
 use std::alloc::Global;
+use std::convert::AsStr;
 use std::io::{Read, Write};
 use std::sync::Wait;
 use std::thread::Threads;
 
-// Steps through the definition in a file. 181 where it is not opened.
+// The graph of the definition in a file, which is read to its end and closed. 181 where it is not opened.
+fn graph_in<S: Sources>(alloc: Global, sources: &S, file: &str) -> Result<Graph, ProgramFault>
+    ensures { Loads (S.bytes sources.now file.now) result }
+{
+    match sources.open(file) {
+        Ok(mut definition) => loaded(alloc, &mut definition),
+        Err(_) => Err(ProgramFault::Read),
+    }
+}
+
+// Steps through the definition in a file.
 fn step_in<S: Sources, R: Read, W: Write, E: Write>(
     alloc: Global,
     sources: &S,
@@ -26,29 +41,19 @@ fn step_in<S: Sources, R: Read, W: Write, E: Write>(
     out: &mut W,
     err: &mut E,
 ) -> u8
-    ensures { StepsAt S.bytes line.now.file sources.now line.now.workers locals (R.remaining input.old) (R.remaining input.new)
-        (W.contents out.old) (W.contents out.new) result }
+    ensures { StepsAt (S.bytes sources.now) line.now.file line.now.workers locals (R.remaining input.old) (R.remaining input.new)
+        (W.contents out.old) (W.contents out.new) (E.contents err.old) (E.contents err.new) result }
 {
     let Some(file) = line.file else {
         return words_refusal(&WordsFault::Words(None), err);
     };
-    match sources.open(file) {
-        Ok(mut definition) => step_over(
-            alloc,
-            &mut definition,
-            input,
-            out,
-            err,
-            locals,
-            line.workers,
-        ),
-        Err(_) => refusal(&ProgramFault::Read, err),
-    }
+    let graph = graph_in(alloc, sources, file);
+    session_over(alloc, graph, input, out, err, locals, line.workers)
 }
 
 /// Does what the line says on the local trees, which are those of its local sources, and answers the exit status: that of the
-/// command's own call. A session's definition is read from the line's file: where none is named, `fault 183` and 2, and where it is
-/// not opened, `fault 181` and 3. It may wait where the command is `run` with more than one worker.
+/// command's own call. A session's definition is read from the line's file, to its end, before the first of its commands: where none is
+/// named, `fault 183` and 2, and where it is not opened, `fault 181` and 3. It may wait where the command is `run` with more than one worker.
 pub fn perform<T: Threads + Wait + Sync, S: Sources, R: Read, W: Write, E: Write>(
     rt: &T,
     alloc: Global,
@@ -59,7 +64,8 @@ pub fn perform<T: Threads + Wait + Sync, S: Sources, R: Read, W: Write, E: Write
     out: &mut W,
     err: &mut E,
 ) -> u8
-    ensures { Performs S.bytes sources.now line.now locals (R.remaining input.old) (R.remaining input.new) (W.contents out.old) (W.contents out.new) result }
+    ensures { Performs (S.bytes sources.now) line.now locals (R.remaining input.old) (R.remaining input.new)
+        (W.contents out.old) (W.contents out.new) (E.contents err.old) (E.contents err.new) result }
 {
     match line.command {
         Command::Run => run_many_over(rt, alloc, input, out, err, locals, line.workers),
@@ -67,5 +73,30 @@ pub fn perform<T: Threads + Wait + Sync, S: Sources, R: Read, W: Write, E: Write
         Command::Step => step_in(alloc, sources, line, locals, input, out, err),
         Command::Assemble => asm_over(alloc, input, out, err),
         Command::Disassemble => dis_over(alloc, input, out, err),
+    }
+}
+
+/// The program: does what the words after its name say, and answers the exit status. Words that say nothing are told by a line (183, 184),
+/// and so is the first local source that has no tree (31 to 34, 92, 181, 184, 185); else the command is done on their trees, and the status
+/// is its own. It may wait where the command is `run` with more than one worker.
+pub fn program<T: Threads + Wait + Sync, A: AsStr, S: Sources, R: Read, W: Write, E: Write>(
+    rt: &T,
+    alloc: Global,
+    words: &[A],
+    sources: &S,
+    input: &mut R,
+    out: &mut W,
+    err: &mut E,
+) -> u8
+    ensures { IsProgram (S.bytes sources.now) (map A.text words.now) (R.remaining input.old) (R.remaining input.new)
+        (W.contents out.old) (W.contents out.new) (E.contents err.old) (E.contents err.new) result }
+{
+    let line = match command_of(alloc, words) {
+        Ok(line) => line,
+        Err(fault) => return words_refusal(&fault, err),
+    };
+    match locals_of(alloc, sources, line.locals.as_slice()) {
+        Ok(locals) => perform(rt, alloc, sources, &line, locals, input, out, err),
+        Err(fault) => source_refusal(&fault, err),
     }
 }

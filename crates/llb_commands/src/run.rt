@@ -1,12 +1,13 @@
 //! From the bytes of a definition to the text of its result: read, load, open a board, run it with one worker or with several, print.
 
-ghost use Rattle.std.specs.Prelude.{◌≡◌, [], IfOk, IfErr};
+ghost use Rattle.std.specs.Prelude.{length, IfOk, IfErr, OnOk};
 ghost use Rattle.llb_model.specs.Outcome.{output_in};
 ghost use Rattle.llb_model.specs.State.{ending_at};
-ghost use Rattle.llb_commands.specs.Answer.{IsUnopened, Runs};
+ghost use Rattle.llb_commands.specs.Answer.{IsUnopened, Runs, failed_line, failed_lines};
 ghost use Rattle.llb_commands.specs.Output.{PrintsOut};
 ghost use Rattle.llb_treetext.specs.TreeText.{tree_text};
-ghost use Rattle.llb_commands.specs.Running.{IsFinished, IsRefusal, Shows, Answers, Tells};
+ghost use Rattle.llb_commands.specs.Running.{IsFinished, IsRefusal, Shows, Answers, Ends};
+ghost use Rattle.llb_commands.specs.Lib.{Appends};
 
 use crate::fault::{ProgramFault, refusal};
 use crate::input::loaded;
@@ -40,7 +41,7 @@ impl Gate for Open {
 // Runs the graph to its end with one worker.
 fn finished(alloc: Global, graph: Graph, locals: Locals) -> Result<Board, ProgramFault>
     ensures board { IfOk result (IsFinished 1 locals graph) }
-    ensures fault { IfErr result (λ e. IsRefusal e → IsUnopened locals graph 1) }
+    ensures fault { IfErr result (λ e. IsRefusal e → IsUnopened locals graph 1 e) }
 {
     graph.is_graph();
     let board = opened(alloc, graph, locals, 1)?;
@@ -61,7 +62,7 @@ fn finished_by<R: Threads + Wait + Sync>(
     workers: u32,
 ) -> Result<Board, ProgramFault>
     ensures board { IfOk result (IsFinished workers locals graph) }
-    ensures fault { IfErr result (λ e. IsRefusal e → IsUnopened locals graph workers) }
+    ensures fault { IfErr result (λ e. IsRefusal e → IsUnopened locals graph workers e) }
 {
     if workers == 1 {
         return finished(alloc, graph, locals);
@@ -92,7 +93,7 @@ fn print_result<W: Write>(
     edge: Edge,
     out: &mut W,
 ) -> Result<Option<Board>, ProgramFault>
-    ensures { Shows (W.contents out.old) (W.contents out.new) (output_in (ending_at board.state.statuses edge.vertex) edge.index) result }
+    ensures { Shows board (W.contents out.old) (W.contents out.new) (output_in (ending_at board.state.statuses edge.vertex) edge.index) result }
 {
     let Some(tree) = board.output(edge.vertex, edge.index) else {
         return Ok(Some(board));
@@ -137,14 +138,24 @@ fn answer_by<T: Threads + Wait + Sync, R: Read, W: Write>(
     print_result(alloc, board, edge, out)
 }
 
+// The line of a vertex, where it has failed.
+fn failure<E: Write>(v: u32, status: Option<Status>, err: &mut E) -> io::Result<()>
+    ensures { OnOk result (Appends (E.contents err.old) (E.contents err.new) (failed_line v status)) }
+{
+    match status {
+        Some(Status::Failed(fault)) => writeln!(err, "failed {v} {fault}"),
+        _ => Ok(()),
+    }
+}
+
 // A line for each vertex that failed, by number.
-fn failures<E: Write>(board: &Board, err: &mut E) -> io::Result<()> {
-    for v in 0..u32::MAX {
-        match board.status(v) {
-            None => return Ok(()),
-            Some(Status::Failed(fault)) => writeln!(err, "failed {v} {fault}")?,
-            Some(_) => {}
-        }
+fn failures<E: Write>(board: &Board, err: &mut E) -> io::Result<()>
+    ensures { OnOk result (Appends (E.contents err.old) (E.contents err.new)
+        (failed_lines board.now.build board.now.state (length board.now.build.graph.vertices))) }
+{
+    board.is_graph();
+    for v in 0..board.graph().vertices().len() as u32 {
+        failure(v, board.status(v), err)?;
     }
     Ok(())
 }
@@ -155,7 +166,7 @@ fn told<W: Write, E: Write>(
     out: &mut W,
     err: &mut E,
 ) -> u8
-    ensures { Tells (W.contents out.old) (W.contents out.new) answer result }
+    ensures { Ends (W.contents out.old) (W.contents out.new) (E.contents err.old) (E.contents err.new) answer result }
 {
     match answer {
         Ok(None) => match out.flush() {
@@ -184,7 +195,7 @@ pub fn run_over<R: Read, W: Write, E: Write>(
     err: &mut E,
     locals: Locals,
 ) -> u8
-    ensures { Runs 1 locals (R.remaining input.old) (W.contents out.old) (W.contents out.new) result }
+    ensures { Runs 1 locals (R.remaining input.old) (W.contents out.old) (W.contents out.new) (E.contents err.old) (E.contents err.new) result }
 {
     let answer = answer(alloc, input, out, locals);
     told(answer, out, err)
@@ -202,7 +213,7 @@ pub fn run_many_over<T: Threads + Wait + Sync, R: Read, W: Write, E: Write>(
     locals: Locals,
     workers: u32,
 ) -> u8
-    ensures { Runs workers locals (R.remaining input.old) (W.contents out.old) (W.contents out.new) result }
+    ensures { Runs workers locals (R.remaining input.old) (W.contents out.old) (W.contents out.new) (E.contents err.old) (E.contents err.new) result }
 {
     let answer = answer_by(rt, alloc, input, out, locals, workers);
     told(answer, out, err)

@@ -45,7 +45,7 @@ pub fn show_over<R: Read, W: Write, E: Write>(
     out: &mut W,
     err: &mut E,
 ) -> u8
-    ensures { Draws (R.remaining input.old) (W.contents out.old) (W.contents out.new) result }
+    ensures { Draws (R.remaining input.old) (W.contents out.old) (W.contents out.new) (E.contents err.old) (E.contents err.new) result }
 {
     match shown(alloc, input, out) {
         Ok(()) => 0,

@@ -1,9 +1,10 @@
 //! The trees of local sources, read from the texts of their files. Which files there are is told by a trait, so that
 //! the program's are the only ones whose bytes are not known here.
 
-ghost use Rattle.std.specs.Prelude.{◌≡◌, ◌⊎◌, ℕ, List, [], Option, Some, IfOk, IfErr, OnOk, IfSome};
+ghost use Rattle.std.specs.Prelude.{◌≡◌, ℕ, List, [], Option, Some, IfOk, IfErr, OnOk, IfSome};
 ghost use Rattle.llb_loader.specs.Locals.{with_local};
-ghost use Rattle.llb_commands.specs.Sources.{source_status, Gathers, Reads, told};
+ghost use Rattle.llb_commands.specs.Faults.{source_text};
+ghost use Rattle.llb_commands.specs.Sources.{Gathers, Reads, TellsSource, told};
 ghost use Rattle.llb_commands.specs.declared.sources.SourceFault.TheVariants.{Adding};
 
 use crate::bounded::{LIMIT, READS, ReadFault, read_bounded};
@@ -124,9 +125,10 @@ pub fn locals_of<F: Sources>(
     Ok(trees)
 }
 
-/// The status for a local source that has no tree, once its line is out.
+/// The status for a local source that has no tree, once its line is out: 2 where the text is refused, else 3. 3 too where the line
+/// can't be written.
 pub fn source_refusal<E: Write>(fault: &SourceFault, err: &mut E) -> u8
-    ensures { (result ≡ source_status fault.now) ⊎ (result ≡ 3) }
+    ensures { TellsSource (E.contents err.old) (E.contents err.new) fault.now result }
 {
     if writeln!(err, "fault {fault}").is_err() {
         return 3;

@@ -1,13 +1,14 @@
 //! A stepping session over the run of a definition: read, load, open a board, answer the commands.
 
-ghost use Rattle.std.specs.Prelude.{◌≡◌};
+ghost use Rattle.std.specs.Prelude.{◌≡◌, ℕ, List, Option};
+ghost use Rattle.llb_commands.specs.Running.{Loads};
 ghost use Rattle.llb_commands.specs.Stepping.{Steps, StepsIn, session_fault};
 
 use crate::bounded::{LIMIT, READS};
 use crate::fault::{OutputFault, ProgramFault, refusal};
 use crate::input::loaded;
 use crate::opening::opened;
-use llb_loader::Locals;
+use llb_loader::{Graph, Locals};
 use llb_session::{SessionFault, converse};
 use llb_stepper::Stepper;
 use std::alloc::Global;
@@ -18,31 +19,50 @@ fn session_fault(fault: SessionFault) -> ProgramFault
     ensures { result ≡ session_fault fault }
 {
     match fault {
-        SessionFault::Read => ProgramFault::Read,
+        SessionFault::Failed(_) | SessionFault::Unending(_) => ProgramFault::Read,
         SessionFault::Write => ProgramFault::Output(OutputFault::Write),
         SessionFault::Memory => ProgramFault::Memory,
         SessionFault::TooLong => ProgramFault::TooLong,
     }
 }
 
-// The whole way.
-fn stepped<R: Read, C: Read, W: Write>(
+// The whole way over a definition that was read, whatever it was read from.
+fn stepped<C: Read, W: Write>(
     alloc: Global,
-    file: &mut R,
+    graph: Result<Graph, ProgramFault>,
     commands: &mut C,
     out: &mut W,
     locals: Locals,
     workers: u32,
 ) -> Result<(), ProgramFault>
-    ensures { StepsIn locals workers (R.remaining file.old) (C.remaining commands.old) (C.remaining commands.new)
+    ensures { (file : Option (List ℕ)) → Loads file graph → StepsIn locals workers file (C.remaining commands.old) (C.remaining commands.new)
         (W.contents out.old) (W.contents out.new) result }
 {
-    let graph = loaded(alloc, file)?;
+    let graph = graph?;
     let board = opened(alloc, graph, locals, workers)?;
     let mut stepper = Stepper::new(alloc, board);
     match converse(alloc, &mut stepper, commands, out, LIMIT, READS) {
         Ok(()) => Ok(()),
         Err(fault) => Err(session_fault(fault)),
+    }
+}
+
+/// A session over a definition that was read, whatever it was read from; or the refusal that came of it. Answers the exit status.
+pub(crate) fn session_over<C: Read, W: Write, E: Write>(
+    alloc: Global,
+    graph: Result<Graph, ProgramFault>,
+    commands: &mut C,
+    out: &mut W,
+    err: &mut E,
+    locals: Locals,
+    workers: u32,
+) -> u8
+    ensures { (file : Option (List ℕ)) → Loads file graph → Steps locals workers file (C.remaining commands.old) (C.remaining commands.new)
+        (W.contents out.old) (W.contents out.new) (E.contents err.old) (E.contents err.new) result }
+{
+    match stepped(alloc, graph, commands, out, locals, workers) {
+        Ok(()) => 0,
+        Err(fault) => refusal(&fault, err),
     }
 }
 
@@ -62,10 +82,8 @@ pub fn step_over<R: Read, C: Read, W: Write, E: Write>(
     workers: u32,
 ) -> u8
     ensures { Steps locals workers (R.remaining file.old) (C.remaining commands.old) (C.remaining commands.new)
-        (W.contents out.old) (W.contents out.new) result }
+        (W.contents out.old) (W.contents out.new) (E.contents err.old) (E.contents err.new) result }
 {
-    match stepped(alloc, file, commands, out, locals, workers) {
-        Ok(()) => 0,
-        Err(fault) => refusal(&fault, err),
-    }
+    let graph = loaded(alloc, file);
+    session_over(alloc, graph, commands, out, err, locals, workers)
 }

@@ -1,12 +1,14 @@
 -- How a conversation ends, by how the bytes that were read last were heard.
-use Rattle.std.proofs.Common.{◌≡◌, ◌≤◌, ◌<◌, ℕ, ◌+◌, Bool, true, false, take, drop, take-append-drop, List, [], ◌∷◌, ◌==◌, ◌++◌, length}
+use Rattle.std.proofs.Common.{◌≡◌, ◌≢◌, ◌≤◌, ◌<◌, ℕ, ◌+◌, Bool, true, false, take, drop, take-append-drop, List, [], ◌∷◌, ◌==◌, ◌++◌, length}
 use Rattle.std.proofs.Common.{Option, Result, Ok, Err, refl, sym, ap, ◌∙◌, subst, inl, inr, append_assoc, append-nil, length-append, eqb-true, arith}
 use Rattle.std.proofs.lemmas.List.{nil_from_length}
 use Rattle.std.specs.Io.KnownBytes.{Appends, Consumes, Keeps, IsAtEnd}
+use Rattle.std.specs.declared.io.ErrorKind.{ErrorKind}
+use Rattle.std.specs.declared.io.ErrorKind.TheVariants.{Interrupted}
 use Rattle.std.proofs.KnownBytes.{Appends-trans, Appends-kept, Consumes-nil, Consumes-trans, Consumes-kept}
 use Rattle.llb_stepper.specs.Stepping.{Stepping}
 use Rattle.llb_session.specs.declared.fault.SessionFault.{SessionFault}
-use Rattle.llb_session.specs.declared.fault.SessionFault.TheVariants.{Read, Write, Memory, TooLong}
+use Rattle.llb_session.specs.declared.fault.SessionFault.TheVariants.{Failed, Unending, Write, Memory, TooLong}
 use Rattle.llb_session.specs.Conversation.{Standing, opening, Answered, last_line, Converses}
 use Rattle.llb_session.specs.Answers.{Answers}
 use Rattle.llb_session.specs.Hearing.{IsLast, IsSaid, Went, Comes, Hears}
@@ -82,22 +84,41 @@ none_taken a b buffer n none taken = let P : ℕ → Type 0 = λ k. Consumes a b
 
 -- ---- the bound on reads, and a read that failed
 
--- reading fails: all that was taken before was heard and answered, and the conversation ends with that fault
-pub ends_unread : (limit room : ℕ) (s : Stepping) (q : Standing) (a b o o' : Option (List ℕ)) → Listened limit room s q a b o o'
-    → Converses limit s q.session a b o o' (Err Read)
-ends_unread limit room s q a b o o' l = record {
+-- what is out where reading ends: all that was taken before was heard and answered
+answered : (limit room : ℕ) (s : Stepping) (q : Standing) (a b o o' : Option (List ℕ)) (l : Listened limit room s q a b o o') → Answered (opening s) l.heard
+    q.session o o'
+answered limit room s q a b o o' l = record { text = l.went.text; at = q; talked = l.went.talked; same = refl; printed = l.went.printed }
+
+all_taken : (limit room : ℕ) (s : Stepping) (q : Standing) (a b o o' : Option (List ℕ)) (l : Listened limit room s q a b o o') → Consumes a b (l.heard ++ [])
+all_taken limit room s q a b o o' l = let P : List ℕ → Type 0 = Consumes a b in subst P (sym (append-nil l.heard)) l.taken
+
+-- a read fails
+pub ends_failed : (reads limit room : ℕ) (s : Stepping) (q : Standing) (a b o o' : Option (List ℕ)) (kind : ErrorKind) → kind ≢ Interrupted
+    → Listened limit room s q a b o o' → Converses limit reads s q.session a b o o' (Err (Failed kind))
+ends_failed reads limit room s q a b o o' kind other l = record {
   heard = l.heard;
   unheard = [];
-  taken = let P : List ℕ → Type 0 = Consumes a b in subst P (sym (append-nil l.heard)) l.taken;
+  taken = all_taken limit room s q a b o o' l;
   few = omega (arith, l.rest);
-  ends = (refl, record { text = l.went.text; at = q; talked = l.went.talked; same = refl; printed = l.went.printed });
+  ends = (other, refl, answered limit room s q a b o o' l);
+}
+
+-- the bound on reads is met
+pub ends_unending : (reads limit room interrupted : ℕ) (s : Stepping) (q : Standing) (a b o o' : Option (List ℕ)) → reads + room ≤ limit + interrupted
+    → interrupted ≤ reads → Listened limit room s q a b o o' → Converses limit reads s q.session a b o o' (Err (Unending interrupted))
+ends_unending reads limit room interrupted s q a b o o' met some l = record {
+  heard = l.heard;
+  unheard = [];
+  taken = all_taken limit room s q a b o o' l;
+  few = omega (arith, l.rest);
+  ends = (omega (arith, l.rest, met), some, refl, answered limit room s q a b o o' l);
 }
 
 -- ---- the end of the input
 
-ends_so : (limit : ℕ) (s t : Stepping) (q : Standing) (heard : List ℕ) (a b o o1 o2 : Option (List ℕ)) (r : Result (Unit {0}) SessionFault)
-    → Consumes a b (heard ++ []) → IsAtEnd b → length heard ≤ limit → Went (opening s) heard q o o1 → IsLast q t o1 o2 r → Converses limit s t a b o o2 r
-ends_so limit s t q heard a b o o1 o2 (Ok u) taken end few w (inl (text, talks, printed)) = record {
+ends_so : (reads limit : ℕ) (s t : Stepping) (q : Standing) (heard : List ℕ) (a b o o1 o2 : Option (List ℕ)) (r : Result (Unit {0}) SessionFault)
+    → Consumes a b (heard ++ []) → IsAtEnd b → length heard ≤ limit → Went (opening s) heard q o o1 → IsLast q t o1 o2 r → Converses limit reads s t a b o o2 r
+ends_so reads limit s t q heard a b o o1 o2 (Ok u) taken end few w (inl (text, talks, printed)) = record {
   heard = heard;
   unheard = [];
   taken = taken;
@@ -114,7 +135,7 @@ ends_so limit s t q heard a b o o1 o2 (Ok u) taken end few w (inl (text, talks, 
     },
   );
 }
-ends_so limit s t q heard a b o o1 o2 (Ok u) taken end few w (inr (some, quits, same, keeps)) = record {
+ends_so reads limit s t q heard a b o o1 o2 (Ok u) taken end few w (inr (some, quits, same, keeps)) = record {
   heard = heard;
   unheard = [];
   taken = taken;
@@ -124,7 +145,7 @@ ends_so limit s t q heard a b o o1 o2 (Ok u) taken end few w (inr (some, quits, 
       record { text = w.text; at = q; talked = w.talked; same = same; printed = Appends-kept o o1 o2 w.text w.printed keeps } in
       inr (inl ((refl, end), (record { before = before; quits = quits }, some)));
 }
-ends_so limit s t q heard a b o o1 o2 (Err Write) taken end few w (some, (said, answers, (front, rest, split, printed))) = record {
+ends_so reads limit s t q heard a b o o1 o2 (Err Write) taken end few w (some, (said, answers, (front, rest, split, printed))) = record {
   heard = heard;
   unheard = [];
   taken = taken;
@@ -147,15 +168,16 @@ ends_so limit s t q heard a b o o1 o2 (Err Write) taken end few w (some, (said, 
     ),
   );
 }
-ends_so limit s t q heard a b o o1 o2 (Err Read) taken end few w last = absurd last
-ends_so limit s t q heard a b o o1 o2 (Err Memory) taken end few w last = absurd last
-ends_so limit s t q heard a b o o1 o2 (Err TooLong) taken end few w last = absurd last
+ends_so reads limit s t q heard a b o o1 o2 (Err (Failed kind)) taken end few w last = absurd last
+ends_so reads limit s t q heard a b o o1 o2 (Err (Unending interrupted)) taken end few w last = absurd last
+ends_so reads limit s t q heard a b o o1 o2 (Err Memory) taken end few w last = absurd last
+ends_so reads limit s t q heard a b o o1 o2 (Err TooLong) taken end few w last = absurd last
 
 -- the input ends: the conversation ends as is said to its last line
-pub ends_last : (limit room : ℕ) (s t : Stepping) (q : Standing) (a b c o o1 o2 : Option (List ℕ)) (r : Result (Unit {0}) SessionFault)
-    → Listened limit room s q a b o o1 → Consumes b c [] → IsAtEnd c → IsLast q t o1 o2 r → Converses limit s t a c o o2 r
-ends_last limit room s t q a b c o o1 o2 r l none end last =
-    ends_so limit s t q l.heard a c o o1 o2 r (Consumes-trans a b c l.heard [] l.taken none) end (omega (arith, l.rest)) l.went last
+pub ends_last : (reads limit room : ℕ) (s t : Stepping) (q : Standing) (a b c o o1 o2 : Option (List ℕ)) (r : Result (Unit {0}) SessionFault)
+    → Listened limit room s q a b o o1 → Consumes b c [] → IsAtEnd c → IsLast q t o1 o2 r → Converses limit reads s t a c o o2 r
+ends_last reads limit room s t q a b c o o1 o2 r l none end last =
+    ends_so reads limit s t q l.heard a c o o1 o2 r (Consumes-trans a b c l.heard [] l.taken none) end (omega (arith, l.rest)) l.went last
 
 -- ---- a piece that is not heard to its end
 
@@ -184,32 +206,33 @@ piece_of limit room s q r a b c o o1 o2 fits over result l taken few h =
     }
 
 -- a line of a piece ends the session: the conversation ends there without a fault
-pub ends_quit : (limit room : ℕ) (s : Stepping) (q r : Standing) (a b c o o1 o2 : Option (List ℕ)) (fits over : List ℕ)
+pub ends_quit : (reads limit room : ℕ) (s : Stepping) (q r : Standing) (a b c o o1 o2 : Option (List ℕ)) (fits over : List ℕ)
     → Listened limit room s q a b o o1 → Consumes b c (fits ++ over) → length fits ≤ room → Hears q fits r o1 o2 (Ok false)
-    → Converses limit s r.session a c o o2 (Ok tt)
-ends_quit limit room s q r a b c o o1 o2 fits over l taken few h =
+    → Converses limit reads s r.session a c o o2 (Ok tt)
+ends_quit reads limit room s q r a b c o o1 o2 fits over l taken few h =
     let p = piece_of limit room s q r a b c o o1 o2 fits over (Ok false) l taken few h in
     record { heard = p.heard; unheard = p.unheard; taken = p.taken; few = p.few; ends = inr (inr p.comes) }
 
-fault_of : (limit : ℕ) (s : Stepping) (r : Standing) (a c o o2 : Option (List ℕ)) (e : SessionFault) → Piece limit s r a c o o2 (Err e)
-    → Converses limit s r.session a c o o2 (Err e)
-fault_of limit s r a c o o2 Write p = record { heard = p.heard; unheard = p.unheard; taken = p.taken; few = p.few; ends = inr p.comes }
-fault_of limit s r a c o o2 Memory p = record { heard = p.heard; unheard = p.unheard; taken = p.taken; few = p.few; ends = p.comes }
-fault_of limit s r a c o o2 Read p = absurd p.comes
-fault_of limit s r a c o o2 TooLong p = absurd p.comes
+fault_of : (reads limit : ℕ) (s : Stepping) (r : Standing) (a c o o2 : Option (List ℕ)) (e : SessionFault) → Piece limit s r a c o o2 (Err e)
+    → Converses limit reads s r.session a c o o2 (Err e)
+fault_of reads limit s r a c o o2 Write p = record { heard = p.heard; unheard = p.unheard; taken = p.taken; few = p.few; ends = inr p.comes }
+fault_of reads limit s r a c o o2 Memory p = record { heard = p.heard; unheard = p.unheard; taken = p.taken; few = p.few; ends = p.comes }
+fault_of reads limit s r a c o o2 (Failed kind) p = absurd p.comes
+fault_of reads limit s r a c o o2 (Unending interrupted) p = absurd p.comes
+fault_of reads limit s r a c o o2 TooLong p = absurd p.comes
 
 -- a piece is heard up to a fault: the conversation ends with it
-pub ends_fault : (limit room : ℕ) (s : Stepping) (q r : Standing) (a b c o o1 o2 : Option (List ℕ)) (fits over : List ℕ) (e : SessionFault)
+pub ends_fault : (reads limit room : ℕ) (s : Stepping) (q r : Standing) (a b c o o1 o2 : Option (List ℕ)) (fits over : List ℕ) (e : SessionFault)
     → Listened limit room s q a b o o1 → Consumes b c (fits ++ over) → length fits ≤ room → Hears q fits r o1 o2 (Err e)
-    → Converses limit s r.session a c o o2 (Err e)
-ends_fault limit room s q r a b c o o1 o2 fits over e l taken few h =
-    fault_of limit s r a c o o2 e (piece_of limit room s q r a b c o o1 o2 fits over (Err e) l taken few h)
+    → Converses limit reads s r.session a c o o2 (Err e)
+ends_fault reads limit room s q r a b c o o1 o2 fits over e l taken few h =
+    fault_of reads limit s r a c o o2 e (piece_of limit room s q r a b c o o1 o2 fits over (Err e) l taken few h)
 
 -- bytes after the limit are left
-pub ends_long : (limit room : ℕ) (s : Stepping) (q r : Standing) (a b c o o1 o2 : Option (List ℕ)) (fits over : List ℕ)
+pub ends_long : (reads limit room : ℕ) (s : Stepping) (q r : Standing) (a b c o o1 o2 : Option (List ℕ)) (fits over : List ℕ)
     → Listened limit room s q a b o o1 → Consumes b c (fits ++ over) → length fits ≡ room → 0 < length over → Hears q fits r o1 o2 (Ok true)
-    → Converses limit s r.session a c o o2 (Err TooLong)
-ends_long limit room s q r a b c o o1 o2 fits over l taken full more h =
+    → Converses limit reads s r.session a c o o2 (Err TooLong)
+ends_long reads limit room s q r a b c o o1 o2 fits over l taken full more h =
     let w = went_more (opening s) q r l.heard fits o o1 o2 l.went (went_all q r fits o1 o2 h) in
     let all : length (l.heard ++ fits) ≡ limit = omega (arith, l.rest, full, length-append l.heard fits) in
     let P : List ℕ → Type 0 = Consumes a c in

@@ -6,7 +6,7 @@ use Rattle.std.specs.Io.KnownBytes.{Appends}
 use Rattle.std.proofs.KnownBytes.{Appends-nil, Appends-trans, Appends-kept}
 use Rattle.llb_stepper.specs.Stepping.{Stepping}
 use Rattle.llb_session.specs.declared.fault.SessionFault.{SessionFault}
-use Rattle.llb_session.specs.declared.fault.SessionFault.TheVariants.{Read, Write, Memory, TooLong}
+use Rattle.llb_session.specs.declared.fault.SessionFault.TheVariants.{Failed, Unending, Write, Memory, TooLong}
 use Rattle.llb_session.specs.Answers.{Answers}
 use Rattle.llb_session.specs.Conversation.{IsLine, Spelled, Standing, Talked, Answered, Quit, CutShort, AtLineEnd}
 use Rattle.llb_session.specs.Hearing.{IsSaid, Went, Comes, Hears}
@@ -101,7 +101,8 @@ comes_after p q r bytes heard unheard text o o1 o2 (Err Write) talked out c =
     line_end_after (λ x. CutShort q x r.session o1 o2) (λ x. CutShort p x r.session o o2) bytes heard
     (λ more so. cut_after p q bytes more text r.session o o1 o2 talked out so) c
 comes_after p q r bytes heard unheard text o o1 o2 (Err Memory) talked out c = answered_after p q bytes heard text r.session o o1 o2 talked out c
-comes_after p q r bytes heard unheard text o o1 o2 (Err Read) talked out c = c
+comes_after p q r bytes heard unheard text o o1 o2 (Err (Failed kind)) talked out c = c
+comes_after p q r bytes heard unheard text o o1 o2 (Err (Unending interrupted)) talked out c = c
 comes_after p q r bytes heard unheard text o o1 o2 (Err TooLong) talked out c = c
 
 -- what comes of bytes after others that were heard comes of both together
@@ -120,7 +121,8 @@ over : (p q : Standing) (heard unheard more : List ℕ) (o o' : Option (List ℕ
     → Comes p heard unheard q o o' (Err e) → Comes p heard (unheard ++ more) q o o' (Err e)
 over p q heard unheard more o o' Write c = c
 over p q heard unheard more o o' Memory c = c
-over p q heard unheard more o o' Read c = c
+over p q heard unheard more o o' (Failed kind) c = c
+over p q heard unheard more o o' (Unending interrupted) c = c
 over p q heard unheard more o o' TooLong c = c
 
 pub hears_over_err : (p q : Standing) (bytes more : List ℕ) (o o' : Option (List ℕ)) (e : SessionFault)
@@ -196,7 +198,8 @@ said_ok p q o o' false is next new said = record {
 
 said_err : (p q : Standing) (o o' : Option (List ℕ)) (e : SessionFault) → IsLine p.line → IsSaid p q.session o o' (Err e) → Hears p (10 ∷ []) q o o' (Err e)
 said_err p q o o' Write is said = record { heard = 10 ∷ []; unheard = []; split = refl; comes = ([], refl, cut_none p q.session o o' is said) }
-said_err p q o o' Read is said = absurd said
+said_err p q o o' (Failed kind) is said = absurd said
+said_err p q o o' (Unending interrupted) is said = absurd said
 said_err p q o o' Memory is said = absurd said
 said_err p q o o' TooLong is said = absurd said
 

@@ -1,9 +1,10 @@
 -- A session as a conversation: which lines bytes spell, what is said to them one after the other, and how it ends.
 use Rattle.std.specs.Prelude.{◌≡◌, ◌≢◌, ◌≤◌, ◌<◌, ◌+◌, ◌⊎◌, ℕ, List, [], ◌∷◌, ◌++◌, length, All, Option, Result, Ok, Err}
 use Rattle.std.specs.Io.KnownBytes.{Appends, Consumes, IsAtEnd}
+use Rattle.std.specs.declared.io.ErrorKind.TheVariants.{Interrupted}
 use Rattle.llb_stepper.specs.Stepping.{Stepping}
 use Rattle.llb_session.specs.declared.fault.SessionFault.{SessionFault}
-use Rattle.llb_session.specs.declared.fault.SessionFault.TheVariants.{Read, Write, Memory, TooLong}
+use Rattle.llb_session.specs.declared.fault.SessionFault.TheVariants.{Failed, Unending, Write, Memory, TooLong}
 use Rattle.llb_session.specs.Answers.{Answers, Quits}
 
 -- ---- lines
@@ -98,25 +99,28 @@ pub record Concluded (s : Stepping) (input : List ℕ) (t : Stepping) (out out' 
 abbrev pub AllHeard : Option (List ℕ) → List ℕ → Type 0
 AllHeard left' unheard = (unheard ≡ []) × IsAtEnd left'
 
--- By what was heard of the bytes that were taken, and what was not. A last line without its end is one where it is not empty.
-abbrev pub EndsSo : ℕ → Stepping → List ℕ → List ℕ → Stepping → Option (List ℕ) → Option (List ℕ) → Option (List ℕ)
+-- By what was heard of the bytes that were taken, and what was not. A last line without its end is one where it is not empty. Where the bound on reads was met,
+-- each read gave a byte or was interrupted.
+abbrev pub EndsSo : ℕ → ℕ → Stepping → List ℕ → List ℕ → Stepping → Option (List ℕ) → Option (List ℕ) → Option (List ℕ)
     → Result (Unit {0}) SessionFault → Type 0
-EndsSo limit s heard unheard t left' out out' (Ok u) =
+EndsSo limit reads s heard unheard t left' out out' (Ok u) =
     (AllHeard left' unheard × Concluded s heard t out out')
     ⊎ ((AllHeard left' unheard × ((q : Quit (opening s) heard t out out') × (0 < length q.before.at.line)))
     ⊎ AtLineEnd heard (λ bytes. Quit (opening s) bytes t out out'))
-EndsSo limit s heard unheard t left' out out' (Err Write) =
+EndsSo limit reads s heard unheard t left' out out' (Err Write) =
     (AllHeard left' unheard × ((c : CutShort (opening s) heard t out out') × (0 < length c.at.line)))
     ⊎ AtLineEnd heard (λ bytes. CutShort (opening s) bytes t out out')
-EndsSo limit s heard unheard t left' out out' (Err Read) = (unheard ≡ []) × Answered (opening s) heard t out out'
-EndsSo limit s heard unheard t left' out out' (Err Memory) = Answered (opening s) heard t out out'
-EndsSo limit s heard unheard t left' out out' (Err TooLong) = (length heard ≡ limit) × (0 < length unheard) × Answered (opening s) heard t out out'
+EndsSo limit reads s heard unheard t left' out out' (Err (Failed kind)) = (kind ≢ Interrupted) × (unheard ≡ []) × Answered (opening s) heard t out out'
+EndsSo limit reads s heard unheard t left' out out' (Err (Unending interrupted)) =
+    (reads ≤ length heard + interrupted) × (interrupted ≤ reads) × (unheard ≡ []) × Answered (opening s) heard t out out'
+EndsSo limit reads s heard unheard t left' out out' (Err Memory) = Answered (opening s) heard t out out'
+EndsSo limit reads s heard unheard t left' out out' (Err TooLong) = (length heard ≡ limit) × (0 < length unheard) × Answered (opening s) heard t out out'
 
--- A conversation takes bytes from its reader, and hears them from the start, no more than the limit. Without a fault it ends where the
+-- A conversation takes bytes from its reader, in no more reads than are given, and hears them from the start, no more than the limit. Without a fault it ends where the
 -- input ends or a line ends the session.
-pub record Converses (limit : ℕ) (s t : Stepping) (left left' out out' : Option (List ℕ)) (result : Result (Unit {0}) SessionFault) : Type 0 where
+pub record Converses (limit reads : ℕ) (s t : Stepping) (left left' out out' : Option (List ℕ)) (result : Result (Unit {0}) SessionFault) : Type 0 where
   pub heard : List ℕ
   pub unheard : List ℕ
   pub taken : Consumes left left' (heard ++ unheard)
   pub few : length heard ≤ limit
-  pub ends : EndsSo limit s heard unheard t left' out out' result
+  pub ends : EndsSo limit reads s heard unheard t left' out out' result

@@ -5,7 +5,7 @@ use Rattle.llb_wire.specs.Sink.{PartOut}
 use Rattle.llb_stepper.specs.Stepping.{Stepping}
 use Rattle.llb_session.specs.declared.conversation.Pending.{Pending}
 use Rattle.llb_session.specs.declared.fault.SessionFault.{SessionFault}
-use Rattle.llb_session.specs.declared.fault.SessionFault.TheVariants.{Read, Write, Memory, TooLong}
+use Rattle.llb_session.specs.declared.fault.SessionFault.TheVariants.{Failed, Unending, Write, Memory, TooLong}
 use Rattle.llb_session.specs.Answers.{Answers, Quits}
 use Rattle.llb_session.specs.Conversation.{Talks, Talked, Standing, Answered, Quit, CutShort, AtLineEnd, last_line}
 
@@ -18,7 +18,8 @@ abbrev pub IsSaid : Standing → Stepping → Option (List ℕ) → Option (List
 IsSaid p t out out' (Ok true) = (text : List ℕ) × Answers p.session p.number p.line text t × Appends out out' text
 IsSaid p t out out' (Ok false) = Quits p.line × (t ≡ p.session) × Keeps out out'
 IsSaid p t out out' (Err Write) = (text : List ℕ) × Answers p.session p.number p.line text t × PartOut out out' text
-IsSaid p t out out' (Err Read) = ⊥
+IsSaid p t out out' (Err (Failed kind)) = ⊥
+IsSaid p t out out' (Err (Unending interrupted)) = ⊥
 IsSaid p t out out' (Err Memory) = ⊥
 IsSaid p t out out' (Err TooLong) = ⊥
 
@@ -28,7 +29,8 @@ IsLast p t out out' (Ok u) =
     ((text : List ℕ) × Talks p.session p.number (last_line p.line) text t × Appends out out' text)
     ⊎ ((0 < length p.line) × Quits p.line × (t ≡ p.session) × Keeps out out')
 IsLast p t out out' (Err Write) = (0 < length p.line) × ((text : List ℕ) × Answers p.session p.number p.line text t × PartOut out out' text)
-IsLast p t out out' (Err Read) = ⊥
+IsLast p t out out' (Err (Failed kind)) = ⊥
+IsLast p t out out' (Err (Unending interrupted)) = ⊥
 IsLast p t out out' (Err Memory) = ⊥
 IsLast p t out out' (Err TooLong) = ⊥
 
@@ -44,7 +46,8 @@ Comes p heard unheard q out out' (Ok true) = (unheard ≡ []) × Went p heard q 
 Comes p heard unheard q out out' (Ok false) = AtLineEnd heard (λ bytes. Quit p bytes q.session out out')
 Comes p heard unheard q out out' (Err Write) = AtLineEnd heard (λ bytes. CutShort p bytes q.session out out')
 Comes p heard unheard q out out' (Err Memory) = Answered p heard q.session out out'
-Comes p heard unheard q out out' (Err Read) = ⊥
+Comes p heard unheard q out out' (Err (Failed kind)) = ⊥
+Comes p heard unheard q out out' (Err (Unending interrupted)) = ⊥
 Comes p heard unheard q out out' (Err TooLong) = ⊥
 
 -- bytes are heard, from the start

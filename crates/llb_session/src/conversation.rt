@@ -114,7 +114,7 @@ pub fn converse<R: Read, W: Write>(
     limit: usize,
     reads: u64,
 ) -> Result<(), SessionFault>
-    ensures { Converses limit session.old session.new (R.remaining commands.old) (R.remaining commands.new) (W.contents out.old) (W.contents out.new) result }
+    ensures { Converses limit reads session.old session.new (R.remaining commands.old) (R.remaining commands.new) (W.contents out.old) (W.contents out.new) result }
 {
     let mut pending = Pending {
         answered: 0,
@@ -122,6 +122,7 @@ pub fn converse<R: Read, W: Write>(
     };
     let mut buffer = [0; PIECE];
     let mut room = limit;
+    let mut interrupted = 0;
     for _i in 0..reads {
         match commands.read(&mut buffer) {
             Ok(0) => return conclude(alloc, session, &pending, out),
@@ -137,11 +138,13 @@ pub fn converse<R: Read, W: Write>(
                 room -= n;
             }
             Err(error) => {
-                if error.kind() != ErrorKind::Interrupted {
-                    return Err(SessionFault::Read);
+                let kind = error.kind();
+                if kind != ErrorKind::Interrupted {
+                    return Err(SessionFault::Failed(kind));
                 }
+                interrupted += 1;
             }
         }
     }
-    Err(SessionFault::Read)
+    Err(SessionFault::Unending(interrupted))
 }

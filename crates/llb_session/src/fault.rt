@@ -1,13 +1,17 @@
 //! Why a conversation ends before its end. A fault prints what stands after the word `fault`, and takes no memory for it.
 
+use std::io::ErrorKind;
 use thiserror::Error;
 
 /// Why a conversation ends before its end.
 #[derive(Clone, Copy, Debug, PartialEq, Eq, Error)]
 pub enum SessionFault {
-    /// 181: a read failed, or the bound on reads was met.
+    /// 181: a read failed, in this way.
     #[error("181")]
-    Read,
+    Failed(ErrorKind),
+    /// 181: the bound on reads was met, and that many of the reads were interrupted.
+    #[error("181")]
+    Unending(u64),
     /// 182: the writer failed.
     #[error("182")]
     Write,

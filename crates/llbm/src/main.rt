@@ -4,10 +4,7 @@
 #[cfg(test)]
 mod tests;
 
-use llb_commands::{
-    ProgramFault, Sources, WordsFault, command_of, locals_of, perform, refusal, source_refusal,
-    words_refusal,
-};
+use llb_commands::{ProgramFault, Sources, WordsFault, program, refusal, words_refusal};
 use std::fs::File;
 use std::io::{BufWriter, ErrorKind};
 use std::process::ExitCode;
@@ -48,20 +45,13 @@ fn main(rt: HostRuntime) -> ExitCode {
         Ok(words) => words,
         Err(fault) => return ExitCode::from(words_refusal(&fault, &mut err)),
     };
-    let line = match command_of(alloc, words.as_slice()) {
-        Ok(line) => line,
-        Err(fault) => return ExitCode::from(words_refusal(&fault, &mut err)),
-    };
-    let files = Files { rt: &rt };
-    let locals = match locals_of(alloc, &files, line.locals.as_slice()) {
-        Ok(locals) => locals,
-        Err(fault) => return ExitCode::from(source_refusal(&fault, &mut err)),
-    };
-    let mut input = rt.reader();
     let Ok(mut out) = BufWriter::new(alloc, io::writer(&rt)) else {
         return ExitCode::from(refusal(&ProgramFault::Memory, &mut err));
     };
-    ExitCode::from(perform(
-        &rt, alloc, &files, &line, locals, &mut input, &mut out, &mut err,
+    let files = Files { rt: &rt };
+    let mut input = rt.reader();
+    let words = words.as_slice();
+    ExitCode::from(program(
+        &rt, alloc, words, &files, &mut input, &mut out, &mut err,
     ))
 }

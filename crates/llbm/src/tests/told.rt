@@ -12,8 +12,7 @@ use super::devices::{Narrow, Ran, Slow};
 use super::local_trees::FILES;
 use super::written::{block, push_entries};
 use llb_asm::assemble;
-use llb_commands::{Line, Sources, command_of, locals_of, perform, source_refusal, words_refusal};
-use llb_loader::Locals;
+use llb_commands::{Sources, program};
 use llb_ops::write_definition;
 use llb_wire::{Bytes, push_hex, read_hex};
 use std::alloc::Global;
@@ -128,47 +127,6 @@ fn lines_of(rt: &impl Abort, alloc: Global, commands: &str) -> String {
     text
 }
 
-// What `main` does once the words and the local sources are read.
-fn performed<R: Abort + Threads + Wait + Sync>(
-    rt: &R,
-    alloc: Global,
-    call: &Call<'_>,
-    shelf: &Shelf<'_>,
-    line: &Line<'_>,
-    locals: Locals,
-    out: &mut Narrow,
-    err: &mut Narrow,
-) -> u8 {
-    let commands = lines_of(rt, alloc, call.commands);
-    let bytes = if call.commands.is_empty() {
-        shelf.definition
-    } else {
-        commands.as_bytes()
-    };
-    let room = bound(call.bounds, "reads").unwrap_or(MANY);
-    let mut input = Slow { bytes, room };
-    perform(rt, alloc, shelf, line, locals, &mut input, out, err)
-}
-
-// The same once the words are read.
-fn done<R: Abort + Threads + Wait + Sync>(
-    rt: &R,
-    alloc: Global,
-    call: &Call<'_>,
-    line: &Line<'_>,
-    out: &mut Narrow,
-    err: &mut Narrow,
-) -> u8 {
-    let definition = definition_of(rt, alloc, call.entries);
-    let shelf = Shelf {
-        definition: definition.as_slice(),
-    };
-    match locals_of(alloc, &shelf, line.locals.as_slice()) {
-        Ok(locals) => performed(rt, alloc, call, &shelf, line, locals, out, err),
-        Err(fault) => source_refusal(&fault, err),
-    }
-}
-
 // The status of a call.
 fn ended<R: Abort + Threads + Wait + Sync>(
     rt: &R,
@@ -178,10 +136,19 @@ fn ended<R: Abort + Threads + Wait + Sync>(
     err: &mut Narrow,
 ) -> u8 {
     let words: Vec<&str> = call.words.split(' ').collect(alloc).expect(rt, "memory");
-    match command_of(alloc, words.as_slice()) {
-        Ok(line) => done(rt, alloc, call, &line, out, err),
-        Err(fault) => words_refusal(&fault, err),
-    }
+    let definition = definition_of(rt, alloc, call.entries);
+    let shelf = Shelf {
+        definition: definition.as_slice(),
+    };
+    let commands = lines_of(rt, alloc, call.commands);
+    let bytes = if call.commands.is_empty() {
+        shelf.definition
+    } else {
+        commands.as_bytes()
+    };
+    let room = bound(call.bounds, "reads").unwrap_or(MANY);
+    let mut input = Slow { bytes, room };
+    program(rt, alloc, words.as_slice(), &shelf, &mut input, out, err)
 }
 
 fn ran<R: Abort + Threads + Wait + Sync>(rt: &R, alloc: Global, call: &Call<'_>) -> Ran {

@@ -1,0 +1,67 @@
+-- What a fault of the program prints, and the status with which the program then ends.
+use Rattle.std.specs.Prelude.{◌≡◌, ◌⊎◌, ℕ, List, ◌++◌, Option, codes, if◌then◌else◌, IfSome}
+use Rattle.std.specs.Io.KnownBytes.{Appends}
+use Rattle.llb_ops.specs.Faults.{op_text}
+use Rattle.llb_asm.specs.Faults.{asm_text}
+use Rattle.llb_treetext.specs.Faults.{reading_text, printing_text}
+use Rattle.llb_loader.specs.Faults.{load_text}
+use Rattle.llb_work.specs.Faults.{run_text}
+use Rattle.llb_commands.specs.declared.fault.OutputFault.{OutputFault}
+use Rattle.llb_commands.specs.declared.fault.OutputFault.TheVariants as output
+use Rattle.llb_commands.specs.declared.fault.ProgramFault.{ProgramFault}
+use Rattle.llb_commands.specs.declared.fault.ProgramFault.TheVariants as fault
+use Rattle.llb_commands.specs.declared.sources.SourceFault.{SourceFault}
+use Rattle.llb_commands.specs.declared.sources.SourceFault.TheVariants as source
+
+abbrev pub output_text : OutputFault → List ℕ
+output_text output.Write = codes "182"
+output_text output.Memory = codes "184"
+
+abbrev pub program_text : ProgramFault → List ℕ
+program_text (fault.Refused f) = load_text f
+program_text f.Loading = codes "91"
+program_text (fault.MissingLocal name) = codes "121 " ++ name
+program_text f.Workers = codes "122"
+program_text f.Opening = codes "123"
+program_text (fault.Run f) = run_text f
+program_text (fault.Print f) = printing_text f
+program_text (fault.Output f) = output_text f
+program_text (fault.Unread f) = op_text f
+program_text f.Entries = codes "14"
+program_text (fault.Assembling f) = asm_text f
+program_text (fault.Text f) = asm_text f
+program_text f.TooLong = codes "185"
+program_text f.Read = codes "181"
+program_text f.Memory = codes "184"
+
+abbrev pub source_text : SourceFault → List ℕ
+source_text source.Read = codes "181"
+source_text source.TooLong = codes "185"
+source_text (source.Text f) = reading_text f
+source_text source.Reading = codes "184"
+source_text source.Adding = codes "92"
+
+-- the line of a fault
+abbrev pub fault_line : List ℕ → List ℕ
+fault_line text = codes "fault " ++ (text ++ codes "\n")
+
+-- 2 for a refusal of the input, else 3
+abbrev pub status_of : ProgramFault → ℕ
+status_of (fault.Refused f) = 2
+status_of (fault.MissingLocal name) = 2
+status_of fault.Workers = 2
+status_of (fault.Unread f) = 2
+status_of (fault.Assembling f) = 2
+status_of fault.TooLong = 2
+status_of _ = 3
+
+-- the line of a fault is out, and the status is the fault's; or the line could not be written, and the status is 3
+abbrev pub TellsLine : Option (List ℕ) → Option (List ℕ) → List ℕ → ℕ → ℕ → Type 0
+TellsLine err err' text of_fault status = ((status ≡ of_fault) × Appends err err' (fault_line text)) ⊎ (status ≡ 3)
+
+abbrev pub Tells : Option (List ℕ) → Option (List ℕ) → ProgramFault → ℕ → Type 0
+Tells err err' e = TellsLine err err' (program_text e) (status_of e)
+
+-- the input is refused, and the line of the fault that says why is out
+abbrev pub TellsWhy : (ProgramFault → List ℕ → Type 0) → Option (List ℕ) → Option (List ℕ) → Option (List ℕ) → Type 0
+TellsWhy IsRefused input err err' = (e : ProgramFault) × IfSome input (IsRefused e) × Appends err err' (fault_line (program_text e))
