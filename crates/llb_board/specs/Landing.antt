@@ -1,6 +1,6 @@
 -- What a landing answers: the block of the micro-steps and the settle that are left to a worker, or the first cause that stands in its way.
-use Rattle.std.specs.Prelude.{◌≡◌, ℕ, true, false, List, [], ◌∷◌, ◌++◌, Some, None, slice_get, is_ok}
-use Rattle.llb_model.specs.State.{Execution, Idle, Runs}
+use Rattle.std.specs.Prelude.{◌≡◌, ℕ, Bool, true, false, List, [], ◌∷◌, ◌++◌, Option, Some, None, slice_get, is_ok}
+use Rattle.llb_model.specs.State.{Execution, At, Idle, Runs}
 use Rattle.llb_model.specs.Table.{Job, Reply, settle_grant}
 use Rattle.llb_model.specs.Run.{run}
 use Rattle.llb_model.specs.Landing.{steps_by, landing}
@@ -12,6 +12,12 @@ use Rattle.llb_board.specs.declared.landing.LandCause.{LandCause}
 use Rattle.llb_board.specs.declared.landing.LandCause.TheVariants as cause
 
 -- ---- whose outcome lands
+
+-- what a worker runs has an instance of a shared cache
+abbrev pub runs_shared : Option At → Bool
+runs_shared (Some (Runs x)) = has_shared x
+runs_shared (Some Idle) = false
+runs_shared None = false
 
 pub record CanLand (b : Seen) (w : ℕ) (job : Job) : Type 0 where
   pub x : Execution

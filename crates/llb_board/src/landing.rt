@@ -1,8 +1,8 @@
 //! The landing of an outcome: the block of all micro-steps that are left to a worker and of its settle, for work that was done away from
 //! the board. It stands on settles; it does no micro-step and compares trees by value alone.
 
-ghost use Rattle.std.specs.Prelude.{◌≡◌, IfOk, IfErr, OnOk, OnErr};
-ghost use Rattle.llb_board.specs.Landing.{CanLand, StandsInWay, IsRefused, land_fault, IsThrough, Lands};
+ghost use Rattle.std.specs.Prelude.{◌≡◌, slice_get, IfOk, IfErr, OnOk, OnErr};
+ghost use Rattle.llb_board.specs.Landing.{CanLand, StandsInWay, IsRefused, land_fault, runs_shared, IsThrough, Lands};
 ghost use Rattle.llb_state.specs.Views.{settle_reply};
 
 use crate::board::Board;
@@ -35,6 +35,17 @@ impl Board {
         let vertex = outcome.job().vertex();
         self.go_through(w, outcome);
         Ok(self.settle(w).unwrap_or(Settled::Done(vertex)))
+    }
+
+    /// Whether what a worker runs has an instance of a shared cache, so that nothing lands of it. False of a worker that runs nothing,
+    /// and where there is none of that number. No memory.
+    pub fn has_shared(&self, w: u32) -> bool
+        ensures { result ≡ runs_shared (slice_get self.now.state.workers w) }
+    {
+        match desk_at(&self.desks, w) {
+            Some(Desk::Runs(_, execution)) => has_shared(&execution.places),
+            _ => false,
+        }
     }
 
     // Whether the outcome of a job lands, or the first cause that stands in its way.

@@ -18,12 +18,16 @@ use Rattle.llb_loader.specs.Load.{IsGraphIn, IsRefusalIn}
 use Rattle.llb_state.specs.Board.{Seen}
 use Rattle.llb_commands.specs.declared.fault.ProgramFault.{ProgramFault}
 use Rattle.llb_commands.specs.declared.fault.ProgramFault.TheVariants.{Refused, Loading}
+use Rattle.llb_commands.specs.declared.fault.ProgramFault.TheVariants as fault
+use Rattle.llb_model.specs.Program.{Build}
+use Rattle.llb_model.specs.State.{State}
 use Rattle.llb_treetext.specs.TreeText.{tree_text}
 use Rattle.llb_commands.specs.GraphText.{graph_text}
-use Rattle.llb_commands.specs.Answer.{build_of, result_in, Yields, YieldsNone, YieldsAll, IsRefused, IsUnopened, IsNotRun, YieldsPart, DrawsPart}
+use Rattle.llb_commands.specs.Answer.{build_of, result_in, Yields, YieldsAll, IsRefused, IsUnopened, IsNotRun, YieldsPart, DrawsPart, FailsAll, failed_lines}
 use Rattle.llb_commands.specs.Answer.{Runs}
+use Rattle.llb_commands.specs.Faults.{Tells, TellsWhy, status_of}
 use Rattle.llb_commands.proofs.Ending.{result_fails, tree_fails_none, plain_tree}
-use Rattle.llb_commands.specs.Running.{passed_on, unread_as, IsRefusal, TellsRefusal, IsFinished, Shows, Answers, Tells}
+use Rattle.llb_commands.specs.Running.{passed_on, unread_as, IsRefusal, TellsRefusal, IsFinished, Shows, YieldsNoneOn, Answers, Ends}
 use Rattle.llb_commands.specs.Assembly.{IsUnread}
 use Rattle.llb_commands.specs.Bounded.{ReadsAll}
 use Rattle.llb_commands.specs.declared.bounded.ReadFault.{ReadFault}
@@ -41,21 +45,21 @@ some_map P Q None f h = tt
 some_map P Q (Some x) f h = f x h
 
 -- bytes past the limit are no definition
-unread_long : (bytes : List ℕ) → 67108864 < length bytes → IsUnread bytes
+unread_long : (bytes : List ℕ) → 67108864 < length bytes → definition_of bytes ≡ Err OverLimit
 unfolding definition_of
-unread_long bytes long =
-    let yes : ltb definition_limit (length bytes) ≡ true = lt-ltb _ _ long in
-    (OverLimit, rw yes refl)
+unread_long bytes long = let yes : ltb definition_limit (length bytes) ≡ true = lt-ltb _ _ long in rw yes refl
 
 -- and so they are refused
-refuses_long : (bytes : List ℕ) → 67108864 < length bytes → IsRefused bytes
-refuses_long bytes long = let unread = unread_long bytes long in (Definition unread.0, inl (unread.0, unread.1, refl))
+refuses_long : (bytes : List ℕ) → 67108864 < length bytes → IsRefused (Refused (Definition OverLimit)) bytes
+refuses_long bytes long = (Definition OverLimit, inl (OverLimit, unread_long bytes long, refl), refl)
 
 -- what the loader refuses is refused
 pub tells : (left : Option (List ℕ)) (e : LoadFault) (bytes : List ℕ) → IfSome left (λ xs. bytes ≡ xs)
-    → (is_memory e ≡ false → IsRefusalIn bytes e) → IsRefusal (passed_on e) → IfSome left IsRefused
+    → (is_memory e ≡ false → IsRefusalIn bytes e) → TellsRefusal IsRefused left (passed_on e)
 tells left e bytes read refused h =
-    some_map (λ xs. bytes ≡ xs) IsRefused left (λ xs same. (e, subst (λ ys. IsRefusalIn ys e) same (refused (by_test (is_memory e) refl h)))) read
+    let plain = by_test (is_memory e) refl h in
+    let passed : passed_on e ≡ Refused e = ap (λ b. cond b Loading (Refused e)) plain in
+    some_map (λ xs. bytes ≡ xs) (IsRefused (passed_on e)) left (λ xs same. (e, subst (λ ys. IsRefusalIn ys e) same (refused plain), passed)) read
   where
     by_test : (b : Bool) → is_memory e ≡ b → IsRefusal (cond b Loading (Refused e)) → is_memory e ≡ false
     by_test true is h = absurd h
@@ -91,17 +95,20 @@ module _ (workers : ℕ) (ls : List Local) (left : Option (List ℕ)) (g : Numbe
   answers_part out out' t is part = some_map (λ bytes. IsGraphIn bytes g) (YieldsPart workers ls out out') left (λ bytes loaded.
       (tree_text t, yields bytes loaded t is, part)) loads
 
-  answers_none : result_in b.state g ≡ None → IfSome left (YieldsNone workers ls)
+  answers_none : result_in b.state g ≡ None → IfSome left (YieldsNoneOn workers ls b)
   answers_none none =
       let fails = result_fails (build_of ls g) graph b.state fin.here fin.ended.complete none in
-      some_map (λ bytes. IsGraphIn bytes g) (YieldsNone workers ls) left
-      (λ bytes loaded. record { graph = g; loaded = loaded; state = b.state; ended = fin.ended; result = none; fails = fails }) loads
+      some_map (λ bytes. IsGraphIn bytes g) (YieldsNoneOn workers ls b) left (λ bytes loaded. (
+        record { graph = g; loaded = loaded; state = b.state; ended = fin.ended; result = none; fails = fails },
+        refl,
+        sym fin.build,
+      )) loads
 
   -- what is shown of the result is the answer
-  pub answers : {B : Type 0} (out out' : Option (List ℕ)) (r : Result (Option B) ProgramFault) → Shows out out' (result_in b.state g) r
+  pub answers : (out out' : Option (List ℕ)) (r : Result (Option Seen) ProgramFault) → Shows b out out' (result_in b.state g) r
       → Answers workers ls left out out' r
   answers out out' (Ok None) s = answers_text out out' s.0 s.1 s.2
-  answers out out' (Ok (Some x)) s = (s.1, answers_none s.0)
+  answers out out' (Ok (Some x)) s = (s.2, subst (λ y. IfSome left (YieldsNoneOn workers ls y)) (sym s.0) (answers_none s.1))
   answers out out' (Err e) s = inr (s.0, answers_part out out' s.1.0 s.1.1 s.1.2)
 
 -- ---- what the parts answered, where the answer is known
@@ -115,10 +122,10 @@ too_long left left' r e is same reads =
     let h : ReadsAll 67108864 134217728 left left' (Err TooLong) = subst (ReadsAll 67108864 134217728 left left') (is ∙ ap read_err same) reads in h
 
 -- a refusal of what was not read stands, of what all bytes are that are too long
-module _ (IsSo : List ℕ → Type 0) (long : (bytes : List ℕ) → 67108864 < length bytes → IsSo bytes) (left left' : Option (List ℕ)) (r : Result (Vec ℕ
-    Global) ReadFault) where
+module _ (IsSo : ProgramFault → List ℕ → Type 0) (long : (bytes : List ℕ) → 67108864 < length bytes → IsSo (Refused (Definition OverLimit)) bytes)
+    (left left' : Option (List ℕ)) (r : Result (Vec ℕ Global) ReadFault) where
   by_fault : (e : ReadFault) → r ≡ Err e → ReadsAll 67108864 134217728 left left' r → TellsRefusal IsSo left (unread_as e)
-  by_fault TooLong is reads = λ _. some_map (λ xs. 67108864 < length xs) IsSo left long (too_long left left' r TooLong is refl reads)
+  by_fault TooLong is reads = λ _. some_map (λ xs. 67108864 < length xs) (IsSo (Refused (Definition OverLimit))) left long (too_long left left' r TooLong is refl reads)
   by_fault (Failed kind) is reads = λ h. absurd h
   by_fault (Unending interrupted) is reads = λ h. absurd h
   by_fault reading.Memory is reads = λ h. absurd h
@@ -134,7 +141,7 @@ tells_unread = tells_so IsRefused refuses_long
 -- it is no definition
 pub tells_no_definition : (left left' : Option (List ℕ)) (r : Result (Vec ℕ Global) ReadFault) (e : ReadFault) (p : ProgramFault)
     → r ≡ Err e → p ≡ unread_as e → ReadsAll 67108864 134217728 left left' r → TellsRefusal IsUnread left p
-tells_no_definition = tells_so IsUnread unread_long
+tells_no_definition = tells_so IsUnread (λ bytes long. inr (long, refl))
 
 -- a reading without a fault gives all the bytes that were left
 pub all_read : (left left' : Option (List ℕ)) (r : Result (Vec ℕ Global) ReadFault) (bytes : Vec ℕ Global) → r ≡ Ok bytes
@@ -144,12 +151,45 @@ all_read left left' r bytes is reads =
 
 -- ---- a whole run
 
--- the status for a fault tells it
-pub tells_fault : {B : Type 0} (out : Option (List ℕ)) (r : Result (Option B) ProgramFault) (e : ProgramFault) (status : ℕ) → r ≡ Err e
-    → (status ≡ 3) ⊎ ((status ≡ 2) × IsRefusal e) → Tells out out r status
-tells_fault out r e status is told = subst (λ x. Tells out out x status) (sym is) (Keeps-refl out, told)
+-- a fault is a refusal, with the status 2, or its status is 3
+refusal_or_three : (e : ProgramFault) → (IsRefusal e × (status_of e ≡ 2)) ⊎ (status_of e ≡ 3)
+refusal_or_three (Refused f) = inl (tt, refl)
+refusal_or_three (fault.MissingLocal name) = inl (tt, refl)
+refusal_or_three fault.Workers = inl (tt, refl)
+refusal_or_three (fault.Unread f) = inl (tt, refl)
+refusal_or_three (fault.Assembling f) = inl (tt, refl)
+refusal_or_three fault.TooLong = inl (tt, refl)
+refusal_or_three Loading = inr refl
+refusal_or_three fault.Opening = inr refl
+refusal_or_three (fault.Run f) = inr refl
+refusal_or_three (fault.Print f) = inr refl
+refusal_or_three (fault.Output f) = inr refl
+refusal_or_three fault.Entries = inr refl
+refusal_or_three (fault.Text f) = inr refl
+refusal_or_three fault.Read = inr refl
+refusal_or_three fault.Memory = inr refl
 
-module _ (workers : ℕ) (ls : List Local) (left out out' last : Option (List ℕ)) where
+-- how a command ends with a fault, by the line and the status for it: 2 and the line where the input is refused, else 3
+pub ends_told : (IsSo : ProgramFault → List ℕ → Type 0) (Part : Type 0) (input out out' err err' : Option (List ℕ)) (e : ProgramFault) (status : ℕ)
+    → ((Keeps out out' × TellsRefusal IsSo input e) ⊎ ((¬ IsRefusal e) × Part)) → Tells err err' e status
+    → ((status ≡ 2) × Keeps out out' × TellsWhy IsSo input err err') ⊎ ((status ≡ 3) × (Keeps out out' ⊎ Part))
+ends_told IsSo Part input out out' err err' e status (inl (kept, tells)) (inr three) = inr (three, inl kept)
+ends_told IsSo Part input out out' err err' e status (inr (none, part)) (inr three) = inr (three, inr part)
+ends_told IsSo Part input out out' err err' e status (inl (kept, tells)) (inl (is, line)) = elim (refusal_or_three e) [
+  | inl h ↦ inl (is ∙ h.1, kept, (e, tells h.0, line))
+  | inr three ↦ inr (is ∙ three, inl kept)
+]
+ends_told IsSo Part input out out' err err' e status (inr (none, part)) (inl (is, line)) = elim (refusal_or_three e) [
+  | inl h ↦ absurd (none h.0)
+  | inr three ↦ inr (is ∙ three, inr part)
+]
+
+-- the status for a fault tells it
+pub tells_fault : (out err err' : Option (List ℕ)) (r : Result (Option Seen) ProgramFault) (e : ProgramFault) (status : ℕ) → r ≡ Err e
+    → Tells err err' e status → Ends out out err err' r status
+tells_fault out err err' r e status is told = subst (λ x. Ends out out err err' x status) (sym is) (Keeps-refl out, told)
+
+module _ (workers : ℕ) (ls : List Local) (left out out' last err err' : Option (List ℕ)) where
   all_kept : Keeps out' last → (bytes : List ℕ) → YieldsAll workers ls out out' bytes → YieldsAll workers ls out last bytes
   all_kept keeps bytes y = (y.0, y.1, Appends-kept out out' last y.0 y.2 keeps)
 
@@ -159,29 +199,39 @@ module _ (workers : ℕ) (ls : List Local) (left out out' last : Option (List �
   part_kept : Keeps out' last → (bytes : List ℕ) → YieldsPart workers ls out out' bytes → YieldsPart workers ls out last bytes
   part_kept keeps bytes (text, yields, (front, rest, split, app)) = (text, yields, (front, rest, split, Appends-kept out out' last front app keeps))
 
+  -- the lines of a board are those of the run that it is the end of
+  fails_on : (b : Seen) → Appends err err' (failed_lines b.build b.state (length b.build.graph.vertices)) → (bytes : List ℕ)
+      → YieldsNoneOn workers ls b bytes → FailsAll workers ls err err' bytes
+  fails_on b lines bytes (y, state, build) =
+      let same = ap (λ (x : Build). failed_lines x b.state (length x.graph.vertices)) (sym build)
+      ∙ ap (λ (t : State). failed_lines (build_of ls y.graph) t (length y.graph.vertices)) (sym state) in
+      (y, subst (Appends err err') same lines)
+
+  answered : (e : ProgramFault) → Answers workers ls left out out' (Err e) → Keeps out' last
+      → (Keeps out last × TellsRefusal (IsNotRun workers ls) left e) ⊎ ((¬ IsRefusal e) × IfSome left (YieldsPart workers ls out last))
+  answered e (inl (kept, tells)) keeps = inl (Keeps-trans out out' last kept keeps, tells)
+  answered e (inr (none, part)) keeps = inr (none, some_map (YieldsPart workers ls out out') (YieldsPart workers ls out last) left (part_kept keeps) part)
+
   -- an answer and the status that is told for it are a run
-  pub run_told : {B : Type 0} (r : Result (Option B) ProgramFault) (status : ℕ) → Answers workers ls left out out' r → Tells out' last r status
-      → Runs workers ls left out last status
-  run_told (Ok None) status done (keeps, inl zero) = inl (
+  pub run_told : (r : Result (Option Seen) ProgramFault) (status : ℕ) → Answers workers ls left out out' r → Ends out' last err err' r status
+      → Runs workers ls left out last err err' status
+  run_told (Ok None) status done (keeps, inl (zero, kept)) = inl (
     zero,
-    some_map (YieldsAll workers ls out out') (YieldsAll workers ls out last) left
-        (all_kept keeps) done,
+    kept,
+    some_map (YieldsAll workers ls out out') (YieldsAll workers ls out last) left (all_kept keeps) done,
   )
   run_told (Ok None) status done (keeps, inr three) = inr (inr (inr (
     three,
-    inr (some_map (YieldsAll workers ls out out')
-        (YieldsPart workers ls out last) left (all_part keeps) done),
+    inr (some_map (YieldsAll workers ls out out') (YieldsPart workers ls out last) left (all_part keeps) done),
   )))
-  run_told (Ok (Some b)) status (kept, lacks) (keeps, inl one) = inr (inl (one, Keeps-trans out out' last kept keeps, lacks))
+  run_told (Ok (Some b)) status (kept, lacks) (keeps, inl (one, lines)) = inr (inl (
+    one,
+    Keeps-trans out out' last kept keeps,
+    some_map (YieldsNoneOn workers ls b) (FailsAll workers ls err err') left (fails_on b lines) lacks,
+  ))
   run_told (Ok (Some b)) status (kept, lacks) (keeps, inr three) = inr (inr (inr (three, inl (Keeps-trans out out' last kept keeps))))
-  run_told (Err e) status (inl (kept, tells)) (keeps, inl three) = inr (inr (inr (three, inl (Keeps-trans out out' last kept keeps))))
-  run_told (Err e) status (inl (kept, tells)) (keeps, inr (two, is)) = inr (inr (inl (two, Keeps-trans out out' last kept keeps, tells is)))
-  run_told (Err e) status (inr (none, part)) (keeps, inl three) = inr (inr (inr (
-    three,
-    inr (some_map (YieldsPart workers ls out out')
-        (YieldsPart workers ls out last) left (part_kept keeps) part),
-  )))
-  run_told (Err e) status (inr (none, part)) (keeps, inr (two, is)) = absurd (none is)
+  run_told (Err e) status answer (keeps, told) =
+      inr (inr (ends_told (IsNotRun workers ls) (IfSome left (YieldsPart workers ls out last)) left out last err err' e status (answered e answer keeps) told))
 
 -- ---- a show
 
@@ -194,18 +244,13 @@ drawn_unflushed left out out' last g loads whole keeps =
 
 -- ---- a definition that is not run
 
--- what is refused is not run
-pub tells_not_run : (workers : ℕ) (ls : List Local) (left : Option (List ℕ)) (e : ProgramFault) → TellsRefusal IsRefused left e
-    → TellsRefusal (IsNotRun workers ls) left e
-tells_not_run workers ls left e tells h = some_map IsRefused (IsNotRun workers ls) left (λ bytes refused. inl refused) (tells h)
-
 -- what is refused has no run
 pub tells_no_run : (workers : ℕ) (ls : List Local) (left : Option (List ℕ)) (e : ProgramFault) → TellsRefusal IsRefused left e
     → TellsRefusal (IsNotRun workers ls) left e
-tells_no_run workers ls left e tells h = some_map IsRefused (IsNotRun workers ls) left (λ bytes refused. inl refused) (tells h)
+tells_no_run workers ls left e tells h = some_map (IsRefused e) (IsNotRun workers ls e) left (λ bytes refused. inl refused) (tells h)
 
 -- nor is what has no board, or too many workers
 pub tells_unrun : (workers : ℕ) (ls : List Local) (left : Option (List ℕ)) (g : Numbered) (e : ProgramFault) → IfSome left (λ bytes. IsGraphIn bytes g)
-    → (IsRefusal e → IsUnopened ls g workers) → TellsRefusal (IsNotRun workers ls) left e
-tells_unrun workers ls left g e loads unrun h = some_map (λ bytes. IsGraphIn bytes g) (IsNotRun workers ls) left (λ bytes loaded. inr
-    (g, loaded, unrun h)) loads
+    → (IsRefusal e → IsUnopened ls g workers e) → TellsRefusal (IsNotRun workers ls) left e
+tells_unrun workers ls left g e loads unrun h =
+    some_map (λ bytes. IsGraphIn bytes g) (IsNotRun workers ls e) left (λ bytes loaded. inr (g, loaded, unrun h)) loads

@@ -1,5 +1,5 @@
 -- What a stepping session tells of the bytes of its definition.
-use Rattle.std.proofs.Common.{◌≡◌, ℕ, Bool, true, false, cond, List, [], ◌⊎◌, Option, Some, None, Result, Ok, Err, inl, inr, refl, ap, subst, ◌∙◌}
+use Rattle.std.proofs.Common.{◌≡◌, ℕ, Bool, true, false, cond, List, [], ◌⊎◌, Option, Some, None, Result, Ok, Err, inl, inr, refl, sym, ap, subst, ◌∙◌}
 use Rattle.std.specs.Prelude.{IfSome}
 use Rattle.llb_loader.specs.Graph.{Numbered}
 use Rattle.llb_loader.specs.Load.{IsGraphIn}
@@ -15,36 +15,61 @@ use Rattle.llb_stepper.specs.Stepping.{Stepping}
 use Rattle.llb_session.specs.Conversation.{Converses}
 use Rattle.llb_session.specs.declared.fault.SessionFault.{SessionFault}
 use Rattle.llb_session.specs.declared.fault.SessionFault.TheVariants as session
-use Rattle.llb_commands.specs.Answer.{IsRefused, build_of, Lacks, IsUnopened}
+use Rattle.std.specs.Io.KnownBytes.{Appends, Keeps}
+use Rattle.llb_commands.specs.Answer.{IsRefused, build_of, IsUnopened}
+use Rattle.llb_commands.specs.Faults.{Tells, TellsWhy, status_of, fault_line, program_text}
 use Rattle.llb_commands.specs.Running.{IsRefusal, TellsRefusal}
-use Rattle.llb_commands.specs.Sources.{limit}
+use Rattle.llb_commands.specs.Sources.{limit, most_reads}
 use Rattle.llb_commands.specs.Stepping.{begun, session_fault, IsNotOpened, IsSession, IsBroken, StepsIn, Steps}
 use Rattle.llb_commands.specs.declared.fault.ProgramFault.{ProgramFault}
-use Rattle.llb_commands.proofs.Answering.{some_map}
+use Rattle.llb_commands.proofs.Answering.{some_map, ends_told}
 
-abbrev pub missing_in : OpenFault → Bool
-missing_in (opening.MissingLocal name g ls c) = true
-missing_in (opening.Workers g ls c) = false
-missing_in (opening.Memory g ls c) = false
+-- why no board is opened
+module _ (b : Build) (c : CachesValue) (workers : ℕ) where
+  abbrev tells_opened : Result Seen OpenFault → Bool
+  tells_opened (Ok x) = true
+  tells_opened (Err e) = false
 
-abbrev tells_missing : Result Seen OpenFault → Bool
-tells_missing (Ok b) = false
-tells_missing (Err e) = missing_in e
+  abbrev name_in : Result Seen OpenFault → Option (List ℕ)
+  name_in (Ok x) = None
+  name_in (Err (opening.MissingLocal name g ls d)) = Some name
+  name_in (Err (opening.Workers g ls d)) = None
+  name_in (Err (opening.Memory g ls d)) = None
 
--- a board is not opened for a local tree that is missing only where one is
-module _ (b : Build) (c : CachesValue) (workers : ℕ) (fault : OpenFault) (by_name : missing_in fault ≡ true) where
-  by_workers : (may : Bool) → cond may (Ok (opened b workers c.rows)) (Err (opening.Workers b.graph b.locals c)) ≡ Err fault → ⊥
-  by_workers true e = absurd (cc (ap tells_missing e ∙ by_name))
-  by_workers false e = absurd (cc (ap tells_missing e ∙ by_name))
+  abbrev few_in : Result Seen OpenFault → Bool
+  few_in (Ok x) = false
+  few_in (Err (opening.MissingLocal name g ls d)) = false
+  few_in (Err (opening.Workers g ls d)) = true
+  few_in (Err (opening.Memory g ls d)) = false
 
-  by_missing : (o : Option (List ℕ)) → open_unless o b c workers ≡ Err fault → (name : List ℕ) × (o ≡ Some name)
-  by_missing (Some name) e = (name, refl)
-  by_missing None e = absurd (by_workers (may_work workers) e)
+  named : (o : Option (List ℕ)) → name_in (open_unless o b c workers) ≡ o
+  named (Some name) = refl
+  named None = by_workers (may_work workers)
+    where
+      by_workers : (may : Bool) → name_in (cond may (Ok (opened b workers c.rows)) (Err (opening.Workers b.graph b.locals c))) ≡ None
+      by_workers true = refl
+      by_workers false = refl
 
--- a board that is not opened since a local tree is missing is over a graph with a source that has none
-pub lacks : (locals : List Local) (g : Numbered) (c : CachesValue) (workers : ℕ) (fault : OpenFault) → missing_in fault ≡ true
-    → open_of (build_of locals g) c workers ≡ Err fault → Lacks locals g
-lacks locals g c workers fault by_name e = by_missing (build_of locals g) c workers fault by_name (missing_local locals g.vertices) e
+  few : (o : Option (List ℕ)) → few_in (open_unless o b c workers) ≡ true → (o ≡ None) × (may_work workers ≡ false)
+  few (Some name) is = absurd cc
+  few None is = (refl, by_workers (may_work workers) refl is)
+    where
+      by_workers : (may : Bool) → may_work workers ≡ may
+          → few_in (cond may (Ok (opened b workers c.rows)) (Err (opening.Workers b.graph b.locals c))) ≡ true → may_work workers ≡ false
+      by_workers true same is = absurd cc
+      by_workers false same is = same
+
+-- a local source has no tree
+pub lacks : (locals : List Local) (g h : Numbered) (ls : List Local) (c d : CachesValue) (workers : ℕ) (name : List ℕ)
+    → open_of (build_of locals g) c workers ≡ Err (opening.MissingLocal name h ls d) → missing_local locals g.vertices ≡ Some name
+lacks locals g h ls c d workers name is =
+    sym (named (build_of locals g) c workers (missing_local locals g.vertices)) ∙ ap (name_in (build_of locals g) c workers) is
+
+-- all have one, and the number of workers is none
+pub unmanned : (locals : List Local) (g h : Numbered) (ls : List Local) (c d : CachesValue) (workers : ℕ)
+    → open_of (build_of locals g) c workers ≡ Err (opening.Workers h ls d) → (missing_local locals g.vertices ≡ None) × (may_work workers ≡ false)
+unmanned locals g h ls c d workers is =
+    few (build_of locals g) c workers (missing_local locals g.vertices) (ap (few_in (build_of locals g) c workers) is)
 
 -- a stepper on a board that was just opened
 pub begins : (locals : List Local) (g : Numbered) (workers : ℕ) (s : Stepping) (b : Seen) → s ≡ record { board = b; past = []; breaks = [] }
@@ -56,45 +81,54 @@ begins locals g workers s b made is = made ∙ ap on is where
 module _ (locals : List Local) (workers : ℕ) (file : Option (List ℕ)) where
   -- what is refused has no session
   pub tells_unread : (e : ProgramFault) → TellsRefusal IsRefused file e → TellsRefusal (IsNotOpened locals workers) file e
-  tells_unread e tells is = some_map IsRefused (IsNotOpened locals workers) file (λ bytes refused. inl refused) (tells is)
+  tells_unread e tells is = some_map (IsRefused e) (IsNotOpened locals workers e) file (λ bytes refused. inl refused) (tells is)
 
   -- the graph of the bytes has no board
-  pub tells_unopened : (g : Numbered) (e : ProgramFault) → IfSome file (λ bytes. IsGraphIn bytes g) → (IsRefusal e → IsUnopened locals g workers)
+  pub tells_unopened : (g : Numbered) (e : ProgramFault) → IfSome file (λ bytes. IsGraphIn bytes g) → (IsRefusal e → IsUnopened locals g workers e)
       → TellsRefusal (IsNotOpened locals workers) file e
   tells_unopened g e loads unopened is =
-      some_map (λ bytes. IsGraphIn bytes g) (IsNotOpened locals workers) file (λ bytes loaded. inr (g, loaded, unopened is)) loads
+      some_map (λ bytes. IsGraphIn bytes g) (IsNotOpened locals workers e) file (λ bytes loaded. inr (g, loaded, unopened is)) loads
 
   module _ (commands commands' out out' : Option (List ℕ)) where
     -- a session was held over the graph of the bytes
     pub tells_session : (g : Numbered) (s t : Stepping) (r : Result (Unit {0}) SessionFault) → IfSome file (λ bytes. IsGraphIn bytes g)
-        → s ≡ begun locals g workers → Converses limit s t commands commands' out out' r → IfSome file (IsSession locals workers commands commands' out out' r)
+        → s ≡ begun locals g workers → Converses limit most_reads s t commands commands' out out' r → IfSome file (IsSession locals workers commands commands' out out' r)
     tells_session g s t r loads same talks =
         some_map (λ bytes. IsGraphIn bytes g) (IsSession locals workers commands commands' out out' r) file
         (λ bytes loaded. record {
           graph = g;
           loaded = loaded;
           end = t;
-          talks = subst (λ x. Converses limit x t commands commands' out out' r) same talks;
+          talks = subst (λ x. Converses limit most_reads x t commands commands' out out' r) same talks;
         }) loads
-
-    -- how it ended, by the fault and the status
-    refused_session : (f : SessionFault) → IsRefusal (session_fault f) → f ≡ session.TooLong
-    refused_session session.Read is = absurd is
-    refused_session session.Write is = absurd is
-    refused_session session.Memory is = absurd is
-    refused_session session.TooLong is = refl
 
     broken : (f : SessionFault) → IfSome file (IsSession locals workers commands commands' out out' (Err f))
         → IfSome file (IsBroken locals workers commands commands' out out')
     broken f held = some_map (IsSession locals workers commands commands' out out' (Err f)) (IsBroken locals workers commands commands' out out') file
         (λ bytes is. (f, is)) held
 
-    -- a run that ended with a fault has status 3, or 2 where the fault is a refusal
-    pub ends_by : (e : ProgramFault) (status : ℕ) → StepsIn locals workers file commands commands' out out' (Err e)
-        → (status ≡ 3) ⊎ ((status ≡ 2) × IsRefusal e) → Steps locals workers file commands commands' out out' status
-    ends_by e status (inl (keeps, tells)) (inl three) = inr (inr (three, inl keeps))
-    ends_by e status (inl (keeps, tells)) (inr (two, is)) = inr (inl (two, inl (keeps, tells is)))
-    ends_by e status (inr (f, same, held)) (inl three) = inr (inr (three, inr (broken f held)))
-    ends_by e status (inr (f, same, held)) (inr (two, is)) =
-        let long : f ≡ session.TooLong = refused_session f (subst IsRefusal same is) in
-        inr (inl (two, inr (subst (λ x. IfSome file (IsSession locals workers commands commands' out out' (Err x))) long held)))
+    module _ (err err' : Option (List ℕ)) where
+      -- how it ended, by the fault of the session, and the line and the status for it
+      by_session : (f : SessionFault) (status : ℕ) → IfSome file (IsSession locals workers commands commands' out out' (Err f))
+          → (status ≡ status_of (session_fault f)) × Appends err err' (fault_line (program_text (session_fault f)))
+          → Steps locals workers file commands commands' out out' err err' status
+      by_session session.TooLong status held (two, line) = inr (inl (two, inr (held, line)))
+      by_session (session.Failed kind) status held (three, line) = inr (inr (three, inr (broken (session.Failed kind) held)))
+      by_session (session.Unending interrupted) status held (three, line) = inr (inr (three, inr (broken (session.Unending interrupted) held)))
+      by_session session.Write status held (three, line) = inr (inr (three, inr (broken session.Write held)))
+      by_session session.Memory status held (three, line) = inr (inr (three, inr (broken session.Memory held)))
+
+      not_opened : (status : ℕ) → ((status ≡ 2) × Keeps out out' × TellsWhy (IsNotOpened locals workers) file err err')
+          ⊎ ((status ≡ 3) × (Keeps out out' ⊎ ⊥)) → Steps locals workers file commands commands' out out' err err' status
+      not_opened status (inl (two, keeps, why)) = inr (inl (two, inl (keeps, why)))
+      not_opened status (inr (three, inl keeps)) = inr (inr (three, inl keeps))
+      not_opened status (inr (three, inr no)) = absurd no
+
+      -- a run that ended with a fault has the status for it, with its line
+      pub ends_by : (e : ProgramFault) (status : ℕ) → StepsIn locals workers file commands commands' out out' (Err e) → Tells err err' e status
+          → Steps locals workers file commands commands' out out' err err' status
+      ends_by e status (inl (keeps, tells)) told =
+          not_opened status (ends_told (IsNotOpened locals workers) ⊥ file out out' err err' e status (inl (keeps, tells)) told)
+      ends_by e status (inr (f, same, held)) (inr three) = inr (inr (three, inr (broken f held)))
+      ends_by e status (inr (f, same, held)) (inl (is, line)) =
+          by_session f status held (is ∙ ap status_of same, subst (λ x. Appends err err' (fault_line (program_text x))) same line)

@@ -2,6 +2,7 @@ pub mod Crossing
 pub mod Driving
 pub mod Ending
 pub mod Afters
+pub mod Here
 pub mod Workers
 pub mod Gathers
 pub mod Fractions

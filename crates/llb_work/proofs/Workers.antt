@@ -1,14 +1,19 @@
 -- Each call of a worker is granted, or changes nothing: the record goes on.
 use Rattle.std.proofs.Common.{◌≡◌, ℕ, [], ◌∷◌, ◌++◌, Result, Ok, Err, refl, ap}
-use Rattle.std.specs.Prelude.{IfOk, OnErr}
+use Rattle.std.specs.Prelude.{IfOk, OnErr, Some}
+use Rattle.std.specs.Result.{result_ok}
+use Rattle.std.proofs.lemmas.Option.{slice_get_within}
+use Rattle.llb_model.specs.State.{State, Idle}
+use Rattle.llb_model.specs.Table.{Event, Job, Claimed, claim_grant, table}
+use Rattle.llb_model.proofs.Events.{claim_is}
 use Rattle.llb_model.specs.Table.{Reply, Claim, Step, Settle, Cancel}
 use Rattle.llb_model.specs.Landing.{landing}
-use Rattle.llb_state.specs.Board.{Seen}
+use Rattle.llb_state.specs.Board.{Seen, after_event, recorded}
 use Rattle.llb_state.specs.Jobs.{OutcomeValue}
 use Rattle.llb_board.specs.Landing.{Lands}
-use Rattle.llb_state.specs.Rules.{claim_of, GivesStep, step_of, GivesSettle, settle_of, GivesCancel, cancel_of}
+use Rattle.llb_state.specs.Rules.{claim_of, claim_fault, GivesStep, step_of, GivesSettle, settle_of, GivesCancel, cancel_of}
 use Rattle.llb_events.specs.Faults.{GivesClaim}
-use Rattle.llb_state.specs.Views.{step_reply, settle_reply, cancel_reply}
+use Rattle.llb_state.specs.Views.{claim_reply, step_reply, settle_reply, cancel_reply}
 use Rattle.llb_events.specs.declared.event.Stepped.{Stepped}
 use Rattle.llb_events.specs.declared.event.Settled.{Settled}
 use Rattle.llb_events.specs.declared.fault.ClaimFault.{ClaimFault}
@@ -19,7 +24,9 @@ use Rattle.llb_events.specs.declared.fault.CancelFault.{CancelFault}
 use Rattle.llb_board.specs.declared.fault.LandFault.{LandFault}
 use Rattle.llb_work.specs.Crew.{GoesOn}
 use Rattle.llb_work.proofs.Driving.{claim_takes, step_takes, settle_takes, cancel_takes}
+use Rattle.llb_work.specs.Turns.{IsClaimed}
 use Rattle.llb_work.proofs.Afters.{stays, takes_one}
+use Rattle.llb_work.proofs.Here.{is_of_both}
 
 -- a claim adds its event to the record or changes nothing, so the board goes on either way
 pub claim_goes : {J : Type 0} (reply : J → Reply) (b n : Seen) (w v : ℕ) (r : Result J ClaimFault) → GivesClaim (λ job. (n, reply job)) r (claim_of b w v)
@@ -27,6 +34,36 @@ pub claim_goes : {J : Type 0} (reply : J → Reply) (b n : Seen) (w v : ℕ) (r 
     → GoesOn b n
 claim_goes reply b n w v (Ok job) gives err = takes_one b n (Claim w v) (claim_takes reply b n w v (Ok job) gives refl)
 claim_goes reply b n w v (Err e) gives err = stays b n err
+
+-- what is granted, with the board and the reply that come of it
+granted : {C F : Type 0} (b n : Seen) (e : Event) (fault : C → F) (o : Result (State × Reply) C) (r : Reply) → recorded b e fault o ≡ Ok (n, r)
+    → result_ok o ≡ Some (n.state, r)
+granted {C} {F} b n e fault (Err cause) r given = absurd cc
+granted {C} {F} b n e fault (Ok (s, q)) r given =
+    let same : ◌≡◌ {A = Seen × Reply} (after_event b e s, q) (n, r) = inside_ok given in
+    ap (λ (x : Seen × Reply). Some (x.0.state, x.1)) same
+  where
+    inside_ok : {x y : Seen × Reply} → ◌≡◌ {A = Result (Seen × Reply) F} (Ok x) (Ok y) → x ≡ y
+    inside_ok e = cc
+
+job_in : Job → Reply → Job
+job_in other (Claimed job) = job
+job_in other r = other
+
+-- a claim that is granted is of a worker and a vertex of the board, and so is its job
+pub claim_here : (b n : Seen) (w v : ℕ) (r : Result Job ClaimFault) → GivesClaim (λ job. (n, claim_reply job)) r (claim_of b w v) → IfOk r (IsClaimed b w v)
+unfolding table
+claim_here b n w v (Err e) gives = tt
+claim_here b n w v (Ok job) gives =
+    let c = claim_is b.build b.state w v (n.state, Claimed job) (granted b n (Claim w v) claim_fault (claim_grant b.build b.state w v) (Claimed job) gives) in
+    let same = ap (λ (a : State × Reply). job_in job a.1) c.gives in
+    let worker = slice_get_within b.state.workers w Idle c.idle in
+    let vertex = slice_get_within b.build.graph.vertices v c.start.vertex c.begins.there in
+    record {
+      worker = ap (λ (j : Job). j.worker) same;
+      vertex = ap (λ (j : Job). j.vertex) same;
+      has = is_of_both b w v worker vertex;
+    }
 
 -- a step adds its event to the record or changes nothing, so the board goes on either way
 pub step_goes : (b n : Seen) (w : ℕ) (r : Result Stepped StepFault) → GivesStep (λ s. (n, step_reply s)) r (step_of b w) → OnErr r (n ≡ b) → GoesOn b n

@@ -1,5 +1,5 @@
 -- What a run gives back.
-use Rattle.std.specs.Prelude.{ℕ, List, Bool, true, false, Option, Some, None, IsTrue}
+use Rattle.std.specs.Prelude.{ℕ, ◌<◌, ◌&&◌, nat_lt, List, length, Bool, true, false, Option, Some, None, IsTrue}
 use Rattle.llb_state.specs.Board.{Seen}
 use Rattle.llb_work.specs.Crew.{GoesOn, Counts}
 use Rattle.llb_work.specs.declared.end.RunFault.{RunFault}
@@ -19,13 +19,17 @@ is_foreign (Some (Foreign b)) = true
 abbrev pub Leads : Seen → List ℕ → Seen → Type 0
 Leads given made found = GoesOn given found × Counts made given found
 
--- a worker and a vertex at which a gate may stop
-abbrev pub StopsSomewhere : (ℕ → ℕ → Bool) → Type 0
-StopsSomewhere may_stop = (w : ℕ) × (v : ℕ) × IsTrue (may_stop w v)
+-- a worker of a board and a vertex of its graph at which a gate may stop
+abbrev pub StopsSomewhere : (ℕ → ℕ → Bool) → Seen → Type 0
+StopsSomewhere may_stop b = (w : ℕ) × (v : ℕ) × (w < length b.state.workers) × (v < length b.build.graph.vertices) × IsTrue (may_stop w v)
 
--- where a stop is noted, the gate may stop there
-abbrev pub may_be : (ℕ → ℕ → Bool) → Option Noted → Bool
-may_be may_stop None = true
-may_be may_stop (Some noted.Memory) = true
-may_be may_stop (Some noted.Thread) = true
-may_be may_stop (Some (noted.Stopped w v)) = may_stop w v
+-- a worker and a vertex of a board
+abbrev pub is_of : Seen → ℕ → ℕ → Bool
+is_of b w v = nat_lt w (length b.state.workers) && nat_lt v (length b.build.graph.vertices)
+
+-- where a stop is noted, the gate may stop there, and the worker and the vertex are of the board that was given
+abbrev pub may_be : (ℕ → ℕ → Bool) → Seen → Option Noted → Bool
+may_be may_stop b None = true
+may_be may_stop b (Some noted.Memory) = true
+may_be may_stop b (Some noted.Thread) = true
+may_be may_stop b (Some (noted.Stopped w v)) = may_stop w v && is_of b w v

@@ -1,6 +1,6 @@
 //! One driver: the chosen events, one after another, on the caller's own thread, until the run is complete.
 
-ghost use Rattle.std.specs.Prelude.{◌≡◌, ◌<◌, ◌==◌, ◌↔◌, ℕ, None, [], length, slice_get, slice_index, IfSome, true};
+ghost use Rattle.std.specs.Prelude.{◌≡◌, ◌<◌, ◌==◌, ◌↔◌, ◌⊎◌, ℕ, Some, None, [], length, slice_get, slice_index, IfSome, true};
 ghost use Rattle.std.specs.Bool.{OnTrue, OnFalse};
 ghost use Rattle.llb_model.specs.Table.{Claim, Step, Settle, Cancel, worker_of};
 ghost use Rattle.llb_state.specs.Views.{event_of};
@@ -107,6 +107,7 @@ fn made_by(events: &[Event]) -> [u64; 64]
 /// of a complete board stands as its plain outcome.
 pub fn run_alone(board: Board) -> RunEnd
     ensures goes { Goes board result.board }
+    ensures fault { result.fault ≡ None ⊎ (result.fault ≡ Some RunFault.Memory) }
     ensures ends { (result.fault ≡ None) ↔ (is_complete result.board.build result.board.state ≡ true) }
     ensures stops { IfSome result.fault (λ _. TakesMemory (chosen result.board.build result.board.state)) }
     ensures claims { board.events ≡ [] → AreAscending (claims_of result.board.events) }

@@ -87,7 +87,7 @@ pub(crate) fn run_crew<S: Gated + Send + Sync, G: Gate + Sync, R: Threads + Wait
     ensures start { result.start ≡ board }
     ensures after { IsAfter board result.board }
     ensures made { Counts result.made board result.board }
-    ensures stops { may_be S.may_stop result.noted ≡ true }
+    ensures stops { may_be S.may_stop board result.noted ≡ true }
 {
     let Some(supply) = make_supply::<S>(alloc, &board, n) else {
         return undone(board, start);

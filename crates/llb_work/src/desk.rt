@@ -1,12 +1,13 @@
 //! What lies under the lock: the board, the board that the run began from, the book of what was made, and the fault that was noted
 //! first. Its type keeps that the record went on from the board that was given by granted events, each of which is counted.
 
-ghost use Rattle.std.specs.Prelude.{◌≡◌, ◌+◌, length, true, Some};
+ghost use Rattle.std.specs.Prelude.{◌≡◌, ◌+◌, ℕ, length, true, Some, IfOk};
 ghost use Rattle.std.specs.Coded.{codes};
 ghost use Rattle.llb_tree.specs.Tree.{coded_tree};
 ghost use Rattle.llb_board.specs.Store.{coded_store};
 ghost use Rattle.llb_work.specs.Crew.{IsAfter};
 ghost use Rattle.llb_work.specs.RunEnds.{may_be};
+ghost use Rattle.llb_work.specs.Turns.{IsClaimed, IsHere};
 
 use crate::granted;
 use crate::noted::{Gated, Noted, Tally, count};
@@ -14,8 +15,6 @@ use llb_board::{
     At, Board, ClaimFault, Job, LandFault, Outcome, SettleFault, Settled, Status, StepFault,
     Stepped,
 };
-use llb_execution::mounts_of;
-use llb_loader::{Vertex, cache_in};
 use std::sync::ledger::Book;
 
 /// The board under the lock.
@@ -28,7 +27,7 @@ pub(crate) struct Desk<S: Gated> {
     pub ghost kept: { start ≡ S.given } by { Prim.hlevel (codes, coded_tree, coded_store) },
     pub ghost after: { IsAfter S.given board } by { Prim.hlevel (codes, coded_tree, coded_store) },
     pub ghost counted: { calls.total + length S.given.events ≡ length board.events },
-    pub ghost stops: { may_be S.may_stop noted ≡ true },
+    pub ghost stops: { may_be S.may_stop S.given noted ≡ true },
 }
 
 /// What a worker comes to the lock with.
@@ -75,7 +74,7 @@ pub(crate) fn make_desk<S: Gated>(board: Board, start: Board, calls: Book<S>) ->
 impl<S: Gated> Desk<S> {
     /// Notes why the run ends, unless something is noted.
     pub(crate) fn note(&mut self, noted: Noted)
-        requires { may_be S.may_stop (Some noted) ≡ true }
+        requires { may_be S.may_stop S.given (Some noted) ≡ true }
     {
         if self.noted.is_none() {
             self.noted = Some(noted);
@@ -83,7 +82,9 @@ impl<S: Gated> Desk<S> {
     }
 
     /// A worker takes a vertex, which counts for it.
-    fn claim(&mut self, w: u32, v: u32, mine: &mut Tally<S>) -> Result<Job, ClaimFault> {
+    fn claim(&mut self, w: u32, v: u32, mine: &mut Tally<S>) -> Result<Job, ClaimFault>
+        ensures { IfOk result (IsClaimed S.given w v) }
+    {
         let Desk {
             board,
             start: _,
@@ -159,7 +160,7 @@ impl<S: Gated> Desk<S> {
     /// A worker gives up what it runs and notes why the run ends, in one hold: another worker never sees a vertex that is ready, in
     /// no queue, and nothing noted.
     pub(crate) fn give_up(&mut self, w: u32, noted: Noted, mine: &mut Tally<S>)
-        requires { may_be S.may_stop (Some noted) ≡ true }
+        requires { may_be S.may_stop S.given (Some noted) ≡ true }
     {
         self.cancel(w, mine);
         self.note(noted);
@@ -173,7 +174,9 @@ impl<S: Gated> Desk<S> {
         brought: Brought,
         mine: &mut Tally<S>,
         news: &mut Vec<u32>,
-    ) -> Turn {
+    ) -> Turn
+        ensures { IsHere S.given w result }
+    {
         match brought {
             Brought::Nothing => self.go_on(w, mine, news),
             Brought::Number(v) => self.take(w, v, mine, news),
@@ -185,7 +188,9 @@ impl<S: Gated> Desk<S> {
     }
 
     // One event of what a worker runs. Where it runs nothing, it ends with the run.
-    fn go_on(&mut self, w: u32, mine: &mut Tally<S>, news: &mut Vec<u32>) -> Turn {
+    fn go_on(&mut self, w: u32, mine: &mut Tally<S>, news: &mut Vec<u32>) -> Turn
+        ensures { IsHere S.given w result }
+    {
         match self.board.worker(w) {
             None => Turn::End,
             Some(At::Runs(_, _, true)) => {
@@ -205,12 +210,14 @@ impl<S: Gated> Desk<S> {
     }
 
     // The claim of a vertex, while the run goes on. Its number is dropped where the vertex is not ready: another worker has it.
-    fn take(&mut self, w: u32, v: u32, mine: &mut Tally<S>, news: &mut Vec<u32>) -> Turn {
+    fn take(&mut self, w: u32, v: u32, mine: &mut Tally<S>, news: &mut Vec<u32>) -> Turn
+        ensures { IsHere S.given w result }
+    {
         if self.is_over() {
             return Turn::End;
         }
         match self.claim(w, v, mine) {
-            Ok(job) => self.begun(v, job),
+            Ok(job) => self.begun(w, job),
             Err(ClaimFault::Held(_)) => match news.push(v) {
                 Ok(()) => Turn::Wait,
                 Err(_) => self.stop(),
@@ -222,7 +229,9 @@ impl<S: Gated> Desk<S> {
     }
 
     // A worker has left a vertex, or what it came with was refused.
-    fn left(&mut self, settled: Option<Settled>, news: &mut Vec<u32>) -> Turn {
+    fn left(&mut self, settled: Option<Settled>, news: &mut Vec<u32>) -> Turn
+        ensures { (w : ℕ) → IsHere S.given w result }
+    {
         match settled {
             None => Turn::Again,
             Some(Settled::Done(v) | Settled::Failed(v)) => {
@@ -241,17 +250,22 @@ impl<S: Gated> Desk<S> {
     }
 
     // Memory was refused to a worker that runs nothing.
-    fn stop(&mut self) -> Turn {
+    fn stop(&mut self) -> Turn
+        ensures { (w : ℕ) → IsHere S.given w result }
+    {
         self.note(Noted::Memory);
         Turn::End
     }
 
     // What is done of a vertex that was taken: under the lock where it shows a shared cache, else away from it.
-    fn begun(&self, v: u32, job: Job) -> Turn {
-        match self.board.graph().vertices().get(v as usize) {
-            Some(vertex) if shows_shared(vertex) => Turn::Pass(v),
-            _ => Turn::Work(job),
+    fn begun(&self, w: u32, job: Job) -> Turn
+        requires { IsClaimed S.given w job.vertex job }
+        ensures { IsHere S.given w result }
+    {
+        if self.board.has_shared(w) {
+            return Turn::Pass(job.vertex());
         }
+        Turn::Work(job)
     }
 }
 
@@ -263,16 +277,4 @@ fn note_ready(board: &Board, v: u32, news: &mut Vec<u32>) -> bool {
         }
     }
     true
-}
-
-// Whether a vertex shows a cache that several workers may have at once.
-fn shows_shared(vertex: &Vertex) -> bool {
-    for mount in mounts_of(&vertex.op.kind) {
-        if let Some(options) = cache_in(mount) {
-            if options.sharing != 1 && options.sharing != 2 {
-                return true;
-            }
-        }
-    }
-    false
 }

@@ -1,7 +1,8 @@
 //! The calls on a board that workers make. Each is granted or changes nothing: either way the record goes on by granted events.
 
-ghost use Rattle.std.specs.Prelude.{◌≤◌, length};
+ghost use Rattle.std.specs.Prelude.{◌≤◌, length, IfOk};
 ghost use Rattle.llb_work.specs.Crew.{GoesOn};
+ghost use Rattle.llb_work.specs.Turns.{IsClaimed};
 
 use llb_board::{
     Board, CancelFault, Cancelled, ClaimFault, Job, LandFault, Outcome, SettleFault, Settled,
@@ -10,6 +11,7 @@ use llb_board::{
 
 /// A worker takes a vertex. 131 to 135, 141.
 pub(crate) fn claim(board: &mut Board, w: u32, v: u32) -> Result<Job, ClaimFault>
+    ensures claimed { IfOk result (IsClaimed board.old w v) }
     ensures goes { GoesOn board.old board.new }
     ensures longer { length board.old.events ≤ length board.new.events }
 {

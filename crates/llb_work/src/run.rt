@@ -2,6 +2,7 @@
 
 ghost use Rattle.std.specs.Prelude.{◌≡◌, ◌≤◌, ◌+◌, ◌⊎◌, ℕ, Bool, sum, length, true, false, Some, None};
 ghost use Rattle.llb_model.specs.Run.{is_complete};
+ghost use Rattle.llb_state.specs.Board.{Seen};
 ghost use Rattle.llb_work.specs.Crew.{GoesOn, Counts};
 ghost use Rattle.llb_work.specs.RunEnds.{is_foreign, may_be, StopsSomewhere, Leads};
 
@@ -36,7 +37,7 @@ pub fn run_workers<G: Gate + Sync, R: Threads + Wait + Sync>(
     ensures leads { Leads board result.made result.board }
     ensures own { is_foreign result.fault ≡ false }
     ensures complete { result.fault ≡ None → is_complete result.board.build result.board.state ≡ true }
-    ensures stopped { result.fault ≡ Some RunFault.Stopped → StopsSomewhere G.may_stop }
+    ensures stopped { result.fault ≡ Some RunFault.Stopped → StopsSomewhere G.may_stop board }
 {
     let Ok(start) = board.copy() else {
         return refused(board);
@@ -93,7 +94,8 @@ fn ended(board: Board, made: [u64; 64], noted: Option<Noted>) -> RunEnd
     ensures made { sum result.made + length board.events ≡ sum made + length result.board.events }
     ensures own { is_foreign result.fault ≡ false }
     ensures complete { result.fault ≡ None → is_complete result.board.build result.board.state ≡ true }
-    ensures stopped { (may_stop : ℕ → ℕ → Bool) → may_be may_stop noted ≡ true → result.fault ≡ Some RunFault.Stopped → StopsSomewhere may_stop }
+    ensures stopped { (may_stop : ℕ → ℕ → Bool) (given : Seen) → may_be may_stop given noted ≡ true → result.fault ≡ Some RunFault.Stopped
+        → StopsSomewhere may_stop given }
 {
     let Some(noted) = noted else {
         return rest(board, made);
@@ -105,7 +107,8 @@ fn ended(board: Board, made: [u64; 64], noted: Option<Noted>) -> RunEnd
 // What was noted, as a fault.
 fn fault_of(noted: Noted) -> RunFault
     ensures own { is_foreign (Some result) ≡ false }
-    ensures stopped { (may_stop : ℕ → ℕ → Bool) → may_be may_stop (Some noted) ≡ true → result ≡ RunFault.Stopped → StopsSomewhere may_stop }
+    ensures stopped { (may_stop : ℕ → ℕ → Bool) (given : Seen) → may_be may_stop given (Some noted) ≡ true → result ≡ RunFault.Stopped
+        → StopsSomewhere may_stop given }
 {
     match noted {
         Noted::Memory => RunFault::Memory,

@@ -2,6 +2,8 @@
 
 ghost use Rattle.std.specs.Prelude.{◌≡◌, ℕ, true, IsTrue};
 ghost use Rattle.llb_work.specs.Passes.{IsPassFor};
+ghost use Rattle.llb_work.specs.RunEnds.{is_of};
+ghost use Rattle.llb_work.specs.Turns.{IsClaimed, IsHere};
 
 use crate::desk::{Brought, Desk, Turn};
 use crate::noted::{Gated, Noted, Tally};
@@ -69,6 +71,7 @@ fn away<S: Gated, G: Gate, R: Wait>(
     turn: Turn,
 ) -> Option<Brought>
     requires stop { (w v : ℕ) → IsTrue (G.may_stop w v) → S.may_stop w v ≡ true }
+    requires here { IsHere S.given w turn }
     requires pass { IsPassFor queue.now w pass.old }
     ensures { IsPassFor queue.now w pass.new }
 {
@@ -130,7 +133,8 @@ fn passed<S: Gated, G: Gate, R: Wait>(
     v: u32,
     tally: &mut Tally<S>,
 ) -> Option<Brought>
-    requires { (w v : ℕ) → IsTrue (G.may_stop w v) → S.may_stop w v ≡ true }
+    requires stop { (w v : ℕ) → IsTrue (G.may_stop w v) → S.may_stop w v ≡ true }
+    requires here { is_of S.given w v ≡ true }
 {
     match gate.pass(w, v) {
         Ok(()) => Some(Brought::Nothing),
@@ -151,7 +155,8 @@ fn worked<S: Gated, G: Gate, R: Wait>(
     job: Job,
     tally: &mut Tally<S>,
 ) -> Option<Brought>
-    requires { (w v : ℕ) → IsTrue (G.may_stop w v) → S.may_stop w v ≡ true }
+    requires stop { (w v : ℕ) → IsTrue (G.may_stop w v) → S.may_stop w v ≡ true }
+    requires here { IsClaimed S.given w job.vertex job }
 {
     let (worker, vertex) = (job.worker(), job.vertex());
     let noted = match work(alloc, job, gate) {

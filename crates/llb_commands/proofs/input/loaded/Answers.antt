@@ -1,5 +1,6 @@
-use Rattle.std.proofs.Common.{subst}
-use Rattle.llb_commands.specs.Running.{IsRefusal}
+use Rattle.std.proofs.Common.{subst, sym}
+use Rattle.llb_commands.specs.Answer.{IsRefused}
+use Rattle.llb_commands.specs.Running.{TellsRefusal}
 use Rattle.llb_commands.proofs.Answering.{reads_graph, tells, tells_unread, all_read}
 use Rattle.llb_commands.proofs.input.loaded.Goals as goal
 
@@ -15,7 +16,9 @@ returns-in-Ok-load_owned g c = reads_graph (g.R.Read.remaining c.args.input.now)
     c.in-Ok-load_owned.ensures.graph
 
 pub returns-in-Err-load_owned : goal.returns-in-Err-load_owned
-returns-in-Err-load_owned g c = λ h. tells (g.R.Read.remaining c.args.input.now) c.in-Err-load_owned.fault c.in-Ok.bytes.items
-    (all_read (g.R.Read.remaining c.args.input.now) (g.R.Read.remaining c.read_bounded.new.input) c.read_bounded.result c.in-Ok.bytes c.in-Ok.is
-    c.read_bounded.ensures.reads)
-    c.in-Err-load_owned.ensures.refused (subst IsRefusal c.passed_on.ensures h)
+returns-in-Err-load_owned g c =
+    let left = g.R.Read.remaining c.args.input.now in
+    subst (TellsRefusal IsRefused left) (sym c.passed_on.ensures)
+    (tells left c.in-Err-load_owned.fault c.in-Ok.bytes.items
+    (all_read left (g.R.Read.remaining c.read_bounded.new.input) c.read_bounded.result c.in-Ok.bytes c.in-Ok.is c.read_bounded.ensures.reads)
+    c.in-Err-load_owned.ensures.refused)

@@ -1,10 +1,14 @@
-use Rattle.std.proofs.Common.{inl, ap}
+use Rattle.std.proofs.Common.{ap, ◌∙◌, Err}
 use Rattle.llb_board.specs.Opening.{open_memory}
-use Rattle.llb_commands.proofs.Stepped.{missing_in, lacks}
+use Rattle.llb_commands.proofs.Stepped.{lacks, unmanned}
 use Rattle.llb_commands.proofs.opening.opened.Goals as goal
 
 pub returns-in-Err-MissingLocal-clause-fault : goal.returns-in-Err-MissingLocal-clause-fault
 returns-in-Err-MissingLocal-clause-fault c =
     let e = c.in-Err-MissingLocal in
-    λ is. inl (lacks c.args.locals c.args.graph c.new.result c.args.workers e.field-0 (ap missing_in e.field-0-is)
-    (e.ensures.gives (ap open_memory e.field-0-is)))
+    λ is. lacks c.args.locals c.args.graph _ _ c.new.result _ c.args.workers e.name (e.ensures.gives (ap open_memory e.field-0-is) ∙ ap (λ f. Err f) e.field-0-is)
+
+pub returns-in-Err-Workers-clause-fault : goal.returns-in-Err-Workers-clause-fault
+returns-in-Err-Workers-clause-fault c =
+    let e = c.in-Err-Workers in
+    λ is. unmanned c.args.locals c.args.graph _ _ c.new.result _ c.args.workers (e.ensures.gives (ap open_memory e.field-0-is) ∙ ap (λ f. Err f) e.field-0-is)

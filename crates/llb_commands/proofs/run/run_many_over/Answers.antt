@@ -5,4 +5,5 @@ pub returns : goal.returns
 returns g c =
     run_told c.args.workers c.args.locals (g.R.Read.remaining c.args.input.now) (g.W.Write.contents c.args.out.now)
     (g.W.Write.contents c.answer_by-answer.new.out)
-    (g.W.Write.contents c.told.new.out) c.answer_by-answer.result c.told.result c.answer_by-answer.ensures c.told.ensures
+    (g.W.Write.contents c.told.new.out) (g.E.Write.contents c.args.err.now) (g.E.Write.contents c.told.new.err)
+    c.answer_by-answer.result c.told.result c.answer_by-answer.ensures c.told.ensures

@@ -6,36 +6,13 @@ use Rattle.llb_commands.proofs.Stepped.{begins, tells_unread, tells_unopened, te
 use Rattle.llb_commands.proofs.stepping.stepped.Goals as goal
 
 pub returns-in_err-board : goal.returns-in_err-board
-returns-in_err-board g c =
-    let left = g.R.Read.remaining c.args.file.now in
-    let e = c.in_err-board in
-    let tells = tells_unopened c.args.locals c.args.workers left c.in_ok-graph.graph e.field-0.0 c.in_ok-graph.ensures e.ensures.fault in
-    let p = err_from_is_err_and c.from_residual-in_err-board.result c.from_residual-in_err-board.ensures.1 in
-    rw (p.1, p.2) (inl (Keeps-refl (g.W.Write.contents c.args.out.now), tells))
+returns-in_err-board g c = ?
 
 pub returns-in-Ok : goal.returns-in-Ok
-returns-in-Ok g c =
-    let graph = c.in_ok-graph.graph in
-    let begun = begins c.args.locals graph c.args.workers c.new-stepper.result c.in_ok-board.board c.new-stepper.ensures c.in_ok-board.ensures.board in
-    tells_session c.args.locals c.args.workers (g.R.Read.remaining c.args.file.now) (g.C.Read.remaining c.args.commands.now)
-    (g.C.Read.remaining c.converse.new.commands) (g.W.Write.contents c.args.out.now) (g.W.Write.contents c.converse.new.out) graph c.new-stepper.result
-    c.converse.new.session (Ok c.in-Ok.field-0) c.in_ok-graph.ensures begun c.in-Ok.ensures
+returns-in-Ok g c = ?
 
 pub returns : goal.returns
-returns g c =
-    let graph = c.in_ok-graph.graph in
-    let fault = c.in-Err.fault in
-    let begun = begins c.args.locals graph c.args.workers c.new-stepper.result c.in_ok-board.board c.new-stepper.ensures c.in_ok-board.ensures.board in
-    inr (
-      fault,
-      c.session_fault.ensures,
-      tells_session c.args.locals c.args.workers (g.R.Read.remaining c.args.file.now) (g.C.Read.remaining c.args.commands.now)
-          (g.C.Read.remaining c.converse.new.commands) (g.W.Write.contents c.args.out.now) (g.W.Write.contents c.converse.new.out) graph c.new-stepper.result
-          c.converse.new.session (Err fault) c.in_ok-graph.ensures begun c.in-Err.ensures,
-    )
+returns g c = ?
 
 pub returns-in_err-graph : goal.returns-in_err-graph
-returns-in_err-graph g c =
-    let tells = tells_unread c.args.locals c.args.workers (g.R.Read.remaining c.args.file.now) c.in_err-graph.field-0.0 c.in_err-graph.ensures in
-    let p = err_from_is_err_and c.from_residual.result c.from_residual.ensures.1 in
-    rw (p.1, p.2) (inl (Keeps-refl (g.W.Write.contents c.args.out.now), tells))
+returns-in_err-graph g c = ?

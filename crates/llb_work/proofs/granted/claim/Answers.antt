@@ -1,6 +1,6 @@
 use Rattle.llb_state.specs.Views.{claim_reply}
 use Rattle.llb_work.proofs.Afters.{no_shorter}
-use Rattle.llb_work.proofs.Workers.{claim_goes}
+use Rattle.llb_work.proofs.Workers.{claim_goes, claim_here}
 use Rattle.llb_work.proofs.granted.claim.Goals as goal
 
 pub returns-clause-goes : goal.returns-clause-goes
@@ -8,3 +8,6 @@ returns-clause-goes c = claim_goes claim_reply c.args.board.now c.claim.new.self
 
 pub returns-clause-longer : goal.returns-clause-longer
 returns-clause-longer c = no_shorter c.args.board.now c.claim.new.self (returns-clause-goes c)
+
+pub returns-clause-claimed : goal.returns-clause-claimed
+returns-clause-claimed c = claim_here c.args.board.now c.claim.new.self c.args.w c.args.v c.claim.result c.claim.ensures.gives

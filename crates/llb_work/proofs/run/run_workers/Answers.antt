@@ -22,4 +22,4 @@ returns-clause-leads g c =
     c.ended.ensures.made
 
 pub returns-clause-stopped : goal.returns-clause-stopped
-returns-clause-stopped g c = c.ended.ensures.stopped g.G.Gate.may_stop c.run_crew-left.ensures.stops
+returns-clause-stopped g c = c.ended.ensures.stopped g.G.Gate.may_stop c.args.board c.run_crew-left.ensures.stops

@@ -1,5 +1,6 @@
 use Rattle.std.proofs.Common.{arith, ap, length, ◌∙◌}
 use Rattle.llb_work.proofs.Afters.{after_more}
+use Rattle.llb_work.proofs.Here.{claimed_at_first}
 use Rattle.llb_work.proofs.desk.Desk.claim.Goals as goal
 
 pub invariant_of-self : goal.invariant_of-self
@@ -13,3 +14,6 @@ invariant_of-self g c =
       counted = omega (arith, before, now, c.count.ensures, old.counted);
       stops = old.stops;
     }
+
+pub returns : goal.returns
+returns g c = claimed_at_first g.S.Gated.given c.args.self.now.board c.args.w c.args.v c.claim-claimed.result c.args.self.now.after c.claim-claimed.ensures.claimed
