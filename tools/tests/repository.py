@@ -85,7 +85,7 @@ class Page(unittest.TestCase):
         self.assertGreater(len(self.printed), 100)
         said = {self.name_of(one): one for one in self.printed}
         self.assertEqual(said["llb_wire::Memory"].sentence, "5: memory was refused.")
-        self.assertEqual(said["AsmFault::Line"].forms, ("161 {0} {1}",))
+        self.assertEqual(said["AsmFault::Line"].forms, ("161 {line} {rule}",))
         self.assertEqual(said["WordsFault::Words"].forms, ("183 {word}", "183"))
 
     def test_numbers_are_those_of_the_code(self):

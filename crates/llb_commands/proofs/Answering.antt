@@ -125,7 +125,8 @@ too_long left left' r e is same reads =
 module _ (IsSo : ProgramFault → List ℕ → Type 0) (long : (bytes : List ℕ) → 67108864 < length bytes → IsSo (Refused (Definition OverLimit)) bytes)
     (left left' : Option (List ℕ)) (r : Result (Vec ℕ Global) ReadFault) where
   by_fault : (e : ReadFault) → r ≡ Err e → ReadsAll 67108864 134217728 left left' r → TellsRefusal IsSo left (unread_as e)
-  by_fault TooLong is reads = λ _. some_map (λ xs. 67108864 < length xs) (IsSo (Refused (Definition OverLimit))) left long (too_long left left' r TooLong is refl reads)
+  by_fault TooLong is reads = λ _. some_map (λ xs. 67108864 < length xs) (IsSo (Refused (Definition OverLimit))) left long
+      (too_long left left' r TooLong is refl reads)
   by_fault (Failed kind) is reads = λ h. absurd h
   by_fault (Unending interrupted) is reads = λ h. absurd h
   by_fault reading.Memory is reads = λ h. absurd h

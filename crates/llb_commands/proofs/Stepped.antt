@@ -92,7 +92,8 @@ module _ (locals : List Local) (workers : ℕ) (file : Option (List ℕ)) where
   module _ (commands commands' out out' : Option (List ℕ)) where
     -- a session was held over the graph of the bytes
     pub tells_session : (g : Numbered) (s t : Stepping) (r : Result (Unit {0}) SessionFault) → IfSome file (λ bytes. IsGraphIn bytes g)
-        → s ≡ begun locals g workers → Converses limit most_reads s t commands commands' out out' r → IfSome file (IsSession locals workers commands commands' out out' r)
+        → s ≡ begun locals g workers → Converses limit most_reads s t commands commands' out out' r
+        → IfSome file (IsSession locals workers commands commands' out out' r)
     tells_session g s t r loads same talks =
         some_map (λ bytes. IsGraphIn bytes g) (IsSession locals workers commands commands' out out' r) file
         (λ bytes loaded. record {

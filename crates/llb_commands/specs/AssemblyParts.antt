@@ -32,8 +32,8 @@ text_unread_as (reading.Unending interrupted) = fault.Read
 text_unread_as reading.Memory = fault.Memory
 
 -- what comes of the input is out; or a fault stands, and at most a prefix of it is out
-abbrev pub EndsIn : (List ℕ → List ℕ → Type 0) → (ProgramFault → List ℕ → Type 0) → Option (List ℕ) → Option (List ℕ) → Option (List ℕ) → Result (Unit {0}) ProgramFault
-    → Type 0
+abbrev pub EndsIn : (List ℕ → List ℕ → Type 0) → (ProgramFault → List ℕ → Type 0) → Option (List ℕ) → Option (List ℕ) → Option (List ℕ)
+    → Result (Unit {0}) ProgramFault → Type 0
 EndsIn Comes IsRefused input out out' (Ok u) = IfSome input (IsOut Comes out out')
 EndsIn Comes IsRefused input out out' (Err e) = (Keeps out out' × TellsRefusal IsRefused input e) ⊎ ((¬ IsRefusal e) × IfSome input (IsPartOut Comes out out'))
 

@@ -114,7 +114,8 @@ pub fn converse<R: Read, W: Write>(
     limit: usize,
     reads: u64,
 ) -> Result<(), SessionFault>
-    ensures { Converses limit reads session.old session.new (R.remaining commands.old) (R.remaining commands.new) (W.contents out.old) (W.contents out.new) result }
+    ensures { Converses limit reads session.old session.new (R.remaining commands.old) (R.remaining commands.new)
+        (W.contents out.old) (W.contents out.new) result }
 {
     let mut pending = Pending {
         answered: 0,

@@ -39,7 +39,8 @@ is_of_both b w v worker vertex =
 -- as many workers as at first
 workers_same : (b : Build) (s t : State) (es : List Event) (rs : List Reply) → run b s es ≡ Some (t, rs) → length t.workers ≡ length s.workers
 workers_same b s t es rs leads =
-    run_keeps b (λ (x : State). length x.workers ≡ length s.workers) (λ x e a same given. workers_stay b x e a given ∙ same) s t es rs (λ i. length s.workers) leads
+    run_keeps b (λ (x : State). length x.workers ≡ length s.workers) (λ x e a same given. workers_stay b x e a given ∙ same) s t es rs
+    (λ i. length s.workers) leads
 
 -- what is of a board is of the one that it began from
 pub is_of_start : (s b : Seen) (w v : ℕ) → IsAfter s b → is_of b w v ≡ true → is_of s w v ≡ true

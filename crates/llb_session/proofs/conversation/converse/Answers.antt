@@ -83,5 +83,5 @@ returns-then-ne g c =
 pub returns : goal.returns
 returns g c =
     let i = c.loop-i.invariant in
-    ends_unending _ _ _ _ _ (standing c.loop-i.session c.loop-i.pending) _ _ _ _ (omega (arith, i.1.1, c.loop-i-test.false)) (omega (arith, i.1.2, c.loop-i.auto))
-    i.1.0
+    ends_unending _ _ _ _ _ (standing c.loop-i.session c.loop-i.pending) _ _ _ _ (omega (arith, i.1.1, c.loop-i-test.false))
+    (omega (arith, i.1.2, c.loop-i.auto)) i.1.0

@@ -16,4 +16,6 @@ invariant_of-self g c =
     }
 
 pub returns : goal.returns
-returns g c = claimed_at_first g.S.Gated.given c.args.self.now.board c.args.w c.args.v c.claim-claimed.result c.args.self.now.after c.claim-claimed.ensures.claimed
+returns g c =
+    claimed_at_first g.S.Gated.given c.args.self.now.board c.args.w c.args.v c.claim-claimed.result c.args.self.now.after
+    c.claim-claimed.ensures.claimed
