@@ -12,6 +12,7 @@ use Rattle.llb_state.specs.Board.{Seen, Replays, SettledArePlain}
 use Rattle.llb_board.specs.Headline.{LockedOnce}
 use Rattle.llb_stepper.specs.Records.{TellsTheRun}
 use Rattle.llb_stepper.specs.Stepping.{Stepping, PastIsTheRecords, IsReplayed}
+use Rattle.llb_session.specs.Told.{GoTellsTheRun}
 use Rattle.llb_commands.specs.Assembly.{IsAssembled}
 
 -- The definition is accepted: it is loaded as the graph. The machine's board is over the graph, with some local trees, and so is the stepper's.
@@ -43,9 +44,10 @@ pub record Aim (text definition : List ℕ) (entries : List (List ℕ)) (graph :
   -- assembled text and loaded bytes read as one graph
   pub one_graph : LoadsAsOne text definition entries graph
   -- and so does the stepper: its state is the table's on its record, each board that `back` can come to is that of the record without its last events,
-  -- and its lines tell the events and replies of that run
+  -- its lines tell the events and replies of that run, and so do those that a session's `go` prints
   pub stepper_state : Replays stepper.board
   pub stepper_past : PastIsTheRecords stepper
   pub stepper_lines : TellsTheRun stepper
+  pub session_lines : GoTellsTheRun stepper
   -- and the machine's record, replayed, leads to the machine's board
   pub stepper_replays : IsReplayed board

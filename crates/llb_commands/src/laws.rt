@@ -1,14 +1,20 @@
 //! What holds of texts, definitions and runs together.
 
+ghost use Rattle.std.specs.Prelude.{IfOk};
+ghost use Rattle.llb_loader.specs.Graph.{Numbered};
 ghost use Rattle.llb_commands.specs.Aim.{Aim, IsAccepted};
 ghost use Rattle.llb_commands.specs.Assembly.{RunsAlike};
 
+use crate::fault::ProgramFault;
+use crate::opening::opened;
 use llb_asm::one_answer;
 use llb_board::Board;
-use llb_loader::{Graph, one_answer_in};
+use llb_loader::{Graph, Locals, load, one_answer_in};
 use llb_ops::{Entries, definition_is_read_again};
+use llb_session::laws::go_tells_the_run;
 use llb_stepper::{Stepper, past_is_the_records, replay_is_the_run, tells_the_run};
 use llb_wire::Bytes;
+use std::alloc::Global;
 
 /// For a text that stands for some entries: the definition that it is assembled to, and any bytes that have these entries, run on the
 /// same local trees to the text of one and the same result.
@@ -47,5 +53,36 @@ pub fn aim(
     stepped.replays();
     past_is_the_records(stepper);
     tells_the_run(stepper);
+    go_tells_the_run(stepper);
     replay_is_the_run(board);
+}
+
+/// A caller of `aim`: what the calls give that load a definition, open boards over its graph and make a stepper meets its premises.
+pub fn aim_is_met(
+    alloc: Global,
+    text: &[u8],
+    definition: &Bytes,
+    entries: &Entries,
+    locals: Locals,
+    workers: u32,
+    others: Locals,
+) -> Result<(Board, Stepper), ProgramFault>
+    ensures { IfOk result (λ made. (graph : Numbered) × IsAccepted definition.now graph made.0 made.1
+        × Aim text.now definition.now entries.now graph made.0 made.1) }
+{
+    let graph = match load(alloc, definition.as_slice()) {
+        Ok(graph) => graph,
+        Err(fault) => return Err(ProgramFault::Refused(fault)),
+    };
+    let Ok(first) = graph.copy() else {
+        return Err(ProgramFault::Memory);
+    };
+    let Ok(second) = graph.copy() else {
+        return Err(ProgramFault::Memory);
+    };
+    let board = opened(alloc, first, locals, workers)?;
+    let other = opened(alloc, second, others, 1)?;
+    let stepper = Stepper::new(alloc, other);
+    aim(text, definition, entries, &graph, &board, &stepper);
+    Ok((board, stepper))
 }

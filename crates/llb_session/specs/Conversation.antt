@@ -116,8 +116,8 @@ EndsSo limit reads s heard unheard t left' out out' (Err (Unending interrupted))
 EndsSo limit reads s heard unheard t left' out out' (Err Memory) = Answered (opening s) heard t out out'
 EndsSo limit reads s heard unheard t left' out out' (Err TooLong) = (length heard ≡ limit) × (0 < length unheard) × Answered (opening s) heard t out out'
 
--- A conversation takes bytes from its reader, in no more reads than are given, and hears them from the start, no more than the limit. Without a fault it ends where the
--- input ends or a line ends the session.
+-- A conversation takes bytes from its reader, in no more reads than are given, and hears them from the start, no more than the limit. Without a fault it
+-- ends where the input ends or a line ends the session.
 pub record Converses (limit reads : ℕ) (s t : Stepping) (left left' out out' : Option (List ℕ))
     (result : Result (Unit {0}) SessionFault) : Type 0 where
   pub heard : List ℕ

@@ -89,7 +89,7 @@ const BOUNDS: &[(usize, u64, &str, u32)] = &[
 fn number_of(end: Option<Result<(), SessionFault>>) -> Option<u32> {
     match end? {
         Ok(()) => Some(0),
-        Err(SessionFault::Read) => Some(181),
+        Err(SessionFault::Failed(_) | SessionFault::Unending(_)) => Some(181),
         Err(SessionFault::Write) => Some(182),
         Err(SessionFault::Memory) => Some(184),
         Err(SessionFault::TooLong) => Some(185),

@@ -138,6 +138,7 @@ fn brought(rt: &impl Abort, alloc: Global, row: &Landing) -> u32 {
     let outcome = outcome_from(rt, alloc, row.0, 0, &Passes);
     let mut board = board_of(rt, alloc, row.1, "", 2);
     assert!(rt; are_done(&mut board, row.2));
+    assert!(rt; board.has_shared(row.3) == (row.4 == 140));
     landed(&mut board, row.3, outcome.ok().expect(rt, "an outcome"))
 }
 

@@ -17,5 +17,6 @@ returns c accepted = record {
   stepper_state = subst Replays c.board-stepped.ensures c.replays-2.ensures.run;
   stepper_past = c.past_is_the_records.ensures;
   stepper_lines = c.tells_the_run.ensures;
+  session_lines = c.go_tells_the_run.ensures;
   stepper_replays = c.replay_is_the_run.ensures;
 }

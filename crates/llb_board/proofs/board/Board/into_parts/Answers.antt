@@ -18,5 +18,5 @@ returns c = record {
   locals = c.into_parts-graph.ensures.locals ∙ ap (λ (b : Seen). b.build.locals) c.self.view_is;
   rows = c.give_all_back.ensures.rows ∙ ap (λ (b : Seen). b.rows) c.self.view_is;
   contents = ap (λ (rows : List Row). store_of rows) c.give_all_back.ensures.rows ∙ ap (λ (b : Seen). b.state.store) c.self.view_is;
-  free = none_out c.give_all_back.new.out c.is_exclusive.ensures.ends c.give_all_back.ensures.none;
+  free = none_out c.give_all_back.new.caches.out c.is_exclusive.ensures.ends c.give_all_back.ensures.none;
 }
