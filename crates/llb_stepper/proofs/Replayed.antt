@@ -1,5 +1,5 @@
 -- The events of a board's record, done one by one on a board of its opening, lead to the board.
-use Rattle.std.proofs.Common.{◌≡◌, ℕ, zero, suc, ◌+◌, ◌-◌, ◌≤◌, length, reverse, arith, List, [], ◌∷◌, ◌++◌, Option, Some, None, option_map, refl, sym, ap, ◌∙◌}
+use Rattle.std.proofs.Common.{◌≡◌, ℕ, zero, suc, ◌+◌, ◌-◌, ◌≤◌, length, reverse, arith, List, [], ◌∷◌, ◌++◌, Option, Some, option_map, refl, sym, ap, ◌∙◌}
 use Rattle.std.proofs.lemmas.List.{append-nil, length-append}
 use Rattle.std.proofs.lemmas.Option.{slice_get_within}
 use Rattle.llb_cache.specs.Caches.{Row}
@@ -7,14 +7,14 @@ use Rattle.llb_model.specs.Program.{Build}
 use Rattle.llb_model.specs.State.{State, Opening, opening}
 use Rattle.llb_model.specs.Table.{Event, Reply, worker_of, table}
 use Rattle.llb_model.specs.Run.{run}
-use Rattle.llb_model.proofs.Runs.{run_first, run_none}
+use Rattle.llb_model.proofs.Runs.{run_first}
 use Rattle.std.specs.Prelude.{fold, take, slice_get}
 use Rattle.llb_state.specs.Board.{Seen, Replays, after_event, kept_along, kept_next}
 use Rattle.llb_state.specs.Caches.{rows_after}
 use Rattle.llb_board.specs.Undo.{undone}
 use Rattle.llb_board.specs.declared.walk.Walked.{Walked}
 use Rattle.llb_stepper.specs.Kept.{past_of, AreWalked}
-use Rattle.llb_stepper.specs.Stepping.{Stepping, PastIsTheRecords, answered, at_first, run_on, then_on}
+use Rattle.llb_stepper.specs.Stepping.{Stepping, PastIsTheRecords, at_first, run_on, then_on}
 use Rattle.llb_stepper.proofs.Grown.{Grew, grew, shifted}
 
 abbrev Kept : Type 0

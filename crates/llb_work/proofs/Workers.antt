@@ -52,7 +52,7 @@ job_in other r = other
 
 -- a claim that is granted is of a worker and a vertex of the board, and so is its job
 pub claim_here : (b n : Seen) (w v : ℕ) (r : Result Job ClaimFault) → GivesClaim (λ job. (n, claim_reply job)) r (claim_of b w v) → IfOk r (IsClaimed b w v)
-unfolding table
+unfolding table job_in
 claim_here b n w v (Err e) gives = tt
 claim_here b n w v (Ok job) gives =
     let c = claim_is b.build b.state w v (n.state, Claimed job) (granted b n (Claim w v) claim_fault (claim_grant b.build b.state w v) (Claimed job) gives) in

@@ -1,9 +1,7 @@
-use Rattle.std.proofs.Common.{◌≡◌, ℕ, ◌+◌, ◌*◌, ◌^◌, ◌<◌, ◌≤◌, ◌∷◌, List, length, refl, sym, ap, ◌∙◌, subst, arith, rules, length-set}
+use Rattle.std.proofs.Common.{◌≡◌, ◌<◌, length, refl, ◌∙◌, arith, rules, length-set}
 use Rattle.std.proofs.lemmas.Grind.{common_steps}
-use Rattle.std.specs.Vec.Iter.{into_iter_items, into_iter_len}
+use Rattle.std.specs.Vec.Iter.{into_iter_items}
 use Rattle.llb_ready.specs.Passes.{hand_of}
-use Rattle.llb_ready.specs.declared.hand.Hand.{Hand}
-use Rattle.llb_work.specs.Posts.{AllKeep}
 use Rattle.llb_work.proofs.Gathers.{zeros, sum_more, rest_more}
 use Rattle.llb_work.proofs.Keeping.{keeps_next, keeps_same}
 use Rattle.llb_work.proofs.Fractions.{pow_pos, joined_none, joined_more, joined_all, den_more}

@@ -1,4 +1,4 @@
-use Rattle.std.proofs.Common.{◌≡◌, ◌+◌, ◌*◌, ◌≤◌, ◌<◌, ◌^◌, ℕ, get_or, length, vec_len}
+use Rattle.std.proofs.Common.{◌≡◌, ◌+◌, ◌*◌, ◌≤◌, ◌<◌, ◌^◌, ℕ, get_or, length}
 use Rattle.std.specs.Prelude.{sum}
 use Rattle.std.specs.Vec.Iter.{into_iter_len, into_iter_items}
 use Rattle.llb_ready.specs.Passes.{hand_of, IsReadyPassOf}

@@ -1,8 +1,9 @@
-use Rattle.std.proofs.Common.{◌-◌, length, sym, ap, subst}
+use Rattle.std.proofs.Common.{◌≡◌, ◌-◌, ◌∙◌, None, option_map, length, sym, ap, subst}
+use Rattle.llb_model.specs.Run.{chosen}
 use Rattle.llb_state.specs.Views.{event_of}
 use Rattle.llb_stepper.specs.Rules.{MeetsOn}
 use Rattle.llb_stepper.specs.Stepping.{Stepping}
-use Rattle.llb_stepper.proofs.Stops.{nearer, none_chosen, one_chosen, stops_chosen, done_since, chosen_as}
+use Rattle.llb_stepper.proofs.Stops.{nearer, none_chosen, one_chosen, stops_chosen, ends_chosen, done_since, since, chosen_as}
 use Rattle.llb_stepper.proofs.Walked.{memory_alone, chosen_granted}
 use Rattle.llb_stepper.proofs.stepper.Stepper.go.Goals as goal
 
@@ -40,3 +41,12 @@ loop-event-smaller c =
     let e = event_of c.in-Some.event in
     let met = subst (MeetsOn c.loop-event.self e c.walk.new.self) c.in-Ok-false.field-0-test c.in-Ok-false.ensures.met in
     nearer c.loop-event.self c.walk.new.self e _ met (chosen_as _ c.loop-event.self e c.in-Some.ensures c.self.view_is)
+
+pub returns-clause-goes : goal.returns-clause-goes
+returns-clause-goes c =
+    let so_far = c.loop-event.invariant.0 in
+    let none : chosen c.loop-event.self.board.build c.loop-event.self.board.state ≡ None =
+    ap (λ (x : Stepping). chosen x.board.build x.board.state) (sym c.self.view_is) ∙ sym c.chosen.ensures ∙ ap (option_map event_of) c.in_default.is in
+    ends_chosen c.args.self.now c.loop-event.self (c.depth-2.result - c.depth-before.result)
+    (since c.args.self.now c.loop-event.self (length so_far.events) c.depth-before.result c.depth-2.result so_far.gone.depth c.loop-event.invariant.1
+    c.depth-2.ensures) so_far none c.past_is_the_records-2.ensures

@@ -1,8 +1,9 @@
-use Rattle.std.proofs.Common.{◌-◌, map, get_or, subst}
+use Rattle.std.proofs.Common.{◌-◌, map, get_or, subst, arith}
+use Rattle.std.proofs.lemmas.List.{length-map}
 use Rattle.llb_state.specs.Views.{event_of}
 use Rattle.llb_events.specs.declared.event.Event.TheVariants as event
 use Rattle.llb_stepper.specs.Rules.{MeetsOn}
-use Rattle.llb_stepper.proofs.Stops.{begun, one_more, stops, done_since, refused_at, event_at}
+use Rattle.llb_stepper.proofs.Stops.{begun, one_more, stops, ends_all, done_since, since, refused_at, event_at}
 use Rattle.llb_stepper.proofs.stepper.Stepper.replay.Goals as goal
 
 pub loop-event-init : goal.loop-event-init
@@ -37,3 +38,12 @@ loop-event-preserved c =
           c.loop-event-test.true) met,
       c.loop-event.invariant.1,
     )
+
+pub returns-clause-stops : goal.returns-clause-stops
+returns-clause-stops c =
+    let es = c.args.events.now in
+    let i = c.loop-event.event-index in
+    let so_far = c.loop-event.invariant.0 in
+    ends_all c.args.self.now c.loop-event.self (map event_of es) i (c.depth-2.result - c.depth-start.result)
+    (since c.args.self.now c.loop-event.self i c.depth-start.result c.depth-2.result so_far.depth c.loop-event.invariant.1 c.depth-2.ensures)
+    (omega (arith, c.loop-event-test.false, c.loop-event.auto.event-index-end, length-map es event_of)) so_far c.past_is_the_records-2.ensures
