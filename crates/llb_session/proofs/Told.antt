@@ -1,12 +1,11 @@
 -- The lines that a `go` prints are those of the run of the record.
-use Rattle.std.proofs.Common.{◌≡◌, ◌+◌, ◌<◌, ℕ, List, length, take, option_map, Some, ap, arith, length-append, length-drop}
+use Rattle.std.proofs.Common.{◌≡◌, ◌∙◌, ◌+◌, ◌≤◌, List, length, take, option_map, Some, ap, arith, length-append, length-drop}
 use Rattle.std.proofs.lemmas.List.{length-take}
-use Rattle.llb_model.specs.Table.{Event, Reply}
+use Rattle.llb_model.specs.Table.{Event}
 use Rattle.llb_state.specs.Board.{Replays}
 use Rattle.llb_stepper.specs.Records.{record_at, record_text}
 use Rattle.llb_stepper.specs.Stepping.{Stepping, line}
 use Rattle.llb_stepper.proofs.Lines.{reached, ran_on, tells}
-use Rattle.llb_session.specs.Answers.{GrantsGo}
 use Rattle.llb_session.specs.Texts.{ended}
 use Rattle.llb_session.specs.Told.{GoTellsTheRun}
 

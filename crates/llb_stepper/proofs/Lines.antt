@@ -141,7 +141,7 @@ module _ (s : Stepping) (records : PastIsTheRecords s) where
       let given : replied (slice_get s.past (after_it i)) (Some e) ≡ Some (e, q.0.1) =
       ap (λ o. replied o (Some e)) found
       ∙ ap (λ (o : Option Answer). option_map {U = Event × Reply} (λ (p : Seen × Reply). (e, p.1)) (option_map {U = Seen × Reply} (λ (a : Answer).
-          (after_event c e a.0, a.1)) o)) granted in
+      (after_event c e a.0, a.1)) o)) granted in
       (q.0.1, given, q.2)
 
   tells_one : (i : ℕ) (e : Event) (r : Reply) (t : State) (replies : List Reply) → from_opening s.board s.board.events ≡ Some (t, replies)

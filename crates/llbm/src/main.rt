@@ -51,7 +51,5 @@ fn main(rt: HostRuntime) -> ExitCode {
     let files = Files { rt: &rt };
     let mut input = rt.reader();
     let words = words.as_slice();
-    ExitCode::from(program(
-        &rt, alloc, words, &files, &mut input, &mut out, &mut err,
-    ))
+    ExitCode::from(program(&rt, alloc, words, &files, &mut input, &mut out, &mut err))
 }
