@@ -11,3 +11,4 @@ pub mod Numbers
 mod StepFacts
 pub mod Stepped
 mod Always
+pub mod Lines

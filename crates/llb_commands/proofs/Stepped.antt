@@ -123,7 +123,7 @@ module _ (locals : List Local) (workers : ℕ) (file : Option (List ℕ)) where
           ⊎ ((status ≡ 3) × (Keeps out out' ⊎ ⊥)) → Steps locals workers file commands commands' out out' err err' status
       not_opened status (inl (two, keeps, why)) = inr (inl (two, inl (keeps, why)))
       not_opened status (inr (three, inl keeps)) = inr (inr (three, inl keeps))
-      not_opened status (inr (three, inr no)) = absurd no
+      not_opened status (inr (three, inr part)) = absurd part
 
       -- a run that ended with a fault has the status for it, with its line
       pub ends_by : (e : ProgramFault) (status : ℕ) → StepsIn locals workers file commands commands' out out' (Err e) → Tells err err' e status

@@ -1,5 +1,5 @@
 -- What a fault of the program prints, and the status with which the program then ends.
-use Rattle.std.specs.Prelude.{◌≡◌, ◌⊎◌, ℕ, List, ◌++◌, Option, codes, if◌then◌else◌, IfSome}
+use Rattle.std.specs.Prelude.{◌≡◌, ◌⊎◌, ℕ, List, ◌++◌, Option, codes, IfSome}
 use Rattle.std.specs.Io.KnownBytes.{Appends}
 use Rattle.llb_ops.specs.Faults.{op_text}
 use Rattle.llb_asm.specs.Faults.{asm_text}
@@ -19,20 +19,20 @@ output_text output.Memory = codes "184"
 
 abbrev pub program_text : ProgramFault → List ℕ
 program_text (fault.Refused f) = load_text f
-program_text f.Loading = codes "91"
+program_text fault.Loading = codes "91"
 program_text (fault.MissingLocal name) = codes "121 " ++ name
-program_text f.Workers = codes "122"
-program_text f.Opening = codes "123"
+program_text fault.Workers = codes "122"
+program_text fault.Opening = codes "123"
 program_text (fault.Run f) = run_text f
 program_text (fault.Print f) = printing_text f
 program_text (fault.Output f) = output_text f
 program_text (fault.Unread f) = op_text f
-program_text f.Entries = codes "14"
+program_text fault.Entries = codes "14"
 program_text (fault.Assembling f) = asm_text f
 program_text (fault.Text f) = asm_text f
-program_text f.TooLong = codes "185"
-program_text f.Read = codes "181"
-program_text f.Memory = codes "184"
+program_text fault.TooLong = codes "185"
+program_text fault.Read = codes "181"
+program_text fault.Memory = codes "184"
 
 abbrev pub source_text : SourceFault → List ℕ
 source_text source.Read = codes "181"

@@ -7,7 +7,7 @@ ghost use Rattle.llb_commands.specs.Answer.{IsUnopened, Runs, failed_line, faile
 ghost use Rattle.llb_commands.specs.Output.{PrintsOut};
 ghost use Rattle.llb_treetext.specs.TreeText.{tree_text};
 ghost use Rattle.llb_commands.specs.Running.{IsFinished, IsRefusal, Shows, Answers, Ends};
-ghost use Rattle.llb_commands.specs.Lib.{Appends};
+ghost use Rattle.std.specs.Io.KnownBytes.{Appends};
 
 use crate::fault::{ProgramFault, refusal};
 use crate::input::loaded;

@@ -14,9 +14,8 @@ use llb_tree::Tree;
 use llb_treetext::{TextFault, read_tree};
 use llb_wire::Text;
 use std::alloc::Global;
-use std::io;
 use std::io::{Read, Write};
-use std::{error, fmt};
+use std::{error, fmt, io};
 
 /// Why a local source has no tree.
 #[derive(Clone, Copy, Debug)]

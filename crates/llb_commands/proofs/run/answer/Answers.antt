@@ -16,7 +16,7 @@ returns g c =
     answers 1 c.args.locals
     (g.R.Read.remaining c.args.input.now) c.in_ok-graph.graph c.is_graph.ensures b c.in_ok-board.ensures.board c.in_ok-graph.ensures out last
     c.print_result.result
-    (subst (λ (e : Edge). Shows out last (output_in
+    (subst (λ (e : Edge). Shows b out last (output_in
     (ending_at b.state.statuses e.vertex) e.index) c.print_result.result) c.result-edge.ensures c.print_result.ensures)
 
 pub returns-in_err-board : goal.returns-in_err-board
