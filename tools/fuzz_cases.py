@@ -133,15 +133,16 @@ class Case:
         """`dis` and `asm` give the entries back; `show` and the tools' own reader see one graph."""
         data = self.definition()
         text = self.run("dis", given=data)
-        shown = self.run("show", given=data)
         if text.status == 2:
+            shown = self.run("show", given=data)
             need(shown.err == b"fault 81 " + text.err.removeprefix(b"fault "), "dis and show refuse otherwise")
             return
         again = self.run("asm", given=text.out)
         need(again.status == 0, "asm refuses what dis prints")
         need(again.out == messages.definition_of(definition.entries_of(data)), "asm of dis gives other entries")
-        need(self.run("dis", given=again.out).out == text.out, "dis of asm of dis is another text")
-        if shown.status == 0:
+        if one_in(self.dice, 2):
+            need(self.run("dis", given=again.out).out == text.out, "dis of asm of dis is another text")
+        elif (shown := self.run("show", given=data)).status == 0:
             graph = Graph(shown.out)
             told = definition.graph_of(definition.entries_of(data))
             need((told.inputs, told.result) == (graph.inputs, graph.result), "show has another graph than the entries")

@@ -11,10 +11,11 @@ import shlex
 import signal
 from typing import NamedTuple
 
-MOST_MEMORY = 4 << 30
+MOST_MEGABYTES = 4096
 MOST_SECONDS = 20
 MOST_WRITTEN = 256 << 20
 
+SANITIZER = b"__asan_init"
 DEFAULT_SIGNALS = [signal.SIGXCPU, signal.SIGXFSZ, signal.SIGPIPE, signal.SIGINT]
 
 
@@ -35,15 +36,35 @@ class Ran(NamedTuple):
         return f"{shlex.join([program, *self.words])} < {shlex.quote(given)}"
 
 
-def limit_runs() -> None:
-    """Limits all that this process starts. It does not heed the bound on processor time itself."""
+def limit(kind: int, most: int) -> None:
+    """A limit of this process and of all that it starts."""
+    _, hard = resource.getrlimit(kind)
+    resource.setrlimit(kind, (most if hard == resource.RLIM_INFINITY else min(most, hard), hard))
+
+
+def memory_of(program: str) -> int:
+    """The bound on the memory of a program in megabytes; none for one that is built with an address sanitizer.
+
+    Such a program takes more addresses than any bound leaves it. It is asked to bound its memory itself.
+    """
+    with open(program, "rb") as file:
+        if SANITIZER not in file.read():
+            return MOST_MEGABYTES
+    os.environ.setdefault("ASAN_OPTIONS", f"hard_rss_limit_mb={MOST_MEGABYTES}")
+    return 0
+
+
+def limit_runs(megabytes: int) -> None:
+    """Limits all that this process starts, their memory where a number is given.
+
+    The bound on processor time holds for each of them by itself, and this process does not heed it.
+    """
     signal.signal(signal.SIGXCPU, signal.SIG_IGN)
     resource.setrlimit(resource.RLIMIT_CORE, (0, 0))
-    for limit, most in [
-        (resource.RLIMIT_AS, MOST_MEMORY), (resource.RLIMIT_CPU, MOST_SECONDS), (resource.RLIMIT_FSIZE, MOST_WRITTEN),
-    ]:
-        _, hard = resource.getrlimit(limit)
-        resource.setrlimit(limit, (most if hard == resource.RLIM_INFINITY else min(most, hard), hard))
+    limit(resource.RLIMIT_CPU, MOST_SECONDS)
+    limit(resource.RLIMIT_FSIZE, MOST_WRITTEN)
+    if megabytes:
+        limit(resource.RLIMIT_AS, megabytes << 20)
 
 
 def emptied(stream: int, content: bytes = b"") -> None:
