@@ -8,7 +8,6 @@ import pathlib
 import random
 from typing import NamedTuple
 
-import common
 import definition
 import faults
 import fuzz_changed
@@ -21,7 +20,6 @@ from limited import Ran, Runner
 
 POOL = 40
 MOST_COMMANDS = 40
-MOST_LABEL = 60
 DEFINITION, TREE = "definition", "tree"
 KINDS = ["run"] * 5 + ["session"] * 4 + ["entries"] * 3 + ["text"] * 3 + ["tree"] * 3 + ["commands"] * 2
 SESSION_OF_SOURCE = messages.definition_of([

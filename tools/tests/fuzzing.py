@@ -107,9 +107,11 @@ class Held(unittest.TestCase):
         for text, fault in [
             (root, None), (root + b"f 0644 0 4294967295 - /a\n", None), (b"", "31 1"), (b"d 0755 0 0 /", "31 1"),
             (root + b"f 0644 0 0 6 /a\n", "31 2"), (root + b"d 0755 0 4294967296 /a\n", "31 2"),
-            (root + b"d 0755 00 0 /a\n", "31 2"), (root + b"d 0755 0 0 /a/\n", "31 2"), (b"f 0644 0 0 - /\n", "31 1"),
+            (root + b"d 0755 00 0 /a\n", "31 2"), (root + b"d 0755 0 0 /a/\n", "31 2"),
+            (b"f 0644 0 0 - /\n", "31 1"), (root + b"d 0755 0 0 /" + b"n" * 256 + b"\n", "31 2"),
             (root + b"d 0755 0 0 /..\n", "31 2"), (root + b"d 0755 0 0 /" + b"a/" * 128 + b"a\n", "31 2"),
-            (b"d 0755 0 0 /a\n", "32 1"), (root + root, "32 2"), (root + b"d 0755 0 0 /a-b\nd 0755 0 0 /a\n", "32 3"),
+            (b"d 0755 0 0 /a\n", "32 1"), (root + root, "32 2"),
+            (root + b"d 0755 0 0 /a-b\nd 0755 0 0 /a\n", "32 3"),
             (root + b"d 0755 0 0 /a\nd 0755 0 0 /a/b\nd 0755 0 0 /a-b\n", None),
             (root + b"f 0644 0 0 - /a\nf 0644 0 0 - /a/b\n", "33 3"), (root + b"d 0755 0 0 /a/b\nx", "33 2"),
         ]:
@@ -180,8 +182,9 @@ class Fuzz(Folder):
         for line, cause in [
             ("exit 4", "status 4"), ("kill -9 $$", "signal 9"),
             ("echo x; echo fault 83 >&2; exit 2", "output with status 2"),
-            ("echo wrong >&2; exit 2", "standard error with status 2"), ("echo fault 9999 >&2; exit 2", "does not know"),
-            ("echo fault 181 >&2; exit 2", "fault 181 with status 2"), ("[ $1 = asm ] || exec sleep 9", "end in time"),
+            ("echo wrong >&2; exit 2", "standard error with status 2"),
+            ("echo fault 9999 >&2; exit 2", "does not know"), ("echo fault 181 >&2; exit 2", "fault 181 with status 2"),
+            ("[ $1 = asm ] || exec sleep 9", "end in time"),
         ]:
             done = self.fuzz(self.program(line), "--patience", "1", cases=2)
             self.assertEqual((done.returncode, done.stderr), (1, b""), line)
