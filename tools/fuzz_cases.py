@@ -6,6 +6,7 @@ A case is made from the seed and its number alone, so that it is the same in eve
 import os
 import pathlib
 import random
+import re
 from typing import NamedTuple
 
 import definition
@@ -18,6 +19,7 @@ from fuzz_checks import Broken, Graph, Rules, Session, caches_in, need, tree_fau
 from fuzz_made import one_in
 from limited import Ran, Runner
 
+FAULTY_LINE = re.compile(rb"fault 16[12] ([1-9][0-9]*)[ \n]")
 POOL = 40
 MOST_COMMANDS = 40
 DEFINITION, TREE = "definition", "tree"
@@ -157,8 +159,8 @@ class Case:
         text = messages.text_of(fuzz_made.ops(self.dice)) if is_made else self.dice.choice(self.tried.examples.texts)
         ran = self.run("asm", given=fuzz_changed.changed_text(self.dice, text, "text"))
         if ran.status == 2:
-            line = int(ran.err.split()[2])
-            need(1 <= line <= ran.given.count(b"\n") + 1, "the faulty line is none of the text")
+            line = FAULTY_LINE.match(ran.err)
+            need(line is not None and int(line[1]) <= ran.given.count(b"\n") + 1, "the faulty line is none of the text")
         elif ran.status == 0:
             shown = self.run("dis", given=ran.out)
             need(self.run("asm", given=shown.out).out == ran.out, "asm of dis of asm gives other entries")

@@ -206,12 +206,13 @@ class Session:
         event = RECORD.fullmatch(line)
         if event:
             self.count += 1
-            need(int(event[1]) == self.count, f"event {event[1].decode()} where event {self.count} is next")
+            need(int(event[1]) == self.count, f"event {int(event[1])} where event {self.count} is next")
             self.known.pop(self.count, None)
             self.records = [*self.records[: self.count - 1], line]
         elif line.startswith(b"back "):
             self.count -= 1
-            need(line == b"back %d" % self.count, f"{line.decode()} where {self.count} events are left")
+            told = line.decode("utf-8", "replace")
+            need(told == f"back {self.count}", f"{told} where {self.count} events are left")
 
     def status(self) -> list[bytes]:
         """The status of all vertices, which is the same each time when the record is the same."""
