@@ -24,10 +24,13 @@ POOL = 40
 MOST_COMMANDS = 40
 DEFINITION, TREE = "definition", "tree"
 KINDS = ["run"] * 5 + ["session"] * 4 + ["entries"] * 3 + ["text"] * 3 + ["tree"] * 3 + ["commands"] * 2
-SESSION_OF_SOURCE = messages.definition_of([
-    source := messages.encoded(messages.made("Op", source=messages.made("SourceOp", identifier="local://p"))),
-    messages.encoded(messages.made("Op", inputs=(messages.edge(source),))),
-])
+
+
+def definition_of_source(name: str) -> bytes:
+    """The definition whose result is a local source."""
+    source = messages.made("Op", source=messages.made("SourceOp", identifier=f"local://{name}"))
+    terminal = messages.made("Op", inputs=(messages.edge(messages.encoded(source)),))
+    return messages.definition_of([messages.encoded(source), messages.encoded(terminal)])
 
 
 class Examples(NamedTuple):
@@ -170,7 +173,7 @@ class Case:
         text = self.dice.choice(self.tried.examples.trees) if one_in(self.dice, 3) else fuzz_made.tree(self.dice)
         if not one_in(self.dice, 8):
             text = fuzz_changed.changed_text(self.dice, text, "tree")
-        ran = self.run("run", f"p={self.file(TREE, text)}", given=SESSION_OF_SOURCE)
+        ran = self.run("run", f"p={self.file(TREE, text)}", given=definition_of_source("p"))
         fault = tree_fault(text)
         if fault is None:
             need((ran.status, ran.out) == (0, text), "a tree's text is not printed as it is")
