@@ -68,7 +68,7 @@ class Definitions(Folder):
             ("chain", 9, 9, 8), ("pairs", 9, 9, 16), ("fan", 1500, 1503, 1502), ("files", 600, 2, 1),
             ("execs", 5, 5, 4), ("glob", 5, 2, 1), ("mounts", 5, 1, 0), ("lay", 1, 3, 2), ("graft", 1, 3, 2),
             ("layers", 4, 5, 4), ("builds", 4, 5, 4), ("reads", 4, 6, 8), ("hashes", 4, 6, 8), ("caches", 4, 5, 8),
-            ("source", 9, 1, 0),
+            ("source", 9, 1, 0), ("rm", 9, 2, 1), ("copy", 9, 2, 1),
         ]:
             _, graph = self.graph(kind, count)
             self.assertEqual((len(graph.rows), sum(map(len, graph.inputs))), (vertices, edges), kind)
@@ -82,6 +82,17 @@ class Definitions(Folder):
             done = subprocess.run([base.llbm], input=given, capture_output=True, timeout=120)
             self.assertEqual(done.stdout.count(b"\nf "), 600)
 
+    def test_a_pattern_removes_all_files_and_another_copies_directories(self):
+        if base.llbm is None:
+            self.skipTest("the program is needed, which --llbm PROGRAM names")
+        tree = os.fsdecode(self.file(b"tree", run("bigtree", "4", "4", "4").stdout))
+        upper = "d 0755 0 0 /\nd 0755 0 0 /d000\n{0} 0/s00000\n{0} 0/s00001\nd 0755 0 0 /d001\n{0} 1/s00002\n{0} 1/s00003\n"
+        lower = "".join(f"d 0755 0 0 /s0000{k}\nf 0644 0 0 0000000{k} /s0000{k}/f00000{k}\n" for k in range(4))
+        for kind, text in [("rm", upper.replace("{0} ", "d 0755 0 0 /d00")), ("copy", "d 0755 0 0 /\n" + lower)]:
+            words = [base.llbm, "run", f"p={tree}"]
+            done = subprocess.run(words, input=run("bigdef", kind, "1").stdout, capture_output=True, timeout=120)
+            self.answers(done, 0, text.encode())
+
     def test_commands_and_mounts(self):
         ops, _ = self.graph("mounts", 3)
         self.assertEqual(definition.commands_of(ops[0]), ["write /m1/f 1", "write /m2/f 2"])
@@ -93,7 +104,7 @@ class Definitions(Folder):
             self.skipTest("the program is needed, which --llbm PROGRAM names")
         tree = os.fsdecode(self.file(b"tree", run("bigtree", "4", "2").stdout))
         kinds = run("bigdef", "nosuch", "1").stderr.decode().rsplit("choose from ", 1)[1].strip(")\n").split(", ")
-        self.assertEqual(len(kinds), 15)
+        self.assertEqual(len(kinds), 17)
         for kind in [kind.strip("'") for kind in kinds]:
             given = run("bigdef", kind, "3").stdout
             words = [base.llbm, "run", f"p={tree}", f"q={tree}"]
