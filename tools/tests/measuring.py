@@ -86,9 +86,10 @@ class Definitions(Folder):
         if base.llbm is None:
             self.skipTest("the program is needed, which --llbm PROGRAM names")
         tree = os.fsdecode(self.file(b"tree", run("bigtree", "4", "4", "4").stdout))
-        upper = "d 0755 0 0 /\nd 0755 0 0 /d000\n{0} 0/s00000\n{0} 0/s00001\nd 0755 0 0 /d001\n{0} 1/s00002\n{0} 1/s00003\n"
+        places = ["", "d000", "d000/s00000", "d000/s00001", "d001", "d001/s00002", "d001/s00003"]
+        upper = "".join(f"d 0755 0 0 /{place}\n" for place in places)
         lower = "".join(f"d 0755 0 0 /s0000{k}\nf 0644 0 0 0000000{k} /s0000{k}/f00000{k}\n" for k in range(4))
-        for kind, text in [("rm", upper.replace("{0} ", "d 0755 0 0 /d00")), ("copy", "d 0755 0 0 /\n" + lower)]:
+        for kind, text in [("rm", upper), ("copy", "d 0755 0 0 /\n" + lower)]:
             words = [base.llbm, "run", f"p={tree}"]
             done = subprocess.run(words, input=run("bigdef", kind, "1").stdout, capture_output=True, timeout=120)
             self.answers(done, 0, text.encode())
