@@ -1,0 +1,196 @@
+"""Tests of `gate`, and of `tries` and `replay`, which it runs."""
+
+import importlib.machinery
+import importlib.util
+import os
+import pathlib
+import subprocess
+import sys
+import unittest
+
+from tests import base
+from tests.base import ROOT, Folder, run
+
+
+def loaded(name):
+    """A tool as a module."""
+    loader = importlib.machinery.SourceFileLoader(name, str(ROOT / name))
+    module = importlib.util.module_from_spec(importlib.util.spec_from_loader(name, loader))
+    loader.exec_module(module)
+    return module
+
+
+TESTS = "tests, 7 runs of the tools, as root"
+
+
+class WithPrograms(Folder):
+    """A test with programs of its own."""
+
+    def program(self, *lines):
+        """A program of these lines for a shell."""
+        place = self.file(b"program", "\n".join(["#!/bin/sh", *lines, ""]).encode())
+        os.chmod(place, 0o755)
+        return os.fsdecode(place)
+
+
+class Gate(WithPrograms):
+    """The counts of the gate."""
+
+    def test_counts_of_parts(self):
+        counts_in = loaded("gate").counts_in
+        for lines, status, counts in [
+            ([], 0, (1, 0)), ([], 1, (0, 1)), (["190 passed, 0 failed"], 0, (190, 0)),
+            (["3 passed, 2 failed"], 1, (3, 2)), (["3 passed, 0 failed"], 1, (3, 1)),
+            (["5 as they should be, 0 not"], 0, (5, 0)), (["190 passed, 0 failed (162 edits refused)"], 0, (190, 0)),
+            (["1 passed, 1 failed", "2 passed, 0 failed"], 0, (2, 0)),
+            (["FAILED (failures=2, errors=1, skipped=4)", f"90 {TESTS}: one failed"], 1, (87, 3)),
+            (["OK", f"90 {TESTS}: all pass"], 0, (90, 0)),
+            (["9 cases in 1 seconds with seed 3: 0 found something"], 0, (1, 0)),
+            (["9 cases in 1 seconds with seed 3: 2 found something"], 1, (0, 2)),
+        ]:
+            self.assertEqual(tuple(counts_in(lines, status)), counts, lines)
+
+    def test_parts_on_one_program_and_on_both(self):
+        gate = loaded("gate")
+        for given, programs in [("/p", ["/p"]), (None, list(map(str, gate.PROGRAMS)))]:
+            words = gate.argparse.Namespace(llbm=given, after=given is not None, fuzz=7, seed="3")
+            commands = [command for command in gate.parts(words)]
+            self.assertEqual(["rt", "ci"] in commands, given is None)
+            self.assertEqual([command[-1] for command in commands if command[0].endswith("check")], programs)
+            self.assertEqual(commands[-1][2:], ["7", "--llbm", programs[0], "--seed", "3"])
+
+    def test_command_lines_are_refused(self):
+        done = subprocess.run([sys.executable, ROOT / "gate", "--nosuch"], capture_output=True, timeout=60)
+        self.assertEqual((done.returncode, done.stdout), (2, b""))
+
+
+class Tries(WithPrograms):
+    """The tries of a process."""
+
+    def test_a_program_that_does_nothing(self):
+        done = run("tries", self.program("exit 0"))
+        self.assertEqual((done.returncode, done.stderr), (1, b""))
+        *lines, last = done.stdout.decode().splitlines()
+        self.assertRegex(last, "^[0-9]+ passed, [0-9]+ failed$")
+        self.assertEqual(int(last.split(" ")[2]), len(lines))
+        self.assertTrue(any(line.startswith("llbm run p=/none ") and "status 0, not 3" in line for line in lines))
+
+    def test_command_lines_are_refused(self):
+        for words in [(), ("/none",), ("a", "b")]:
+            done = run("tries", *words)
+            self.assertEqual((done.returncode, done.stdout), (2, b""), words)
+
+    def test_the_program_is_as_it_should_be(self):
+        if base.llbm is None:
+            self.skipTest("the program is needed, which --llbm PROGRAM names")
+        done = run("tries", base.llbm)
+        self.assertEqual((done.returncode, done.stderr), (0, b""), done.stdout)
+        self.assertRegex(done.stdout, b"^[0-9]+ passed, 0 failed\n$")
+
+
+PAGE = """# A page
+
+A text with `crates/llbm/out/llbm none` in it.
+
+    crates/llbm/out/llbm one < /dev/null
+
+prints
+
+    one
+
+    and more
+
+and
+
+    crates/llbm/out/llbm two
+    crates/llbm/out/llbm three
+
+which prints `two`
+in any case. The next prints nothing that is shown:
+
+    crates/llbm/out/llbm quiet
+
+and not
+
+    rt ci
+
+```
+$ crates/llbm/out/llbm four
+four
+$ crates/llbm/out/llbm five | cat
+five
+```
+
+    crates/llbm/out/llbm wrong
+
+prints on standard error, with status 3,
+
+    wrong
+
+A block of no command:
+
+    text = { entry }
+"""
+
+ANSWERS = """case $1 in
+one) printf 'one\\n\\nand more\\n';;
+two|four|five) echo $1;;
+wrong) echo wrong >&2; exit 3;;
+bad) exit 1;;
+esac"""
+
+
+class Replay(WithPrograms):
+    """Pages whose commands are replayed."""
+
+    def replay(self, text, *lines):
+        """A run of the tool on a page of this text."""
+        page = self.file(b"page", text.encode())
+        return run("replay", "--llbm", self.program(*(lines or (ANSWERS,))), page)
+
+    def test_all_forms(self):
+        done = self.replay(PAGE)
+        self.assertEqual((done.returncode, done.stderr), (0, b""), done.stdout)
+        *lines, last = done.stdout.decode().splitlines()
+        self.assertEqual(last, "6 passed, 0 failed")
+        self.assertEqual(len(lines), 1)
+        self.assertIn(":25: left out", lines[0])
+
+    def test_differences_are_told(self):
+        for text, cause in [
+            ("    crates/llbm/out/llbm two\n\nprints `three`\n", "prints 'two\\n', not 'three\\n'"),
+            ("    crates/llbm/out/llbm bad\n", "status 1, not 0"),
+            ("    crates/llbm/out/llbm wrong\n", "status 3, not 0"),
+            ("    crates/llbm/out/llbm wrong\n\nprints on standard error\n\n    wrong\n", "status 3, not 0"),
+            ("```\n$ crates/llbm/out/llbm two\n```\n", "prints 'two\\n', not ''"),
+        ]:
+            done = self.replay(text)
+            self.assertEqual((done.returncode, done.stderr), (1, b""), text)
+            line, last = done.stdout.decode().splitlines()
+            self.assertTrue(line.endswith(cause), line)
+            self.assertEqual(last, "0 passed, 1 failed")
+
+    def test_what_is_written_stays_out_of_the_repository(self):
+        name = "written-by-a-test-of-replay"
+        done = self.replay(f"    crates/llbm/out/llbm two > {name}\n    crates/llbm/out/llbm one >> {name}\n")
+        self.assertEqual(done.returncode, 0, done.stdout)
+        self.assertFalse((ROOT / name).exists())
+
+    def test_pages_and_command_lines_are_refused(self):
+        self.assertEqual(self.replay("no command\n").returncode, 2)
+        for words in [(), (os.fsdecode(self.place(b"none")),)]:
+            done = run("replay", *words)
+            self.assertEqual((done.returncode, done.stdout), (2, b""), words)
+
+    def test_the_page_of_the_repository(self):
+        if base.llbm is None:
+            self.skipTest("the program is needed, which --llbm PROGRAM names")
+        done = run("replay", "--llbm", base.llbm, ROOT / "README.md")
+        self.assertEqual((done.returncode, done.stderr), (0, b""), done.stdout)
+
+
+class Scripts(unittest.TestCase):
+    """The scripts at the top."""
+
+    def test_the_gate_can_be_run(self):
+        self.assertTrue(os.access(pathlib.Path(ROOT, "gate"), os.X_OK))

@@ -1,0 +1,154 @@
+"""Tests of `bigtree`, `bigdef` and `measure`."""
+
+import os
+import subprocess
+
+import definition
+from fuzz_checks import tree_fault
+from tests import base
+from tests.base import Folder, digest, number, part, run, run_closed, source
+
+
+def definition_of(*entries):
+    """The definition of these entries, whose last one gives the result, without defaults."""
+    terminal = part(1, part(1, digest(entries[-1])))
+    return b"".join(part(1, entry) for entry in [*entries, terminal])
+
+
+class Trees(Folder):
+    """Texts of large trees."""
+
+    def test_a_small_one(self):
+        lines = ["d 0755 0 0 /", "d 0755 0 0 /d000", "d 0755 0 0 /d000/s00000"]
+        last = "f 0644 0 0 00000000 /d000/s00000/f000000"
+        self.passes(run("bigtree", "1", "1", "4"), self.text([*lines, last]))
+        self.passes(run("bigtree", "0", "0"), b"d 0755 0 0 /\n")
+
+    def test_files_and_directories_are_as_many_as_are_asked_for(self):
+        for files, directories, size, prefix in [(100, 10, 16, "d"), (7, 9, 0, "q"), (5, 4, 3, "long")]:
+            done = run("bigtree", str(files), str(directories), str(size), prefix)
+            self.assertEqual((done.returncode, done.stderr), (0, b""))
+            self.assertIsNone(tree_fault(done.stdout))
+            lines = [line.split(b" ") for line in done.stdout.splitlines()]
+            contents = [line[4] for line in lines if line[0] == b"f"]
+            self.assertEqual(len(contents), files)
+            self.assertEqual({len(content) for content in contents}, {2 * size or 1})
+            lower = [line for line in lines if line[0] == b"d" and line[4].count(b"/") == 2]
+            self.assertEqual(len(lower), directories)
+            self.assertTrue(all(line[4].startswith(b"/" + prefix.encode()) for line in lower))
+
+    def test_command_lines_are_refused(self):
+        few = [(), ("1",), ("1", "0"), ("x", "1"), ("1", "1", "-4")]
+        for words in [*few, ("1", "1", "4", "a/b"), ("1", "1", "4", "n" * 250)]:
+            done = run("bigtree", *words)
+            self.assertEqual((done.returncode, done.stdout), (2, b""), words)
+        self.assertEqual(run_closed(1, "bigtree", "1", "1").returncode, 3)
+
+
+class Definitions(Folder):
+    """Large definitions."""
+
+    def graph(self, kind, count):
+        """The graph of a definition, and its kinds."""
+        done = run("bigdef", kind, str(count))
+        self.assertEqual((done.returncode, done.stderr), (0, b""), kind)
+        entries = definition.entries_of(done.stdout)
+        graph = definition.graph_of(entries)
+        return [definition.op_of(row, entries[row]) for row in graph.rows], graph
+
+    def test_a_small_one_to_the_byte(self):
+        self.passes(run("bigdef", "source", "1"), definition_of(source("local://p")))
+        sources = [source("local://p"), source("local://q")]
+        lay = part(1, part(1, digest(sources[0]))), part(1, part(1, digest(sources[1])))
+        merged = b"".join(lay) + part(6, part(1, b"") + part(1, number(1, 1)))
+        self.passes(run("bigdef", "lay", "1"), definition_of(*sources, merged))
+
+    def test_shapes(self):
+        for kind, count, vertices, edges in [
+            ("chain", 9, 9, 8), ("pairs", 9, 9, 16), ("fan", 1500, 1503, 1502), ("files", 600, 2, 1),
+            ("execs", 5, 5, 4), ("glob", 5, 2, 1), ("mounts", 5, 1, 0), ("lay", 1, 3, 2), ("graft", 1, 3, 2),
+            ("layers", 4, 5, 4), ("builds", 4, 5, 4), ("reads", 4, 6, 8), ("hashes", 4, 6, 8), ("caches", 4, 5, 8),
+            ("source", 9, 1, 0), ("rm", 9, 2, 1), ("copy", 9, 2, 1),
+        ]:
+            _, graph = self.graph(kind, count)
+            self.assertEqual((len(graph.rows), sum(map(len, graph.inputs))), (vertices, edges), kind)
+
+    def test_each_op_of_files_is_on_the_one_before(self):
+        ops, graph = self.graph("files", 1100)
+        self.assertEqual([len(op["file"]["actions"]) for op in ops], [512, 512, 76])
+        self.assertEqual(graph.inputs, [[], [(0, 0)], [(1, 0)]])
+        if base.llbm:
+            given = run("bigdef", "files", "600").stdout
+            done = subprocess.run([base.llbm], input=given, capture_output=True, timeout=120)
+            self.assertEqual(done.stdout.count(b"\nf "), 600)
+
+    def test_a_pattern_removes_all_files_and_another_copies_directories(self):
+        if base.llbm is None:
+            self.skipTest("the program is needed, which --llbm PROGRAM names")
+        tree = os.fsdecode(self.file(b"tree", run("bigtree", "4", "4", "4").stdout))
+        places = ["", "d000", "d000/s00000", "d000/s00001", "d001", "d001/s00002", "d001/s00003"]
+        upper = "".join(f"d 0755 0 0 /{place}\n" for place in places)
+        lower = "".join(f"d 0755 0 0 /s0000{k}\nf 0644 0 0 0000000{k} /s0000{k}/f00000{k}\n" for k in range(4))
+        for kind, text in [("rm", upper), ("copy", "d 0755 0 0 /\n" + lower)]:
+            words = [base.llbm, "run", f"p={tree}"]
+            done = subprocess.run(words, input=run("bigdef", kind, "1").stdout, capture_output=True, timeout=120)
+            self.answers(done, 0, text.encode())
+
+    def test_commands_and_mounts(self):
+        ops, _ = self.graph("mounts", 3)
+        self.assertEqual(definition.commands_of(ops[0]), ["write /m1/f 1", "write /m2/f 2"])
+        ops, _ = self.graph("caches", 2)
+        self.assertEqual(len(definition.commands_of(ops[2])), 8)
+
+    def test_the_program_runs_all_kinds(self):
+        if base.llbm is None:
+            self.skipTest("the program is needed, which --llbm PROGRAM names")
+        tree = os.fsdecode(self.file(b"tree", run("bigtree", "4", "2").stdout))
+        kinds = run("bigdef", "nosuch", "1").stderr.decode().rsplit("choose from ", 1)[1].strip(")\n").split(", ")
+        self.assertEqual(len(kinds), 17)
+        for kind in [kind.strip("'") for kind in kinds]:
+            given = run("bigdef", kind, "3").stdout
+            words = [base.llbm, "run", f"p={tree}", f"q={tree}"]
+            done = subprocess.run(words, input=given, capture_output=True, timeout=120)
+            self.assertEqual((done.returncode, done.stderr), (0, b""), kind)
+            self.assertIsNone(tree_fault(done.stdout), kind)
+
+    def test_command_lines_are_refused(self):
+        for words in [(), ("chain",), ("nosuch", "1"), ("chain", "0"), ("chain", "65536"), ("chain", "x")]:
+            done = run("bigdef", *words)
+            self.assertEqual((done.returncode, done.stdout), (2, b""), words)
+        self.assertEqual(run_closed(1, "bigdef", "chain", "1").returncode, 3)
+
+
+class Measure(Folder):
+    """The table of measurements."""
+
+    def program(self, line):
+        """A program of this line for a shell."""
+        place = self.file(b"program", f"#!/bin/sh\ncat > /dev/null\n{line}\n".encode())
+        os.chmod(place, 0o755)
+        return os.fsdecode(place)
+
+    def test_a_table(self):
+        names = run("measure", "--list").stdout.decode().split()
+        self.assertEqual(len(names), len(set(names)))
+        self.assertLessEqual({"chain", "reads-workers", "layers"}, set(names))
+        words = ["--llbm", self.program("exit 0"), "--runs", "2", "--part", "5000"]
+        done = run("measure", *words, "chain", "reads-workers")
+        self.assertEqual((done.returncode, done.stderr), (0, b"measuring chain\nmeasuring reads-workers\n"))
+        rows = [[cell.strip() for cell in line.strip("|").split("|")] for line in done.stdout.decode().splitlines()]
+        self.assertEqual({len(row) for row in rows}, {11})
+        self.assertEqual([row[0] for row in rows], ["Name", "---", "chain", "reads-workers"])
+        self.assertEqual((rows[2][1], rows[2][5]), ("`run` of `chain 13`", "`run` of `chain 6`"))
+        self.assertEqual(rows[3][1], "`run --workers 2` of `reads 1` (p: 20 2)")
+        self.assertRegex(rows[2][9], r"^[0-9]+\.[0-9]{2}$")
+
+    def test_a_run_that_fails(self):
+        done = run("measure", "--llbm", self.program("exit 3"), "--runs", "1", "--part", "9000", "chain")
+        self.assertEqual((done.returncode, done.stdout), (1, b""))
+        self.assertRegex(done.stderr.decode(), r"program run: status 3\n$")
+
+    def test_command_lines_are_refused(self):
+        for words in [("nosuch",), ("--llbm", "/none", "chain"), ("--runs", "0", "chain"), ("--part", "x", "chain")]:
+            done = run("measure", *words)
+            self.assertEqual((done.returncode, done.stdout), (2, b""), words)
