@@ -41,13 +41,14 @@ class DiffOfTrees(Folder):
 
     def test_what_differs(self):
         one, two = contents(b"a"), contents(b"bc")
+        new = two.removeprefix("contents ")
         for before, after, line in [
             ("f 0644 0 0 61", "f 0600 0 0 61", "mode 0644 -> 0600"),
             ("f 0644 0 0 61", "f 0644 0 7 61", "owner 0:0 -> 0:7"),
-            ("f 0644 0 0 61", "f 0644 0 0 6263", f"{one} -> {two.removeprefix('contents ')}"),
+            ("f 0644 0 0 61", "f 0644 0 0 6263", f"{one} -> {new}"),
             ("f 0644 0 0 61", "d 0644 0 0", f"kind file -> directory {one} -> none"),
             ("d 0755 0 0", "f 0644 1 2 6263",
-             f"kind directory -> file mode 0755 -> 0644 owner 0:0 -> 1:2 contents none -> {two.removeprefix('contents ')}"),
+             f"kind directory -> file mode 0755 -> 0644 owner 0:0 -> 1:2 contents none -> {new}"),
             ("d 0755 0 0", "d 0700 0 0", "mode 0755 -> 0700"),
         ]:
             first, second = self.tree(b"first", f"{before} /x y"), self.tree(b"second", f"{after} /x y")
