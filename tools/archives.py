@@ -46,8 +46,8 @@ def unpack(packed: BinaryIO, module: str, kept: BinaryIO) -> None:
 
 
 def open_unpacked(given: BinaryIO, first: BinaryIO, second: BinaryIO) -> BinaryIO:
-    """The bare archive of what is given, in one of two temporary files where it does not stand there by itself."""
-    if not given.seekable():
+    """The bare archive of what is given, in one of two temporary files unless it is a bare one that can be read twice."""
+    if not given.seekable() or given.tell():
         shutil.copyfileobj(given, first, PIECE)
         given = first
     given.seek(0)

@@ -13,7 +13,7 @@ import subprocess
 import tarfile
 import unittest
 
-from tests.base import Folder, run, run_closed, run_into
+from tests.base import Folder, command, run, run_closed, run_into
 
 NOTHING = b"left out: nothing\n"
 BLOCK = 512
@@ -180,6 +180,14 @@ class TreeOfTar(Folder):
             place = self.file(b"any name", packed)
             self.passes(run("tree-of-tar", place), text, NOTHING)
             self.passes(self.read_tar(packed), text, NOTHING)
+
+    def test_standard_input_is_read_from_where_it_is(self):
+        given = tar(entry("a", b"a"))
+        for before in [b"", b"x" * 77]:
+            with open(self.file(b"x.tar", before + given), "rb", buffering=0) as file:
+                file.seek(len(before))
+                done = subprocess.run(command("tree-of-tar"), stdin=file, capture_output=True, timeout=120)
+            self.passes(done, self.text(["d 0755 0 0 /", "f 0644 0 0 61 /a"]), NOTHING)
 
     @unittest.skipIf(importlib.util.find_spec("compression"), "this Python has zstd")
     def test_a_form_of_packing_that_this_python_does_not_have(self):
