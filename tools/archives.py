@@ -46,7 +46,7 @@ def unpack(packed: BinaryIO, module: str, kept: BinaryIO) -> None:
 
 
 def open_unpacked(given: BinaryIO, first: BinaryIO, second: BinaryIO) -> BinaryIO:
-    """The bare archive of what is given, in one of two temporary files unless it is a bare one that can be read twice."""
+    """The bare archive of what is given: as it is, where it is one and can be read twice, else in a temporary file."""
     if not given.seekable() or given.tell():
         shutil.copyfileobj(given, first, PIECE)
         given = first
