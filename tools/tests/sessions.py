@@ -171,7 +171,8 @@ class Progress(Builds):
             (claim + 'answers["go"] += ["2 settle 0 -> 1 done\\nstop"]', ["stop"]),
         ]:
             self.does(does)
-            self.ends(self.follow(), 3, "running definition", *lines, "nothing is written")
+            end = "the session gave an answer that is not expected"
+            self.ends(self.follow(), 3, "running definition", *lines, end)
 
     def test_a_result_that_is_no_tree(self):
         self.does(DONE + 'answers["tree 1 1"] = ["none"]\n')
