@@ -17,7 +17,7 @@ import argparse, os, re, stat, sys
 sys.argv = sys.argv[1:]
 sys.dont_write_bytecode = True
 sys.path.insert(0, os.path.dirname(sys.argv[0]))
-import collections, common, contextlib, typing
+import collections, common, contextlib, leftout, trees, typing
 program = compile(open(sys.argv[0]).read(), sys.argv[0], "exec")
 argparse.ArgumentParser().format_help()
 os.setgroups([])

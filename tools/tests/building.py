@@ -1,5 +1,6 @@
 """Tests of `build`, with a program of the tests' own in the place of llbm."""
 
+import gzip
 import os
 import pathlib
 import signal
@@ -8,6 +9,7 @@ import subprocess
 import sys
 
 from tests import base
+from tests.archives import entry, tar
 from tests.base import Folder, command, run
 
 FAKE = f"""#!{sys.executable}
@@ -37,8 +39,10 @@ time.sleep(60)
 """
 
 
-class Build(Folder):
-    """A build from directories to a directory."""
+class Builds(Folder):
+    """Builds in the test's folder, with a program of the test's own."""
+
+    fake = FAKE
 
     def setUp(self):
         super().setUp()
@@ -48,7 +52,7 @@ class Build(Folder):
         self.given = base.ending(self.origin, self.files)
         self.file(b"definition", self.given)
         self.llbm = self.at / "llbm"
-        self.llbm.write_text(FAKE)
+        self.llbm.write_text(self.fake)
         self.llbm.chmod(0o755)
         self.held = self.at / "held"
         self.held.mkdir()
@@ -73,6 +77,10 @@ class Build(Folder):
         self.assertEqual((done.returncode, done.stdout), (status, b""))
         self.assertEqual(done.stderr.decode().splitlines(), list(lines))
         self.nothing_is_left()
+
+
+class Build(Builds):
+    """A build from directories to a directory."""
 
     def test_a_result(self):
         self.make(b"a/x", b"x", mode=0o600)
@@ -158,6 +166,64 @@ class Build(Folder):
         for words in [[], ["definition"], ["definition", "out", "src"], ["definition", "out", "src="]]:
             self.assertEqual(self.build(*words).returncode, 2, words)
         self.nothing_is_left()
+
+    def test_archives_as_sources(self):
+        given = tar(entry("x", b"x", mode=0o600, owner=(7, 8)))
+        tree = b"d 0755 0 0 /\nf 0600 0 0 78 /x\n"
+        self.does(PRINTS)
+        for name, packed in [("a.tar", given), ("b.tar.gz", gzip.compress(given)), ("c.tgz", gzip.compress(given))]:
+            self.file(name.encode(), packed)
+            done = self.build("definition", f"out-{name[0]}", f"src={name}")
+            self.assertEqual(done.returncode, 0, done.stderr)
+            self.assertEqual(done.stderr.splitlines()[:2], [f"reading src from {name}".encode(), b"left out: nothing"])
+            self.assertEqual((self.at / "given").read_bytes(), b"src=\nrun\n%b%d" % (tree, len(self.given)))
+        self.make(b"d.tar/x", b"x", mode=0o600)
+        self.assertEqual(self.build("definition", "out-d", "src=in/d.tar").returncode, 0)
+        self.assertEqual((self.at / "given").read_bytes(), b"src=\nrun\n%b%d" % (tree, len(self.given)))
+        self.nothing_is_left({"a.tar", "b.tar.gz", "c.tgz", "out-a", "out-b", "out-c", "out-d"})
+
+    def test_archives_that_are_refused(self):
+        self.does(PRINTS)
+        self.file(b"in.tar", b"")
+        done = self.build("definition", "out", "src=in.tar")
+        self.assertEqual(done.returncode, 2)
+        lines = ["reading src from in.tar", "there is no archive", "nothing is written"]
+        self.assertEqual(done.stderr.decode().splitlines(), lines)
+        lines = ["reading src from none.tar", "none.tar: No such file or directory", "nothing is written"]
+        os.unlink(self.at / "in.tar")
+        self.ends(self.build("definition", "out", "src=none.tar"), 2, *lines)
+
+    def test_an_archive_as_the_result(self):
+        self.does(PRINTS)
+        done = self.build("definition", "out.tar")
+        self.assertEqual((done.returncode, done.stdout), (0, b""))
+        lines = ["running definition", "writing out.tar", "out.tar is written"]
+        self.assertEqual(done.stderr.decode().splitlines(), lines)
+        self.nothing_is_left({"out.tar"})
+        text = b"d 0755 0 0 /\nd 0555 0 0 /b\nf 0640 0 0 6869 /b/a\n"
+        self.assertEqual((self.at / "out.tar").read_bytes(), run("tar-of-tree", text=text).stdout)
+        self.assertEqual(stat.S_IMODE((self.at / "out.tar").stat().st_mode), 0o644)
+        before = (self.at / "out.tar").stat()
+        done = self.build("definition", "out.tar")
+        self.assertEqual((done.returncode, done.stderr), (2, b"out.tar: is there already\n"))
+        self.assertTrue(os.path.samestat(before, (self.at / "out.tar").stat()))
+
+    def test_an_archive_that_comes_to_be_there(self):
+        self.does(PRINTS + 'open("out.tar", "w").close()\n')
+        done = self.build("definition", "out.tar")
+        self.assertEqual(done.returncode, 2)
+        self.assertEqual(done.stderr.splitlines()[-1], b"out.tar: is there already")
+        self.assertEqual((self.at / "out.tar").read_bytes(), b"")
+        self.nothing_is_left({"out.tar"})
+
+    def test_a_packed_result_is_refused(self):
+        self.does(PRINTS)
+        for name in ["out.tar.gz", "out.tgz", "out.tar.xz"]:
+            self.ends(self.build("definition", name), 2, f"{name}: a result is a directory or a .tar")
+        self.does('sys.stdout.write("x\\n")')
+        line = "line 1: neither d MODE UID GID PATH nor f MODE UID GID CONTENT PATH"
+        lines = ["running definition", "writing out.tar", line, "nothing is written"]
+        self.ends(self.build("definition", "out.tar"), 2, *lines)
 
     def start(self):
         """A build that waits for its program."""

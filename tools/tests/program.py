@@ -1,5 +1,6 @@
 """Tests of the tools together with the program llbm, left out where there is none."""
 
+import json
 import os
 import pathlib
 import subprocess
@@ -117,6 +118,76 @@ class WithProgram(Folder):
             told = run("explain", "--definition", self.place(b"definition"), *line.split(" "))
             meaning = [f"  {text}" for text in told.stdout.decode().splitlines()]
             self.assertEqual(done.stderr.decode().splitlines()[1:], [line, *meaning, "nothing is written"])
+
+    def sources(self):
+        """For each example its definition, and its sources as words of a build."""
+        texts = [*EXAMPLES.glob("*.tree"), *EXAMPLES.glob("*/*.tree")]
+        for name, given in self.definitions():
+            sources = [text for text in texts if text.parent.name == name or text.parent == EXAMPLES]
+            for text in sources:
+                if not (self.at / text.stem).exists():
+                    self.passes(run("directory-of-tree", self.at / text.stem, text=text.read_bytes()))
+            yield name, given, [f"{text.stem}={self.at / text.stem}" for text in sources]
+
+    def without_progress(self, done):
+        """The lines of a build but those of vertices that settle, of which there are as many as it says."""
+        lines = done.stderr.decode().splitlines()
+        settled = [line for line in lines if line.startswith("[")]
+        self.assertEqual([line.split("/")[0] for line in settled], [f"[{count + 1}" for count in range(len(settled))])
+        return settled, [line.replace("/plain", "/progress") for line in lines if line not in settled]
+
+    def test_progress_changes_nothing_else(self):
+        for number, (name, given, sources) in enumerate(self.sources()):
+            workers = f"--workers={number + 1}"
+            plain = self.build(given, workers, *sources, result=f"plain-{number}.tar")
+            done = self.build(given, workers, "--progress", *sources, result=f"progress-{number}.tar")
+            self.assertEqual(self.without_progress(plain)[0], [])
+            settled, lines = self.without_progress(done)
+            self.assertEqual((done.returncode, lines), (plain.returncode, self.without_progress(plain)[1]))
+            self.assertEqual(done.returncode, 1 if name == "failure" else 0)
+            if done.returncode == 0:
+                self.assertEqual(len(settled), self.output("show", given=given).count(b"\n") - 1)
+                results = [self.at / f"{kind}-{number}.tar" for kind in ("plain", "progress")]
+                self.assertEqual(*(result.read_bytes() for result in results))
+
+    def test_progress_of_a_merge_with_names(self):
+        one, two = base.file_op(base.mkdir("/a")), base.file_op(base.mkdir("/b"))
+        both = base.merge(two, one)
+        description = base.part(2, base.part(1, "llb.customname") + base.part(2, "both of them"))
+        metadata = base.part(2, base.part(1, base.digest(both)) + base.part(2, description))
+        done = self.build(base.ending(one, two, both) + metadata, "--progress")
+        self.assertEqual(done.returncode, 0, done.stderr)
+        lines = ["[1/3] vertex 0 file done", "[2/3] vertex 1 file done", "[3/3] vertex 2 merge done: both of them"]
+        self.assertEqual(done.stderr.decode().splitlines()[1:4], lines)
+
+    def test_progress_of_refusals_and_failures(self):
+        start = base.file_op(base.mkdir("/x"))
+        failing, other = base.file_op(base.rm("/a"), on=[start]), base.file_op(base.rm("/b"), on=[start])
+        for given, words, status in [
+            (b"\x0a", [], 2), (base.ending(base.source("local://src")), [], 2),
+            (base.ending(start, failing, other, base.merge(failing, other)), [], 1),
+            (base.ending(base.exec_op("false")), ["--workers=9"], 1),
+            (base.ending(start), ["--workers=x"], 2), (base.ending(start), ["--workers=65"], 2),
+        ]:
+            plain, done = self.build(given, *words), self.build(given, "--progress", *words)
+            self.assertEqual((plain.returncode, done.returncode), (status, status), done.stderr)
+            self.assertEqual(self.without_progress(done)[1], plain.stderr.decode().splitlines())
+
+    def test_the_graphs_and_the_record_of_the_examples_as_json(self):
+        for name, given in self.definitions():
+            shown = self.output("show", given=given)
+            told = json.loads(run("json-of-show", text=shown).stdout)
+            self.assertEqual(len(told["vertices"]), shown.count(b"\n") - 1, name)
+            number = len(told["vertices"])
+            words = ["step", self.file(b"definition", given)]
+            words += [f"{text.stem}={text}" for text in [*EXAMPLES.glob("*.tree"), *EXAMPLES.glob("*/*.tree")]]
+            record = self.output(*words, given=b"status\ngo\nstatus\nback\nstep 9\ntree 0 0\nx\nquit\n")
+            told = json.loads(run("json-of-record", text=record).stdout)
+            self.assertEqual([one["kind"] for one in told[:number]], ["status"] * number)
+            self.assertEqual(len(told), record.count(b"\n"))
+            events = [one for one in told if "reply" in one]
+            self.assertEqual([one["number"] for one in events], list(range(1, len(events) + 1)))
+            self.assertEqual(told[-1], {"kind": "fault", "fault": 173, "line": 7})
 
     def test_a_text_that_is_too_long(self):
         self.make(b"a", b"")

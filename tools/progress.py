@@ -1,0 +1,140 @@
+"""A session of `llbm step` that a build drives from vertex to vertex, and the names of vertices.
+
+The commands and their answers are those of docs/FORMATS.md, under "A stepping session" and "The lines of a record".
+"""
+
+import contextlib
+import re
+import subprocess
+from collections.abc import Iterator
+from typing import BinaryIO, NamedTuple
+
+import definition
+
+METADATA, DESCRIPTION, KEY, VALUE = 2, 2, 1, 2
+CUSTOM_NAME = b"llb.customname"
+
+CLAIM = re.compile(r"[0-9]+ claim [0-9]+ ([0-9]+) -> (\w+) [0-9]+")
+SETTLE = re.compile(r"[0-9]+ settle [0-9]+ -> ([0-9]+) (done|failed)")
+EVENT = re.compile(r"[0-9]+ (?:claim|step|settle|cancel) .* -> .*")
+FAILURE = re.compile(r"([0-9]+) failed (.*)")
+
+
+class Closed(Exception):
+    """The session ended before its last answer."""
+
+
+class Unexpected(Exception):
+    """The session answered with this line, which is none of those that a build goes on with."""
+
+
+class Settled(NamedTuple):
+    """A vertex that has settled."""
+
+    vertex: int
+    kind: str
+    state: str
+
+
+def values_of(data: bytes, number: int) -> list[bytes]:
+    """The strings, bytes or messages of a field."""
+    return [held for field, form, held in definition.records(data) if (field, form) == (number, definition.LENGTH)]
+
+
+def map_of(data: bytes, number: int) -> dict[bytes, bytes]:
+    """The pairs of a field that is a map."""
+    pairs = {}
+    for pair in values_of(data, number):
+        key, value = values_of(pair, KEY), values_of(pair, VALUE)
+        pairs[key[-1] if key else b""] = value[-1] if value else b""
+    return pairs
+
+
+def name_of(metadata: bytes) -> str:
+    """The name in the metadata of a vertex; where there is none, or it does not read, no text."""
+    try:
+        return map_of(metadata, DESCRIPTION).get(CUSTOM_NAME, b"").decode("utf-8", "backslashreplace")
+    except definition.Unreadable:
+        return ""
+
+
+def names_in(data: bytes) -> dict[int, str]:
+    """The names of a definition's vertices in its metadata, of those that have one."""
+    try:
+        entries = definition.entries_of(data)
+        described = map_of(data, METADATA)
+        rows = definition.graph_of(entries).rows
+    except definition.Unreadable:
+        return {}
+    names = {}
+    for vertex, row in enumerate(rows):
+        names[vertex] = name_of(described.get(definition.digest_of(entries[row]).encode(), b""))
+    return {vertex: name for vertex, name in names.items() if name}
+
+
+class Session:
+    """A session whose two streams are pipes."""
+
+    def __init__(self, child: subprocess.Popen) -> None:
+        self.commands = child.stdin
+        self.answers = child.stdout
+
+    def ask(self, *commands: str) -> None:
+        """Commands go to the session; that it is gone is met where its answer is read."""
+        if self.commands.closed:
+            return
+        try:
+            self.commands.write("".join(f"{command}\n" for command in commands).encode())
+            self.commands.flush()
+        except BrokenPipeError:
+            self.close()
+
+    def close(self) -> None:
+        """No more commands come."""
+        with contextlib.suppress(BrokenPipeError):
+            self.commands.close()
+
+    def line(self) -> str:
+        """The next line of an answer."""
+        line = self.answers.readline().decode("utf-8", "backslashreplace")
+        if not line.endswith("\n"):
+            raise Closed
+        return line[:-1]
+
+    def last(self, *commands: str) -> BinaryIO:
+        """The lines of the answers to the last commands."""
+        self.ask(*commands, "quit")
+        self.close()
+        return self.answers
+
+    def settled(self) -> Iterator[Settled]:
+        """The vertices as they settle, by the events that the session chooses, up to its end."""
+        while True:
+            self.ask("next")
+            line = self.line()
+            if line == "end":
+                return
+            claim = CLAIM.fullmatch(line)
+            if not claim:
+                raise Unexpected(line)
+            yield self.settle(*claim.groups())
+
+    def settle(self, vertex: str, kind: str) -> Settled:
+        """The vertex that was claimed goes on until it has settled."""
+        self.ask("clear", f"break settle {vertex}", "go")
+        before, line = "", self.line()
+        while EVENT.fullmatch(line):
+            before, line = line, self.line()
+        settle = SETTLE.fullmatch(before)
+        if line != "stop" or not settle or settle[1] != vertex:
+            raise Unexpected(line)
+        return Settled(int(vertex), kind, settle[2])
+
+    def failures(self) -> list[str]:
+        """A line for each vertex that failed, as a run prints it; the session ends."""
+        found = []
+        for line in self.last("status"):
+            failure = FAILURE.fullmatch(line.decode("utf-8", "backslashreplace").rstrip("\n"))
+            if failure:
+                found.append(f"failed {failure[1]} {failure[2]}")
+        return found

@@ -1,0 +1,114 @@
+"""How the tools of trees and archives read standard input, write what is ready, and end."""
+
+import contextlib
+import os
+import shutil
+import sys
+import tempfile
+from collections.abc import Callable, Iterator
+from typing import BinaryIO
+
+from common import give_up_output, say
+
+REFUSED, FAILED, INTERRUPTED = 2, 3, 130
+
+PIECE = 1 << 20
+
+
+class Refused(Exception):
+    """What is given is refused; the words say why."""
+
+
+class Failed(Exception):
+    """A read or a write failed; the words say which."""
+
+
+def exit_status(work: Callable[[], int | None]) -> int:
+    """The exit status of work; what it is refused for or fails for is told on standard error."""
+    try:
+        return work() or 0
+    except Refused as fault:
+        say(str(fault))
+        return REFUSED
+    except Failed as fault:
+        say(str(fault))
+        return FAILED
+    except MemoryError:
+        say("out of memory")
+        return FAILED
+    except KeyboardInterrupt:
+        return INTERRUPTED
+
+
+def input_given() -> BinaryIO:
+    """Standard input, which is open."""
+    if sys.stdin is None:
+        raise Failed("standard input is closed")
+    return sys.stdin.buffer
+
+
+def lines_given() -> Iterator[bytes]:
+    """The lines of standard input."""
+    lines = input_given()
+    try:
+        yield from lines
+    except OSError as fault:
+        raise Failed(f"standard input could not be read: {fault.strerror}") from fault
+
+
+@contextlib.contextmanager
+def kept_file(what: str) -> Iterator[BinaryIO]:
+    """An unnamed temporary file (under TMPDIR); where it fails, so does what is kept there."""
+    try:
+        with tempfile.TemporaryFile() as kept:
+            yield kept
+    except OSError as fault:
+        raise Failed(f"{what} could not be kept: {fault.strerror}") from fault
+
+
+def put_out(kept: BinaryIO, what: str) -> None:
+    """All that is kept is written to standard output."""
+    if sys.stdout is None:
+        raise Failed(f"{what} could not be written: standard output is closed")
+    kept.seek(0)
+    try:
+        shutil.copyfileobj(kept, sys.stdout.buffer, PIECE)
+        sys.stdout.flush()
+    except OSError as fault:
+        give_up_output()
+        raise Failed(f"{what} could not be written: {fault.strerror}") from fault
+    except KeyboardInterrupt:
+        give_up_output()
+        raise
+
+
+def mode_of_new_files() -> int:
+    """The mode that the system gives to a new file."""
+    mask = os.umask(0o077)
+    os.umask(mask)
+    return 0o666 & ~mask
+
+
+def move_in(kept: BinaryIO, place: str) -> None:
+    """All that is kept is written under a temporary name beside the place, and moved there when it is whole."""
+    descriptor, beside = tempfile.mkstemp(prefix=".llbm-", dir=os.path.dirname(place) or ".")
+    try:
+        with open(descriptor, "wb") as file:
+            shutil.copyfileobj(kept, file, PIECE)
+            os.fchmod(file.fileno(), mode_of_new_files())
+        os.rename(beside, place)
+    except BaseException:
+        with contextlib.suppress(OSError):
+            os.unlink(beside)
+        raise
+
+
+def put_in(kept: BinaryIO, place: str) -> None:
+    """All that is kept is written to a new file, which is there whole or not at all."""
+    if os.path.lexists(place):
+        raise Refused(f"{place}: is there already")
+    kept.seek(0)
+    try:
+        move_in(kept, place)
+    except OSError as fault:
+        raise Failed(f"{place}: {fault.strerror}") from fault

@@ -1,0 +1,203 @@
+"""Tests of `build --progress`, with a program of the tests' own in the place of llbm."""
+
+import signal
+import subprocess
+import sys
+import unittest
+
+import progress
+from tests import base
+from tests.base import command, part, run
+from tests.building import Builds
+
+FAKE = f"""#!{sys.executable}
+import os, signal, sys, time
+words = [word.partition("=")[0] if "=" in word else word for word in sys.argv[1:]]
+with open("given", "a") as file:
+    file.write(" ".join(words[:1] + words[2:] if words[0] == "step" else words) + "\\n")
+if sys.argv[1] == "show":
+    sys.stdin.buffer.read()
+    sys.stdout.write(open("shown").read())
+    sys.exit(0 if os.path.getsize("shown") else 2)
+if sys.argv[1] != "step":
+    sys.exit(77)
+answers = dict(next=[], go=[])
+exec(open("does").read())
+for line in sys.stdin:
+    with open("given", "a") as file:
+        file.write(line)
+    told = answers.get(line.strip())
+    if told:
+        sys.stdout.write(told.pop(0) + "\\n")
+        sys.stdout.flush()
+    if line == "quit\\n":
+        sys.exit(0)
+"""
+
+SHOWN = "0 source steps 1 outputs 1 inputs -\n1 file steps 1 outputs 2 inputs 0.0\nresult 1.1\n"
+SOURCE = """
+answers["next"] += ["1 claim 0 0 -> source 1", "4 claim 0 1 -> file 1", "end"]
+answers["go"] += ["2 step 0 -> read\\n3 settle 0 -> 0 done\\nstop"]
+"""
+DONE = SOURCE + """
+answers["go"] += ["5 step 0 -> acted 0\\n6 settle 0 -> 1 done\\nstop"]
+answers["tree 1 1"] = ["d 0755 0 0 /\\nf 0640 0 0 6869 /a"]
+"""
+FAILED = SOURCE + """
+answers["go"] += ["5 step 0 -> fault 0 21\\n6 settle 0 -> 1 failed\\nstop"]
+answers["status"] = ["0 done\\n1 failed action 0 fault 21"]
+"""
+COMMANDS = "next\nclear\nbreak settle 0\ngo\nnext\nclear\nbreak settle 1\ngo\nnext\n"
+
+
+def named(entry, name):
+    """The record of a definition that gives a name to an entry."""
+    description = part(2, part(1, "other") + part(2, "x")) + part(2, part(1, "llb.customname") + part(2, name))
+    return part(2, part(1, base.digest(entry)) + part(2, description))
+
+
+class Names(unittest.TestCase):
+    """The names in a definition's metadata."""
+
+    def setUp(self):
+        self.one, self.two = base.source("local://a"), base.file_op(base.rm("/a"), on=[base.source("local://a")])
+        self.given = base.ending(self.one, self.two)
+
+    def test_names_by_vertex(self):
+        self.assertEqual(progress.names_in(self.given), {})
+        given = named(self.two, "second") + self.given + named(b"none", "none") + named(self.one, "first \N{BULLET}")
+        self.assertEqual(progress.names_in(given), {0: "first \N{BULLET}", 1: "second"})
+
+    def test_the_last_name_holds(self):
+        given = self.given + named(self.one, "old") + named(self.one, "new")
+        self.assertEqual(progress.names_in(given), {0: "new"})
+
+    def test_metadata_that_does_not_read(self):
+        broken = part(2, part(1, base.digest(self.two)) + part(2, b"\x0a"))
+        self.assertEqual(progress.names_in(self.given + named(self.one, "a") + broken), {0: "a"})
+        self.assertEqual(progress.names_in(self.given + named(self.one, "a") + part(2, b"\x0a")), {})
+        for given in [b"\x0a", b"", b"\xff" * 20]:
+            self.assertEqual(progress.names_in(given), {})
+
+    def test_an_entry_without_a_name(self):
+        metadata = part(2, part(1, base.digest(self.one)) + part(2, part(2, part(1, "llb.customname"))))
+        self.assertEqual(progress.names_in(self.given + metadata), {})
+
+
+class Progress(Builds):
+    """A build that goes through a session."""
+
+    fake = FAKE
+
+    def setUp(self):
+        super().setUp()
+        self.shows(SHOWN)
+
+    def shows(self, text):
+        """The program shows this graph."""
+        (self.at / "shown").write_text(text)
+
+    def nothing_is_left(self, also=()):
+        """The same, but for what the program shows."""
+        super().nothing_is_left({"shown", *also})
+
+    def follow(self, *words):
+        """A build with progress."""
+        return self.build("--progress", "definition", "out", *words)
+
+    def test_a_line_for_each_vertex(self):
+        self.make(b"a", b"a")
+        self.does(DONE)
+        self.file(b"definition", self.given + named(self.files, "copy\nit") + named(self.origin, "x" * 101))
+        done = self.follow("src=in", "--workers", "3")
+        self.assertEqual((done.returncode, done.stdout), (0, b""))
+        lines = ["reading src from in", "left out: nothing", "running definition"]
+        lines += [f"[1/2] vertex 0 source done: {'x' * 97}...", r"[2/2] vertex 1 file done: copy\nit"]
+        self.assertEqual(done.stderr.decode().splitlines(), [*lines, "writing out", "out is written"])
+        given = f"show\nstep --workers 3 src\n{COMMANDS}tree 1 1\nquit\n"
+        self.assertEqual((self.at / "given").read_text(), given)
+        self.assertEqual((self.at / "out/a").read_text(), "hi")
+        self.nothing_is_left({"out"})
+
+    def test_one_worker_where_no_number_is_given(self):
+        self.does(DONE)
+        self.assertEqual(self.follow().returncode, 0)
+        self.assertIn("step --workers 1\n", (self.at / "given").read_text())
+
+    def test_a_failure_is_told_as_by_a_run(self):
+        self.does(FAILED)
+        told = run("explain", "--definition", self.place(b"definition"), "failed", "1", "action", "0", "fault", "21")
+        meaning = [f"  {line}" for line in told.stdout.decode().splitlines()]
+        lines = ["running definition", "[1/2] vertex 0 source done", "[2/2] vertex 1 file failed"]
+        self.ends(self.follow(), 1, *lines, "failed 1 action 0 fault 21", *meaning, "nothing is written")
+        self.assertTrue((self.at / "given").read_text().endswith(f"{COMMANDS}status\nquit\n"))
+
+    def test_a_refusal_is_told_as_by_a_run(self):
+        self.shows("")
+        for line, status in [("fault 121 src", 2), ("fault 83", 2), ("fault 123", 3)]:
+            self.does(f'sys.stderr.write("{line}\\n")\nsys.exit({status})\n')
+            told = run("explain", "--definition", self.place(b"definition"), *line.split(" "))
+            meaning = [f"  {text}" for text in told.stdout.decode().splitlines()]
+            self.ends(self.follow(), status, "running definition", line, *meaning, "nothing is written")
+
+    def test_a_session_that_ends_too_early(self):
+        early = "the session ended before the result was out"
+        self.does("sys.exit(0)")
+        self.ends(self.follow(), 3, "running definition", early)
+        cut = 'sys.exit(sys.stdout.write("5 st") * 0) if line == "break settle 1\\n" else line'
+        self.does(SOURCE + f"sys.stdin = ({cut} for line in sys.stdin)\n")
+        self.ends(self.follow(), 3, "running definition", "[1/2] vertex 0 source done", early)
+        self.does(DONE + 'answers["tree 1 1"] = []\n')
+        lines = ["[1/2] vertex 0 source done", "[2/2] vertex 1 file done"]
+        self.ends(self.follow(), 3, "running definition", *lines, early)
+        self.does(DONE)
+        self.shows("")
+        lines = ["[1/?] vertex 0 source done", "[2/?] vertex 1 file done"]
+        self.ends(self.follow(), 3, "running definition", *lines, early)
+
+    def test_a_session_that_is_ended(self):
+        self.does("os.kill(os.getpid(), signal.SIGKILL)")
+        self.ends(self.follow(), 137, "running definition", "nothing is written")
+        self.does(SOURCE + 'sys.stdin = (line if line == "next\\n" else os.kill(os.getpid(), 9) for line in sys.stdin)')
+        self.ends(self.follow(), 137, "running definition", "nothing is written")
+
+    def test_answers_that_are_not_expected(self):
+        told = run("explain", "fault", "174").stdout.decode().splitlines()
+        meaning = [f"  {line}" for line in told]
+        claim = 'answers["next"] += ["1 claim 0 0 -> source 1"]\n'
+        for does, lines in [
+            ('answers["next"] += ["fault 174"]', ["fault 174", *meaning]),
+            (claim + 'answers["go"] += ["fault 174"]', ["fault 174", *meaning]),
+            (claim + 'answers["go"] += ["2 settle 0 -> 1 done\\nstop"]', ["stop"]),
+        ]:
+            self.does(does)
+            end = "the session gave an answer that is not expected"
+            self.ends(self.follow(), 3, "running definition", *lines, end)
+
+    def test_a_result_that_is_no_tree(self):
+        self.does(DONE + 'answers["tree 1 1"] = ["none"]\n')
+        done = self.follow()
+        self.assertEqual(done.returncode, 2)
+        line = b"line 1: neither d MODE UID GID PATH nor f MODE UID GID CONTENT PATH"
+        self.assertEqual(done.stderr.splitlines()[-2:], [line, b"nothing is written"])
+        self.nothing_is_left()
+
+    def test_an_archive_as_the_result(self):
+        self.does(DONE)
+        done = self.build("--progress", "definition", "out.tar")
+        self.assertEqual(done.returncode, 0)
+        wanted = run("tar-of-tree", text=b"d 0755 0 0 /\nf 0640 0 0 6869 /a\n").stdout
+        self.assertEqual((self.at / "out.tar").read_bytes(), wanted)
+        self.nothing_is_left({"out.tar"})
+
+    def test_an_interrupt(self):
+        self.does(SOURCE + "time.sleep(0)\n" + 'answers["go"] = ["2 step 0 -> read"]\n')
+        words = ["--llbm", self.llbm, "--progress", "definition", "out"]
+        child = subprocess.Popen(command("build", *words), stderr=subprocess.PIPE, **self.settings)
+        self.addCleanup(child.stderr.close)
+        while not (self.at / "given").exists() or "go\n" not in (self.at / "given").read_text():
+            self.assertIsNone(child.poll())
+        child.send_signal(signal.SIGTERM)
+        self.assertEqual(child.stderr.read(), b"running definition\ninterrupted: nothing is written\n")
+        self.assertEqual(child.wait(60), 128 + signal.SIGTERM)
+        self.nothing_is_left()
