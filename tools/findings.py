@@ -146,7 +146,9 @@ def findings_of(data: bytes) -> list[Finding]:
     except op_reading.Faulty as fault:
         return [Finding(DEFINITION, None, str(fault.number))]
     rows = Rows(entries)
-    if len(rows.named) < 2 and not any(finding.number == COLLISION for finding in rows.found):
+    if any(finding.number == COLLISION for finding in rows.found):
+        return ordered(rows)
+    if len(rows.named) < 2:
         rows.found.append(Finding(TOO_FEW))
     else:
         rows.look()

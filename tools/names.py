@@ -20,7 +20,7 @@ Fields = dict[int, list[int | bytes]]
 
 
 class Name(NamedTuple):
-    """What is told of an entry: its row, its digest, the number of its vertex if it is one, and texts, empty for none."""
+    """What is told of an entry: row, digest, the number of its vertex if it is one, and texts, empty for none."""
 
     row: int
     digest: str
