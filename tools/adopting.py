@@ -27,7 +27,7 @@ ACTIONS = frozenset([4, 5, 6, 7])
 OWNERS = {4: 3, 5: 4, 6: 4}
 COPY, UNPACK = 4, 7
 
-SECRETS, SSH, UNPACKS, OWNER_NAMES = "secrets", "ssh", "unpack", "owners"
+DROPPED = SECRETS, SSH, UNPACKS, OWNER_NAMES = "secrets", "ssh", "unpack", "owners"
 NOTHING = ["true"]
 MOST_CHARACTERS = 60
 

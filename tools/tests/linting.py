@@ -16,7 +16,7 @@ from tests import base
 from tests.base import ROOT, Folder, number, part, run, run_closed, run_into
 
 EXAMPLES = ROOT / "examples"
-RUNS = 350
+RUNS = 300
 
 
 def exec_of(*mounts, args=("true",), meta=b"", more=b"", on=()):
@@ -351,7 +351,7 @@ def with_bytes_changed(chance, data):
     """The same bytes with some of them changed, put in, or taken out."""
     data = bytearray(data)
     for _ in range(chance.randint(1, 3)):
-        place = chance.randrange(len(data))
+        place = chance.randrange(len(data) + 1)
         data[place : place + chance.randint(0, 2)] = chance.randbytes(chance.randint(0, 2))
     return bytes(data)
 
