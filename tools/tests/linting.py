@@ -356,13 +356,34 @@ def with_bytes_changed(chance, data):
     return bytes(data)
 
 
-def with_entries_changed(chance, data):
+def with_field_changed(chance, data, message="Op"):
+    """A message with a record of it, or of a message in it, left out, doubled, or with another value."""
+    records = op_reading.records_in(data)
+    if not records:
+        return data + number(chance.randint(1, 8), 1)
+    place = chance.randrange(len(records))
+    field, form, held, text = records[place]
+    named = op_reading.MESSAGES.get(message, {}).get(field)
+    if named and named.kind in op_reading.MESSAGES and chance.random() < 0.8:
+        new = part(field, with_field_changed(chance, held, named.kind))
+    elif chance.random() < 0.4:
+        new = chance.choice([b"", text * 2])
+    elif form == definition.LENGTH:
+        new = part(field, chance.choice([b"", b"/", b"/a", b"local://", b"\xff", b"apk", b";", held + b"/", held[:-1]]))
+    else:
+        new = number(field, chance.choice([-2, -1, 0, 1, 2, 3, 5, 1 << 40]))
+    return b"".join(record.text for record in records[:place]) + new + b"".join(
+        record.text for record in records[place + 1 :]
+    )
+
+
+def with_entries_changed(chance, data, change=with_field_changed):
     """A definition with an entry changed, and those after it named anew."""
     entries = definition.entries_of(data)
     changed = chance.randrange(len(entries))
     digests: dict[bytes, bytes] = {}
     for place, entry in enumerate(entries):
-        made = with_bytes_changed(chance, entry) if place == changed and entry else entry
+        made = change(chance, entry) if place == changed and entry else entry
         for old, new in digests.items():
             made = made.replace(old, new)
         digests[base.digest(entry).encode()] = base.digest(made).encode()
