@@ -30,8 +30,8 @@ class Name(NamedTuple):
     place: str
 
     def shown(self) -> str:
-        """The name, the group and the place in one text for a person to read; empty where there is none."""
-        group = f"[{self.group}]" if self.group else ""
+        """The name, a group of another name, and the place in one text for a person; empty where there is none."""
+        group = f"[{self.group}]" if self.group not in ("", self.text) else ""
         place = f"({self.place})" if self.place else ""
         return printable(" ".join(filter(None, [self.text, group, place])))
 

@@ -57,6 +57,7 @@ class Names(unittest.TestCase):
             (texts(2, llb_customname="", com_docker_dockerfile_v1_command="b"), "b"),
             (texts(2, llb_customname="a", llb_customnamegroup="g"), "a [g]"),
             (part(6, part(1, "id") + part(2, "group")), "[group]"),
+            (texts(2, llb_customname="a") + part(6, part(2, "a")), "a"),
             (part(6, part(2, "b")) + texts(2, llb_customnamegroup="a"), "[a]"),
             (texts(2, llb_customname="a") + texts(2, llb_customname="b"), "b"),
             (texts(2, llb_customname="a\n\x1b"), "a\\n\\x1b"),
