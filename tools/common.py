@@ -43,6 +43,15 @@ def check_open(stream: object, name: str) -> None:
         raise OSError(None, f"{name} is closed")
 
 
+def data_in(file: str | None) -> bytes:
+    """The bytes of a file, or of standard input for none; of those that are too many only so many as tell it."""
+    if file is None:
+        check_open(sys.stdin, "standard input")
+        return sys.stdin.buffer.read(MOST_BYTES + 1)
+    with open(file, "rb") as opened:
+        return opened.read(MOST_BYTES + 1)
+
+
 def give_up_output() -> None:
     """What is still to be written to standard output goes nowhere, so that no one fails at it once more."""
     os.dup2(os.open(os.devnull, os.O_WRONLY), 1)

@@ -8,7 +8,8 @@ import re
 from typing import NamedTuple
 
 import definition
-from common import printable
+import names
+from common import data_in, printable
 
 PAGE = pathlib.Path(__file__).resolve().parent.parent / "docs" / "FAULTS.md"
 
@@ -294,8 +295,9 @@ def done_by(op: dict, place: Place) -> list[str]:
 class Told:
     """A definition of which lines tell."""
 
-    def __init__(self, entries: list[bytes]) -> None:
+    def __init__(self, entries: list[bytes], shown: list[str]) -> None:
         self.entries = entries
+        self.shown = shown
         self.rows: list[int] | None = None
 
     def row_of(self, vertex: int) -> int:
@@ -314,15 +316,16 @@ class Told:
         return [] if place.row is None else self.entry(f"row {place.row}", place.row, place)
 
     def entry(self, prefix: str, row: int, place: Place) -> list[str]:
-        """An entry's digest, its kind, and what it tells of the place."""
+        """An entry's digest, its kind, its name if it has one, and what it tells of the place."""
         if row >= len(self.entries):
             raise definition.Unreadable(f"it has no row {row}")
         prefix = f"{prefix}: {definition.digest_of(self.entries[row])}"
+        named = [f"named: {self.shown[row]}"] if self.shown[row] else []
         try:
             op = definition.read("Op", self.entries[row])
         except definition.Unreadable as fault:
-            return [f"{prefix}, no op: {fault}"]
-        return [f"{prefix}, {op.get('kind', 'no kind')}", *map(printable, told_by(op, place))]
+            return [f"{prefix}, no op: {fault}", *named]
+        return [f"{prefix}, {op.get('kind', 'no kind')}", *named, *map(printable, told_by(op, place))]
 
 
 class Explainer:
@@ -338,7 +341,8 @@ class Explainer:
     def read(self, file: str) -> None:
         """The definition in a file; where it has no entries, why."""
         try:
-            self.told = Told(definition.entries_in(file))
+            data = data_in(file)
+            self.told = Told(definition.entries_of(data), [name.shown() for name in names.names_of(data)])
         except definition.Unreadable as fault:
             self.cause = str(fault)
 

@@ -225,12 +225,12 @@ class Explain(Folder):
     def test_without_the_page(self):
         tools = os.path.join(os.fsdecode(self.folder), "tools")
         os.mkdir(tools)
-        for name in ["explain", "faults.py", "definition.py", "common.py"]:
+        for name in ["explain", "faults.py", "definition.py", "common.py", "names.py"]:
             shutil.copy(TOOLS / name, tools)
         done = run(os.path.join(tools, "explain"), "fault", "1")
         self.assertEqual((done.returncode, done.stdout), (2, b""))
         self.assertRegex(done.stderr, rb"\A.*/docs/FAULTS\.md: .*No such file.*\n\Z")
-        self.assertEqual(sorted(os.listdir(tools)), ["common.py", "definition.py", "explain", "faults.py"])
+        self.assertEqual(sorted(os.listdir(tools)), ["common.py", "definition.py", "explain", "faults.py", "names.py"])
 
     def test_standard_streams_that_fail(self):
         with open("/dev/full", "wb") as output:

@@ -1,0 +1,263 @@
+"""Makes of a foreign definition one that the program takes: op by op, with new digests, and what is keyed by these.
+
+An entry is known by the SHA-256 of its bytes, and inputs, metadata and the places of `Source` name it by that. So an
+entry that changes changes all that are after it; entries are written inputs first, each with the new digests of them.
+"""
+
+import functools
+import itertools
+import shlex
+from collections.abc import Callable
+from typing import NamedTuple
+
+import definition
+import findings
+import names
+import op_reading
+import op_rules
+from adoption_rules import Rule, rule_for
+from common import shortened
+from local_names import LocalNames, is_known
+from op_reading import Record
+from rewriting import changed, with_each, with_message, with_text, with_texts, without, written
+
+KINDS = frozenset([2, 3, 4, 5, 6, 7])
+EXEC, SOURCE, FILE = 2, 3, 4
+ACTIONS = frozenset([4, 5, 6, 7])
+OWNERS = {4: 3, 5: 4, 6: 4}
+COPY, UNPACK = 4, 7
+
+DROPPED = SECRETS, SSH, UNPACKS, OWNER_NAMES = "secrets", "ssh", "unpack", "owners"
+NOTHING = ["true"]
+MOST_CHARACTERS = 60
+
+
+class Wishes(NamedTuple):
+    """What is wished beyond local sources: what is dropped, rules for words, and whether all others run nothing."""
+
+    dropped: frozenset[str] = frozenset()
+    rules: tuple[Rule, ...] = ()
+    run_nothing: bool = False
+
+
+class Adopted(NamedTuple):
+    """A definition, what was changed by rows, its local sources with the identifiers they had, and what is left."""
+
+    data: bytes
+    changes: list[tuple[int, str]]
+    others: list[str]
+    sources: list[tuple[str, str]]
+    left: list[findings.Finding]
+
+
+def words_shown(words: list[str]) -> str:
+    """Words for a person to read."""
+    return shortened(shlex.join(words), MOST_CHARACTERS)
+
+
+def name_of_secret(held: bytes) -> str:
+    """The variable that a secret is given in: its name (2), or else its ID (1)."""
+    fields = names.fields_of(held)
+    return names.text_of(fields, 2) or names.text_of(fields, 1)
+
+
+class Entry:
+    """One entry while it is changed; what was changed is kept in words."""
+
+    def __init__(self, wishes: Wishes, local: dict[str, str], name: str) -> None:
+        self.wishes = wishes
+        self.local = local
+        self.name = name
+        self.changes: list[str] = []
+        self.used: Rule | None = None
+
+    def drops(self, kind: str) -> bool:
+        """Whether something of this kind is dropped."""
+        return kind in self.wishes.dropped
+
+    def changed_op(self, digest: str, entry: bytes, op: dict) -> bytes:
+        """The op without the new digests of its inputs."""
+        if op["kind"] == "source" and digest in self.local:
+            self.changes.append(f"source {op['source']['identifier']} is {op_rules.LOCAL}{self.local[digest]}")
+            return self.member(entry, SOURCE, lambda held: with_text(held, 1, op_rules.LOCAL + self.local[digest]))
+        if op["kind"] == "exec":
+            return self.member(entry, EXEC, lambda held: self.execution(digest, op["exec"], held))
+        if op["kind"] == "file":
+            numbers = itertools.count()
+            return self.member(
+                entry, FILE, lambda held: with_each(held, 2, lambda action: self.action(next(numbers), action))
+            )
+        return entry
+
+    def member(self, entry: bytes, field: int, change: Callable[[list[Record]], list[Record]]) -> bytes:
+        """The entry with the member of its kind changed."""
+        return changed(entry, lambda records: with_message(records, field, lambda held: changed(held, change), KINDS))
+
+    def execution(self, digest: str, told: dict, records: list[Record]) -> list[Record]:
+        """An execution with other words, and without what is dropped."""
+        records = with_each(records, 2, self.mount)
+        if self.drops(SECRETS) and told["secretenv"]:
+            shown = ", ".join(map(name_of_secret, told["secretenv"]))
+            self.changes.append(f"dropped: secret environment {shown}")
+            records = without(records, 5)
+        old = told["meta"]["args"] if told["meta"] else []
+        new = self.words(digest, old)
+        if new == old:
+            return records
+        self.changes.append(f"runs {words_shown(new)} in place of {words_shown(old)}")
+        return with_message(records, 1, lambda held: changed(held, lambda meta: with_texts(meta, 1, new)))
+
+    def words(self, digest: str, old: list[str]) -> list[str]:
+        """The new words of an execution."""
+        self.used = rule_for(self.wishes.rules, digest, self.name, old)
+        if self.used:
+            return self.used.words or old
+        return NOTHING if self.wishes.run_nothing else old
+
+    def mount(self, held: bytes) -> bytes | None:
+        """A mount, none where it is dropped."""
+        mount = op_reading.read("Mount", held)
+        for kind, number, shown in [(SECRETS, op_rules.SECRET, "secret"), (SSH, op_rules.SSH, "SSH")]:
+            if self.drops(kind) and mount["mountType"] == number:
+                self.changes.append(f"dropped: {shown} mount at {mount['dest']}")
+                return None
+        return held
+
+    def action(self, number: int, held: bytes) -> bytes:
+        """An action without what is dropped."""
+        kind = op_reading.read("FileAction", held)["kind"]
+        for field in OWNERS:
+            if op_reading.MESSAGES["FileAction"][field].name == kind:
+                member = functools.partial(self.action_member, number, field)
+                return changed(
+                    held, lambda records: with_message(records, field, lambda one: changed(one, member), ACTIONS)
+                )
+        return held
+
+    def action_member(self, number: int, field: int, records: list[Record]) -> list[Record]:
+        """A copy without its unpacking, and what has an owner without names of owners."""
+        unpacks = [record.held for record in records if record.field == UNPACK and field == COPY]
+        if self.drops(UNPACKS) and unpacks and unpacks[-1]:
+            self.changes.append(f"dropped: unpacking by action {number}")
+            records = without(records, UNPACK)
+        if not self.drops(OWNER_NAMES):
+            return records
+        return with_message(
+            records, OWNERS[field], lambda held: changed(held, functools.partial(self.owner, number, held))
+        )
+
+    def owner(self, number: int, held: bytes, records: list[Record]) -> list[Record]:
+        """An owner without what is given by a name."""
+        told = op_reading.read("ChownOpt", held)
+        for field, who in [(1, "user"), (2, "group")]:
+            if told[who] and told[who]["kind"] == "byName":
+                shown = names.text_of(names.fields_of(told[who]["byName"]), 1)
+                self.changes.append(f"dropped: {who} {shown} of action {number}")
+                records = without(records, field)
+        return records
+
+
+class Adoption:
+    """A definition while it is adopted."""
+
+    def __init__(self, data: bytes, wishes: Wishes) -> None:
+        self.records = op_reading.read_definition(data)
+        self.entries = op_reading.entries_in(self.records)
+        self.digests = [definition.digest_of(entry) for entry in self.entries]
+        self.names = [name.text for name in names.names_of(data)]
+        self.wishes = wishes
+        self.rows: dict[str, int] = {}
+        self.ops: dict[int, dict] = {}
+        self.read()
+        self.sources: list[tuple[str, str]] = []
+        self.local: dict[str, str] = {}
+        self.name_sources()
+        self.new: dict[str, str] = {}
+        self.made: dict[str, bytes] = {}
+        self.changes: dict[int, list[str]] = {}
+        self.used: set[int] = set()
+
+    def read(self) -> None:
+        """The ops of the rows that are ops."""
+        for row, (digest, entry) in enumerate(zip(self.digests, self.entries)):
+            if self.rows.setdefault(digest, row) == row:
+                try:
+                    self.ops[row] = op_reading.read_op(entry)
+                except op_reading.Faulty:
+                    continue
+
+    def name_sources(self) -> None:
+        """The names of the sources that become local ones, by the order of their rows."""
+        sources = {row: op["source"]["identifier"] for row, op in self.ops.items() if op["kind"] == "source"}
+        given = LocalNames(list(sources.values()))
+        for row, identifier in sources.items():
+            if is_known(identifier):
+                self.local[self.digests[row]] = given.give(identifier)
+                self.sources.append((self.local[self.digests[row]], identifier))
+            elif identifier.startswith(op_rules.LOCAL):
+                self.sources.append((identifier[len(op_rules.LOCAL) :], identifier))
+
+    def order(self) -> list[int]:
+        """The rows that are ops, inputs first."""
+        named = {row: [self.rows.get(told["digest"]) for told in op["inputs"]] for row, op in self.ops.items()}
+        return definition.order_of({row: [one for one in rows if one in self.ops] for row, rows in named.items()})
+
+    def input(self, held: bytes) -> bytes:
+        """An input with the new digest of what it names."""
+        digest = op_reading.read("Input", held)["digest"]
+        new = self.new.get(digest, digest)
+        return held if new == digest else changed(held, lambda records: with_text(records, 1, new))
+
+    def adopt_row(self, row: int) -> None:
+        """An entry is made anew, after those that it names."""
+        digest = self.digests[row]
+        one = Entry(self.wishes, self.local, self.names[row])
+        entry = one.changed_op(digest, self.entries[row], self.ops[row])
+        linked = changed(entry, lambda records: with_each(records, 1, self.input))
+        if linked != entry:
+            one.changes.append("its inputs have new digests")
+        self.made[digest] = linked
+        self.new[digest] = definition.digest_of(linked)
+        self.changes[row] = one.changes
+        if one.used:
+            self.used.add(one.used.line)
+
+    def renamed(self, held: bytes) -> bytes:
+        """An entry of a map with the new digest as its key; one that does not read stays."""
+        try:
+            records = op_reading.records_in(held)
+        except op_reading.Faulty:
+            return held
+        key = names.text_of(names.fields_of(held), 1)
+        new = self.new.get(key, key)
+        return held if new == key else written(with_text(records, 1, new))
+
+    def source(self, held: bytes) -> bytes:
+        """`Source` with the new digests as keys of its places; one that does not read stays."""
+        try:
+            records = op_reading.records_in(held)
+        except op_reading.Faulty:
+            return held
+        return written(with_each(records, 1, lambda one: self.renamed(one) if isinstance(one, bytes) else one))
+
+    def result(self) -> bytes:
+        """The definition with all that was made anew."""
+        made = iter([self.made.get(digest, entry) for digest, entry in zip(self.digests, self.entries)])
+        records = with_each(self.records, 1, lambda _: next(made))
+        metadata = with_each(records, 2, self.renamed)
+        return written(with_message(metadata, 3, self.source))
+
+    def others(self) -> list[str]:
+        """What else there is to tell: rules that fit nothing."""
+        unused = [rule.line for rule in self.wishes.rules if rule.line not in self.used]
+        return [f"rules: line {line} fits no execution" for line in unused]
+
+
+def adopt(data: bytes, wishes: Wishes) -> Adopted:
+    """The definition adopted, as far as it can be."""
+    adoption = Adoption(data, wishes)
+    for row in adoption.order():
+        adoption.adopt_row(row)
+    result = adoption.result()
+    changes = [(row, text) for row in sorted(adoption.changes) for text in adoption.changes[row]]
+    return Adopted(result, changes, adoption.others(), adoption.sources, findings.findings_of(result))

@@ -1,0 +1,126 @@
+"""The names that a definition has for people: of each entry its name and its place in the source that it was made of.
+
+Both are told in what the program passes over. `metadata` is a map from digests to messages: of these `description` (2),
+a map of texts, has the name under `llb.customname`, or else the command of a Dockerfile under
+`com.docker.dockerfile.v1.command`; its group is under `llb.customnamegroup`, or the name of `progress_group` (6).
+`Source` has `locations` (1), a map from digests to places, and `infos` (2), the files that these are in. What of it
+does not read is passed over, since nothing depends on it.
+"""
+
+from typing import NamedTuple
+
+import definition
+from common import printable
+
+CUSTOM_NAME = "llb.customname"
+CUSTOM_GROUP = "llb.customnamegroup"
+COMMAND = "com.docker.dockerfile.v1.command"
+
+Fields = dict[int, list[int | bytes]]
+
+
+class Name(NamedTuple):
+    """What is told of an entry: row, digest, the number of its vertex if it is one, and texts, empty for none."""
+
+    row: int
+    digest: str
+    vertex: int | None
+    text: str
+    group: str
+    place: str
+
+    def shown(self) -> str:
+        """The name, a group of another name, and the place in one text for a person; empty where there is none."""
+        group = f"[{self.group}]" if self.group not in ("", self.text) else ""
+        place = f"({self.place})" if self.place else ""
+        return printable(" ".join(filter(None, [self.text, group, place])))
+
+
+def fields_of(data: bytes) -> Fields:
+    """What the records of a message hold, by field; nothing where it does not read."""
+    found: Fields = {}
+    try:
+        for field, _, held in definition.records(data):
+            found.setdefault(field, []).append(held)
+    except definition.Unreadable:
+        return {}
+    return found
+
+
+def parts_of(fields: Fields, number: int) -> list[bytes]:
+    """The bytes that a field holds, one for each of its records."""
+    return [held for held in fields.get(number, []) if isinstance(held, bytes)]
+
+
+def message_of(fields: Fields, number: int) -> Fields:
+    """The message that a field holds once."""
+    return fields_of(b"".join(parts_of(fields, number)))
+
+
+def text_of(fields: Fields, number: int) -> str:
+    """The text that a field holds."""
+    held = parts_of(fields, number)[-1:]
+    return held[0].decode("utf-8", "backslashreplace") if held else ""
+
+
+def number_of(fields: Fields, number: int) -> int:
+    """The number that a field holds, of 32 bits, which is never below 0."""
+    held = [held for held in fields.get(number, []) if isinstance(held, int)]
+    return held[-1] & 0x7FFF_FFFF if held else 0
+
+
+def map_of(fields: Fields, number: int) -> dict[str, Fields]:
+    """A map from texts, of which each entry is a message of key (1) and value (2)."""
+    entries = map(fields_of, parts_of(fields, number))
+    return {text_of(entry, 1): entry for entry in entries}
+
+
+def texts_of(metadata: Fields) -> tuple[str, str]:
+    """The name and the group that the metadata of an entry tells."""
+    told = {key: text_of(entry, 2) for key, entry in map_of(metadata, 2).items()}
+    name = told.get(CUSTOM_NAME) or told.get(COMMAND, "")
+    return name, told.get(CUSTOM_GROUP) or text_of(message_of(metadata, 6), 2)
+
+
+def place_of(locations: Fields, files: list[str]) -> str:
+    """The first place of an entry: its file, and the lines of its first range."""
+    for location in map(fields_of, parts_of(locations, 1)):
+        source = number_of(location, 1)
+        if source >= len(files):
+            continue
+        ranges = list(map(fields_of, parts_of(location, 2)))[:1]
+        lines = [number_of(message_of(one, end), 1) for one in ranges for end in (1, 2)]
+        shown = [str(line) for line in dict.fromkeys(lines) if line]
+        return ":".join(filter(None, [files[source], "-".join(shown)]))
+    return ""
+
+
+def vertices_of(entries: list[bytes]) -> dict[int, int]:
+    """The vertex of each row that has one; none where the entries are no graph."""
+    try:
+        return {row: vertex for vertex, row in enumerate(definition.graph_of(entries).rows)}
+    except definition.Unreadable:
+        return {}
+
+
+def names_of(data: bytes) -> list[Name]:
+    """The name of each entry of a definition, in their order. Of equal entries the first one has the vertex."""
+    entries = definition.entries_of(data)
+    fields = fields_of(data)
+    metadata = map_of(fields, 2)
+    source = message_of(fields, 3)
+    files = [text_of(info, 1) for info in map(fields_of, parts_of(source, 2))]
+    locations = map_of(source, 1)
+    vertices = vertices_of(entries)
+    names = []
+    for row, entry in enumerate(entries):
+        digest = definition.digest_of(entry)
+        name, group = texts_of(message_of(metadata.get(digest, {}), 2))
+        place = place_of(message_of(locations.get(digest, {}), 2), files)
+        names.append(Name(row, digest, vertices.get(row), name, group, place))
+    return names
+
+
+def names_of_vertices(names: list[Name]) -> list[Name]:
+    """The names of the vertices, by their numbers."""
+    return sorted((name for name in names if name.vertex is not None), key=lambda name: name.vertex)

@@ -1,0 +1,200 @@
+"""What keeps an op from being taken: the features of fault 88 and the rules of fault 89, each by itself, in order.
+
+An op is a dict of `op_reading.read_op`. Definitions: docs/FORMATS.md under Loading.
+"""
+
+from collections.abc import Callable, Iterable, Iterator
+
+import script_faults
+from common import MOST_NAMES, is_name
+
+LOCAL = "local://"
+NONE = -1
+BIND, SECRET, SSH, CACHE, TMPFS = range(5)
+MOST_MOUNT_TYPES = 5
+MOST_SHARINGS = 3
+
+Path = tuple[bytes, ...]
+
+
+def path_of(text: str) -> Path | None:
+    """The path that a text reads as, if it reads as one."""
+    path: list[bytes] = []
+    for part in text.encode("utf-8").split(b"/"):
+        if part in (b"", b"."):
+            continue
+        if part == b"..":
+            del path[-1:]
+        elif is_name(part) and len(path) < MOST_NAMES:
+            path.append(part)
+        else:
+            return None
+    return tuple(path)
+
+
+def is_input(count: int, number: int) -> bool:
+    """Whether a number is one of so many inputs, or none."""
+    return NONE <= number < count
+
+
+def are_apart(values: Iterable[object]) -> bool:
+    """Whether no two of the values that are there are the same."""
+    there = [value for value in values if value is not None]
+    return len(set(there)) == len(there)
+
+
+def outputs_of(parts: list[dict]) -> list[int]:
+    """The outputs of actions or of mounts, without those that are none."""
+    return [part["output"] for part in parts if part["output"] != NONE]
+
+
+def are_outputs(parts: list[dict]) -> bool:
+    """Whether the outputs are numbered from 0, each once."""
+    outputs = outputs_of(parts)
+    return sorted(outputs) == list(range(len(outputs)))
+
+
+def members_of(op: dict) -> list[dict]:
+    """What the actions of a file op do, of those that have a member."""
+    actions = op["file"]["actions"] if op["kind"] == "file" else []
+    return [action[action["kind"]] for action in actions if action["kind"]]
+
+
+def copies_of(op: dict) -> list[dict]:
+    """The copies of a file op."""
+    actions = op["file"]["actions"] if op["kind"] == "file" else []
+    return [action["copy"] for action in actions if action["kind"] == "copy"]
+
+
+def mounts_of(op: dict) -> list[dict]:
+    """The mounts of an exec."""
+    return op["exec"]["mounts"] if op["kind"] == "exec" else []
+
+
+def has_mount(op: dict, kind: int) -> bool:
+    """Whether an exec has a mount of a type."""
+    return any(mount["mountType"] == kind for mount in mounts_of(op))
+
+
+def is_by_name(owner: dict | None) -> bool:
+    """Whether a user or a group is given by its name."""
+    users = [owner["user"], owner["group"]] if owner else []
+    return any(user is not None and user["kind"] == "byName" for user in users)
+
+
+def is_remote(op: dict) -> bool:
+    """Whether a source is not local."""
+    return op["kind"] == "source" and not op["source"]["identifier"].startswith(LOCAL)
+
+
+FEATURES: dict[str, Callable[[dict], bool]] = {
+    "DiffOp": lambda op: op["kind"] == "diff",
+    "BuildOp": lambda op: op["kind"] == "build",
+    "Source": is_remote,
+    "SecretMount": lambda op: has_mount(op, SECRET),
+    "SshMount": lambda op: has_mount(op, SSH),
+    "SecretEnv": lambda op: op["kind"] == "exec" and bool(op["exec"]["secretenv"]),
+    "Action": lambda op: op["kind"] == "file" and any(not action["kind"] for action in op["file"]["actions"]),
+    "Unpack": lambda op: any(copy["attemptUnpackDockerCompatibility"] for copy in copies_of(op)),
+    "Patterns": lambda op: any(copy["include_patterns"] or copy["exclude_patterns"] for copy in copies_of(op)),
+    "OwnerByName": lambda op: any(is_by_name(member.get("owner")) for member in members_of(op)),
+    "CopyField": lambda op: any(copy["extra"] for copy in copies_of(op)),
+}
+
+
+def features_of(op: dict) -> list[str]:
+    """The features of an op that are not taken."""
+    return [name for name, has in FEATURES.items() if has(op)]
+
+
+def take_inputs(count: int, actions: list[dict]) -> bool:
+    """Whether each action reads an input, the result of an action before it, or nothing."""
+    for place, action in enumerate(actions):
+        if not is_input(count + place, action["input"]):
+            return False
+        if action["kind"] == "copy" and not is_input(count + place, action["secondaryInput"]):
+            return False
+    return True
+
+
+def broken_in_file(count: int, actions: list[dict]) -> Iterator[tuple[bool, str]]:
+    """The rules on file ops, each with whether it is broken."""
+    yield not actions, "NoActions"
+    yield not take_inputs(count, actions), "ActionInput"
+    yield not are_outputs(actions), "ActionOutput"
+
+
+def key_of(inputs: list[dict], mount: dict) -> tuple | None:
+    """Which cache a mount shows, if it shows one."""
+    options = mount["cacheOpt"]
+    if mount["mountType"] != CACHE or options is None:
+        return None
+    seed = None
+    if 0 <= mount["input"] < len(inputs):
+        named = inputs[mount["input"]]
+        seed = named["digest"], named["index"]
+    return options["ID"], options["sharing"], seed
+
+
+def broken_in_paths(dests: list[Path | None], mounts: list[dict], meta: dict | None) -> Iterator[tuple[bool, str]]:
+    """The rules on where mounts are, each with whether it is broken."""
+    others = [mount["selector"] for mount in mounts] + ([meta["cwd"]] if meta else [])
+    yield () not in dests, "NoRoot"
+    yield None in dests or any(path_of(text) is None for text in others), "BadPath"
+    yield not are_apart(dests), "SameDest"
+
+
+def broken_in_mounts(inputs: list[dict], mounts: list[dict]) -> Iterator[tuple[bool, str]]:
+    """The rules on what mounts show and give, each with whether it is broken."""
+    caches = [mount for mount in mounts if mount["mountType"] == CACHE]
+    showing = caches + [mount for mount in mounts if mount["mountType"] == BIND]
+    silent = caches + [mount for mount in mounts if mount["mountType"] == TMPFS]
+    options = [mount["cacheOpt"] for mount in caches]
+    yield any(not 0 <= mount["mountType"] < MOST_MOUNT_TYPES for mount in mounts), "MountKind"
+    yield any(not is_input(len(inputs), mount["input"]) for mount in showing), "MountInput"
+    yield bool(outputs_of(silent)) or not are_outputs(mounts), "MountOutput"
+    yield None in options, "NoCacheOpt"
+    yield any(one is not None and not 0 <= one["sharing"] < MOST_SHARINGS for one in options), "Sharing"
+    yield not are_apart(key_of(inputs, mount) for mount in mounts), "CacheTwice"
+
+
+def broken_in_exec(inputs: list[dict], execution: dict) -> Iterator[tuple[bool, str]]:
+    """The rules on execs, each with whether it is broken. Words are read as a script where there are some."""
+    meta, mounts = execution["meta"], execution["mounts"]
+    args = meta["args"] if meta else []
+    yield meta is None, "NoMeta"
+    yield meta is not None and not args, "NoArgs"
+    yield not mounts, "NoMounts"
+    yield from broken_in_paths([path_of(mount["dest"]) for mount in mounts], mounts, meta)
+    yield from broken_in_mounts(inputs, mounts)
+    fault = script_faults.fault_of(args) if args else None
+    yield fault is not None, f"Script {fault}"
+
+
+def broken_in(op: dict) -> Iterator[tuple[bool, str]]:
+    """The rules on an op of its kind, each with whether it is broken."""
+    kind, inputs = op["kind"], op["inputs"]
+    yield kind is None, "NoKind"
+    if kind == "source":
+        yield op["source"]["identifier"] == LOCAL, "LocalName"
+    elif kind == "file":
+        yield from broken_in_file(len(inputs), op["file"]["actions"])
+    elif kind == "exec":
+        yield from broken_in_exec(inputs, op["exec"])
+    elif kind == "merge":
+        yield any(not is_input(len(inputs), one["input"]) for one in op["merge"]["inputs"]), "MergeInput"
+
+
+def rules_of(op: dict) -> list[str]:
+    """The rules that an op breaks."""
+    return [name for is_broken, name in broken_in(op) if is_broken]
+
+
+def count_of(op: dict) -> int | None:
+    """The number of outputs of an op; none where it is of no kind that is taken, or has no such number."""
+    if op["kind"] in ("source", "merge"):
+        return 1
+    parts = op["file"]["actions"] if op["kind"] == "file" else mounts_of(op)
+    if op["kind"] not in ("file", "exec") or not are_outputs(parts):
+        return None
+    return len(outputs_of(parts))
