@@ -146,6 +146,11 @@ class Adapter(Outgoing):
         """What a line of the program means, with what the definition says of it."""
         return launching.explained(line, self.launched.told)
 
+    def explain(self, line: str) -> None:
+        """A line of the program is told, and below it what it means."""
+        for text in [line, *(f"  {meaning}" for meaning in self.meaning(line))]:
+            self.output(text, "stderr")
+
     def complete(self) -> None:
         """The run has no further event: it stops there once where that was asked for, or else ends."""
         count = len(self.launched.session.record)
@@ -156,17 +161,16 @@ class Adapter(Outgoing):
             return
         failures = self.failures()
         for line in failures:
-            self.output(line, "stderr")
-            for meaning in self.meaning(line):
-                self.output(f"  {meaning}", "stderr")
+            self.explain(line)
         if not failures:
             self.output(f"the run is complete after {count} events, with the result {self.launched.graph.result}")
         self.close(1 if failures else 0)
 
     def crash(self, fault: Gone) -> None:
         """The program has ended by itself."""
-        for line in [str(fault), *fault.words]:
-            self.output(line, "stderr")
+        self.output(str(fault), "stderr")
+        for line in fault.words:
+            self.explain(line)
         self.close(fault.status)
 
     def close(self, status: int) -> None:
@@ -392,9 +396,10 @@ class Adapter(Outgoing):
 
     def evaluate(self, arguments: dict) -> dict:
         """What an expression shows; from a console it may be a command of a session that adds an event."""
-        expression = argument(arguments, "expression", str).strip()
-        if argument(arguments, "context", str, "") == "repl" and COMMAND.fullmatch(expression):
-            return self.command(expression)
+        expression = argument(arguments, "expression", str)
+        command = expression.strip()
+        if argument(arguments, "context", str, "") == "repl" and COMMAND.fullmatch(command):
+            return self.command(command)
         return self.typed(self.views.evaluate(expression))
 
     def command(self, command: str) -> dict:

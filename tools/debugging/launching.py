@@ -19,7 +19,7 @@ import faults
 from common import MOST_BYTES, told
 from debugging import places
 from debugging.arguments import Refused, argument, of_kind
-from debugging.session import Gone, Session
+from debugging.session import Gone, Refusal, Session
 
 TOOLS = pathlib.Path(__file__).resolve().parent.parent
 PROGRAM = TOOLS.parent / "crates" / "llbm" / "out" / "llbm"
@@ -30,6 +30,8 @@ USUAL_WORKERS = 2
 TREE_TEXT = re.compile(rb"d [0-7]{4} [0-9]+ [0-9]+ /\n")
 PACKED = (b"\x1f\x8b", b"BZh", b"\xfd7zXZ\x00", b"\x28\xb5\x2f\xfd")
 TAR_MAGIC, TAR_PLACE = b"ustar", 257
+TAR_NAMES = (".tar", ".tar.gz", ".tgz", ".tar.bz2", ".tar.xz", ".tar.zst")
+OWNER = ("--owner", "0:0")
 
 Say = Callable[[str], None]
 
@@ -116,20 +118,21 @@ def definition_of(program: str, arguments: dict) -> tuple[bytes, bytes | None]:
     return data, text
 
 
-def is_tar(begin: bytes) -> bool:
-    """Whether a file that begins so is a tar, packed or not, rather than a tree text."""
+def is_tar(path: str, begin: bytes) -> bool:
+    """Whether a file of this name that begins so is a tar, packed or not, rather than a tree text."""
     if TREE_TEXT.match(begin):
         return False
-    return begin.startswith(PACKED) or begin[TAR_PLACE:].startswith(TAR_MAGIC)
+    return path.endswith(TAR_NAMES) or begin.startswith(PACKED) or begin[TAR_PLACE:].startswith(TAR_MAGIC)
 
 
-def text_by(tool: str, words: list[str], name: str, place: str, say: Say) -> None:
-    """A tool beside this folder writes a tree text to a place; what it says is told."""
+def text_by(tool: str, path: str, name: str, place: str, say: Say) -> None:
+    """A tool beside this folder writes the tree text of a path to a place, all as of 0:0; what it says is told."""
     if not (TOOLS / tool).is_file():
         raise Refused(f"sources: {name}: tools/{tool}, which reads it, is missing")
     with open(place, "wb") as text:
         done = subprocess.run(
-            [sys.executable, TOOLS / tool, *words], stdin=subprocess.DEVNULL, stdout=text, stderr=subprocess.PIPE
+            [sys.executable, TOOLS / tool, *OWNER, "--", path],
+            stdin=subprocess.DEVNULL, stdout=text, stderr=subprocess.PIPE,
         )
     lines = done.stderr.decode("utf-8", "backslashreplace").splitlines()
     if done.returncode:
@@ -142,13 +145,13 @@ def text_by(tool: str, words: list[str], name: str, place: str, say: Say) -> Non
 def source_file(name: str, path: str, place: str, say: Say) -> str:
     """The file of the tree text of a local source; that of a directory or a tar is made at a place."""
     if os.path.isdir(path):
-        text_by("tree-of-directory", ["--owner", "0:0", "--", path], name, place, say)
+        text_by("tree-of-directory", path, name, place, say)
         return place
     with open(path, "rb") as file:
         begin = file.read(TAR_PLACE + len(TAR_MAGIC))
-    if not is_tar(begin):
+    if not is_tar(path, begin):
         return path
-    text_by("tree-of-tar", ["--", path], name, place, say)
+    text_by("tree-of-tar", path, name, place, say)
     return place
 
 
@@ -176,9 +179,9 @@ def begun(command: list[str], workers: int, vertices: int, entries: faults.Told)
     session = Session(command, workers, vertices)
     try:
         session.status()
-    except Gone as fault:
+    except (Gone, Refusal) as fault:
         session.end()
-        raise Refused(cause_of(fault.words, str(fault), entries)) from fault
+        raise Refused(cause_of(session.said(), str(fault), entries)) from fault
     return session
 
 

@@ -7,7 +7,10 @@ import definition
 from debugging.arguments import Refused
 
 NUMBER = r"(?:0|[1-9][0-9]*)"
-VERTEX = re.compile(rf"({NUMBER}) (source|file|merge|exec) steps ({NUMBER}) outputs ({NUMBER}) inputs (-|[0-9. ]+)")
+EDGE = rf"{NUMBER}\.{NUMBER}"
+VERTEX = re.compile(
+    rf"({NUMBER}) (source|file|merge|exec) steps ({NUMBER}) outputs ({NUMBER}) inputs (-|{EDGE}(?: {EDGE})*)"
+)
 
 
 class Vertex(NamedTuple):
@@ -64,6 +67,16 @@ def vertices_by_entry(entries: list[bytes], rows: list[int]) -> list[int | None]
     return [numbers.get(first.setdefault(entry, row)) for row, entry in enumerate(entries)]
 
 
+def vertex_of(line: str, row: int, entry: bytes, place: tuple[int, int]) -> Vertex:
+    """The vertex of a line of `llbm show`, whose entry has a row and a place in the text."""
+    told = VERTEX.fullmatch(line)
+    if not told:
+        raise Refused(f"the program shows what is no vertex: {line[:200]}")
+    _, kind, steps, outputs, inputs = told.groups()
+    named = [] if inputs == "-" else inputs.split(" ")
+    return Vertex(kind, int(steps), int(outputs), named, row, definition.op_of(row, entry), *place)
+
+
 def graph_of(shown: str, text: str, entries: list[bytes]) -> Graph:
     """The graph that `llbm show` prints as `shown`, of these entries, which stand in the text."""
     lines = lines_of(text)
@@ -73,11 +86,8 @@ def graph_of(shown: str, text: str, entries: list[bytes]) -> Graph:
         rows = definition.graph_of(entries).rows
     except definition.Unreadable as fault:
         raise Refused(f"the definition: {fault}") from fault
-    *told, last = shown.splitlines()
-    vertices = []
-    for line, row in zip(told, rows):
-        kind, steps, outputs, inputs = VERTEX.fullmatch(line).groups()[1:]
-        named = [] if inputs == "-" else inputs.split(" ")
-        op = definition.op_of(row, entries[row])
-        vertices.append(Vertex(kind, int(steps), int(outputs), named, row, op, *lines[row]))
+    *told, last = shown.splitlines() or [""]
+    if len(told) != len(rows) or not last.startswith("result "):
+        raise Refused(f"the program shows {len(told)} vertices, and the definition has {len(rows)}")
+    vertices = [vertex_of(line, row, entries[row], lines[row]) for line, row in zip(told, rows)]
     return Graph(vertices, last.removeprefix("result "), text, lines, vertices_by_entry(entries, rows))

@@ -8,6 +8,7 @@ from common import printable
 
 MOST_SHOWN = 4_096
 MOST_NAMES_SHOWN = 1_000
+CONTENT = re.compile(rb"-|(?:[0-9a-f]{2})+")
 NO_TEXT = re.compile("[\x00-\x08\x0b\x0c\x0e-\x1f\x7f-\x9f]")
 
 
@@ -37,6 +38,8 @@ def directory_of(line: bytes) -> tuple[str, Node]:
 def file_of(line: bytes) -> tuple[str, Node]:
     """The path and the node of the line of a file."""
     _, mode, user, group, content, path = line.split(b" ", 5)
+    if not CONTENT.fullmatch(content):
+        raise ValueError("a content is not hexadecimal")
     owner = f"{user.decode('ascii')}:{group.decode('ascii')}"
     return path.decode("utf-8"), Node(mode.decode("ascii"), owner, None, b"" if content == b"-" else content)
 

@@ -14,9 +14,9 @@ from debugging.arguments import Refused
 from debugging.launching import Launched
 
 MOST_OF_A_NAME = 60
-OUTPUT = re.compile(r"([0-9]{1,9})\.([0-9]{1,9})(?::(.*))?", re.DOTALL)
-VERTEX = re.compile(r"([0-9]{1,9})")
-LABEL = re.compile(r"%([0-9]{1,9})")
+OUTPUT = re.compile(r"\s*([0-9]{1,9})\.([0-9]{1,9})(?:\s*|:(.*))", re.DOTALL)
+VERTEX = re.compile(r"\s*([0-9]{1,9})\s*")
+LABEL = re.compile(r"\s*%([0-9]{1,9})\s*")
 
 Variables = list[dict]
 
@@ -80,7 +80,10 @@ class Views:
             lines = self.session.tree(vertex, output)
             if lines is None:
                 return None
-            self.known[vertex, output] = trees.tree_of(lines)
+            try:
+                self.known[vertex, output] = trees.tree_of(lines)
+            except (ValueError, LookupError) as fault:
+                raise self.session.broken(f"a tree that is none: {fault}") from fault
         return self.known[vertex, output]
 
     def node(self, name: str, node: trees.Node, expression: str) -> dict:
@@ -155,15 +158,14 @@ class Views:
 
     def evaluate(self, expression: str) -> dict:
         """What an expression shows: `V.I:/path` a file or a directory, `V` a vertex, `%k` the vertex of entry k."""
-        text = expression.strip()
-        output, vertex, label = OUTPUT.fullmatch(text), VERTEX.fullmatch(text), LABEL.fullmatch(text)
+        output, vertex, label = (form.fullmatch(expression) for form in (OUTPUT, VERTEX, LABEL))
         if output:
             return self.evaluated_node(int(output[1]), int(output[2]), output[3] or "/")
         if vertex:
             return self.evaluated_vertex(int(vertex[1]))
         if label:
             return self.evaluated_entry(int(label[1]))
-        raise Refused(f"{shortened(text, MOST_OF_A_NAME)!r} is neither V.I:/path nor V nor %k")
+        raise Refused(f"{shortened(expression, MOST_OF_A_NAME)!r} is neither V.I:/path nor V nor %k")
 
     def check_vertex(self, number: int) -> None:
         """Whether there is a vertex of that number."""

@@ -250,6 +250,30 @@ class Crashes(WithFake):
         self.assertEqual(client.leave(), 0)
         self.assertEqual(client.ended(), 7)
 
+    def test_a_tree_that_is_none_ends_the_run(self):
+        self.does(DONE)
+        for text in ["d 0755 0 0 /\nf 0644 0 0 6 /a\n", "d 0755 0 0 /\nf 0644 0 0 - /a/b\n", "d /\n", "f 0644 0 /\n"]:
+            (self.at / "tree").write_text(text)
+            client = self.launched(stopOnEntry=True)
+            client.ask("configurationDone")
+            client.stopped()
+            told = client.refused("evaluate", expression="0.0:/")
+            self.assertTrue(told.startswith("the program prints what no session prints: a tree that is none"), told)
+            self.assertEqual(client.ended(), 1)
+            self.assertEqual(client.leave(), 0)
+
+    def test_a_graph_that_is_none(self):
+        self.does(DONE)
+        client = self.opened()
+        for shown, told in [
+            ("x", "the program shows 0 vertices, and the definition has 1"),
+            ("", "the program shows 0 vertices, and the definition has 1"),
+            ("0 source\\nresult 0.0", "the program shows what is no vertex: 0 source"),
+        ]:
+            line = "0 source steps 1 outputs 1 inputs -\\nresult 0.0"
+            self.program.write_text(FAKE.replace(line, shown))
+            self.assertEqual(client.refused("launch", **self.given), told)
+
     def test_a_program_that_does_not_begin(self):
         client = self.opened()
         for does, told in [
@@ -336,10 +360,11 @@ class Launches(WithFake):
         self.assertIn("src: /link: left out: a symbolic link", client.lines("console"))
 
     def test_a_tar_without_the_tool_that_reads_it(self):
-        self.assertTrue(launching.is_tar(b"a".ljust(257, b"\0") + b"ustar\x0000"))
-        self.assertTrue(launching.is_tar(b"\x1f\x8b\x08"))
-        self.assertFalse(launching.is_tar(b"d 0755 0 0 /\n"))
-        self.assertFalse(launching.is_tar(b"x"))
+        for name, begin, is_tar in [
+            ("a", b"a".ljust(257, b"\0") + b"ustar\x0000", True), ("a", b"\x1f\x8b\x08", True), ("a.tgz", b"x", True),
+            ("a.tar", b"d 0755 0 0 /\n", False), ("a", b"x", False),
+        ]:
+            self.assertIs(launching.is_tar(name, begin), is_tar)
         if (TOOLS / "tree-of-tar").exists():
             self.skipTest("the tool is there")
         place = os.fsdecode(self.file(b"tar", b"a".ljust(257, b"\0") + b"ustar\x0000"))

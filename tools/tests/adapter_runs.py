@@ -5,11 +5,12 @@ import os
 import pathlib
 import re
 import subprocess
+import tarfile
 import unittest
 
 from tests import base
 from tests.adapter_parts import WithAdapter
-from tests.base import ROOT, run
+from tests.base import ROOT, TOOLS, run
 
 EXAMPLES = ROOT / "examples"
 RECORD = re.compile(r"([0-9]+) (?:claim|step|settle|cancel) .*")
@@ -138,6 +139,18 @@ class WholeRuns(WithRun):
         client = self.entered({**self.execution, "sources": {"source": str(self.at / "source")}})
         self.goes(client, "next")
         self.assertEqual(client.ask("evaluate", expression="0.0:text/tail")["result"], "text of 6 bytes:\nworld\n")
+
+    @unittest.skipUnless((TOOLS / "tree-of-tar").exists(), "tools/tree-of-tar is needed")
+    def test_a_tar_is_a_source(self):
+        self.passes(run("directory-of-tree", self.at / "source", text=(EXAMPLES / "source.tree").read_bytes()))
+        for name, form in [("packed.tar", "w"), ("packed", "w:gz")]:
+            place = str(self.at / name)
+            with tarfile.open(place, form) as archive:
+                archive.add(self.at / "source", "")
+            client = self.entered({**self.execution, "sources": {"source": place}})
+            self.goes(client, "next")
+            self.assertEqual(client.ask("evaluate", expression="0.0:text/tail")["result"], "text of 6 bytes:\nworld\n")
+            self.assertEqual(client.leave(), 0)
 
     def test_a_stop_at_the_end(self):
         client = self.launched(self.execution, stopAtEnd=True)

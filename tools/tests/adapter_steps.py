@@ -226,7 +226,7 @@ class Looks(WithRun):
 
     def test_contents(self):
         wide = "\N{GREEK SMALL LETTER ALPHA} b"
-        contents = {"a": b"", "b": bytes(range(256)), "c": b"x" * 5000, wide: b"a\nb"}
+        contents = {"a": b"", "b": bytes(range(256)), "c": b"x" * 5000, "d ": b"d", wide: b"a\nb"}
         lines = [PRINTED % (content.hex() or "-", name) for name, content in contents.items()]
         text = "".join(line + "\n" for line in ["d 0755 0 0 /", *lines]).encode()
         given = self.made(base.ending(base.source("local://src")), src=text)
@@ -235,6 +235,7 @@ class Looks(WithRun):
         for name, result in [
             ("a", "0 bytes"), ("b", f"hexadecimal of 256 bytes:\n{bytes(range(256)).hex()}"),
             ("c", "text of 5,000 bytes, the first 4,096 shown:\n" + "x" * 4096), (wide, "text of 3 bytes:\na\nb"),
+            ("d ", "text of 1 byte:\nd"),
         ]:
             told = client.ask("evaluate", expression=f"0.0:/{name}")
             self.assertEqual((told["result"], told["type"]), (result, "file"))
