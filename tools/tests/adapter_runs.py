@@ -8,7 +8,7 @@ import subprocess
 import tarfile
 import unittest
 
-from tests import base
+from tests import base, protocol
 from tests.adapter_parts import WithAdapter
 from tests.base import ROOT, TOOLS, run
 
@@ -368,3 +368,56 @@ class Failures(WithRun):
         told = client.refused("launch", llbm=base.llbm, text=place)
         self.assertTrue(told.startswith("fault 161 3 Syntax: "), told)
         client.ask("launch", llbm=base.llbm, **self.execution)
+
+
+class Documented(WithRun):
+    """The session in the documentation, and the launch files of the examples."""
+
+    def transcript(self):
+        """The messages of the documented session, each with the arrow before it."""
+        pages = [ROOT / "docs" / name for name in ("TOOLS.md", "TOOLS.part-debug.md")]
+        texts = [page.read_text("utf-8") for page in pages if page.exists()]
+        lines = [line for text in texts for line in text.splitlines()]
+        begin = lines.index(next(line for line in lines if line.startswith('-> {"seq": 1,')))
+        block = "\n".join(lines[begin : lines.index("```", begin)]).replace("\n   ", " ")
+        return [line.split(" ", 1) for line in block.split("\n")]
+
+    def test_the_documented_session(self):
+        programs = self.at / "programs"
+        programs.mkdir()
+        (programs / "llbm").symlink_to(base.llbm)
+        self.environment["PATH"] = f"{programs}:{os.environ['PATH']}"
+        client = protocol.Client(base.command("debug-adapter"), env=self.environment, cwd=ROOT)
+        self.addCleanup(client.close)
+        transcript = self.transcript()
+        self.assertGreater(len(transcript), 40)
+        for arrow, text in transcript:
+            message = json.loads(text)
+            if arrow == "->":
+                self.assertEqual(client.send(message["command"], message.get("arguments")), message["seq"])
+            else:
+                self.assertEqual(client.receive(), message)
+        self.assertEqual(client.child.wait(60), 0)
+
+    def test_the_launch_file_of_vs_code(self):
+        told = (EXAMPLES / "launch.json").read_text().replace("${workspaceFolder}", str(ROOT))
+        extension = TOOLS / "debugging"
+        known = json.loads((extension / "package.json").read_text())["contributes"]["debuggers"][0]
+        self.assertEqual((extension / known["program"]).resolve(), TOOLS / "debug-adapter")
+        attributes = set(known["configurationAttributes"]["launch"]["properties"])
+        for configuration in json.loads(told)["configurations"]:
+            given = {name: value for name, value in configuration.items() if name not in ("type", "request", "name")}
+            self.assertEqual((configuration["type"], configuration["request"]), (known["type"], "launch"))
+            self.assertLessEqual(set(given), attributes)
+            self.assertIs(given.pop("stopOnEntry"), True)
+            client = self.entered(given)
+            self.assertEqual(self.goes(client)["reason"], "end")
+
+    def test_the_launch_files_of_emacs_and_neovim(self):
+        wanted = {"type", "request", "text", "sources", "workers", "stopOnEntry", "stopAtEnd"}
+        for name, form in [("dape.el", r":(\w+) "), ("nvim-dap.lua", r"    (\w+) = ")]:
+            text = (EXAMPLES / name).read_text()
+            self.assertLessEqual(wanted, set(re.findall(form, text)))
+            self.assertEqual([text.count(mark) for mark in "({["], [text.count(mark) for mark in ")}]"])
+            for path in re.findall(r'"/?((?:tools|examples)/[^"]*)"', text):
+                self.assertTrue((ROOT / path).exists(), path)
