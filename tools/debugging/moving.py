@@ -80,6 +80,7 @@ class Mover:
         """The motion back to the state after an event that meets a breakpoint, or to the beginning."""
 
         def motion() -> Stop | None:
+            """One event back."""
             event = self.undo()
             record = self.session.record
             return self.met(record[-1]) if record else Stop("entry", "the beginning of the run", event.worker)
@@ -120,6 +121,7 @@ class Mover:
         """The motion of a worker's next event."""
 
         def motion() -> Stop:
+            """The one event."""
             event = self.own_event(worker)
             return self.met(event) or Stop("step", event.line, event.worker)
 
@@ -129,6 +131,7 @@ class Mover:
         """The motion of a worker's events to the settle of what it runs."""
 
         def motion() -> Stop | None:
+            """One of the events."""
             event = self.own_event(worker)
             over = event.worker != worker or event.kind == SETTLE
             return self.met(event) or (Stop("step", event.line, event.worker) if over else None)

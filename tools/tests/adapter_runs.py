@@ -69,6 +69,11 @@ class WithRun(WithAdapter):
         self.assertEqual((stop["reason"], stop["threadId"], stop["allThreadsStopped"]), ("entry", 1, True))
         return client
 
+    def many_vertices(self):
+        """The launch of a definition with 201 vertices, whose run has 802 events."""
+        entries = [base.file_op(base.mkdir(f"/{number}")) for number in range(200)]
+        return self.made(base.ending(*entries, base.merge(*entries)))
+
     def breaks(self, client, *breakpoints, source=None):
         """The breakpoints that these lines and conditions are answered by."""
         pairs = [one if isinstance(one, tuple) else (one,) for one in breakpoints]
@@ -171,16 +176,9 @@ class WholeRuns(WithRun):
         self.assertEqual(client.ended(), 0)
 
     def test_a_pause(self):
-        entries = [base.file_op(base.mkdir(f"/{number}")) for number in range(200)]
-        client = self.entered(self.made(base.ending(*entries, base.merge(*entries))))
-        client.waiting |= {100: "continue", 101: "pause"}
-        texts = [
-            json.dumps({"seq": seq, "type": "request", "command": name, "arguments": {"threadId": 2}}).encode()
-            for seq, name in client.waiting.items()
-        ]
-        client.write(b"", b"".join(b"Content-Length: %d\r\n\r\n%s" % (len(text), text) for text in texts))
-        self.assertTrue(client.response(100)["success"])
-        self.assertTrue(client.response(101)["success"])
+        client = self.entered(self.many_vertices())
+        for number in client.send_at_once("continue", "pause", threadId=2):
+            self.assertTrue(client.response(number)["success"])
         stop = client.stopped()
         self.assertEqual((stop["reason"], stop["threadId"]), ("pause", 2))
         self.assertLess(len(self.record(client)), 800)
@@ -191,16 +189,24 @@ class WholeRuns(WithRun):
 
     def test_requests_while_the_run_goes_on(self):
         client = self.entered()
-        client.waiting |= {100: "continue", 101: "evaluate", 102: "next", 103: "threads"}
-        texts = []
-        for seq, name in client.waiting.items():
-            arguments = {"threadId": 1, "expression": "0"}
-            texts.append(json.dumps({"seq": seq, "type": "request", "command": name, "arguments": arguments}).encode())
-        client.write(b"", b"".join(b"Content-Length: %d\r\n\r\n%s" % (len(text), text) for text in texts))
-        self.assertEqual(client.response(101)["message"], "evaluate: the run goes on")
-        self.assertEqual(client.response(102)["message"], "next: the run goes on")
-        self.assertEqual(len(client.response(103)["body"]["threads"]), 2)
-        self.assertEqual(client.ended(), 0)
+        commands = ["evaluate", "next", "threads", "setBreakpoints"]
+        arguments = {"expression": "0", "source": {"sourceReference": 1}, "breakpoints": [{"line": 1}]}
+        first, *rest, threads, breaks = client.send_at_once("continue", *commands, threadId=1, **arguments)
+        self.assertTrue(client.response(first)["success"])
+        told = [client.response(number)["message"] for number in rest]
+        self.assertEqual(told, ["evaluate: the run goes on", "next: the run goes on"])
+        self.assertEqual(len(client.response(threads)["body"]["threads"]), 2)
+        self.assertTrue(client.response(breaks)["body"]["breakpoints"][0]["verified"])
+        self.assertEqual(client.stopped()["reason"], "breakpoint")
+        self.assertEqual(self.record(client), stored_record()[:1])
+
+    def test_a_disconnect_while_the_run_goes_on(self):
+        client = self.entered(self.many_vertices())
+        for number in client.send_at_once("continue", "disconnect", threadId=1):
+            self.assertTrue(client.response(number)["success"])
+        self.assertIsNone(client.receive())
+        self.assertEqual((client.ended(), client.child.wait(60)), (0, 0))
+        self.assertLess(len(self.record(client)), 800)
 
 
 def client_definition(test, given):

@@ -2,8 +2,9 @@
 
 import os
 import pathlib
+import random
 
-from tests import base
+from tests import base, protocol
 from tests.adapter_runs import ENTRIES, EXAMPLES, WithRun, stored_record
 
 PRINTED = "f 0644 0 0 %s /%s"
@@ -73,6 +74,7 @@ class Steps(WithRun):
         client = self.entered()
 
         def does(command, line):
+            """A command adds a line."""
             body = client.ask("evaluate", expression=command, context="repl")
             self.assertEqual((body["result"], client.lines()[-1]), (line, line))
             self.assertEqual(client.stopped()["reason"], "step")
@@ -290,6 +292,45 @@ class Looks(WithRun):
         self.assertEqual(told, f"variablesReference {scope} is not known in this state")
         self.assertEqual(client.refused("restart"), "the request restart is not known")
         self.assertEqual(client.refused("configurationDone"), "configurationDone: the run is stopped")
+
+
+class RandomRequests(WithRun):
+    """Requests with arguments of all kinds, each of which has one response of the protocol's form."""
+
+    VALUES = [
+        None, True, 0, 1, 2, -1, 1 << 70, 1.5, "", "0.0:/", "%1", "claim 0 0", "\ud800", "a\0b", [], {}, [None],
+        [{"line": 7}], [{"line": 20, "condition": "settle"}], {"sourceReference": 1}, {"path": "a\0b"}, ["failed"],
+    ]
+    NAMES = [
+        "threadId", "frameId", "variablesReference", "expression", "context", "source", "breakpoints", "filters",
+        "sourceReference", "levels", "startFrame", "start", "count", "filter",
+    ]
+
+    def given(self, chance):
+        """Arguments that fit most requests, or any ones."""
+        if chance.random() < 0.3:
+            return {name: chance.choice(self.VALUES) for name in chance.sample(self.NAMES, 5)}
+        expressions = ["0", "1.0:/out", "%0", "claim 1 0", "step 1", "settle 1", "claim 0 1", "step 0", "cancel 0"]
+        return {
+            "threadId": chance.choice([1, 2]), "frameId": chance.choice([1, 2]), "context": "repl",
+            "variablesReference": chance.randrange(1, 40), "expression": chance.choice(expressions),
+            "source": {"sourceReference": 1}, "breakpoints": [{"line": chance.randrange(60)}], "filters": ["failed"],
+        }
+
+    def test_each_request_has_one_response(self):
+        moves = {"next", "stepIn", "stepOut", "stepBack", "reverseContinue", "continue"}
+        names = sorted(set(protocol.RESPONSES) - {"disconnect", "terminate"} | {"attach"})
+        for seed in range(4):
+            chance = random.Random(seed)
+            client = self.entered(stopAtEnd=True)
+            for _ in range(100):
+                name = chance.choice(names)
+                response = client.response(client.send(name, self.given(chance)))
+                if name in moves and response["success"]:
+                    if client.until("stopped", "terminated")["event"] == "terminated":
+                        break
+            self.assertEqual(client.leave(), 0)
+            self.assertEqual(client.child.stderr.read(), b"")
 
 
 class Ends(WithRun):

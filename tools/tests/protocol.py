@@ -149,13 +149,23 @@ class Client:
         self.child.stdin.write(head + content)
         self.child.stdin.flush()
 
-    def send(self, command, arguments=None):
-        """The number of a request that goes out."""
+    def request(self, command, arguments=None):
+        """The content of a new request, which waits for its response."""
         self.sent += 1
         self.waiting[self.sent] = command
         more = {} if arguments is None else {"arguments": arguments}
-        self.write(json.dumps({"seq": self.sent, "type": "request", "command": command, **more}).encode())
+        return json.dumps({"seq": self.sent, "type": "request", "command": command, **more}).encode()
+
+    def send(self, command, arguments=None):
+        """The number of a request that goes out."""
+        self.write(self.request(command, arguments))
         return self.sent
+
+    def send_at_once(self, *commands, **arguments):
+        """The numbers of requests with the same arguments, which go out in one piece."""
+        contents = [self.request(command, arguments) for command in commands]
+        self.write(b"", b"".join(b"Content-Length: %d\r\n\r\n%s" % (len(one), one) for one in contents))
+        return range(self.sent - len(commands) + 1, self.sent + 1)
 
     def receive(self):
         """The next message, none at the end."""
