@@ -142,6 +142,10 @@ class Adapter(Outgoing):
         looks = [look.partition(" ") for look in self.launched.session.status()]
         return [f"failed {vertex} {rest}" for vertex, (word, _, rest) in enumerate(looks) if word == "failed"]
 
+    def exit_code(self) -> int:
+        """The exit code of the run: 1 where a vertex failed."""
+        return int(any(event.fails() for event in self.launched.session.record))
+
     def meaning(self, line: str) -> list[str]:
         """What a line of the program means, with what the definition says of it."""
         return launching.explained(line, self.launched.told)
@@ -159,12 +163,12 @@ class Adapter(Outgoing):
             last = self.launched.session.record[-1].worker if count else 0
             self.halt(Stop("end", "the run is complete", last))
             return
-        failures = self.failures()
-        for line in failures:
+        for line in self.failures():
             self.explain(line)
-        if not failures:
+        code = self.exit_code()
+        if not code:
             self.output(f"the run is complete after {count} events, with the result {self.launched.graph.result}")
-        self.close(1 if failures else 0)
+        self.close(code)
 
     def crash(self, fault: Gone) -> None:
         """The program has ended by itself."""
@@ -219,13 +223,13 @@ class Adapter(Outgoing):
 
     def terminate(self, _: dict) -> None:
         """The run is ended."""
-        self.then = [lambda: self.close(1 if self.failures() else 0)]
+        self.then = [lambda: self.close(self.exit_code())]
 
     def disconnect(self, _: dict) -> None:
         """The client leaves; a run that is not over is ended before."""
         self.left = True
         if self.state in READY:
-            self.guarded(lambda: self.close(1 if self.failures() else 0))
+            self.close(self.exit_code())
 
     # ---- requests: breakpoints
 

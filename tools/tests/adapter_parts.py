@@ -242,13 +242,13 @@ class Crashes(WithFake):
         self.assertEqual(client.ended(), 7)
         self.assertEqual(client.leave(), 0)
 
-    def test_a_crash_at_the_disconnect(self):
-        self.does(CRASHES)
+    def test_a_program_that_does_not_heed_its_end_is_ended(self):
+        self.does(BEGINS + "while True: signal.pause()\n")
         client = self.launched(stopOnEntry=True)
         client.ask("configurationDone")
         client.stopped()
         self.assertEqual(client.leave(), 0)
-        self.assertEqual(client.ended(), 7)
+        self.assertEqual(client.ended(), 0)
 
     def test_a_tree_that_is_none_ends_the_run(self):
         self.does(DONE)

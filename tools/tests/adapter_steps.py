@@ -362,6 +362,13 @@ class Ends(WithRun):
         self.assertEqual(client.ended(), 0)
         self.gone(children)
 
+    def test_a_disconnect_after_a_failure(self):
+        client = self.entered(self.example("failure", "empty"))
+        client.ask("setExceptionBreakpoints", filters=["failed"])
+        self.assertEqual(self.goes(client)["reason"], "exception")
+        self.assertEqual(client.leave(), 0)
+        self.assertEqual(client.ended(), 1)
+
     def test_a_terminate(self):
         client = self.entered()
         self.goes(client, "stepIn")
