@@ -288,6 +288,7 @@ class Looks(WithRun):
         scope = client.ask("scopes", frameId=1)["scopes"][0]["variablesReference"]
         client.ask("variables", variablesReference=scope)
         self.goes(client, "stepIn")
+        client.ask("scopes", frameId=1)
         told = client.refused("variables", variablesReference=scope)
         self.assertEqual(told, f"variablesReference {scope} is not known in this state")
         self.assertEqual(client.refused("restart"), "the request restart is not known")
