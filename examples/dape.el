@@ -1,0 +1,22 @@
+;;; dape.el --- Steps through examples/execution.text by llbm  -*- lexical-binding: t; -*-
+
+;; Load this file, visit examples/execution.text, and do `M-x dape RET llbm RET'.
+
+(require 'dape)
+
+(let ((root (expand-file-name ".." (file-name-directory (or load-file-name buffer-file-name)))))
+  (add-to-list
+   'dape-configs
+   `(llbm
+     modes (text-mode fundamental-mode)
+     command ,(expand-file-name "tools/debug-adapter" root)
+     command-cwd ,root
+     :type "llbm"
+     :request "launch"
+     :text ,(expand-file-name "examples/execution.text" root)
+     :sources (:source ,(expand-file-name "examples/source.tree" root))
+     :workers 2
+     :stopOnEntry t
+     :stopAtEnd t)))
+
+;;; dape.el ends here

@@ -1,0 +1,214 @@
+"""What a launch request asks for: the program, the definition with its text, and the trees of its local sources.
+
+All that the program reads is read before it answers its first command, so that no temporary file outlives the launch.
+"""
+
+import functools
+import os
+import pathlib
+import re
+import shutil
+import subprocess
+import sys
+import tempfile
+from collections.abc import Callable
+from typing import NamedTuple
+
+import definition
+import faults
+from common import MOST_BYTES, told
+from debugging import places
+from debugging.arguments import Refused, argument, of_kind
+from debugging.session import Gone, Refusal, Session
+
+TOOLS = pathlib.Path(__file__).resolve().parent.parent
+PROGRAM = TOOLS.parent / "crates" / "llbm" / "out" / "llbm"
+
+MOST_WORKERS = 64
+USUAL_WORKERS = 2
+
+TREE_TEXT = re.compile(rb"d [0-7]{4} [0-9]+ [0-9]+ /\n")
+PACKED = (b"\x1f\x8b", b"BZh", b"\xfd7zXZ\x00", b"\x28\xb5\x2f\xfd")
+TAR_MAGIC, TAR_PLACE = b"ustar", 257
+TAR_NAMES = (".tar", ".tar.gz", ".tgz", ".tar.bz2", ".tar.xz", ".tar.zst")
+OWNER = ("--owner", "0:0")
+
+Say = Callable[[str], None]
+
+
+class Launched(NamedTuple):
+    """A session at its beginning, its graph, its entries for what lines of it mean, and the text's name and file."""
+
+    session: Session
+    graph: places.Graph
+    told: faults.Told
+    name: str
+    file: str | None
+
+
+@functools.cache
+def page() -> faults.Page:
+    """The page of faults."""
+    return faults.read_page()
+
+
+def explained(line: str, entries: faults.Told | None = None) -> list[str]:
+    """What a line of the program means, by the page of faults and the definition; nothing where that is not known."""
+    try:
+        explainer = faults.Explainer(page())
+        explainer.told = entries
+        return explainer.lines(line)
+    except (faults.NoLine, faults.NoPage):
+        return []
+
+
+def cause_of(words: list[str], otherwise: str, entries: faults.Told | None = None) -> str:
+    """Why the program has ended, in one line: what it said and what that means, or else other words."""
+    if not words:
+        return otherwise
+    meaning = explained(words[0], entries)
+    return f"{words[0]}: {' '.join(meaning)}" if meaning else words[0]
+
+
+def program_of(arguments: dict) -> str:
+    """The program: the one that is named, or else the one on PATH, or the one that was built here."""
+    named = argument(arguments, "llbm", str, "")
+    for word in [named] if named else ["llbm", str(PROGRAM)]:
+        found = shutil.which(word)
+        if found:
+            return found
+    raise Refused(f"{named or 'llbm'}: no program is there" + ("" if named else "; the argument llbm names one"))
+
+
+def file_content(place: str) -> bytes:
+    """The bytes of a file, as far as the program reads one."""
+    with open(place, "rb") as file:
+        return file.read(MOST_BYTES + 1)
+
+
+def output_of(program: str, command: str, given: bytes, entries: faults.Told | None = None) -> bytes:
+    """What a command of the program makes of its input."""
+    done = subprocess.run([program, command], input=given, capture_output=True)
+    if done.returncode:
+        words = done.stderr.decode("utf-8", "backslashreplace").splitlines()
+        raise Refused(cause_of(words, f"{program} {command} has ended with status {done.returncode}", entries))
+    return done.stdout
+
+
+def entries_of(data: bytes, name: str) -> list[bytes]:
+    """The entries of a definition."""
+    try:
+        return definition.entries_of(data)
+    except definition.Unreadable as fault:
+        raise Refused(f"{name}: {fault}") from fault
+
+
+def definition_of(program: str, arguments: dict) -> tuple[bytes, bytes | None]:
+    """The bytes of the definition, and the text of its entries, where the launch names a file of it."""
+    file, text_file = argument(arguments, "definition", str, ""), argument(arguments, "text", str, "")
+    if not file and not text_file:
+        raise Refused("definition is missing")
+    text = file_content(text_file) if text_file else None
+    assembled = b"" if text is None else output_of(program, "asm", text)
+    if not file:
+        return assembled, text
+    data = file_content(file)
+    if text is not None and entries_of(assembled, text_file) != entries_of(data, file):
+        raise Refused(f"{text_file}: is not the text of {file}")
+    return data, text
+
+
+def is_tar(path: str, begin: bytes) -> bool:
+    """Whether a file of this name that begins so is a tar, packed or not, rather than a tree text."""
+    if TREE_TEXT.match(begin):
+        return False
+    return path.endswith(TAR_NAMES) or begin.startswith(PACKED) or begin[TAR_PLACE:].startswith(TAR_MAGIC)
+
+
+def text_by(tool: str, path: str, name: str, place: str, say: Say) -> None:
+    """A tool beside this folder writes the tree text of a path to a place, all as of 0:0; what it says is told."""
+    if not (TOOLS / tool).is_file():
+        raise Refused(f"sources: {name}: tools/{tool}, which reads it, is missing")
+    with open(place, "wb") as text:
+        done = subprocess.run(
+            [sys.executable, TOOLS / tool, *OWNER, "--", path],
+            stdin=subprocess.DEVNULL, stdout=text, stderr=subprocess.PIPE,
+        )
+    lines = done.stderr.decode("utf-8", "backslashreplace").splitlines()
+    if done.returncode:
+        raise Refused(f"sources: {name}: {lines[0] if lines else tool + ' failed'}")
+    for line in lines:
+        if line != "left out: nothing":
+            say(f"{name}: {line}")
+
+
+def source_file(name: str, path: str, place: str, say: Say) -> str:
+    """The file of the tree text of a local source; that of a directory or a tar is made at a place."""
+    if os.path.isdir(path):
+        text_by("tree-of-directory", path, name, place, say)
+        return place
+    with open(path, "rb") as file:
+        begin = file.read(TAR_PLACE + len(TAR_MAGIC))
+    if not is_tar(path, begin):
+        return path
+    text_by("tree-of-tar", path, name, place, say)
+    return place
+
+
+def source_words(arguments: dict, folder: str, say: Say) -> list[str]:
+    """The words that give the program its local sources."""
+    words = []
+    for number, (name, path) in enumerate(argument(arguments, "sources", dict, {}).items()):
+        of_kind(path, f"sources: {name}", str)
+        if not name or "=" in name or name.startswith("-"):
+            raise Refused(f"sources: {name!r} can't be the name of a local source on a command line")
+        words.append(f"{name}={source_file(name, path, os.path.join(folder, f'{number}.tree'), say)}")
+    return words
+
+
+def workers_of(arguments: dict) -> int:
+    """The number of workers."""
+    workers = argument(arguments, "workers", int, USUAL_WORKERS)
+    if not 1 <= workers <= MOST_WORKERS:
+        raise Refused(f"workers is not a number from 1 to {MOST_WORKERS}")
+    return workers
+
+
+def begun(command: list[str], workers: int, vertices: int, entries: faults.Told) -> Session:
+    """A session that has answered its first command, so that nothing stands in its way."""
+    session = Session(command, workers, vertices)
+    try:
+        session.status()
+    except (Gone, Refusal) as fault:
+        session.end()
+        raise Refused(cause_of(session.said(), str(fault), entries)) from fault
+    return session
+
+
+def started(arguments: dict, folder: str, say: Say) -> Launched:
+    """What is asked for, with temporary files in a folder."""
+    program, workers = program_of(arguments), workers_of(arguments)
+    data, text = definition_of(program, arguments)
+    entries = entries_of(data, "the definition")
+    told = faults.Told(entries)
+    shown = output_of(program, "show", data, told).decode("ascii", "backslashreplace")
+    text = output_of(program, "dis", data) if text is None else text
+    graph = places.graph_of(shown, text.decode("utf-8"), entries)
+    words = source_words(arguments, folder, say)
+    file = os.path.join(folder, "definition")
+    pathlib.Path(file).write_bytes(data)
+    session = begun([program, "step", file, "--workers", str(workers), *words], workers, len(graph.vertices), told)
+    name = os.path.basename(argument(arguments, "definition", str, ""))
+    place = argument(arguments, "text", str, "")
+    return Launched(session, graph, told, f"{name}.text", os.path.abspath(place) if place else None)
+
+
+def launch(arguments: dict, say: Say) -> Launched:
+    """What a launch request asks for. What stands in its way is refused, and nothing is left then."""
+    try:
+        with tempfile.TemporaryDirectory(prefix="llbm-debug-") as folder:
+            return started(arguments, folder, say)
+    except OSError as fault:
+        raise Refused(told(fault)) from fault
+    except ValueError as fault:
+        raise Refused(f"a path or a name can't be used: {fault}") from fault

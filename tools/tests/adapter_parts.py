@@ -1,0 +1,429 @@
+"""Tests of the debug adapter that need no program: its messages, its reading of texts and trees, and programs of the
+tests' own, which crash or say what no session says."""
+
+import json
+import os
+import pathlib
+import sys
+
+from tests import base, protocol
+from tests.base import TOOLS, Folder, command
+
+sys.path.insert(0, str(TOOLS))
+
+from debugging import launching, places, trees  # noqa: E402
+
+FAKE = f"""#!{sys.executable}
+import os, signal, sys
+words = sys.argv[1:]
+given = sys.stdin.buffer.read() if words[0] != "step" else b""
+if words[0] == "show":
+    print("0 source steps 1 outputs 1 inputs -\\nresult 0.0")
+elif words[0] == "dis":
+    print("op {{\\n}}\\nop {{\\n}}")
+else:
+    def said(text):
+        sys.stdout.write(text)
+        sys.stdout.flush()
+    def heard():
+        return sys.stdin.readline().strip()
+    exec(open(os.path.join(os.path.dirname(sys.argv[0]), "does")).read())
+"""
+
+BEGINS = "heard()\nsaid('0 ready\\n')\nheard()\n"
+CRASHES = BEGINS + "sys.stderr.write('out of luck\\n')\nsys.exit(7)\n"
+KILLED = BEGINS + "os.kill(os.getpid(), signal.SIGKILL)\n"
+BABBLES = BEGINS + "said('1 claim 0 0 -> source 1\\n')\nheard()\nsaid('3 step 0 -> read\\n')\nheard()\n"
+CUT = BEGINS + "said('1 claim 0 0 -> sou')\n"
+CLOSES = BEGINS + "os.close(1)\nheard()\n"
+DONE = """
+heard()
+said('0 ready\\n')
+number = 1
+while True:
+    line = heard()
+    number += 1
+    if line == 'next': said('end\\n')
+    elif line == 'status': said('0 done\\n')
+    elif line == 'tree 0 0':
+        heard()
+        number += 1
+        said(open(os.path.join(os.path.dirname(sys.argv[0]), 'tree')).read())
+        said(f'fault 173 {number}\\n')
+    elif not line: sys.exit()
+"""
+
+
+class WithAdapter(Folder):
+    """A test with an adapter and its client."""
+
+    def setUp(self):
+        super().setUp()
+        self.at = pathlib.Path(os.fsdecode(self.folder))
+        held = self.at / "held"
+        held.mkdir()
+        self.environment = {**os.environ, "TMPDIR": str(held)}
+
+    def client(self):
+        """A client of a new adapter."""
+        client = protocol.Client(command("debug-adapter"), env=self.environment)
+        self.addCleanup(client.close)
+        return client
+
+    def opened(self, **habits):
+        """A client that has done its initialize."""
+        client = self.client()
+        client.ask("initialize", adapterID="llbm", **habits)
+        return client
+
+    def no_file_is_left(self):
+        """No temporary file is there."""
+        self.assertEqual(os.listdir(self.at / "held"), [])
+
+
+class Messages(WithAdapter):
+    """Messages that come in."""
+
+    def ends(self, client, status, told):
+        """The adapter ends with this status and says this."""
+        client.child.stdin.close()
+        self.assertIsNone(client.receive())
+        self.assertEqual((client.child.wait(60), client.child.stderr.read().decode()), (status, told))
+
+    def test_what_is_no_message_ends_the_adapter(self):
+        for head, told in [
+            (b"\r\n\r\n", "a message has no Content-Length\n"),
+            (b"Content-Length: x\r\n\r\n", "Content-Length is not a number of at most 67,108,864\n"),
+            (b"Content-Length: -1\r\n\r\n", "Content-Length is not a number of at most 67,108,864\n"),
+            (b"Content-Length: 67108865\r\n\r\n", "Content-Length is not a number of at most 67,108,864\n"),
+            (b"a" * 5000, "the head of a message has no end\n"),
+            (b"Content-", "the input ends inside the head of a message\n"),
+            (b"Content-Length: 10\r\n\r\n{}", "the input ends inside a message\n"),
+        ]:
+            client = self.client()
+            client.write(b"", head)
+            self.ends(client, 2, told)
+
+    def test_the_end_of_the_input_ends_the_adapter(self):
+        self.ends(self.client(), 0, "")
+        self.ends(self.opened(), 0, "")
+
+    def test_heads_with_more_fields_and_messages_in_pieces(self):
+        client = self.client()
+        client.waiting = {1: "initialize", 2: "disconnect"}
+        content = json.dumps({"seq": 1, "type": "request", "command": "initialize", "arguments": {"adapterID": "a"}})
+        second = json.dumps({"seq": 2, "type": "request", "command": "disconnect"})
+        head = b"Content-Type: x\r\ncontent-length:%d\r\n\r\n"
+        whole = b"".join(head % len(text) + text.encode() for text in (content, second))
+        for place in range(0, len(whole), 50):
+            client.write(b"", whole[place : place + 50])
+        self.assertTrue(client.response(1)["success"])
+        self.assertTrue(client.response(2)["success"])
+        self.ends(client, 0, "")
+
+    def test_messages_that_are_no_requests_are_refused(self):
+        for content, number, name, told in [
+            (b"{", 0, "", "the message is no JSON: "),
+            (b"\xff", 0, "", "the message is no JSON: "),
+            (b"[" * 100_000, 0, "", "the message is no JSON: "),
+            (b"[]", 0, "", "the message is no request"),
+            (b'{"seq": 5, "type": "event", "command": "threads"}', 5, "threads", "the message is no request"),
+            (b'{"seq": 5, "type": "request"}', 5, "", "the message is no request"),
+            (b'{"seq": true, "type": "request", "command": 1}', 0, "", "the message is no request"),
+            (b'{"seq": 5, "type": "request", "command": "a\\nb"}', 5, "a\nb", "the request a\\nb is not known"),
+            (b'{"seq": 5, "type": "request", "command": "initialize", "arguments": []}', 5, "initialize",
+             "arguments is not an object"),
+        ]:
+            client = self.client()
+            client.waiting = {number: name}
+            client.write(content)
+            response = client.response(number)
+            self.assertFalse(response["success"])
+            self.assertTrue(response["message"].startswith(told), response)
+            client.ask("initialize", adapterID="llbm")
+            self.assertEqual(client.leave(), 0)
+
+    def test_command_lines(self):
+        done = base.run("debug-adapter", "--help")
+        self.assertEqual((done.returncode, done.stderr), (0, b""))
+        self.assertEqual(base.run("debug-adapter", "word").returncode, 2)
+
+    def test_closed_streams(self):
+        for descriptor, name in [(0, "standard input"), (1, "standard output")]:
+            done = base.run_closed(descriptor, "debug-adapter")
+            told = f"a read or a write failed: {name} is closed\n"
+            self.assertEqual((done.returncode, done.stderr.decode()), (3, told))
+
+
+class Order(WithAdapter):
+    """Requests that come at a wrong time, before anything is launched."""
+
+    def test_before_initialize(self):
+        client = self.client()
+        self.assertEqual(client.refused("launch", definition="a"), "launch: initialize comes first")
+        self.assertEqual(client.refused("threads"), "threads: initialize comes first")
+        self.assertEqual(client.leave(), 0)
+
+    def test_initialize(self):
+        client = self.client()
+        self.assertEqual(client.refused("initialize"), "adapterID is missing")
+        self.assertEqual(client.refused("initialize", adapterID=1), "adapterID is not a text")
+        told = client.refused("initialize", adapterID="a", linesStartAt1=1)
+        self.assertEqual(told, "linesStartAt1 is not true or false")
+        told = client.refused("initialize", adapterID="a", pathFormat="uri")
+        self.assertEqual(told, "pathFormat is not path, the only form that is known")
+        body = client.ask("initialize", adapterID="a", pathFormat="path")
+        for name in ["ConfigurationDoneRequest", "ConditionalBreakpoints", "EvaluateForHovers", "StepBack"]:
+            self.assertIs(body[f"supports{name}"], True)
+        self.assertEqual([one["filter"] for one in body["exceptionBreakpointFilters"]], ["failed"])
+        told = client.refused("initialize", adapterID="a")
+        self.assertEqual(told, "initialize: initialize is done, and nothing is launched")
+
+    def test_before_launch(self):
+        client = self.opened()
+        for name in ["configurationDone", "threads", "continue", "next", "stepBack", "pause", "evaluate", "terminate"]:
+            told = client.refused(name, threadId=1, expression="0")
+            self.assertEqual(told, f"{name}: initialize is done, and nothing is launched")
+        self.assertEqual(client.refused("attach"), "the request attach is not known")
+        self.assertEqual(client.leave(), 0)
+
+
+class WithFake(WithAdapter):
+    """Programs of the tests' own."""
+
+    def setUp(self):
+        super().setUp()
+        self.definition = os.fsdecode(self.file(b"definition", base.ending(base.source("local://src"))))
+        self.tree = os.fsdecode(self.file(b"src", b"d 0755 0 0 /\n"))
+        self.program = self.at / "llbm"
+        self.program.write_text(FAKE)
+        self.program.chmod(0o755)
+        self.given = {"definition": self.definition, "sources": {"src": self.tree}, "llbm": str(self.program)}
+
+    def does(self, text):
+        """The program does this in a session."""
+        (self.at / "does").write_text(text)
+
+    def launched(self, **more):
+        """A client whose run is about to begin."""
+        client = self.opened()
+        client.ask("launch", **{**self.given, **more})
+        client.until("initialized")
+        return client
+
+
+class Crashes(WithFake):
+    """A program that does not do what a session does."""
+
+    def test_a_crash_ends_the_run(self):
+        for does, code, lines in [
+            (CRASHES, 7, ["the program has ended with status 7", "out of luck"]),
+            (KILLED, 137, ["the program has ended by signal 9"]),
+            (CUT, 0, ["the program has ended with status 0"]),
+            (CLOSES, 137, ["the program has ended by signal 9"]),
+            (BABBLES, 1, ["the program prints what no session prints: 3 step 0 -> read"]),
+        ]:
+            self.does(does)
+            client = self.launched()
+            client.ask("configurationDone")
+            self.assertEqual(client.ended(), code, does)
+            self.assertEqual(client.lines("stderr"), lines)
+            self.assertEqual(client.refused("threads"), "threads: the run has ended")
+            self.assertEqual(client.leave(), 0)
+            self.no_file_is_left()
+
+    def test_a_crash_at_a_request(self):
+        self.does(CRASHES)
+        client = self.launched(stopOnEntry=True)
+        client.ask("configurationDone")
+        client.stopped()
+        told = client.refused("evaluate", expression="0")
+        self.assertEqual(told, "the program has ended with status 7")
+        self.assertEqual(client.ended(), 7)
+        self.assertEqual(client.leave(), 0)
+
+    def test_a_program_that_does_not_heed_its_end_is_ended(self):
+        self.does(BEGINS + "while True: signal.pause()\n")
+        client = self.launched(stopOnEntry=True)
+        client.ask("configurationDone")
+        client.stopped()
+        self.assertEqual(client.leave(), 0)
+        self.assertEqual(client.ended(), 0)
+
+    def test_a_tree_that_is_none_ends_the_run(self):
+        self.does(DONE)
+        for text in ["d 0755 0 0 /\nf 0644 0 0 6 /a\n", "d 0755 0 0 /\nf 0644 0 0 - /a/b\n", "d /\n", "f 0644 0 /\n"]:
+            (self.at / "tree").write_text(text)
+            client = self.launched(stopOnEntry=True)
+            client.ask("configurationDone")
+            client.stopped()
+            told = client.refused("evaluate", expression="0.0:/")
+            self.assertTrue(told.startswith("the program prints what no session prints: a tree that is none"), told)
+            self.assertEqual(client.ended(), 1)
+            self.assertEqual(client.leave(), 0)
+
+    def test_a_graph_that_is_none(self):
+        self.does(DONE)
+        client = self.opened()
+        for shown, told in [
+            ("x", "the program shows 0 vertices, and the definition has 1"),
+            ("", "the program shows 0 vertices, and the definition has 1"),
+            ("0 source\\nresult 0.0", "the program shows what is no vertex: 0 source"),
+        ]:
+            line = "0 source steps 1 outputs 1 inputs -\\nresult 0.0"
+            self.program.write_text(FAKE.replace(line, shown))
+            self.assertEqual(client.refused("launch", **self.given), told)
+
+    def test_a_program_that_does_not_begin(self):
+        client = self.opened()
+        for does, told in [
+            ("sys.exit(3)", "the program has ended with status 3"),
+            ("sys.stderr.write('fault 122\\n')\nsys.exit(2)", "fault 122: 122: "),
+            ("said('x\\n')", "the program prints what no session prints: x"),
+        ]:
+            self.does(does)
+            self.assertTrue(client.refused("launch", **self.given).startswith(told))
+        self.does(DONE)
+        for words, told in [
+            ({"llbm": "/nowhere/llbm"}, "/nowhere/llbm: no program is there"),
+            ({"llbm": self.definition}, f"{self.definition}: no program is there"),
+        ]:
+            self.assertEqual(client.refused("launch", **{**self.given, **words}), told)
+        client.ask("launch", **self.given)
+        self.no_file_is_left()
+
+    def test_a_program_that_can_not_be_started(self):
+        self.program.write_text("#!/nowhere\n")
+        told = self.opened().refused("launch", **self.given)
+        self.assertEqual(told, f"{self.program}: No such file or directory")
+
+    def test_the_program_on_the_path(self):
+        self.does(DONE)
+        self.environment["PATH"] = f"{self.at}:{os.environ['PATH']}"
+        client = self.opened()
+        client.ask("launch", definition=self.definition, sources={"src": self.tree})
+        client.ask("configurationDone")
+        self.assertEqual(client.ended(), 0)
+
+    def test_a_terminated_adapter_leaves_no_program(self):
+        self.does(BEGINS + f"open({str(self.at / 'gone')!r}, 'w').write(str(os.getpid()))\nsaid('x')\nheard()\n")
+        client = self.launched(stopOnEntry=True)
+        client.ask("configurationDone")
+        client.child.terminate()
+        self.assertEqual(client.child.wait(60), 143)
+        self.no_file_is_left()
+
+
+class Launches(WithFake):
+    """What a launch gives."""
+
+    def setUp(self):
+        super().setUp()
+        self.does(DONE)
+
+    def test_launches_are_refused(self):
+        client = self.opened()
+        name = "can't be the name of a local source on a command line"
+        for words, told in [
+            ({"definition": None}, "definition is missing"),
+            ({"definition": 1}, "definition is not a text"),
+            ({"definition": "/nowhere/x"}, "/nowhere/x: No such file or directory"),
+            ({"definition": "a\0b"}, "a path or a name can't be used: embedded null byte"),
+            ({"sources": []}, "sources is not an object"),
+            ({"sources": {"src": 1}}, "sources: src is not a text"),
+            ({"sources": {"src": "/nowhere/x"}}, "/nowhere/x: No such file or directory"),
+            ({"sources": {"a=b": self.tree}}, f"sources: 'a=b' {name}"),
+            ({"sources": {"--help": self.tree}}, f"sources: '--help' {name}"),
+            ({"sources": {"": self.tree}}, f"sources: '' {name}"),
+            ({"workers": 0}, "workers is not a number from 1 to 64"),
+            ({"workers": 65}, "workers is not a number from 1 to 64"),
+            ({"workers": True}, "workers is not a whole number"),
+            ({"workers": "2"}, "workers is not a whole number"),
+            ({"stopOnEntry": 1}, "stopOnEntry is not true or false"),
+            ({"llbm": 1}, "llbm is not a text"),
+        ]:
+            self.assertEqual(client.refused("launch", **{**self.given, **words}), told, words)
+            self.no_file_is_left()
+        client.ask("launch", **{**self.given, "workers": None})
+        again = "launch: a launch is done, and configurationDone is to come"
+        self.assertEqual(client.refused("launch", **self.given), again)
+
+    def test_workers_are_threads(self):
+        for workers, count in [(None, 2), (1, 1), (64, 64)]:
+            threads = self.launched(workers=workers).ask("threads")["threads"]
+            self.assertEqual(threads, [{"id": n + 1, "name": f"worker {n}, idle"} for n in range(count)])
+
+    def test_a_directory_with_what_has_no_place_in_a_tree(self):
+        self.make(b"a", b"a")
+        os.symlink("a", self.place(b"in", b"link"))
+        client = self.launched(sources={"src": str(self.at / "in")})
+        self.assertIn("src: /link: left out: a symbolic link", client.lines("console"))
+
+    def test_a_tar_without_the_tool_that_reads_it(self):
+        for name, begin, is_tar in [
+            ("a", b"a".ljust(257, b"\0") + b"ustar\x0000", True), ("a", b"\x1f\x8b\x08", True), ("a.tgz", b"x", True),
+            ("a.tar", b"d 0755 0 0 /\n", False), ("a", b"x", False),
+        ]:
+            self.assertIs(launching.is_tar(name, begin), is_tar)
+        if (TOOLS / "tree-of-tar").exists():
+            self.skipTest("the tool is there")
+        place = os.fsdecode(self.file(b"tar", b"a".ljust(257, b"\0") + b"ustar\x0000"))
+        told = self.opened().refused("launch", **{**self.given, "sources": {"src": place}})
+        self.assertEqual(told, "sources: src: tools/tree-of-tar, which reads it, is missing")
+
+
+class Texts(Folder):
+    """Where entries are in their text."""
+
+    def test_lines_of_entries(self):
+        text = '# a\nop {\n  file {\n    path "a {"\n  }\n\n}\n\n raw -\r\nop {\n}\n# b\n'
+        self.assertEqual(places.lines_of(text), [(2, 7), (9, 9), (10, 11)])
+        self.assertEqual(places.lines_of(""), [])
+
+    def test_vertices_of_entries(self):
+        one, two, three = base.source("local://a"), base.source("local://b"), base.source("local://c")
+        end = base.merge(two, one)
+        self.assertEqual(places.vertices_by_entry([three, two, one, two, end], [1, 2, 4]), [None, 0, 1, 0, 2])
+
+
+class Trees(Folder):
+    """Trees as they are shown."""
+
+    def tree(self, *lines):
+        """The root of a tree."""
+        return trees.tree_of([b"d 0755 1 2 /", *lines])
+
+    def test_folder_by_folder(self):
+        wide = "\N{GREEK SMALL LETTER ALPHA} b".encode()
+        root = self.tree(b"d 0700 0 0 /a", b"f 0644 3 4 6869 /a/b", b"d 0755 0 0 /a-", b"f 0644 0 0 - /a-/" + wide)
+        self.assertEqual(trees.whole_of(root), "2 names:\na/\na-/")
+        self.assertEqual(trees.looks_of(root), "0755 1:2, 2 names")
+        self.assertEqual(trees.looks_of(trees.node_at(root, "a")), "0700 0:0, 1 name")
+        self.assertEqual(trees.looks_of(trees.node_at(root, "/a/b")), "0644 3:4, text of 2 bytes: hi")
+        self.assertEqual(trees.looks_of(trees.node_at(root, f"/x/.././a-//{wide.decode()}/")), "0644 0:0, 0 bytes")
+        for path, told in [("/a/c", "nothing is at /a/c"), ("/a/b/c", "/a/b is a file")]:
+            with self.assertRaisesRegex(trees.NoPath, told):
+                trees.node_at(root, path)
+        self.assertEqual(trees.whole_of(self.tree()), "0 names")
+
+    def test_contents(self):
+        for content, what, body in [
+            (b"a\n\tb\r\n", "text of 6 bytes", "a\n\tb\r\n"),
+            ("\N{GREEK SMALL LETTER ALPHA}".encode(), "text of 2 bytes", "\N{GREEK SMALL LETTER ALPHA}"),
+            (b"\0", "hexadecimal of 1 byte", "00"),
+            (b"a\x1bb", "hexadecimal of 3 bytes", "611b62"),
+            (b"\xff\xfe", "hexadecimal of 2 bytes", "fffe"),
+            (b"a" * 4096, "text of 4,096 bytes", "a" * 4096),
+            (b"a" * 4097, "text of 4,097 bytes, the first 4,096 shown", "a" * 4096),
+            (b"a" * 4095 + "\N{GREEK SMALL LETTER ALPHA}".encode(), "text of 4,097 bytes, the first 4,096 shown",
+             "a" * 4095),
+            (b"a" * 4096 + b"\0", "hexadecimal of 4,097 bytes, the first 4,096 shown", "61" * 4096),
+        ]:
+            node = trees.Node("0644", "0:0", None, content.hex().encode())
+            self.assertEqual(trees.shown(node), (what, body))
+            self.assertEqual(trees.whole_of(node), f"{what}:\n{body}")
+
+    def test_many_names(self):
+        root = self.tree(*(b"f 0644 0 0 - /%04d" % number for number in range(1002)))
+        lines = trees.whole_of(root).split("\n")
+        self.assertEqual((lines[:2], lines[1000:]), (["1,002 names:", "0000"], ["0999", "and 2 more"]))

@@ -1,0 +1,429 @@
+"""Tests of the debug adapter together with the program llbm, left out where there is none."""
+
+import json
+import os
+import pathlib
+import re
+import subprocess
+import tarfile
+import unittest
+
+from tests import base, protocol
+from tests.adapter_parts import WithAdapter
+from tests.base import ROOT, TOOLS, run
+
+EXAMPLES = ROOT / "examples"
+RECORD = re.compile(r"([0-9]+) (?:claim|step|settle|cancel) .*")
+
+# the lines of examples/execution.text where the entries of the vertices are, and one of the entry that is the terminal
+ENTRIES = [(1, 5), (6, 17), (18, 50)]
+TERMINAL = 51
+
+
+def stored_record():
+    """The record of the stored session, by its numbers: a line that was taken back is followed by its like."""
+    lines = (EXAMPLES / "session.answers").read_text().splitlines()
+    found = {int(line.split(" ")[0]): line for line in lines if RECORD.fullmatch(line)}
+    return [found[number] for number in range(1, len(found) + 1)]
+
+
+class WithRun(WithAdapter):
+    """A test with the program."""
+
+    def setUp(self):
+        if base.llbm is None:
+            raise unittest.SkipTest("the program is needed, which --llbm PROGRAM names")
+        super().setUp()
+        self.execution = {
+            "definition": str(EXAMPLES / "execution.definition"), "sources": {"source": str(EXAMPLES / "source.tree")},
+        }
+
+    def llbm(self, *words, given=b""):
+        """What the program prints."""
+        return subprocess.run([base.llbm, *words], input=given, capture_output=True, timeout=120).stdout
+
+    def example(self, name, *sources):
+        """The launch of an example by its text."""
+        folder = EXAMPLES / name
+        trees = {one: str(folder / f"{one}.tree") for one in sources}
+        return {"text": str(folder / "definition.text"), "sources": trees}
+
+    def made(self, definition, **sources):
+        """The launch of a definition that is made for a test, with texts of trees."""
+        places = {name: os.fsdecode(self.file(name.encode(), text)) for name, text in sources.items()}
+        return {"definition": os.fsdecode(self.file(b"definition", definition)), "sources": places}
+
+    def launched(self, given, habits=None, **more):
+        """A client whose run is about to begin."""
+        client = self.opened(**(habits or {}))
+        client.ask("launch", llbm=base.llbm, **given, **more)
+        client.until("initialized")
+        self.no_file_is_left()
+        return client
+
+    def entered(self, given=None, habits=None, **more):
+        """A client whose run has stopped at its beginning."""
+        client = self.launched(given or self.execution, habits, stopOnEntry=True, **more)
+        client.ask("configurationDone")
+        stop = client.stopped()
+        self.assertEqual((stop["reason"], stop["threadId"], stop["allThreadsStopped"]), ("entry", 1, True))
+        return client
+
+    def many_vertices(self):
+        """The launch of a definition with 201 vertices, whose run has 802 events."""
+        entries = [base.file_op(base.mkdir(f"/{number}")) for number in range(200)]
+        return self.made(base.ending(*entries, base.merge(*entries)))
+
+    def breaks(self, client, *breakpoints, source=None):
+        """The breakpoints that these lines and conditions are answered by."""
+        pairs = [one if isinstance(one, tuple) else (one,) for one in breakpoints]
+        given = [dict(zip(("line", "condition"), pair)) for pair in pairs]
+        source = source or {"sourceReference": 1}
+        return client.ask("setBreakpoints", source=source, breakpoints=given)["breakpoints"]
+
+    def goes(self, client, command="continue", thread=1):
+        """The stop that a run comes to."""
+        client.ask(command, threadId=thread)
+        return client.stopped()
+
+    def record(self, client):
+        """The record that has been told: what was taken back is not in it."""
+        found = []
+        for line in client.lines():
+            if line.startswith("back "):
+                found.pop()
+                self.assertEqual(line, f"back {len(found)}")
+            else:
+                found.append(line)
+                self.assertEqual(line.split(" ")[0], str(len(found)))
+        return found
+
+    def scope(self, client, frame, name):
+        """The variables of a scope."""
+        scopes = client.ask("scopes", frameId=frame)["scopes"]
+        one = {scope["name"]: scope for scope in scopes}[name]
+        return client.ask("variables", variablesReference=one["variablesReference"])["variables"]
+
+    def state(self, client, vertices, workers):
+        """All that is seen of a state, without the record and without references."""
+        looks = [client.ask("evaluate", expression=str(vertex))["result"] for vertex in range(vertices)]
+        trees = []
+        for vertex in range(vertices):
+            response = client.response(client.send("evaluate", {"expression": f"{vertex}.0:/"}))
+            trees.append(response.get("message") or response["body"]["result"])
+        frames = [client.ask("stackTrace", threadId=worker + 1) for worker in range(workers)]
+        return looks, trees, client.ask("threads"), frames
+
+
+class WholeRuns(WithRun):
+    """Runs from the beginning to the end."""
+
+    def test_a_whole_run(self):
+        client = self.launched(self.execution)
+        client.ask("configurationDone")
+        self.assertEqual(client.ended(), 0)
+        self.assertEqual(client.lines(), stored_record())
+        self.assertEqual(client.lines("stderr"), [])
+        self.assertEqual(client.lines("console"), ["the run is complete after 14 events, with the result 2.0"])
+        self.assertEqual(client.refused("continue", threadId=1), "continue: the run has ended")
+        self.assertEqual(client.leave(), 0)
+
+    def test_the_record_is_that_of_the_program(self):
+        for given, count in [(self.execution, 1), (self.execution, 5), (self.example("cache"), 3)]:
+            client = self.launched(given, workers=count)
+            client.ask("configurationDone")
+            self.assertEqual(client.ended(), 0)
+            data = client_definition(self, given)
+            sources = [f"{name}={place}" for name, place in given["sources"].items()]
+            words = ["step", os.fsdecode(self.file(b"whole", data)), "--workers", str(count), *sources]
+            answers = self.llbm(*words, given=b"go\n").decode().splitlines()
+            self.assertEqual([*client.lines(), "end"], answers)
+
+    def test_a_directory_is_a_source(self):
+        self.passes(run("directory-of-tree", self.at / "source", text=(EXAMPLES / "source.tree").read_bytes()))
+        client = self.entered({**self.execution, "sources": {"source": str(self.at / "source")}})
+        self.goes(client, "next")
+        self.assertEqual(client.ask("evaluate", expression="0.0:text/tail")["result"], "text of 6 bytes:\nworld\n")
+
+    @unittest.skipUnless((TOOLS / "tree-of-tar").exists(), "tools/tree-of-tar is needed")
+    def test_a_tar_is_a_source(self):
+        self.passes(run("directory-of-tree", self.at / "source", text=(EXAMPLES / "source.tree").read_bytes()))
+        for name, form in [("packed.tar", "w"), ("packed", "w:gz")]:
+            place = str(self.at / name)
+            with tarfile.open(place, form) as archive:
+                archive.add(self.at / "source", "")
+            client = self.entered({**self.execution, "sources": {"source": place}})
+            self.goes(client, "next")
+            self.assertEqual(client.ask("evaluate", expression="0.0:text/tail")["result"], "text of 6 bytes:\nworld\n")
+            self.assertEqual(client.leave(), 0)
+
+    def test_a_stop_at_the_end(self):
+        client = self.launched(self.execution, stopAtEnd=True)
+        client.ask("configurationDone")
+        stop = client.stopped()
+        self.assertEqual((stop["reason"], stop["threadId"]), ("end", 1))
+        self.assertEqual(client.ask("evaluate", expression="2.0:/out")["result"], "2 names:\nbin/\nenv")
+        self.assertEqual(self.goes(client, "stepBack")["reason"], "step")
+        self.assertEqual(self.goes(client)["reason"], "end")
+        self.assertEqual(self.record(client), stored_record())
+        client.ask("next", threadId=2)
+        self.assertEqual(client.ended(), 0)
+
+    def test_a_run_without_stops(self):
+        client = self.launched(self.execution, noDebug=True)
+        self.breaks(client, 1, 6)
+        client.ask("configurationDone")
+        self.assertEqual(client.ended(), 0)
+
+    def test_a_pause(self):
+        client = self.entered(self.many_vertices())
+        for number in client.send_at_once("continue", "pause", threadId=2):
+            self.assertTrue(client.response(number)["success"])
+        stop = client.stopped()
+        self.assertEqual((stop["reason"], stop["threadId"]), ("pause", 2))
+        self.assertLess(len(self.record(client)), 800)
+        self.assertEqual(client.refused("pause", threadId=1), "pause: the run is stopped")
+        client.ask("continue", threadId=1)
+        self.assertEqual(client.ended(), 0)
+        self.assertEqual(len(self.record(client)), 3 * 200 + 2 + 200)
+
+    def test_requests_while_the_run_goes_on(self):
+        client = self.entered()
+        commands = ["evaluate", "next", "threads", "setBreakpoints"]
+        arguments = {"expression": "0", "source": {"sourceReference": 1}, "breakpoints": [{"line": 1}]}
+        first, *rest, threads, breaks = client.send_at_once("continue", *commands, threadId=1, **arguments)
+        self.assertTrue(client.response(first)["success"])
+        told = [client.response(number)["message"] for number in rest]
+        self.assertEqual(told, ["evaluate: the run goes on", "next: the run goes on"])
+        self.assertEqual(len(client.response(threads)["body"]["threads"]), 2)
+        self.assertTrue(client.response(breaks)["body"]["breakpoints"][0]["verified"])
+        self.assertEqual(client.stopped()["reason"], "breakpoint")
+        self.assertEqual(self.record(client), stored_record()[:1])
+
+    def test_a_disconnect_while_the_run_goes_on(self):
+        client = self.entered(self.many_vertices())
+        for number in client.send_at_once("continue", "disconnect", threadId=1):
+            self.assertTrue(client.response(number)["success"])
+        self.assertIsNone(client.receive())
+        self.assertEqual((client.ended(), client.child.wait(60)), (0, 0))
+        self.assertLess(len(self.record(client)), 800)
+
+
+def client_definition(test, given):
+    """The bytes of the definition of a launch."""
+    if "definition" in given:
+        return pathlib.Path(given["definition"]).read_bytes()
+    return test.llbm("asm", given=pathlib.Path(given["text"]).read_bytes())
+
+
+class Breakpoints(WithRun):
+    """Breakpoints and where they stop."""
+
+    def test_claims_and_settles(self):
+        client = self.launched(self.execution)
+        first, second, third = self.breaks(client, 30, (7, "settle"), (1, " claim "))
+        self.assertEqual([one["verified"] for one in (first, second, third)], [True, True, True])
+        self.assertEqual([one["line"] for one in (first, second, third)], [30, 7, 1])
+        client.ask("configurationDone")
+        whole = stored_record()
+        for number, thread, hit in [(1, 1, third), (6, 1, second), (7, 1, first)]:
+            stop = client.stopped()
+            self.assertEqual((stop["reason"], stop["threadId"]), ("breakpoint", thread))
+            self.assertEqual(stop["hitBreakpointIds"], [hit["id"]])
+            self.assertEqual(client.lines(), whole[:number])
+            client.ask("continue", threadId=1)
+        self.assertEqual(client.ended(), 0)
+
+    def test_every_line_is_its_entry(self):
+        client = self.entered()
+        last = len((EXAMPLES / "execution.text").read_text().splitlines())
+        answers = self.breaks(client, *range(1, last + 2))
+        for vertex, (begin, end) in enumerate(ENTRIES):
+            self.assertTrue(all(one["verified"] for one in answers[begin - 1 : end]), vertex)
+        told = [one.get("message") for one in answers[TERMINAL - 1 :]]
+        self.assertEqual(told, ["entry 3 is no vertex: the result is not made of it"] * 5 + ["no entry has this line"])
+        stop = self.goes(client)
+        self.assertEqual(stop["hitBreakpointIds"], [one["id"] for one in answers[:5]])
+
+    def test_what_is_no_breakpoint(self):
+        client = self.entered()
+        answers = self.breaks(client, 0, (1, "now"), -7, 10**9)
+        self.assertEqual([one["verified"] for one in answers], [False] * 4)
+        self.assertEqual(answers[1]["message"], "the condition is neither claim nor settle")
+        self.breaks(client, 1)
+        other = self.breaks(client, 1, source={"path": "/nowhere/main.c"})
+        self.assertFalse(other[0]["verified"])
+        self.assertEqual(self.goes(client)["reason"], "breakpoint")
+        self.assertEqual(self.breaks(client), [])
+        client.ask("continue", threadId=1)
+        self.assertEqual(client.ended(), 0)
+
+    def test_breakpoints_are_refused(self):
+        client = self.entered()
+        source = {"sourceReference": 1}
+        for arguments, told in [
+            ({}, "source is missing"),
+            ({"source": 1}, "source is not an object"),
+            ({"source": source, "breakpoints": {}}, "breakpoints is not a list"),
+            ({"source": source, "breakpoints": [1]}, "a breakpoint is not an object"),
+            ({"source": source, "breakpoints": [{}]}, "line is missing"),
+            ({"source": source, "breakpoints": [{"line": "1"}]}, "line is not a whole number"),
+            ({"source": source, "breakpoints": [{"line": 1, "condition": 1}]}, "condition is not a text"),
+        ]:
+            self.assertEqual(client.refused("setBreakpoints", **arguments), told)
+        self.assertEqual(client.refused("setExceptionBreakpoints"), "filters is missing")
+        self.assertEqual(client.refused("setExceptionBreakpoints", filters=["all"]), "the filter all is not known")
+        self.assertEqual(client.refused("setExceptionBreakpoints", filters=[1]), "a filter is not a text")
+
+    def test_equal_entries_are_one_vertex(self):
+        one = base.source("local://a")
+        given = self.made(base.definition(one, one, base.merge(one, one), base.inputs(base.merge(one, one))),
+                          a=b"d 0755 0 0 /\n")
+        client = self.entered(given)
+        lines = client.ask("source", sourceReference=1)["content"].splitlines()
+        begins = [number for number, line in enumerate(lines, 1) if line == "op {" or line[:4] == "raw "]
+        self.assertEqual(len(begins), 4)
+        answers = self.breaks(client, begins[1])
+        self.assertTrue(answers[0]["verified"])
+        self.assertEqual(self.goes(client)["hitBreakpointIds"], [answers[0]["id"]])
+        self.assertEqual(self.record(client), ["1 claim 0 0 -> source 1"])
+
+    def test_the_text_of_the_entries(self):
+        client = self.entered()
+        self.goes(client, "stepIn")
+        frame = client.ask("stackTrace", threadId=1)["stackFrames"][0]
+        self.assertEqual((frame["line"], frame["endLine"], frame["column"]), (1, 5, 1))
+        self.assertEqual(client.ask("loadedSources")["sources"], [frame["source"]])
+        text = client.ask("source", source=frame["source"], sourceReference=1)["content"]
+        given = (EXAMPLES / "execution.definition").read_bytes()
+        self.assertEqual(text.encode(), self.llbm("dis", given=given))
+        self.assertEqual(client.refused("source", sourceReference=2), "sourceReference 2 is not known")
+
+    def test_a_text_in_a_file_and_lines_from_0(self):
+        given = self.example("failure", "empty")
+        client = self.entered(given, {"linesStartAt1": False, "columnsStartAt1": False})
+        source = {"path": given["text"]}
+        comments, entry = self.breaks(client, 1, 2, source=source)
+        self.assertEqual((comments["verified"], entry["verified"]), (False, True))
+        self.goes(client)
+        frame = client.ask("stackTrace", threadId=1)["stackFrames"][0]
+        self.assertEqual((frame["line"], frame["endLine"], frame["column"]), (2, 6, 0))
+        self.assertEqual(frame["source"], {"name": "definition.text", "path": given["text"]})
+        self.assertEqual(client.refused("source", sourceReference=1), "sourceReference 1 is not known")
+
+    def test_a_text_of_another_definition(self):
+        client = self.opened()
+        text = str(EXAMPLES / "execution.text")
+        told = client.refused("launch", llbm=base.llbm, **{**self.execution, "text": self.example("copy")["text"]})
+        self.assertIn("is not the text of", told)
+        client.ask("launch", llbm=base.llbm, **{**self.execution, "text": text})
+
+
+class Failures(WithRun):
+    """A vertex that fails: the second command of examples/failure, of its vertex 1."""
+
+    LINE = "failed 1 command 1 status 1"
+
+    def test_a_stop_at_the_failure(self):
+        client = self.launched(self.example("failure", "empty"))
+        client.ask("setExceptionBreakpoints", filters=["failed"])
+        client.ask("configurationDone")
+        stop = client.stopped()
+        self.assertEqual((stop["reason"], stop["text"], stop["threadId"]), ("exception", self.LINE, 1))
+        told = client.ask("exceptionInfo", threadId=1)
+        self.assertEqual((told["exceptionId"], told["description"]), ("failed", self.LINE))
+        self.assertIn("command 1: cp /none /b", told["details"]["stackTrace"])
+        self.assertEqual(client.refused("exceptionInfo", threadId=2), "worker 1 has not stopped at a failure")
+        self.assertTrue(self.record(client)[-1].endswith(" settle 0 -> 1 failed"))
+        told = client.ask("evaluate", expression="1")["result"]
+        self.assertEqual(told.splitlines()[0], "1 failed command 1 status 1")
+        told = client.refused("evaluate", expression="1.0:/a")
+        self.assertEqual(told, "there is no output 1.0: vertex 1 is failed command 1 status 1")
+        self.assertEqual([one["value"] for one in self.scope(client, 1, "Outputs")], ["none"])
+        self.goes(client, "stepBack")
+        stop = self.goes(client, "stepIn")
+        self.assertEqual(stop["reason"], "exception")
+        client.ask("continue", threadId=1)
+        self.assertEqual(client.ended(), 1)
+
+    def test_a_run_past_the_failure(self):
+        client = self.launched(self.example("failure", "empty"))
+        client.ask("setExceptionBreakpoints", filters=[])
+        client.ask("configurationDone")
+        self.assertEqual(client.ended(), 1)
+        told = client.lines("stderr")
+        self.assertEqual(told[0], self.LINE)
+        self.assertIn("  command 1: cp /none /b", told)
+        self.assertEqual(client.leave(), 0)
+
+    def test_launches_that_the_program_refuses(self):
+        client = self.opened()
+        local, remote = base.source("local://src"), base.source("git://src")
+        for entries, told in [
+            ([], "fault 83: 83: there are fewer than two distinct rows. "),
+            ([local, base.inputs(local)], "fault 121 src: 121 (NAME = src): "),
+            ([remote, base.inputs(remote)], "fault 88 0 Source: "),
+        ]:
+            given = self.made(base.definition(*entries))
+            self.assertTrue(client.refused("launch", llbm=base.llbm, **given).startswith(told), told)
+            self.no_file_is_left()
+        given = self.made(base.ending(base.source("local://src")), src=b"x\n")
+        told = client.refused("launch", llbm=base.llbm, **given)
+        self.assertTrue(told.startswith("fault 31 1: "), told)
+        place = os.fsdecode(self.file(b"text", b"op {\n}\nx\n"))
+        told = client.refused("launch", llbm=base.llbm, text=place)
+        self.assertTrue(told.startswith("fault 161 3 Syntax: "), told)
+        client.ask("launch", llbm=base.llbm, **self.execution)
+
+
+class Documented(WithRun):
+    """The session in the documentation, and the launch files of the examples."""
+
+    def transcript(self):
+        """The messages of the documented session, each with the arrow before it."""
+        pages = [ROOT / "docs" / name for name in ("TOOLS.md", "TOOLS.part-debug.md")]
+        texts = [page.read_text("utf-8") for page in pages if page.exists()]
+        lines = [line for text in texts for line in text.splitlines()]
+        begin = lines.index(next(line for line in lines if line.startswith('-> {"seq": 1,')))
+        block = "\n".join(lines[begin : lines.index("```", begin)]).replace("\n   ", " ")
+        return [line.split(" ", 1) for line in block.split("\n")]
+
+    def test_the_documented_session(self):
+        programs = self.at / "programs"
+        programs.mkdir()
+        (programs / "llbm").symlink_to(base.llbm)
+        self.environment["PATH"] = f"{programs}:{os.environ['PATH']}"
+        client = protocol.Client(base.command("debug-adapter"), env=self.environment, cwd=ROOT)
+        self.addCleanup(client.close)
+        transcript = self.transcript()
+        self.assertGreater(len(transcript), 40)
+        for arrow, text in transcript:
+            message = json.loads(text)
+            if arrow == "->":
+                self.assertEqual(client.send(message["command"], message.get("arguments")), message["seq"])
+            else:
+                self.assertEqual(client.receive(), message)
+        self.assertEqual(client.child.wait(60), 0)
+
+    def test_the_launch_file_of_vs_code(self):
+        told = (EXAMPLES / "launch.json").read_text().replace("${workspaceFolder}", str(ROOT))
+        extension = TOOLS / "debugging"
+        known = json.loads((extension / "package.json").read_text())["contributes"]["debuggers"][0]
+        self.assertEqual((extension / known["program"]).resolve(), TOOLS / "debug-adapter")
+        attributes = set(known["configurationAttributes"]["launch"]["properties"])
+        for configuration in json.loads(told)["configurations"]:
+            given = {name: value for name, value in configuration.items() if name not in ("type", "request", "name")}
+            self.assertEqual((configuration["type"], configuration["request"]), (known["type"], "launch"))
+            self.assertLessEqual(set(given), attributes)
+            self.assertIs(given.pop("stopOnEntry"), True)
+            client = self.entered(given)
+            self.assertEqual(self.goes(client)["reason"], "end")
+
+    def test_the_launch_files_of_emacs_and_neovim(self):
+        wanted = {"type", "request", "text", "sources", "workers", "stopOnEntry", "stopAtEnd"}
+        for name, form in [("dape.el", r":(\w+) "), ("nvim-dap.lua", r"    (\w+) = ")]:
+            text = (EXAMPLES / name).read_text()
+            self.assertLessEqual(wanted, set(re.findall(form, text)))
+            self.assertEqual([text.count(mark) for mark in "({["], [text.count(mark) for mark in ")}]"])
+            for path in re.findall(r'"/?((?:tools|examples)/[^"]*)"', text):
+                self.assertTrue((ROOT / path).exists(), path)

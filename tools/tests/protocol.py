@@ -1,0 +1,264 @@
+"""The part of the Debug Adapter Protocol's schema that the adapter uses, and a client that checks each message by it.
+
+A shape has the fields of an object by their names, `?` after those that may be missing; other fields are refused. What
+a field holds is a kind, the name of a shape, a list of one of these, or a tuple of the texts that it may be.
+"""
+
+import json
+import subprocess
+
+SHAPES = {
+    "Capabilities": {
+        "supportsConfigurationDoneRequest?": bool, "supportsConditionalBreakpoints?": bool,
+        "supportsEvaluateForHovers?": bool, "supportsStepBack?": bool, "supportsExceptionInfoRequest?": bool,
+        "supportsLoadedSourcesRequest?": bool, "supportsTerminateRequest?": bool,
+        "exceptionBreakpointFilters?": ["ExceptionBreakpointsFilter"],
+    },
+    "ExceptionBreakpointsFilter": {"filter": str, "label": str, "description?": str, "default?": bool},
+    "Source": {"name?": str, "path?": str, "sourceReference?": int, "origin?": str},
+    "Breakpoint": {"id?": int, "verified": bool, "message?": str, "source?": "Source", "line?": int},
+    "Thread": {"id": int, "name": str},
+    "StackFrame": {
+        "id": int, "name": str, "source?": "Source", "line": int, "column": int, "endLine?": int, "endColumn?": int,
+    },
+    "Scope": {
+        "name": str, "presentationHint?": str, "variablesReference": int, "namedVariables?": int, "expensive": bool,
+    },
+    "Variable": {
+        "name": str, "value": str, "type?": str, "evaluateName?": str, "variablesReference": int,
+        "namedVariables?": int,
+    },
+    "ExceptionDetails": {"message?": str, "typeName?": str, "stackTrace?": str},
+    "Message": {"id": int, "format": str, "showUser?": bool},
+    "Failure": {"error?": "Message"},
+    "SetBreakpoints": {"breakpoints": ["Breakpoint"]},
+    "Continue": {"allThreadsContinued?": bool},
+    "Threads": {"threads": ["Thread"]},
+    "StackTrace": {"stackFrames": ["StackFrame"], "totalFrames?": int},
+    "Scopes": {"scopes": ["Scope"]},
+    "Variables": {"variables": ["Variable"]},
+    "Evaluate": {"result": str, "type?": str, "variablesReference": int, "namedVariables?": int},
+    "SourceText": {"content": str, "mimeType?": str},
+    "LoadedSources": {"sources": ["Source"]},
+    "ExceptionInfo": {
+        "exceptionId": str, "description?": str, "breakMode": ("never", "always", "unhandled", "userUnhandled"),
+        "details?": "ExceptionDetails",
+    },
+    "Stopped": {
+        "reason": str, "description?": str, "threadId?": int, "text?": str, "allThreadsStopped?": bool,
+        "hitBreakpointIds?": [int],
+    },
+    "Output": {"category?": str, "output": str, "source?": "Source", "line?": int},
+    "Exited": {"exitCode": int},
+}
+
+# the body of the response to each request, and that of each event; none where there is no body
+RESPONSES = {
+    "initialize": "Capabilities", "launch": None, "configurationDone": None, "terminate": None, "disconnect": None,
+    "setBreakpoints": "SetBreakpoints", "setExceptionBreakpoints": None, "exceptionInfo": "ExceptionInfo",
+    "continue": "Continue", "next": None, "stepIn": None, "stepOut": None, "stepBack": None, "reverseContinue": None,
+    "pause": None, "threads": "Threads", "stackTrace": "StackTrace", "scopes": "Scopes", "variables": "Variables",
+    "evaluate": "Evaluate", "source": "SourceText", "loadedSources": "LoadedSources",
+}
+EVENTS = {"initialized": None, "stopped": "Stopped", "output": "Output", "exited": "Exited", "terminated": None}
+
+RESPONSE = {
+    "seq": int, "type": ("response",), "request_seq": int, "success": bool, "command": str, "message?": str,
+    "body?": object,
+}
+EVENT = {"seq": int, "type": ("event",), "event": tuple(EVENTS), "body?": object}
+
+
+class Wrong(AssertionError):
+    """A message that is not of the protocol's form, or not in its place."""
+
+
+def check_kind(value, kind, where):
+    """Whether a value is of a kind, a shape, a list of one of these, or one of some texts."""
+    if isinstance(kind, list):
+        check_kind(value, list, where)
+        for one in value:
+            check_kind(one, kind[0], f"{where}[]")
+    elif isinstance(kind, str):
+        check_shape(value, SHAPES[kind], f"{where}: {kind}")
+    elif isinstance(kind, tuple):
+        if value not in kind:
+            raise Wrong(f"{where} is {value!r}, none of {kind}")
+    elif not isinstance(value, kind) or kind is int and isinstance(value, bool):
+        raise Wrong(f"{where} is {value!r}, no {kind.__name__}")
+
+
+def check_shape(value, shape, where):
+    """Whether an object has the fields of a shape."""
+    check_kind(value, dict, where)
+    kinds = {name.rstrip("?"): kind for name, kind in shape.items()}
+    for name in shape:
+        if not name.endswith("?") and name not in value:
+            raise Wrong(f"{where} has no {name}")
+    for name, held in value.items():
+        if name not in kinds:
+            raise Wrong(f"{where} has {name}, which is not in the table")
+        check_kind(held, kinds[name], f"{where}.{name}")
+
+
+def check_body(message, kind, where):
+    """Whether a message has the body of this shape, or none."""
+    if kind is None:
+        if message.get("body"):
+            raise Wrong(f"{where} has a body")
+    else:
+        check_kind(message.get("body"), kind, where)
+
+
+def check_response(message):
+    """Whether a response is of the form of its request, or that of a failure with a message in one line."""
+    check_shape(message, RESPONSE, "response")
+    command = message["command"]
+    if message["success"]:
+        check_body(message, RESPONSES[command], command)
+        return
+    check_body(message, "Failure", f"the failure of {command}")
+    if not message.get("message") or "\n" in message["message"]:
+        raise Wrong(f"the failure of {command} has no message of one line")
+
+
+class Client:
+    """A client of an adapter. Each message is checked as it comes, and so is the order in which they come."""
+
+    def __init__(self, command, **settings):
+        self.child = subprocess.Popen(
+            command, stdin=subprocess.PIPE, stdout=subprocess.PIPE, stderr=subprocess.PIPE, **settings
+        )
+        self.sent = 0
+        self.received = 0
+        self.waiting = {}
+        self.answered = set()
+        self.events = []
+        self.place = 0
+
+    def close(self):
+        """The adapter is ended, if it is not."""
+        for stream in (self.child.stdin, self.child.stdout, self.child.stderr):
+            stream.close()
+        self.child.kill()
+        self.child.wait()
+
+    def write(self, content, head=None):
+        """A message goes out as it is."""
+        head = b"Content-Length: %d\r\n\r\n" % len(content) if head is None else head
+        self.child.stdin.write(head + content)
+        self.child.stdin.flush()
+
+    def request(self, command, arguments=None):
+        """The content of a new request, which waits for its response."""
+        self.sent += 1
+        self.waiting[self.sent] = command
+        more = {} if arguments is None else {"arguments": arguments}
+        return json.dumps({"seq": self.sent, "type": "request", "command": command, **more}).encode()
+
+    def send(self, command, arguments=None):
+        """The number of a request that goes out."""
+        self.write(self.request(command, arguments))
+        return self.sent
+
+    def send_at_once(self, *commands, **arguments):
+        """The numbers of requests with the same arguments, which go out in one piece."""
+        contents = [self.request(command, arguments) for command in commands]
+        self.write(b"", b"".join(b"Content-Length: %d\r\n\r\n%s" % (len(one), one) for one in contents))
+        return range(self.sent - len(commands) + 1, self.sent + 1)
+
+    def receive(self):
+        """The next message, none at the end."""
+        head = self.child.stdout.readline()
+        if not head:
+            return None
+        name, length = head.split(b": ")
+        if name != b"Content-Length" or not length.endswith(b"\r\n") or self.child.stdout.readline() != b"\r\n":
+            raise Wrong(f"the head of a message is {head}")
+        message = json.loads(self.child.stdout.read(int(length)).decode("utf-8"))
+        self.received += 1
+        if message["seq"] != self.received:
+            raise Wrong(f"message {self.received} has the number {message['seq']}")
+        self.check(message)
+        return message
+
+    def check(self, message):
+        """Whether a message is of the protocol's form and in its place."""
+        if message["type"] == "event":
+            check_shape(message, EVENT, "event")
+            check_body(message, EVENTS[message["event"]], message["event"])
+            self.check_place(message["event"])
+            self.events.append(message)
+            return
+        check_response(message)
+        if self.waiting.pop(message["request_seq"], None) != message["command"]:
+            raise Wrong(f"a response to a request that does not wait: {message}")
+        if message["success"]:
+            self.answered.add(message["command"])
+
+    def check_place(self, name):
+        """Whether an event comes after the responses that it has to come after, and none after the end."""
+        needed = {"initialized": "initialize", "stopped": "configurationDone"}.get(name)
+        if needed and needed not in self.answered:
+            raise Wrong(f"{name} comes before {needed} is answered")
+        if any(event["event"] == "terminated" for event in self.events):
+            raise Wrong(f"{name} comes after terminated")
+
+    def response(self, number):
+        """The response to a request; events that come before it are kept."""
+        while True:
+            message = self.receive()
+            if message is None:
+                raise Wrong(f"the adapter ended: {self.child.stderr.read()}")
+            if message["type"] == "response" and message["request_seq"] == number:
+                return message
+
+    def ask(self, command, **arguments):
+        """The body of the response to a request that succeeds."""
+        response = self.response(self.send(command, arguments))
+        if not response["success"]:
+            raise Wrong(response["message"])
+        return response.get("body")
+
+    def refused(self, command, **arguments):
+        """The message of the response to a request that fails."""
+        response = self.response(self.send(command, arguments))
+        if response["success"]:
+            raise Wrong(f"{command} succeeds")
+        return response["message"]
+
+    def until(self, *names):
+        """The next event of one of these names, after the last one that was waited for."""
+        while True:
+            for event in self.events[self.place :]:
+                self.place += 1
+                if event["event"] in names:
+                    return event
+            if self.receive() is None:
+                raise Wrong(f"the adapter ended: {self.child.stderr.read()}")
+
+    def stopped(self):
+        """The body of the next stop, which comes before the end."""
+        event = self.until("stopped", "terminated")
+        if event["event"] != "stopped":
+            raise Wrong("the run has ended")
+        return event["body"]
+
+    def ended(self):
+        """The exit code that the run ends with, which is followed by the end itself."""
+        code = self.until("exited")["body"]["exitCode"]
+        self.until("terminated")
+        return code
+
+    def lines(self, category="stdout"):
+        """All lines that were told so far in this category."""
+        outputs = [event["body"] for event in self.events if event["event"] == "output"]
+        return [body["output"].removesuffix("\n") for body in outputs if body["category"] == category]
+
+    def leave(self):
+        """The exit status of the adapter after a disconnect, after which nothing comes."""
+        self.ask("disconnect")
+        self.child.stdin.close()
+        if self.receive() is not None:
+            raise Wrong("a message comes after the response to disconnect")
+        return self.child.wait(60)
