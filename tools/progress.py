@@ -10,9 +10,7 @@ from collections.abc import Iterator
 from typing import BinaryIO, NamedTuple
 
 import definition
-
-METADATA, DESCRIPTION, KEY, VALUE = 2, 2, 1, 2
-CUSTOM_NAME = b"llb.customname"
+import names
 
 CLAIM = re.compile(r"[0-9]+ claim [0-9]+ ([0-9]+) -> (\w+) [0-9]+")
 SETTLE = re.compile(r"[0-9]+ settle [0-9]+ -> ([0-9]+) (done|failed)")
@@ -36,40 +34,13 @@ class Settled(NamedTuple):
     state: str
 
 
-def values_of(data: bytes, number: int) -> list[bytes]:
-    """The strings, bytes or messages of a field."""
-    return [held for field, form, held in definition.records(data) if (field, form) == (number, definition.LENGTH)]
-
-
-def map_of(data: bytes, number: int) -> dict[bytes, bytes]:
-    """The pairs of a field that is a map."""
-    pairs = {}
-    for pair in values_of(data, number):
-        key, value = values_of(pair, KEY), values_of(pair, VALUE)
-        pairs[key[-1] if key else b""] = value[-1] if value else b""
-    return pairs
-
-
-def name_of(metadata: bytes) -> str:
-    """The name in the metadata of a vertex; where there is none, or it does not read, no text."""
-    try:
-        return map_of(metadata, DESCRIPTION).get(CUSTOM_NAME, b"").decode("utf-8", "backslashreplace")
-    except definition.Unreadable:
-        return ""
-
-
 def names_in(data: bytes) -> dict[int, str]:
     """The names of a definition's vertices in its metadata, of those that have one."""
     try:
-        entries = definition.entries_of(data)
-        described = map_of(data, METADATA)
-        rows = definition.graph_of(entries).rows
+        found = names.names_of_vertices(names.names_of(data))
     except definition.Unreadable:
         return {}
-    names = {}
-    for vertex, row in enumerate(rows):
-        names[vertex] = name_of(described.get(definition.digest_of(entries[row]).encode(), b""))
-    return {vertex: name for vertex, name in names.items() if name}
+    return {name.vertex: name.text for name in found if name.text}
 
 
 class Session:

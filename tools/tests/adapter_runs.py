@@ -381,9 +381,7 @@ class Documented(WithRun):
 
     def transcript(self):
         """The messages of the documented session, each with the arrow before it."""
-        pages = [ROOT / "docs" / name for name in ("TOOLS.md", "TOOLS.part-debug.md")]
-        texts = [page.read_text("utf-8") for page in pages if page.exists()]
-        lines = [line for text in texts for line in text.splitlines()]
+        lines = (ROOT / "docs" / "TOOLS.md").read_text("utf-8").splitlines()
         begin = lines.index(next(line for line in lines if line.startswith('-> {"seq": 1,')))
         block = "\n".join(lines[begin : lines.index("```", begin)]).replace("\n   ", " ")
         return [line.split(" ", 1) for line in block.split("\n")]
