@@ -295,9 +295,9 @@ def done_by(op: dict, place: Place) -> list[str]:
 class Told:
     """A definition of which lines tell."""
 
-    def __init__(self, entries: list[bytes], shown: list[str]) -> None:
-        self.entries = entries
-        self.shown = shown
+    def __init__(self, data: bytes) -> None:
+        self.entries = definition.entries_of(data)
+        self.shown = [name.shown() for name in names.names_of(data)]
         self.rows: list[int] | None = None
 
     def row_of(self, vertex: int) -> int:
@@ -341,8 +341,7 @@ class Explainer:
     def read(self, file: str) -> None:
         """The definition in a file; where it has no entries, why."""
         try:
-            data = data_in(file)
-            self.told = Told(definition.entries_of(data), [name.shown() for name in names.names_of(data)])
+            self.told = Told(data_in(file))
         except definition.Unreadable as fault:
             self.cause = str(fault)
 

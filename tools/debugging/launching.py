@@ -190,7 +190,7 @@ def started(arguments: dict, folder: str, say: Say) -> Launched:
     program, workers = program_of(arguments), workers_of(arguments)
     data, text = definition_of(program, arguments)
     entries = entries_of(data, "the definition")
-    told = faults.Told(entries)
+    told = faults.Told(data)
     shown = output_of(program, "show", data, told).decode("ascii", "backslashreplace")
     text = output_of(program, "dis", data) if text is None else text
     graph = places.graph_of(shown, text.decode("utf-8"), entries)
