@@ -114,6 +114,10 @@ and not
 
     rt ci
 
+nor
+
+    ./gate
+
 ```
 $ crates/llbm/out/llbm four
 four
@@ -153,7 +157,7 @@ class Replay(WithPrograms):
         self.assertEqual((done.returncode, done.stderr), (0, b""), done.stdout)
         *lines, last = done.stdout.decode().splitlines()
         self.assertEqual(last, "6 passed, 0 failed")
-        self.assertEqual(len(lines), 1)
+        self.assertEqual([line.split(": ", 1)[1].split(",")[0] for line in lines], ["left out", "left out"])
         self.assertIn(":25: left out", lines[0])
 
     def test_differences_are_told(self):
