@@ -1,8 +1,8 @@
 //! Why the program ends without its answer, and the status that it then ends with. A fault prints what stands after the
 //! word `fault`, and takes no memory for it.
 
-ghost use Rattle.std.specs.Prelude.{Some};
-ghost use Rattle.llb_commands.specs.Faults.{output_text, program_text, Tells};
+ghost use Rattle.std.specs.Prelude.{◌≡◌, Some};
+ghost use Rattle.llb_commands.specs.Faults.{output_text, program_text, status_of, Tells};
 
 use llb_asm::AsmFault;
 use llb_loader::LoadFault;
@@ -109,20 +109,29 @@ impl fmt::Display for ProgramFault {
 
 impl error::Error for ProgramFault {}
 
-/// The status for a fault, once its line is out: 2 for a refusal of the input, else 3. 3 too where the line can't be written.
+impl ProgramFault {
+    /// The status with which the program ends, once the fault's line is out: 2 for a refusal of the input, else 3.
+    pub fn status(&self) -> u8
+        ensures { result ≡ status_of self.now }
+    {
+        match self {
+            ProgramFault::Refused(_)
+            | ProgramFault::MissingLocal(_)
+            | ProgramFault::Workers
+            | ProgramFault::Unread(_)
+            | ProgramFault::Assembling(_)
+            | ProgramFault::TooLong => 2,
+            _ => 3,
+        }
+    }
+}
+
+/// The fault's line goes out, and its status is the answer; 3 where the line can't be written.
 pub fn refusal<E: Write>(fault: &ProgramFault, err: &mut E) -> u8
     ensures { Tells (E.contents err.old) (E.contents err.new) fault.now result }
 {
     if writeln!(err, "fault {fault}").is_err() {
         return 3;
     }
-    match fault {
-        ProgramFault::Refused(_)
-        | ProgramFault::MissingLocal(_)
-        | ProgramFault::Workers
-        | ProgramFault::Unread(_)
-        | ProgramFault::Assembling(_)
-        | ProgramFault::TooLong => 2,
-        _ => 3,
-    }
+    fault.status()
 }

@@ -4,7 +4,7 @@
 ghost use Rattle.std.specs.Prelude.{◌≡◌, ℕ, List, [], Option, Some, IfOk, IfErr, OnOk, IfSome};
 ghost use Rattle.llb_loader.specs.Locals.{with_local};
 ghost use Rattle.llb_commands.specs.Faults.{source_text};
-ghost use Rattle.llb_commands.specs.Sources.{Gathers, Reads, TellsSource, told};
+ghost use Rattle.llb_commands.specs.Sources.{Gathers, Reads, TellsSource, source_status, told};
 ghost use Rattle.llb_commands.specs.declared.sources.SourceFault.TheVariants.{Adding};
 
 use crate::bounded::{LIMIT, READS, ReadFault, read_bounded};
@@ -124,18 +124,26 @@ pub fn locals_of<F: Sources>(
     Ok(trees)
 }
 
-/// The status for a local source that has no tree, once its line is out: 2 where the text is refused, else 3. 3 too where the line
-/// can't be written.
+impl SourceFault {
+    /// The status with which the program ends, once the fault's line is out: 2 where the text is refused, else 3.
+    pub fn status(&self) -> u8
+        ensures { result ≡ source_status self.now }
+    {
+        match self {
+            SourceFault::TooLong => 2,
+            SourceFault::Text(TextFault::Memory) => 3,
+            SourceFault::Text(_) => 2,
+            _ => 3,
+        }
+    }
+}
+
+/// The line of a local source that has no tree goes out, and its fault's status is the answer; 3 where the line can't be written.
 pub fn source_refusal<E: Write>(fault: &SourceFault, err: &mut E) -> u8
     ensures { TellsSource (E.contents err.old) (E.contents err.new) fault.now result }
 {
     if writeln!(err, "fault {fault}").is_err() {
         return 3;
     }
-    match fault {
-        SourceFault::TooLong => 2,
-        SourceFault::Text(TextFault::Memory) => 3,
-        SourceFault::Text(_) => 2,
-        _ => 3,
-    }
+    fault.status()
 }

@@ -1,7 +1,7 @@
 //! What the words of the command line say, or why they say nothing.
 
-ghost use Rattle.std.specs.Prelude.{Some};
-ghost use Rattle.llb_commands.specs.CommandLine.{words_text, TellsWords};
+ghost use Rattle.std.specs.Prelude.{◌≡◌, Some};
+ghost use Rattle.llb_commands.specs.CommandLine.{words_status, words_text, TellsWords};
 
 use llb_wire::Many;
 use std::alloc::{AllocError, AllocFailed};
@@ -85,15 +85,24 @@ impl<T: Drop> From<AllocFailed<T>> for WordsFault<'_> {
     }
 }
 
-/// The status for words that say nothing, once their line is out: 2 for the words, 3 where it is out of memory.
+impl WordsFault<'_> {
+    /// The status with which the program ends, once the fault's line is out: 2 for the words, 3 where it is out of memory.
+    pub fn status(&self) -> u8
+        ensures { result ≡ words_status self.now }
+    {
+        match self {
+            WordsFault::Words(_) => 2,
+            WordsFault::Memory => 3,
+        }
+    }
+}
+
+/// The line of words that say nothing goes out, and their fault's status is the answer; 3 where the line can't be written.
 pub fn words_refusal<E: Write>(fault: &WordsFault<'_>, err: &mut E) -> u8
     ensures { TellsWords (E.contents err.old) (E.contents err.new) fault.now result }
 {
     if writeln!(err, "fault {fault}").is_err() {
         return 3;
     }
-    match fault {
-        WordsFault::Words(_) => 2,
-        WordsFault::Memory => 3,
-    }
+    fault.status()
 }
