@@ -204,6 +204,24 @@ class Widths(unittest.TestCase):
             self.assertLessEqual(longest, MOST_OF_A_TOOL, path)
 
 
+class Claims(unittest.TestCase):
+    """The lists of docs/CLAIMS.md."""
+
+    def test_lists_are_those_of_the_sources(self):
+        done = run("claims", "--check")
+        self.assertEqual((done.returncode, done.stdout, done.stderr), (0, b"", b""))
+
+    def test_a_statement_brings_its_definitions(self):
+        done = run("claims", "aim")
+        self.assertEqual((done.returncode, done.stderr), (0, b""))
+        for name in (b"pub record Aim ", b"unfoldable pub table : ", b"abbrev pub outcome : ", b"pub record Replays "):
+            self.assertIn(name, done.stdout)
+
+    def test_no_other_statement_is_known(self):
+        done = run("claims", "nothing")
+        self.assertEqual(done.returncode, 2)
+
+
 class Proved(unittest.TestCase):
     """The lists of docs/PROVED.md."""
 
