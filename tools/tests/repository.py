@@ -228,3 +228,14 @@ class Proved(unittest.TestCase):
     def test_lists_are_those_of_the_sources(self):
         done = run("proved", "--check")
         self.assertEqual((done.returncode, done.stdout, done.stderr), (0, b"", b""))
+
+
+class Callers(unittest.TestCase):
+    """The callers of docs/CALLING.md."""
+
+    def test_every_caller_is_in_the_sources(self):
+        page = (ROOT / "docs" / "CALLING.md").read_text("utf-8").partition("## Callers of single crates")[2]
+        source = (CRATES / "llb_stories" / "src" / "calling.rt").read_text("utf-8").split("\n")
+        for line in page.split("\n"):
+            if line.startswith("    "):
+                self.assertIn(line[4:], source)
