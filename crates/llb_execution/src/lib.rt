@@ -1,5 +1,5 @@
-//! One vertex's execution: its program of micro-steps, what they work on, and the outputs that they leave. Stands on what single
-//! operations do; it knows no other vertex, no state and no worker, and it keeps no caches.
+//! One vertex's execution: its program of micro-steps, what they work on, and the outputs that they leave. It knows no state and no
+//! worker, and it keeps no caches. `missing_local` alone looks at all vertices of a graph.
 #![tactic(auto)]
 
 mod filling;

@@ -66,7 +66,7 @@ outcomes b = by_number (next_outcome b) [] b.graph.vertices
 abbrev pub outcome : Build → ℕ → Option Outcome
 outcome b v = slice_get (outcomes b) v
 
--- neither it nor a vertex that an edge of it leads to has a cache before it
+-- the vertex mounts no cache, and each vertex that its edges lead to is plain
 abbrev pub next_plain : List Bool → Vertex → Bool
 next_plain before v = not (has_cache v) && list_all (λ (e : Edge). unwrap_or (slice_get before e.vertex) false) v.inputs
 

@@ -1,5 +1,5 @@
 //! The caches that a vertex shows, and what its claim takes of them: the instances, the trees that they begin with, and the needs of
-//! a lease. Stands on the mounts of a vertex and on caches, which it only reads; it knows no worker and no event.
+//! a lease. It reads a vertex's mounts and the caches, changes neither, and knows no worker; why a claim is refused it says as a `ClaimFault`.
 #![tactic(auto)]
 
 mod needs;

@@ -1,5 +1,5 @@
-//! A stepping session: each line of commands is answered on a stepper before the next one is waited for. Stands on the stepper and on the
-//! texts of trees.
+//! A stepping session: each line of commands is answered on a stepper before the next one is waited for. It uses the
+//! stepper, the texts of trees, and the assembler's reader of decimal numbers.
 #![tactic(auto)]
 
 mod answering;

@@ -1,5 +1,4 @@
-//! Of each vertex what stands there, and of each worker what it runs, with what it needs until its end. A board keeps these for itself:
-//! nothing of them is seen from outside it.
+//! Of each vertex what stands there, and of each worker what it runs, with what it needs until its end. A board hands out none of these.
 
 ghost use Rattle.std.specs.Prelude.{◌≡◌, Some};
 ghost use Rattle.llb_model.specs.State.{ending_of, is_done, is_failed};

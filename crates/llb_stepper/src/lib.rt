@@ -1,5 +1,5 @@
-//! A run is gone through, forwards and back: event by event, up to breakpoints, over a record that is given; and each event that was done is
-//! taken back without memory. Stands on the board alone.
+//! Steps through a run, forwards and backwards: event by event, up to breakpoints, or over a given record. Each event that was done can be
+//! taken back without memory. It changes the board by the board's calls only.
 #![tactic(auto)]
 
 mod fault;
