@@ -45,12 +45,14 @@ impl Entries {
         Entries { entries }
     }
 
+    /// Returns the entries as a slice.
     pub fn as_slice(&self) -> &[Bytes]
         ensures { result.now ≡ self.now }
     {
         self.entries.as_slice()
     }
 
+    /// Returns the number of entries.
     pub fn len(&self) -> usize
         ensures { result ≡ length self.now }
     {

@@ -93,18 +93,21 @@ impl Actions {
         Ok(Actions { shared })
     }
 
+    /// Returns the actions as a slice.
     pub fn as_slice(&self) -> &[Action]
         ensures { result.now ≡ self.now }
     {
         self.shared.as_slice()
     }
 
+    /// Returns the number of actions.
     pub fn len(&self) -> usize
         ensures { result ≡ length self.now }
     {
         self.shared.len()
     }
 
+    /// Returns whether there are no actions.
     pub fn is_empty(&self) -> bool
         ensures { result ≡ (length self.now == 0) }
     {

@@ -83,6 +83,7 @@ impl Attributes {
         Attributes { held }
     }
 
+    /// Returns the attributes as a map, in the order in which keys were first given.
     pub fn as_map(&self) -> &IndexMap<Text, Attribute>
         ensures { result.now.entries ≡ self.now }
     {

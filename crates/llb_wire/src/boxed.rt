@@ -36,6 +36,7 @@ impl<T: Drop> Boxed<T> {
 }
 
 impl<T> Boxed<T> {
+    /// Returns the value.
     pub fn get(&self) -> &T
         ensures { result.now ≡ self.now }
     {

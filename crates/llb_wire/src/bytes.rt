@@ -49,6 +49,7 @@ impl Bytes {
         Ok(Bytes { content })
     }
 
+    /// Returns the bytes as a slice.
     pub fn as_slice(&self) -> &[u8]
         ensures { result.now ≡ self.now }
     {

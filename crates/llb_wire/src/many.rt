@@ -35,18 +35,21 @@ impl<T> Many<T> {
         Many { items }
     }
 
+    /// Returns the items as a slice.
     pub fn as_slice(&self) -> &[T]
         ensures { result.now ≡ self.now }
     {
         self.items.as_slice()
     }
 
+    /// Returns the number of items.
     pub fn len(&self) -> usize
         ensures { result ≡ length self.now }
     {
         self.items.len()
     }
 
+    /// Returns whether there are no items.
     pub fn is_empty(&self) -> bool
         ensures { result ≡ (length self.now == 0) }
     {

@@ -37,6 +37,7 @@ pub struct Over<'a, W> {
 }
 
 impl<'a, W: Write> Over<'a, W> {
+    /// Makes a sink over a writer, which it borrows. It has not failed yet.
     pub fn new(out: &'a mut W) -> Over<'a, W>
         ensures same { result.out.ghost_name ≡ out.entry.ghost_name }
         ensures held { result.out.now ≡ out.old }

@@ -49,6 +49,7 @@ impl Text {
         Ok(Text { content })
     }
 
+    /// Returns the text.
     pub fn as_str(&self) -> &str
         ensures value { result.now ≡ self.now }
         ensures utf8 { IsUtf8 self.now }
