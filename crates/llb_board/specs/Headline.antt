@@ -34,7 +34,7 @@ abbrev pub OthersIgnore : Seen → Type 0
 OthersIgnore b = (w : ℕ) (p : Place) → HasPlace b w p → IsExclusive p.key.mode → (e : Event) (tree : TreeMap) → worker_of e ≢ w
     → table b.build (with_content p tree b.state) e ≡ option_map (with_content_after p tree) (table b.build b.state e)
 
--- the settled vertices and the free instances stand as the claims of the record leave them, each run at its claim
+-- the settled vertices and the free instances are as the claims of the record leave them, each vertex run at its claim
 abbrev pub StandsInClaimOrder : Seen → Type 0
 StandsInClaimOrder b = StandsIn b.state (order b.build (at_first b.build b.opening.store) (claims_in (replies_in b)))
 
@@ -44,7 +44,7 @@ pub record Headline (b : Seen) : Type 0 where
   -- no two executions hold one locked cache at once, nor one instance of a private one
   pub locked_once : LockedOnce b
   pub held_once : HeldOnce b
-  -- nor does another worker's event change what an execution has alone, or look at it
+  -- another worker's event neither changes nor reads an instance that an execution holds exclusively
   pub others_leave : OthersLeave b
   pub others_ignore : OthersIgnore b
   -- every settled vertex with no cache mount at or before it has the graph's plain outcome

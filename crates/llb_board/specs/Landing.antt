@@ -1,4 +1,4 @@
--- What a landing answers: the block of the micro-steps and the settle that are left to a worker, or the first cause that stands in its way.
+-- What a landing returns: the block of the worker's remaining micro-steps and its settle, or the first cause of its refusal.
 use Rattle.std.specs.Prelude.{◌≡◌, ℕ, Bool, true, false, List, [], ◌∷◌, ◌++◌, Option, Some, None, slice_get, is_ok}
 use Rattle.llb_model.specs.State.{Execution, At, Idle, Runs}
 use Rattle.llb_model.specs.Table.{Job, Reply, settle_grant}
@@ -37,7 +37,7 @@ pub record RunsShared (b : Seen) (w : ℕ) : Type 0 where
   pub runs : slice_get b.state.workers w ≡ Some (Runs x)
   pub shared : has_shared x ≡ true
 
--- the first cause that stands in the way of a job's outcome
+-- the first cause for which a job's outcome is refused
 abbrev pub StandsInWay : Seen → ℕ → Job → LandCause → Type 0
 StandsInWay b w job cause.NoWorker = slice_get b.state.workers w ≡ None
 StandsInWay b w job cause.NotRunning = slice_get b.state.workers w ≡ Some Idle

@@ -1,4 +1,4 @@
--- What opening a board answers: the board, or the first cause of a refusal with all that was handed in.
+-- What opening a board returns: the board, or the first cause of a refusal with all that was handed in.
 use Rattle.std.specs.Prelude.{ℕ, nat_le, Bool, true, false, ◌&&◌, List, Option, Some, None, Result, Ok, Err, if◌then◌else◌}
 use Rattle.llb_wire.specs.Answer as answer
 use Rattle.llb_cache.specs.Caches.{CachesValue}
@@ -23,7 +23,7 @@ open_unless None b c workers = open_with b c workers
 abbrev pub open_of : Build → CachesValue → ℕ → Result Seen OpenFault
 open_of b c workers = open_unless (missing_local b.locals b.graph.vertices) b c workers
 
--- where memory may be wanted: where nothing else stands in the way, or for the name of a local tree that is missing
+-- where memory may be needed: where there is no other cause, or for the name of a missing local tree
 abbrev pub may_want_memory : Result Seen OpenFault → Bool
 may_want_memory (Ok b) = true
 may_want_memory (Err (opening.MissingLocal name g ts c)) = true

@@ -27,7 +27,7 @@ use Rattle.llb_board.specs.declared.undo.End.TheVariants as end
 use Rattle.llb_board.specs.declared.walk.Reply.{Reply}
 use Rattle.llb_board.specs.declared.walk.Reply.TheVariants as reply
 
--- ---- what an event of a walker answers
+-- ---- the result of a walked event
 
 -- the table's reply, a claim's job left out
 abbrev pub told : table.Reply → Reply
@@ -46,7 +46,7 @@ abbrev pub told_as : {F : Type 0} → (F → WalkFault) → Result (Seen × tabl
 told_as fault (Ok (b, r)) = Ok (b, told r)
 told_as fault (Err e) = Err (fault e)
 
--- what a claim, a step, a settle or a cancel answers
+-- the result of a claim, a step, a settle or a cancel
 abbrev pub walk_of : Seen → table.Event → Result (Seen × Reply) WalkFault
 walk_of b (table.Claim w v) = told_as walk.Claim (claim_of b w v)
 walk_of b (table.Step w) = told_as walk.Step (step_of b w)
@@ -154,7 +154,7 @@ pub record IsLast (u : Displaced) (b : Seen) : Type 0 where
   pub gives : table.table b.build (undone u b).state (event_before u.back) ≡ Some (b.state, reply)
   pub events : b.events ≡ (undone u b).events ++ event_before u.back ∷ []
 
--- the worker and its vertex stand as the event left them, and what is put back has the supplies that the build asks for
+-- the worker and its vertex are as the event left them, and what is put back has the supplies that the build asks for
 pub record IsBegun (b : Seen) (w v : ℕ) : Type 0 where
   pub runs : slice_get b.state.statuses v ≡ Some (Running w)
 

@@ -26,7 +26,7 @@ abbrev pub AfterAll : Numbered → (Seen → Type 0) → Type 0
 AfterAll graph Holds = (b : Seen) (replies : List Reply) → b.build.graph ≡ graph
     → run b.build (opening b.build b.opening) b.events ≡ Some (b.state, replies) → Holds b
 
--- what a text is assembled to, where it stands for the entries of the definition, is loaded as the graph, and as no other
+-- a text that stands for the entries of the definition is assembled to bytes that are loaded as the graph, and as no other
 abbrev pub LoadsAsOne : List ℕ → List ℕ → List (List ℕ) → Numbered → Type 0
 LoadsAsOne text definition entries graph = StandsFor (kept text) entries → definition_of definition ≡ Ok entries → (assembled : List ℕ) (other : Numbered)
     → IsAssembled text assembled → IsGraphIn assembled graph × (IsGraphIn assembled other → other ≡ graph)
@@ -43,8 +43,8 @@ pub record Aim (text definition : List ℕ) (entries : List (List ℕ)) (graph :
   pub plain : AfterAll graph SettledArePlain
   -- assembled text and loaded bytes read as one graph
   pub one_graph : LoadsAsOne text definition entries graph
-  -- and so does the stepper: its state is the table's on its record, each board that `back` can come to is that of the record without its last events,
-  -- its lines tell the events and replies of that run, and so do those that a session's `go` prints
+  -- and so does the stepper: its state is the table's on its record, each board that `back` can reach is that of the record without its last events,
+  -- its lines are the events and replies of that run, and so are those that a session's `go` prints
   pub stepper_state : Replays stepper.board
   pub stepper_past : PastIsTheRecords stepper
   pub stepper_lines : TellsTheRun stepper

@@ -1,4 +1,4 @@
--- What the program answers to the bytes that it reads.
+-- What the program prints for the bytes that it reads.
 use Rattle.std.specs.Prelude.{◌≡◌, ◌≤◌, ◌<◌, ◌⊎◌, ℕ, zero, suc, true, false, List, [], ◌++◌, length, codes, Option, Some, None, IfSome, slice_get}
 use Rattle.std.specs.Fmt.{decimal}
 use Rattle.std.specs.Io.KnownBytes.{Appends, Keeps}
@@ -32,7 +32,7 @@ use Rattle.llb_commands.specs.GraphText.{graph_text}
 abbrev pub build_of : List Local → Numbered → Build
 build_of locals g = record { graph = g; locals = locals }
 
--- a run begins with that many workers, and with caches that are empty
+-- a run begins with a number of workers, and with caches that are empty
 abbrev pub run_opening : ℕ → Opening
 run_opening workers = record { workers = workers; store = no_instances }
 
@@ -41,8 +41,8 @@ pub record IsAlone (b : Build) (s : State) (events : List Event) : Type 0 where
   pub ends : EndsInClaimOrder b (run_opening 1) events s
   pub only : (es : List Event) (t : State) → EndsInClaimOrder b (run_opening 1) es t → t ≡ s
 
--- A state in which a run of a build by that many workers ends: granted events lead to it, and nothing is left to do. Without caches each vertex stands
--- there as its plain outcome, for any number of workers.
+-- A state in which a run of a build by a number of workers ends: granted events lead to it, and nothing is left to do. Without caches each vertex
+-- has its plain outcome there, for any number of workers.
 pub record IsEnd (workers : ℕ) (b : Build) (s : State) : Type 0 where
   pub events : List Event
   pub replies : List Reply
@@ -59,7 +59,7 @@ result_in s g = output_in (ending_at s.statuses g.result.vertex) g.result.index
 abbrev pub plain_result : Build → Option TreeMap
 plain_result b = output_in (ending_in (outcome b b.graph.result.vertex)) b.graph.result.index
 
--- bytes that are the definition of a graph whose result, where a run on these local trees by that many workers has ended, is a tree of that text; then no
+-- bytes that are the definition of a graph whose result, where a run on these local trees by these workers has ended, is a tree of that text; then no
 -- vertex has failed, and without caches it is the tree that the plain outcomes give
 pub record Yields (workers : ℕ) (locals : List Local) (bytes text : List ℕ) : Type 0 where
   pub graph : Numbered
@@ -127,7 +127,7 @@ abbrev pub FailsAll : ℕ → List Local → Option (List ℕ) → Option (List 
 FailsAll workers locals err err' bytes = (y : YieldsNone workers locals bytes)
     × Appends err err' (failed_lines (build_of locals y.graph) y.state (length y.graph.vertices))
 
--- How a run by that many workers ends. 0: the text of the result is out, and nothing else. 1: a vertex failed, so that the result is no tree, and nothing is
+-- How a run by a number of workers ends. 0: the text of the result is out, and nothing else. 1: a vertex failed, so that the result is no tree, and nothing is
 -- out but the lines of the failures. 2: the bytes are refused, a local tree is missing, or there are no workers or too many, and nothing is out but the line
 -- that says which. 3: a device, a thread or memory failed; nothing is out, or a prefix of the text.
 abbrev pub Runs : ℕ → List Local → Option (List ℕ) → Option (List ℕ) → Option (List ℕ) → Option (List ℕ) → Option (List ℕ) → ℕ → Type 0

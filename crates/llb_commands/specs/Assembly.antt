@@ -1,4 +1,4 @@
--- Between a text and the definition of its entries: what assembling and disassembling answer.
+-- Between a text and the definition of its entries: what assembling and disassembling write.
 use Rattle.std.specs.Prelude.{◌≡◌, ◌⊎◌, ◌<◌, ℕ, List, length, Option, Ok, Err, Bool, true, false, IfSome}
 use Rattle.std.specs.Io.KnownBytes.{Appends, Keeps}
 use Rattle.llb_wire.specs.Sink.{PartOut}
@@ -36,7 +36,7 @@ refuses_a_line Write = false
 abbrev pub HasFaultyLine : ProgramFault → List ℕ → Type 0
 HasFaultyLine p text = (e : AsmFault) × (refuses_a_line e ≡ true) × asm.Assembles text (Err e) × (p ≡ fault.Assembling e)
 
--- a text that stands for none, and why: it is too long, or one of its lines is refused
+-- a text that stands for no entries, and why: it is too long, or one of its lines is refused
 abbrev pub IsNoText : ProgramFault → List ℕ → Type 0
 IsNoText p text = ((limit < length text) × (p ≡ fault.TooLong)) ⊎ HasFaultyLine p text
 
@@ -48,7 +48,7 @@ pub record IsDisassembled (definition text : List ℕ) : Type 0 where
   pub are : AreFormed entries forms
   pub same : text ≡ plain_text forms
 
--- a definition that does not read, and why: its own fault, told as that of a graph's definition where it is too long to be looked at
+-- a definition that does not read, and why: its own fault, or that of a graph's definition where it is too long to be looked at
 abbrev pub IsUnread : ProgramFault → List ℕ → Type 0
 IsUnread p definition = ((e : OpFault) × (definition_of definition ≡ Err e) × (p ≡ fault.Unread e))
     ⊎ ((limit < length definition) × (p ≡ fault.Refused (Definition OverLimit)))
@@ -78,7 +78,7 @@ Assembles = Ends IsAssembled IsNoText
 abbrev pub Disassembles : Option (List ℕ) → Option (List ℕ) → Option (List ℕ) → Option (List ℕ) → Option (List ℕ) → ℕ → Type 0
 Disassembles = Ends IsDisassembled IsUnread
 
--- the definition that a text is assembled to runs to the text of the result to which any bytes run whose entries are those that the text stands for
+-- the definition that a text is assembled to, and any bytes whose entries are those that the text stands for, run to the same text of the result
 abbrev pub RunsAlike : List ℕ → List (List ℕ) → List ℕ → Type 0
 RunsAlike text entries bytes =
     StandsFor (kept text) entries → definition_of bytes ≡ Ok entries → (locals : List Local) (definition one other : List ℕ)

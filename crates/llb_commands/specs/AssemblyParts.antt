@@ -1,4 +1,4 @@
--- The parts of assembling and disassembling, each with what it tells of the input.
+-- The parts of assembling and disassembling, each with what it says of the input.
 use Rattle.std.specs.Prelude.{◌≡◌, ◌⊎◌, ℕ, List, Option, Result, Ok, Err, IfSome, if◌then◌else◌}
 use Rattle.std.specs.Io.KnownBytes.{Keeps}
 use Rattle.llb_ops.specs.declared.fault.OpFault.{OpFault}
@@ -24,14 +24,14 @@ assembling_fault asm.Write = fault.Text asm.Write
 abbrev pub entries_fault : OpFault → ProgramFault
 entries_fault e = if ops.is_memory e then fault.Entries else fault.Unread e
 
--- what a fault of reading a text comes to
+-- the program's fault for a fault of reading a text
 abbrev pub text_unread_as : ReadFault → ProgramFault
 text_unread_as reading.TooLong = fault.TooLong
 text_unread_as (reading.Failed kind) = fault.Read
 text_unread_as (reading.Unending interrupted) = fault.Read
 text_unread_as reading.Memory = fault.Memory
 
--- what comes of the input is out; or a fault stands, and at most a prefix of it is out
+-- what the input gives is out; or there is a fault, and at most a prefix of it is out
 abbrev pub EndsIn : (List ℕ → List ℕ → Type 0) → (ProgramFault → List ℕ → Type 0) → Option (List ℕ) → Option (List ℕ) → Option (List ℕ)
     → Result (Unit {0}) ProgramFault → Type 0
 EndsIn Comes IsRefused input out out' (Ok u) = IfSome input (IsOut Comes out out')

@@ -5,13 +5,13 @@ use Rattle.std.specs.Global.{Global}
 use Rattle.llb_commands.specs.declared.bounded.ReadFault.{ReadFault}
 use Rattle.llb_commands.specs.declared.bounded.ReadFault.TheVariants.{TooLong, Failed, Unending, Memory}
 
--- bytes within the limit were read, and what is left is what stood after them
+-- bytes within the limit were read, and what is left is what followed them
 pub record Took (limit : ℕ) (left left' : Option (List ℕ)) : Type 0 where
   pub bytes : List ℕ
   pub few : length bytes ≤ limit
   pub rest : Consumes left left' bytes
 
--- bytes within the limit were read, and each of that many reads gave one of them or was interrupted
+-- bytes within the limit were read, and each of the reads gave one of them or was interrupted
 pub record TookIn (reads limit interrupted : ℕ) (left left' : Option (List ℕ)) : Type 0 where
   pub took : Took limit left left'
   pub each : reads ≤ length took.bytes + interrupted

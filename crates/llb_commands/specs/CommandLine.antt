@@ -44,7 +44,7 @@ workers_rule = record (new_rule (codes "workers")) {
 abbrev pub run_app : App
 run_app = with_rule (with_rule (new_app (codes "run")) workers_rule) local_rule
 
--- the file stands before the local sources
+-- the file comes before the local sources
 abbrev pub step_app : App
 step_app = with_rule (with_rule (with_rule (new_app (codes "step")) workers_rule) file_rule) local_rule
 
@@ -155,13 +155,13 @@ RefusesWord words (Words None) = ⊥
 RefusesWord words (Words (Some w)) = IsUnsplit words w.now
 RefusesWord words Memory = Unit {0}
 
--- what a refusal by `clap` comes to
+-- the program's fault for a refusal by `clap`
 abbrev pub StandsFor : ErrorKind → WordsFault → Type 0
 StandsFor kind (Words None) = kind ≢ OutOfMemory
 StandsFor kind (Words (Some w)) = ⊥
 StandsFor kind Memory = kind ≡ OutOfMemory
 
--- what stands after the word `fault`
+-- the text after the word `fault`
 abbrev pub words_text : WordsFault → List ℕ
 words_text (Words None) = codes "183"
 words_text (Words (Some word)) = codes "183 " ++ word.now

@@ -1,4 +1,4 @@
--- Read first Answer (what a run answers to the bytes that it reads) with GraphText and Output, then Assembly (asm and dis), Stepping (a session),
+-- Read first Answer (what a run prints for the bytes that it reads) with GraphText and Output, then Assembly (asm and dis), Stepping (a session),
 -- CommandLine (what the words say), Sources (files of local sources), Bounded (a bounded reading), Faults (what a fault prints, with its status) and
 -- Commands (how each command ends, and the program). Running and AssemblyParts are the parts of these.
 pub mod Bounded

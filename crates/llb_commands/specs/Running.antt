@@ -1,4 +1,4 @@
--- The parts of a run, each with what it tells of the bytes.
+-- The parts of a run, each with what it says of the bytes.
 use Rattle.std.specs.Prelude.{◌≡◌, ◌⊎◌, ℕ, List, length, Option, Some, None, Result, Ok, Err, IfSome, ⊤, if◌then◌else◌}
 use Rattle.std.specs.Io.KnownBytes.{Appends, Keeps}
 use Rattle.llb_wire.specs.Sink.{PartOut}
@@ -25,7 +25,7 @@ use Rattle.llb_loader.specs.Faults.{is_memory}
 abbrev pub passed_on : LoadFault → ProgramFault
 passed_on e = if is_memory e then Loading else Refused e
 
--- what a fault of reading comes to
+-- the program's fault for a fault of reading
 abbrev pub unread_as : ReadFault → ProgramFault
 unread_as reading.TooLong = Refused (Definition OverLimit)
 unread_as (reading.Failed kind) = Read
@@ -42,7 +42,7 @@ IsRefusal (Assembling e) = ⊤
 IsRefusal TooLong = ⊤
 IsRefusal _ = ⊥
 
--- a refusal of the input stands only where the input is refused, and for this cause
+-- the input is refused only where it has this cause of a refusal
 abbrev pub TellsRefusal : (ProgramFault → List ℕ → Type 0) → Option (List ℕ) → ProgramFault → Type 0
 TellsRefusal IsSo input e = IsRefusal e → IfSome input (IsSo e)
 
@@ -51,7 +51,7 @@ abbrev pub Loads : Option (List ℕ) → Result Numbered ProgramFault → Type 0
 Loads input (Ok g) = IfSome input (λ bytes. IsGraphIn bytes g)
 Loads input (Err e) = TellsRefusal IsRefused input e
 
--- a board on which a run of the graph by that many workers has ended
+-- a board on which a run of the graph by a number of workers has ended
 pub record IsFinished (workers : ℕ) (locals : List Local) (g : Numbered) (b : Seen) : Type 0 where
   pub build : b.build ≡ build_of locals g
   pub ended : IsEnd workers (build_of locals g) b.state
@@ -67,7 +67,7 @@ Shows board out out' tree (Err e) = (¬ IsRefusal e) × ((t : TreeMap) × (tree 
 abbrev pub YieldsNoneOn : ℕ → List Local → Seen → List ℕ → Type 0
 YieldsNoneOn workers locals b bytes = (y : YieldsNone workers locals bytes) × (y.state ≡ b.state) × (build_of locals y.graph ≡ b.build)
 
--- the text is out; or the result is no tree, or a fault stands, and at most a prefix of the text is out
+-- the text is out; or the result is no tree, or there is a fault, and at most a prefix of the text is out
 abbrev pub Answers : ℕ → List Local → Option (List ℕ) → Option (List ℕ) → Option (List ℕ) → Result (Option Seen) ProgramFault → Type 0
 Answers workers locals input out out' (Ok None) = IfSome input (YieldsAll workers locals out out')
 Answers workers locals input out out' (Ok (Some b)) = Keeps out out' × IfSome input (YieldsNoneOn workers locals b)
@@ -81,7 +81,7 @@ Ends out out' err err' (Ok (Some b)) status =
     Keeps out out' × (((status ≡ 1) × Appends err err' (failed_lines b.build b.state (length b.build.graph.vertices))) ⊎ (status ≡ 3))
 Ends out out' err err' (Err e) status = Keeps out out' × Tells err err' e status
 
--- the text of the graph is out; or a fault stands, and at most a prefix of the text is out
+-- the text of the graph is out; or there is a fault, and at most a prefix of the text is out
 abbrev pub ShowsIn : Option (List ℕ) → Option (List ℕ) → Option (List ℕ) → Result (Unit {0}) ProgramFault → Type 0
 ShowsIn input out out' (Ok u) = IfSome input (DrawsAll out out')
 ShowsIn input out out' (Err e) = (Keeps out out' × TellsRefusal IsRefused input e) ⊎ ((¬ IsRefusal e) × IfSome input (DrawsPart out out'))

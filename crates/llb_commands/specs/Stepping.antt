@@ -17,7 +17,7 @@ use Rattle.llb_commands.specs.declared.fault.OutputFault.TheVariants as output
 use Rattle.llb_commands.specs.declared.fault.ProgramFault.{ProgramFault}
 use Rattle.llb_commands.specs.declared.fault.ProgramFault.TheVariants as fault
 
--- a stepper over a graph, on a board with that many workers and caches that are empty at first
+-- a stepper over a graph, on a board with a number of workers and caches that are empty at first
 abbrev pub begun : List Local → Numbered → ℕ → Stepping
 begun locals g workers = record { board = opened (build_of locals g) workers []; past = []; breaks = [] }
 

@@ -1,4 +1,4 @@
--- What stands after the word `fault` where a board refuses an event: the number, and the key of a cache that is held. And where memory is a claim's cause.
+-- The text after the word `fault` where a board refuses an event: the number, and the key of a cache that is held. And where memory is a claim's cause.
 use Rattle.std.specs.Prelude.{ℕ, Bool, true, false, List, ◌++◌, Result, Ok, Err, codes}
 use Rattle.llb_wire.specs.Answer as answer
 use Rattle.llb_cache.specs.Key.{has_text}
@@ -43,7 +43,7 @@ walk_text (walk.Settle e) = settle_text e
 walk_text (walk.Cancel e) = cancel_text e
 walk_text walk.Memory = codes "141"
 
--- out of memory is one fault, whoever has it
+-- refused memory is one fault, whichever call it was refused to
 abbrev pub claim_refused : ClaimFault → WalkFault
 claim_refused claim.Memory = walk.Memory
 claim_refused claim.NoWorker = walk.Claim claim.NoWorker
@@ -60,7 +60,7 @@ step_refused step.NothingLeft = walk.Step step.NothingLeft
 
 -- ---- memory that a claim may want
 
--- where it may be wanted: where nothing else stands in the way, or for the text of the key that is held
+-- where memory may be needed: where there is no other cause, or for the text of the key that is held
 abbrev pub claim_may_want : {A : Type 0} → Result A ClaimFault → Bool
 claim_may_want (Ok a) = true
 claim_may_want (Err (claim.Held k)) = has_text k

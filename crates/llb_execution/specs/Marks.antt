@@ -27,7 +27,7 @@ mark_of (Files inputs results) = Results (length results)
 mark_of (Layers inputs t) = Laid t
 mark_of (Mounted mounts caches last) = Mounts mounts last
 
--- a view with that many results, or with what was laid, or with these mounts and this last status; a mark of another kind of view changes nothing
+-- a view with the first `count` results, or with what was laid, or with these mounts and this last status; a mark of another kind of view changes nothing
 abbrev pub put_back : Mark → View → View
 put_back Nothing view = view
 put_back (Results count) (Files inputs results) = Files inputs (take count results)

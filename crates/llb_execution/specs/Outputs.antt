@@ -15,7 +15,7 @@ actions_in _ = []
 abbrev pub numbers_of : List Action → List ℤ
 numbers_of actions = map (λ (a : Action). a.output) actions
 
--- the tree that stands beside the first number that is i
+-- the tree beside the first number that is i
 abbrev pub tree_by : ℕ → List ℤ → List TreeMap → TreeMap
 tree_by i [] trees = empty_tree
 tree_by i (n ∷ ns) [] = empty_tree

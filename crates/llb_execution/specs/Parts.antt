@@ -1,4 +1,4 @@
--- What the parts of an execution stand for, in the words of the machine's definitions.
+-- What the parts of an execution represent, in the words of the machine's definitions.
 use Rattle.std.specs.Prelude.{ℕ, Bool, false, not, Option, Some, None, List, [], ◌∷◌, length, map}
 use Rattle.llb_ops.specs.declared.op.Kind.{Kind}
 use Rattle.llb_ops.specs.declared.op.Kind.TheVariants as kind
@@ -20,7 +20,7 @@ abbrev pub kind_setting : Option Kind → Setting
 kind_setting (Some (kind.Exec x)) = model.setting_of x.meta
 kind_setting _ = model.setting_of None
 
--- a micro-step that is looked at where it stands
+-- a micro-step that is borrowed from its program
 abbrev pub step_in : MicroStep → model.MicroStep
 step_in step.ReadLocal = model.ReadLocal
 step_in (step.Act action) = model.Act action.now

@@ -39,7 +39,7 @@ open_inputs vs done x = count_below (waits_for done x) (length vs)
 abbrev pub AreBelow : List Vertex → Type 0
 AreBelow vs = (v : ℕ) (x : Vertex) → slice_get vs v ≡ Some x → All (λ (e : Edge). e.vertex < v) x.inputs
 
--- vertex v is entered at the end of the list of each vertex to which one of the edges leads, and these are that many
+-- v is appended to the list of users of each vertex that its edges lead to; `count` is the number of these vertices
 pub record IsEntered (edges : List Edge) (v : ℕ) (old new : List (List ℕ)) (count : ℕ) : Type 0 where
   pub same : length new ≡ length old
   pub lists : (u : ℕ) → u < length old → get_or new u [] ≡ (if leads edges u then get_or old u [] ++ v ∷ [] else get_or old u [])
@@ -50,7 +50,7 @@ pub record Linked : Type 0 where
   pub users : List (List ℕ)
   pub counts : List ℕ
 
--- nothing is reached, and there is room for that many
+-- nothing is reached yet, and there is room for `count` numbers
 pub record HasRoom (count : ℕ) (reached : List ℕ) (room : ℕ) : Type 0 where
   pub none : reached ≡ []
   pub fits : count ≤ room
@@ -69,7 +69,7 @@ users_at l u = get_or l.users u []
 abbrev pub has_inputs : Linked → ℕ → Bool
 has_inputs l v = get_or l.counts v 1 == 0
 
--- how often a number stands in a list
+-- how often a number occurs in a list
 abbrev pub times : ℕ → List ℕ → ℕ
 times x [] = 0
 times x (y ∷ ys) = (if y == x then 1 else 0) + times x ys
@@ -95,7 +95,7 @@ abbrev pub unmarked : List Bool → ℕ
 unmarked [] = 0
 unmarked (b ∷ bs) = (if b then 0 else 1) + unmarked bs
 
--- some vertices are marked, and those among them that were not stand at the end of the ones that were reached
+-- some of the users are marked, and those that were not marked before are appended to the reached ones
 pub record Visits (users : List ℕ) (old new : List Bool) (reached reached_new : List ℕ) : Type 0 where
   pub same : length new ≡ length old
   pub more : List ℕ

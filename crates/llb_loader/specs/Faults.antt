@@ -1,4 +1,4 @@
--- How the loader answers, what becomes of the faults of ops, and what a fault prints.
+-- The results of the loader's calls, what becomes of the faults of ops, and what a fault prints.
 use Rattle.std.specs.Prelude.{ℕ, Bool, true, false, List, ◌++◌, Result, codes}
 use Rattle.std.specs.Fmt.{decimal}
 use Rattle.llb_wire.specs.Answer as answer
@@ -13,12 +13,12 @@ use Rattle.llb_loader.specs.declared.fault.Rule.TheVariants as rule
 use Rattle.llb_loader.specs.declared.fault.LoadFault.{LoadFault}
 use Rattle.llb_loader.specs.declared.fault.LoadFault.TheVariants as fault
 
--- out of memory, which no rule gives
+-- refused memory, which no rule gives
 abbrev pub is_memory : LoadFault → Bool
 is_memory fault.Memory = true
 is_memory _ = false
 
--- what a call answers, seen by view, is what the rule gives
+-- the result of a call, seen by view, is what the rule gives
 abbrev pub Gives : {X Y : Type 0} → (X → Y) → Result X LoadFault → Result Y LoadFault → Type 0
 Gives = answer.Gives is_memory
 

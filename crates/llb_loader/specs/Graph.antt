@@ -36,7 +36,7 @@ pub record LeadsBelow (vertices : List Vertex) (k : ℕ) (e : Edge) : Type 0 whe
   pub lower : e.vertex < k
   pub index : HoldsAt (λ v. e.index < v.outputs) vertices e.vertex
 
--- an edge stands for an input: it leads to the vertex whose digest the input names, and has the input's index
+-- the edge of an input leads to the vertex whose digest the input names, and has the input's index
 pub record StandsFor (vertices : List Vertex) (input : Input) (e : Edge) : Type 0 where
   pub digest : HoldsAt (λ v. v.digest ≡ input.digest) vertices e.vertex
   pub index : input.index ≡ pos e.index

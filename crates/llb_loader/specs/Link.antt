@@ -1,4 +1,4 @@
--- What linking answers.
+-- What linking returns.
 use Rattle.std.specs.Prelude.{List}
 use Rattle.llb_ops.specs.declared.op.Op.{Op}
 use Rattle.llb_loader.specs.declared.row.Row.{Row}

@@ -1,4 +1,4 @@
--- The graph of the rows, or the first fault: what each refusal says, and what has to hold for the next one to stand.
+-- The graph of the rows, or the first fault: what each refusal says, and what has to hold before the next one is looked at.
 use Rattle.std.specs.Prelude.{◌≡◌, ℕ, ◌<◌, ◌≤◌, pos, nat_abs, List, [], length, map, slice_index_or, Option, Some, None, ◌⊎◌}
 use Rattle.std.specs.Option.{unwrap_or}
 use Rattle.llb_ops.specs.declared.op.Op.{Op}
@@ -83,7 +83,7 @@ pub record IsBadIndex (p : Plan) (k i : ℕ) : Type 0 where
   pub asked : HasInput p k i ⊎ ((k ≡ p.terminal) × (i ≡ 0))
   pub bad : ¬ IsBelow (outputs_there p k i) (input_at (op_at p.ops k) i).index
 
--- ---- what holds once a refusal does not stand, in their order
+-- ---- what holds once a refusal does not apply, in their order
 
 pub record IsApart (rows : List Row) : Type 0 where
   pub several : ¬ AllSame rows
@@ -137,7 +137,7 @@ pub record HasNoStart (p : Plan) (k i : ℕ) : Type 0 where
   pub row : k ≡ p.terminal
   pub input : i ≡ 0
 
--- the plan is refused: each refusal stands where those before it do not
+-- the plan is refused: each refusal applies where those before it do not
 abbrev pub Refuses : Plan → LoadFault → Type 0
 Refuses p TooFew = AllSame p.rows
 Refuses p (Collision k) = (¬ AllSame p.rows) × Least (Collides p.rows) k
@@ -155,7 +155,7 @@ Refused rows ops e = Refuses (plan_of rows ops) e
 
 -- ---- the graph
 
--- the edge that stands for input i of row k
+-- the edge of input i of row k
 abbrev pub edge_of : Plan → List ℕ → Input → Edge
 edge_of p order i = record { vertex = rank_in order (unwrap_or (row_named p.rows p.terminal i.digest) 0); index = nat_abs i.index }
 

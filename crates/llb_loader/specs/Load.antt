@@ -1,4 +1,4 @@
--- What loading answers.
+-- What loading returns.
 use Rattle.std.specs.Prelude.{◌≡◌, ℕ, List, map, Ok, Err, ◌⊎◌}
 use Rattle.llb_ops.specs.declared.fault.OpFault.{OpFault}
 use Rattle.llb_ops.specs.Definition.{definition_of}

@@ -10,11 +10,11 @@ use Rattle.llb_ops.specs.declared.op.Kind.TheVariants.{Source}
 use Rattle.llb_ops.specs.declared.source.SourceOp.{SourceOp}
 use Rattle.llb_tree.specs.Tree.{TreeMap}
 
--- what stands after a prefix of a text
+-- the rest of a text after a prefix
 abbrev pub behind : List ℕ → List ℕ → Option (List ℕ)
 behind prefix text = cond (starts_with nat_eq text prefix) (Some (drop (length prefix) text)) None
 
--- what stands after `local://` of a source's identifier
+-- the rest of a source's identifier after `local://`
 abbrev pub source_name : SourceOp → Option (List ℕ)
 source_name s = behind (codes "local://") s.identifier
 
@@ -40,6 +40,6 @@ locals_of entries = map (λ e. (string_bytes e.0, e.1)) entries
 abbrev pub tree_of_local : List Local → List ℕ → Option TreeMap
 tree_of_local locals name = lookup (bytes_eq name) locals
 
--- a tree stands in the place of the one that the name had, or else after all others
+-- a tree takes the place of the one that the name had, or else follows all others
 abbrev pub with_local : List Local → List ℕ → TreeMap → List Local
 with_local locals name tree = insert_entry bytes_eq locals name tree

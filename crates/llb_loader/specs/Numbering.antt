@@ -27,7 +27,7 @@ GoesDown g start rank = (a b : ℕ) → Reached g start a → HasEdge g a b → 
 abbrev pub HasCycle : List (List ℕ) → ℕ → Type 0
 HasCycle g start = (rank : ℕ → ℕ) → ¬ GoesDown g start rank
 
--- where k stands in the list first, the list's length where it doesn't
+-- the first place of k in the list, or the list's length if k is not there
 abbrev pub rank_in : List ℕ → ℕ → ℕ
 rank_in [] k = 0
 rank_in (x ∷ xs) k = cond (x == k) 0 (suc (rank_in xs k))

@@ -26,7 +26,7 @@ use Rattle.llb_applet.specs.declared.fault.ScriptFault.{ScriptFault}
 use Rattle.llb_loader.specs.Scripts.{commands_in, script_fault}
 use Rattle.llb_loader.specs.Mounts.{bind, cache, tmpfs, dests_of, keys_of, AreApart, ReadsPaths}
 
--- the number that stands for no input and no output
+-- the number that means no input or no output
 abbrev pub none : ℤ
 none = negsuc 0
 
@@ -108,7 +108,7 @@ count_outputs outputs = count_by is_output outputs
 abbrev pub output_at : List ℤ → ℕ → ℤ
 output_at outputs a = slice_index_or outputs a none
 
--- of the m numbers other than -1, each is from 0 to m - 1, each stands once, and each of 0 to m - 1 is there
+-- of the m numbers other than -1, each is from 0 to m - 1, each occurs once, and each of 0 to m - 1 is there
 pub record AreOutputs (outputs : List ℤ) : Type 0 where
   pub within : (a : ℕ) → output_at outputs a ≢ none → IsBelow (count_outputs outputs) (output_at outputs a)
   pub once : (a b : ℕ) → output_at outputs a ≢ none → output_at outputs a ≡ output_at outputs b → a ≡ b

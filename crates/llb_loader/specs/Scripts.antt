@@ -15,7 +15,7 @@ abbrev pub commands_in : Option Meta → Option (List Joined)
 commands_in (Some m) = result_ok (script_of m.args)
 commands_in None = None
 
--- the fault in a result, and a stand-in where there is none
+-- the fault in a result, and some fault where there is none
 abbrev pub fault_or_none : Result (List Joined) ScriptFault → ScriptFault
 fault_or_none (Err f) = f
 fault_or_none (Ok cs) = ShellSyntax 0

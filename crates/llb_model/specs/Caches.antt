@@ -72,7 +72,7 @@ put_all s (p ∷ ps) (t ∷ ts) = put_all (put s p t) ps ts
 abbrev pub trees_at : Store → List Place → List TreeMap
 trees_at s ps = map (λ p. unwrap_or (content s p) empty_tree) ps
 
--- these trees stand at these places
+-- the places hold these trees
 abbrev pub Hold : Store → List Place → List TreeMap → Type 0
 Hold s [] [] = Unit {0}
 Hold s [] (t ∷ ts) = ⊥
@@ -85,7 +85,7 @@ abbrev pub Has : {A : Type 0} → List A → A → Type 0
 Has [] p = ⊥
 Has (q ∷ qs) p = (p ≡ q) ⊎ Has qs p
 
--- no item stands twice
+-- no item is in the list twice
 abbrev pub Distinct : {A : Type 0} → List A → Type 0
 Distinct [] = Unit {0}
 Distinct (p ∷ ps) = (Has ps p → ⊥) × Distinct ps

@@ -1,4 +1,4 @@
--- Why a cancel is not granted: the first of these that stands in its way.
+-- Why a cancel is not granted: the first of these causes that applies.
 
 pub data CancelCause : Type 0 where
   NoWorker : CancelCause

@@ -1,4 +1,4 @@
--- Why a claim is not granted: the first of these that stands in its way.
+-- Why a claim is not granted: the first of these causes that applies.
 use Rattle.llb_cache.specs.declared.key.Key.{Key}
 
 pub data ClaimCause : Type 0 where

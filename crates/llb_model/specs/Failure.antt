@@ -1,4 +1,4 @@
--- A failure as text: what stands after the vertex in its line.
+-- A failure as text: the part of its line after the vertex.
 use Rattle.std.specs.Prelude.{ℕ, List, ◌++◌, codes}
 use Rattle.std.specs.Fmt.{decimal}
 use Rattle.llb_model.specs.declared.fault.VertexFault.{VertexFault}

@@ -1,4 +1,4 @@
--- The contents that caches stand for which are kept as a list of instances for each key.
+-- The store of caches that are kept as a list of instances for each key.
 use Rattle.std.specs.Prelude.{◌≡◌, ◌≢◌, ℕ, ◌+◌, List, [], ◌∷◌, Some, slice_get}
 use Rattle.std.specs.FinMap as finite
 use Rattle.llb_cache.specs.declared.key.Key.{Key}
@@ -16,11 +16,11 @@ abbrev pub store_from : List Row → List Row → Store
 store_from all [] = finite.empty
 store_from all (r ∷ rows) = with_trees (store_from all rows) r.0 0 (trees_of all r.0)
 
--- the contents that rows stand for
+-- the store that rows represent
 unfoldable pub store_of : List Row → Store
 store_of rows = store_from rows rows
 
--- what stands at a place is the instance of that number
+-- a place holds the instance with its number
 abbrev pub ShowsInstances : List Row → Type 0
 ShowsInstances rows = (p : Place) → content (store_of rows) p ≡ tree_at rows p
 

@@ -70,14 +70,14 @@ with_content p t s = record s { store = put s.store p t }
 abbrev pub with_content_after : Place → TreeMap → State × Reply → State × Reply
 with_content_after p t a = (with_content p t a.0, a.1)
 
--- and it has the same reply, and the same effect elsewhere, whatever stands there
+-- and it has the same reply, and the same effect elsewhere, whatever tree is there
 abbrev pub OthersIgnore : Build → Type 0
 OthersIgnore b = (s : State) (e : Event) (t : TreeMap) → IsReached b s → (w : ℕ) (x : Execution) (p : Place) → slice_get s.workers w ≡ Some (Runs x)
     → Has x.places p → IsExclusive p.key.mode → worker_of e ≢ w → table b (with_content p t s) e ≡ option_map (with_content_after p t) (table b s e)
 
 -- ---- the claim order
 
--- a run stands as its claims, each run at its claim: whole, or as far as it came where it was cancelled
+-- a run leaves what its claims leave, each vertex run at its claim: whole, or up to its cancel
 abbrev pub RunsInClaimOrder : Build → Type 0
 RunsInClaimOrder b = (o : Opening) (es : List Event) (rs : List Reply) (s : State) → run b (opening b o) es ≡ Some (s, rs)
     → StandsIn s (order b (at_first b o.store) (claims_in rs))
@@ -146,7 +146,7 @@ last_ran setting cs work (suc k) =
 abbrev pub fault_of : ℕ → ℕ → Option VertexFault
 fault_of c last = if last == 0 then None else Some (fault.Exit c last)
 
--- how an exec stands after k micro-steps: it is finished after its last one, or where the last status is not 0 and every later command is
+-- the state of an exec after k micro-steps: it is finished after its last one, or where the last status is not 0 and every later command is
 -- joined by And; and then its fault is that of the last command that ran, exactly where its status is not 0
 pub record EndsByLastStatus (setting : Setting) (cs : List Joined) (work : Work) (k : ℕ) : Type 0 where
   pub finished : is_over (runs_of setting cs) k (part (runs_of setting cs) work k)
@@ -158,13 +158,13 @@ abbrev pub FailsByLastStatus : Type 0
 FailsByLastStatus = (setting : Setting) (cs : List Joined) (mounts : List Shown) (caches : List ℕ) (trees : List TreeMap) (k : ℕ)
     → EndsByLastStatus setting cs (at_start mounts caches trees) k
 
--- how a worker stands that runs an exec: it is finished after its last micro-step, or where the last status is not 0 and every later
+-- the state of a worker that runs an exec: it is finished after its last micro-step, or where the last status is not 0 and every later
 -- command is joined by And; and then it has failed exactly where the last status is not 0, by the micro-step that it did last
 pub record StandsByLastStatus (cs : List Joined) (steps : List MicroStep) (x : Execution) : Type 0 where
   pub finished : is_finished steps x ≡ (nat_le (length cs) x.done || (not (last_of x.own == 0) && all_and (drop x.done cs)))
   pub fails : is_finished steps x ≡ true → x.fault ≡ fault_of (x.done - 1) (last_of x.own)
 
--- every worker stands so, whatever others do to shared instances meanwhile
+-- this holds for every worker, whatever others do to shared instances meanwhile
 abbrev pub ExecsEndByLastStatus : Build → Type 0
 ExecsEndByLastStatus b = (s : State) → IsReached b s → (w : ℕ) (x : Execution) (v : Vertex) (e : ExecOp) → slice_get s.workers w ≡ Some (Runs x)
     → slice_get b.graph.vertices x.vertex ≡ Some v → v.op.kind ≡ Some (kind.Exec e)

@@ -6,7 +6,7 @@ use Rattle.llb_model.specs.Outcome.{Ending, ending}
 use Rattle.llb_model.specs.State.{Status, Waiting, Settled, State, ready, IsFree, begin_at, places_by}
 use Rattle.llb_model.specs.Table.{Reply, Claimed, HasRead, Acted, HasMerged, HasRun, Skipped, Faulted, SettledDone, SettledFailed, Cancelled}
 
--- how vertices stand, and the contents of the caches, where nothing runs
+-- the statuses of vertices, and the contents of the caches, where nothing runs
 pub record Order : Type 0 where
   pub statuses : List Status
   pub store : Store
@@ -16,7 +16,7 @@ at_first b store = record { statuses = replicate (length b.graph.vertices) Waiti
 
 -- ---- how claims end
 
--- how a claim of a vertex ends, by the replies after it: where it is cancelled, after that many micro-steps
+-- how a claim of a vertex ends, by the replies after it: if it is cancelled, after how many micro-steps
 abbrev pub cut_in : ℕ → List Reply → Option ℕ
 cut_in v [] = None
 cut_in v (Claimed job ∷ rs) = cut_in v rs
@@ -44,14 +44,14 @@ abbrev pub done_of : Option ℕ → List MicroStep → Work → Left
 done_of None steps work = whole steps work
 done_of (Some k) steps work = part steps work k
 
--- how its vertex stands then: it has ended, or waits again
+-- the status of its vertex after that: it has ended, or waits again
 abbrev pub stands_after : Option ℕ → Program → Left → Status
 stands_after None p left = Settled (ending p left)
 stands_after (Some k) p left = Waiting
 
 -- ---- the order
 
--- the vertex stands so, and the trees are written back
+-- the vertex gets that status, and the trees are written back
 abbrev pub left_by : Order → ℕ → List Place → Program → Option ℕ → Left → Order
 left_by o v ps p cut left = record { statuses = slice_set o.statuses v (stands_after cut p left); store = put_all o.store ps left.work.trees }
 
@@ -85,7 +85,7 @@ claims_in (SettledDone v ∷ rs) = claims_in rs
 claims_in (SettledFailed v ∷ rs) = claims_in rs
 claims_in (Cancelled v k ∷ rs) = claims_in rs
 
--- settled vertices and free instances stand as in an order
+-- settled vertices and free instances are those of an order
 pub record StandsIn (s : State) (o : Order) : Type 0 where
   pub endings : (v : ℕ) (e : Ending) → slice_get s.statuses v ≡ Some (Settled e) → slice_get o.statuses v ≡ Some (Settled e)
   pub contents : (p : Place) → IsFree s.workers p → content s.store p ≡ content o.store p

@@ -216,7 +216,7 @@ tree_fault_number Root = 25
 tree_fault_number BadName = 26
 tree_fault_number Memory = 27
 
--- the number that tells why an action has failed
+-- the number of the fault of a failed action
 abbrev pub fault_number : ActFault → ℕ
 fault_number (act_fault.File f) = tree_fault_number f
 fault_number act_fault.BadPattern = 52

@@ -26,7 +26,7 @@ next_of b w [] = None
 next_of b w (Idle ∷ workers) = next_of b (w + 1) workers
 next_of b w (Runs x ∷ workers) = Some (if is_finished (program_in b x).steps x then Settle w else Step w)
 
--- the least of that many numbers from one on that passes a test
+-- the least of the n numbers v, v + 1 and so on that passes a test
 abbrev pub least : (ℕ → Bool) → ℕ → ℕ → Option ℕ
 least test v zero = None
 least test v (suc n) = if test v then Some v else least test (v + 1) n
@@ -49,7 +49,7 @@ is_settled (Some (Running w)) = false
 is_settled (Some Waiting) = false
 is_settled None = false
 
--- each of that many numbers from one on passes a test
+-- each of the n numbers v, v + 1 and so on passes a test
 abbrev pub each : (ℕ → Bool) → ℕ → ℕ → Bool
 each test v zero = true
 each test v (suc n) = test v && each test (v + 1) n
@@ -76,7 +76,7 @@ abbrev pub AreAscending : List ℕ → Type 0
 AreAscending [] = Unit {0}
 AreAscending (n ∷ ns) = AllAbove n ns × AreAscending ns
 
--- how a vertex stands in a complete run: it has ended as its plain outcome tells, or it waits and that is Blocked
+-- the status of a vertex in a complete run: it has ended with its plain outcome, or it waits and that outcome is Blocked
 abbrev pub StandsPlainly : Option Status → Option Outcome → Type 0
 StandsPlainly (Some (Settled e)) o = o ≡ Some (Ended e)
 StandsPlainly (Some Waiting) o = o ≡ Some Blocked

@@ -1,4 +1,4 @@
--- Why a settle is not granted: the first of these that stands in its way.
+-- Why a settle is not granted: the first of these causes that applies.
 
 pub data SettleCause : Type 0 where
   NoWorker : SettleCause

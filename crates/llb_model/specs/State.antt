@@ -59,7 +59,7 @@ abbrev pub missing_local : List Local → List Vertex → Option (List ℕ)
 missing_local locals [] = None
 missing_local locals (v ∷ vs) = first_of (lacks locals (local_name v.op)) (missing_local locals vs)
 
--- all vertices wait, that many workers are idle, and the caches are as they were
+-- all vertices wait, all of the opening's workers are idle, and the caches are as they were handed in
 abbrev pub opening : Build → Opening → State
 opening b o = record { statuses = replicate (length b.graph.vertices) Waiting; workers = replicate o.workers Idle; store = o.store }
 
@@ -160,7 +160,7 @@ abbrev pub above : List Place → ℕ
 above [] = 0
 above (p ∷ ps) = p.number + 1 + above ps
 
--- the least number from n on that is not among the places of a key, in that many tries
+-- the least number at or after n that is not among the places of a key, found in at most so many tries
 abbrev pub first_free : List Place → Key → ℕ → ℕ → ℕ
 first_free ps k n zero = n
 first_free ps k n (suc tries) = if is_in ps (place k n) then first_free ps k (n + 1) tries else n
@@ -189,7 +189,7 @@ abbrev pub held_key : List Place → List Need → Option Key
 held_key ps [] = None
 held_key ps (n ∷ needs) = if is_shut ps n.key n.key.mode then Some n.key else held_key ps needs
 
--- what stands at the places, and where nothing does the tree that the seed has among those of the inputs
+-- the trees at the places, and for a place without a tree that of the seed among the inputs' trees
 abbrev pub first_trees : Store → List TreeMap → List Place → List Need → List TreeMap
 first_trees s inputs [] needs = []
 first_trees s inputs (p ∷ ps) [] = []

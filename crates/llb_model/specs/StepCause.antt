@@ -1,4 +1,4 @@
--- Why a step is not granted: the first of these that stands in its way.
+-- Why a step is not granted: the first of these causes that applies.
 
 pub data StepCause : Type 0 where
   NoWorker : StepCause

@@ -38,7 +38,7 @@ pub record Job : Type 0 where
   pub work : Work
   pub instances : List ℕ
 
--- a cancel tells its vertex, and how many micro-steps were done
+-- a cancel's reply has its vertex, and the number of micro-steps that were done
 pub data Reply : Type 0 where
   Claimed : Job → Reply
   HasRead : Reply
@@ -138,7 +138,7 @@ step_grant b s w = stepped b s w (slice_get s.workers w)
 
 -- ---- an end
 
--- the vertex stands so, and the instances of the worker are free again
+-- the vertex gets that status, and the instances of the worker are free again
 abbrev pub after_end : State → ℕ → ℕ → Status → State
 after_end s w v status = record s { statuses = slice_set s.statuses v status; workers = slice_set s.workers w Idle }
 

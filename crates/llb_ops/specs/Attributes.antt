@@ -5,14 +5,14 @@ use Rattle.indexmap.specs.IndexMap.{insert_entry}
 use Rattle.llb_ops.specs.declared.source.Attribute.{Attribute}
 use Rattle.llb_ops.specs.declared.source.AttributeEntry.{AttributeEntry}
 
--- a key with what stands after it
+-- a key with the rest after it
 abbrev pub Held : Type 0
 Held = List ℕ × Attribute
 
 abbrev pub entry_of : Held → AttributeEntry
 entry_of p = record { key = p.0; value = p.1.value; extra = p.1.extra }
 
--- an entry stands in the place of an earlier one with its key, or else after all others
+-- an entry takes the place of an earlier one with its key, or else follows all others
 abbrev pub put : List Held → AttributeEntry → List Held
 put held e = insert_entry (pointwise nat_eq) held e.key (record { value = e.value; extra = e.extra })
 

@@ -1,11 +1,11 @@
--- How the calls on messages answer, and what a fault prints.
+-- The results of the calls on messages, and what a fault prints.
 use Rattle.std.specs.Prelude.{ℕ, Bool, true, false, List, Result, codes}
 use Rattle.llb_wire.specs.Answer as answer
 use Rattle.llb_wire.specs.Faults.{wire_text}
 use Rattle.llb_ops.specs.declared.fault.OpFault.{OpFault}
 use Rattle.llb_ops.specs.declared.fault.OpFault.TheVariants.{Wire, WrongWireType, NotUtf8, OverLimit, Memory}
 
--- out of memory, which no rule gives
+-- refused memory, which no rule gives
 abbrev pub is_memory : OpFault → Bool
 is_memory Memory = true
 is_memory (Wire f) = false
@@ -13,7 +13,7 @@ is_memory WrongWireType = false
 is_memory NotUtf8 = false
 is_memory OverLimit = false
 
--- what a call answers, seen by view, is what the rule gives
+-- the result of a call, seen by view, is what the rule gives
 abbrev pub Gives : {X Y : Type 0} → (X → Y) → Result X OpFault → Result Y OpFault → Type 0
 Gives = answer.Gives is_memory
 

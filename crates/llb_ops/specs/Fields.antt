@@ -19,7 +19,7 @@ use Rattle.llb_ops.specs.Records.{form_of, parts, int32, int64, uint32, flag}
 use Rattle.llb_ops.specs.Messages.{op_of}
 use Rattle.llb_ops.specs.Writing.{bit, set_number, set_bytes, op_bytes}
 
--- fields with their rows of the table, a number as its varint spells it; the extra bytes stand after all
+-- fields with their rows of the table, a number as its varint spells it; the extra bytes come after all others
 pub data Fields : Type 0 where
   extra : List ℕ → Fields
   number : Row → ℕ → Fields → Fields
@@ -35,7 +35,7 @@ bytes_of (message row inner rest) = set_bytes row.1.number (bytes_of inner) ++ b
 
 -- ---- by the table
 
--- After the field `last`: numbers ascend, and only a repeated field stands again. `set` says that a member of the oneof stands
+-- After the field `last`: numbers ascend, and only a repeated field occurs again. `set` says that a member of the oneof is there
 -- already, and then no other may.
 abbrev pub may_follow : ℕ → Bool → NamedField → Bool
 may_follow last set f = (nat_lt last f.number || (f.repeated && (last == f.number))) && not (f.member && set)
@@ -44,7 +44,7 @@ pub record IsNext (m : MessageName) (last : ℕ) (set : Bool) (row : Row) : Type
   pub known : by_number row.1.number (rows_of m) ≡ Some row
   pub follows : may_follow last set row.1 ≡ true
 
--- a value that is 0 or empty stands only where it says that the field is there, or in an entry of a map
+-- a value that is 0 or empty is written only where it says that the field is there, or in an entry of a map
 abbrev pub may_be_empty : NamedField → Bool
 may_be_empty f = f.member || f.repeated || f.of_entry
 
@@ -106,11 +106,11 @@ without_empty (message row inner rest) = message row (without_empty inner) (with
 
 -- ---- no field too often
 
--- how often the last field stands, with one more: again, or for the first time
+-- how often the last field occurs, with one more: again, or for the first time
 abbrev pub one_more_of : ℕ → ℕ → ℕ → ℕ
 one_more_of last count n = if last == n then count + 1 else 1
 
--- after the field `last`, which stands so often, no field stands more often than a field may, nor in a message among them
+-- after the field `last`, which occurred so often, no field occurs more often than a field may, nor in a message among them
 abbrev pub AreFew : ℕ → ℕ → Fields → Type 0
 AreFew last count (extra more) = Unit {0}
 AreFew last count (number row v rest) = (one_more_of last count row.1.number ≤ field_limit) × AreFew row.1.number (one_more_of last count row.1.number) rest
@@ -120,8 +120,8 @@ AreFew last count (message row inner rest) =
 
 -- ---- the law
 
--- An op's canonical bytes are fields of the message Op, none of which stands too often. Without empty keys and values they are no
--- more, still none stands too often, and they are read as the op too.
+-- An op's canonical bytes are fields of the message Op, none of which occurs too often. Without empty keys and values they are no
+-- more, still none occurs too often, and they are read as the op too.
 pub record HasFields (op : Op) : Type 0 where
   pub fields : Fields
   pub are : AreFields named.Op 0 false fields

@@ -1,6 +1,6 @@
 -- Read first Table (the fields of every message), Records (what each kind of field is from its records) and Messages (what each message is), then
--- Definition and Limits (a whole definition, and how much may stand in it), Writing (canonical bytes), Within, Laws and Fields (what holds of reading and
--- writing together). Attributes is the one map; Faults is how calls answer.
+-- Definition and Limits (a whole definition, and its limits), Writing (canonical bytes), Within, Laws and Fields (what holds of reading and
+-- writing together). Attributes is the one map; Faults is the results of calls.
 pub mod Faults
 pub mod Limits
 pub mod Table

@@ -1,4 +1,4 @@
--- How much may stand in a definition.
+-- The limits of a definition.
 use Rattle.std.specs.Prelude.{ℕ}
 
 -- bytes of a definition

@@ -348,6 +348,6 @@ op_in rs = do
 abbrev pub op_message_of : List ℕ → Result Op OpFault
 op_message_of = message_of op_shape op_in
 
--- the op that an entry stands for
+-- the op of an entry
 unfoldable pub op_of : List ℕ → Result Op OpFault
 op_of bytes = if nat_lt entry_limit (length bytes) then Err OverLimit else op_message_of bytes

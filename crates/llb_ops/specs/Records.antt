@@ -1,5 +1,5 @@
 -- The records of a message, and what each kind of field is of them (the encoding guide of Protocol Buffers: "Message
--- Structure", "Last One Wins", "Optional and Repeated Elements", "Oneofs"). A record stands without a place in the bytes.
+-- Structure", "Last One Wins", "Optional and Repeated Elements", "Oneofs"). A record has no place in the bytes here.
 use Rattle.std.specs.Prelude.{◌≡◌, ◌<◌, ℕ, zero, suc, ◌-◌, List, [], ◌∷◌, ◌++◌, length, map, Option, Some, None, Result, Ok, Err, Bool}
 use Rattle.std.specs.Prelude.{true, false, nat_le, ◌==◌, not, if◌then◌else◌, find, option_map, fold, ◌&&◌, filter, slice_get, is_none, ℤ}
 use Rattle.std.specs.Prelude.{◌%◌, ◌^◌}
@@ -58,7 +58,7 @@ from_wire (Err f) = Err (Wire f)
 abbrev pub first_record : Shape → List ℕ → Result Field OpFault
 first_record shape bytes = from_wire (field_at bytes 0) >>= λ f. if wire_fits (form_of shape f.number) f.wire then Ok f else Err WrongWireType
 
--- the records after that many bytes of a record that was read before
+-- the records after `skip` bytes, which belong to a record that was read before
 unfoldable pub records_from : Shape → ℕ → List ℕ → Result (List Record) OpFault
 records_from shape skip [] = Ok []
 records_from shape (suc skip) (b ∷ bytes) = records_from shape skip bytes
@@ -117,7 +117,7 @@ all n rs = filter (λ r. r.number == n) rs
 abbrev pub last_of : List Record → Option Record
 last_of rs = slice_get rs (length rs - 1)
 
--- of a field that stands once the last record holds
+-- the last record of a singular field holds
 abbrev pub number : List Record → ℕ
 number rs = option_map_or (λ r. r.value) (last_of rs) 0
 
@@ -143,7 +143,7 @@ flag n = not (n == 0)
 abbrev pub payloads : List Record → List (List ℕ)
 payloads rs = map (λ r. r.payload) rs
 
--- a message that stands once is the reading of its payloads, one after the other
+-- a singular message is the reading of its payloads, one after the other
 abbrev pub joined : List Record → List ℕ
 joined rs = flat_map (λ r. r.payload) rs
 
@@ -155,7 +155,7 @@ unfoldable pub each : {A : Type 0} → (List ℕ → Result A OpFault) → List 
 each read [] = Ok []
 each read (r ∷ rs) = read r.payload >>= λ m. (each read rs >>= λ ms. Ok (m ∷ ms))
 
--- fields that the message doesn't name, as they stand
+-- fields that the message doesn't name, as they are
 abbrev pub unnamed : Shape → List Record → List ℕ
 unnamed shape rs = flat_map (λ r. r.text) (filter (λ r. is_none (form_of shape r.number)) rs)
 

@@ -19,7 +19,7 @@ Row = List ℕ × NamedField
 abbrev pub row_seen : FieldRow → Row
 row_seen r = (r.name.now, r.field)
 
--- a field that stands once
+-- a singular field
 abbrev pub once : List ℕ → ℕ → FieldKind → Row
 once name n kind = (name, record { number = n; kind = kind; repeated = false; member = false; of_entry = false })
 

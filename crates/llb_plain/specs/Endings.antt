@@ -1,4 +1,4 @@
--- What the crate's outcomes stand for, in the words of the machine's definitions.
+-- What the crate's outcomes represent, in the words of the machine's definitions.
 use Rattle.std.specs.Prelude.{ℕ, List, slice_get, Option}
 use Rattle.llb_model.specs.Outcome as model
 use Rattle.llb_plain.specs.declared.outcome.Outcome.{Outcome}

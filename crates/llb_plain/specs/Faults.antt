@@ -1,27 +1,27 @@
--- How the calls of this crate answer: what their rule gives, or out of memory. A rule never gives out of memory.
+-- The results of this crate's calls: what their rule gives, or the fault of memory. A rule never gives the fault of memory.
 use Rattle.std.specs.Prelude.{◌≡◌, Bool, true, false, Result, Ok, Err}
 use Rattle.llb_wire.specs.Answer as answer
 use Rattle.llb_plain.specs.declared.fault.PlainFault.{PlainFault}
 use Rattle.llb_plain.specs.declared.fault.PlainFault.TheVariants.{MissingLocal, HasCache, Memory}
 
--- out of memory, which no rule gives
+-- refused memory, which no rule gives
 abbrev pub is_memory : PlainFault → Bool
 is_memory Memory = true
 is_memory (MissingLocal name) = false
 is_memory (HasCache v) = false
 
--- what a call answers, seen by view, is what the rule gives
+-- the result of a call, seen by view, is what the rule gives
 abbrev pub Gives : {X Y : Type 0} → (X → Y) → Result X PlainFault → Result Y PlainFault → Type 0
 Gives = answer.Gives is_memory
 
--- where memory may be wanted: where nothing stands in the way, or for the name of a local tree that is missing
+-- where memory may be needed: where there is no other cause, or for the name of a missing local tree
 abbrev pub may_want_memory : {Y : Type 0} → Result Y PlainFault → Bool
 may_want_memory (Ok y) = true
 may_want_memory (Err (MissingLocal name)) = true
 may_want_memory (Err (HasCache v)) = false
 may_want_memory (Err Memory) = false
 
--- out of memory comes last
+-- the fault of memory comes last
 abbrev pub MemoryLast : {X Y : Type 0} → Result X PlainFault → Result Y PlainFault → Type 0
 MemoryLast (Ok x) rule = Unit {0}
 MemoryLast (Err e) rule = is_memory e ≡ true → may_want_memory rule ≡ true

@@ -3,7 +3,7 @@ use Rattle.std.specs.Prelude.{◌≡◌, ℕ, ◌+◌, ◌<◌, ◌≤◌, ◌==
 use Rattle.llb_ready.specs.declared.hand.Hand.{Hand}
 use Rattle.llb_ready.specs.Hands.{HasAll, with_put, with_taken}
 
--- How often a number stands in a list.
+-- How often a number occurs in a list.
 abbrev pub times : ℕ → List ℕ → ℕ
 times x xs = count_by (λ y. y == x) xs
 
@@ -32,10 +32,10 @@ HasTakenAll v = (length v.taken ≡ length v.put) × ((x : ℕ) → times x v.ta
 abbrev pub HasLeft : Hand → ℕ → Type 0
 HasLeft v x = times x v.taken < times x v.put
 
--- What a put tells: the pass gains the number; the whole pass had room for it.
+-- After a put: the pass has the number more; the whole pass had room for it.
 abbrev pub GainsPut : Hand → ℕ → Hand → Type 0
 GainsPut v x w = (w ≡ with_put v x) × (HasAll v → HasRoom v)
 
--- What a take tells: the pass gains the number; the whole pass had it left.
+-- After a take: the pass has the number more; the whole pass had it left.
 abbrev pub GainsTaken : Hand → ℕ → Hand → Type 0
 GainsTaken v x w = (w ≡ with_taken v x) × (HasAll v → HasLeft v x)

@@ -22,15 +22,15 @@ SamePart old new = (new.num ≡ old.num) × (new.den ≡ old.den)
 abbrev pub first_hand : ℕ → Hand
 first_hand room = hand 1 1 room [] []
 
--- While a queue is made, its pass comes to know of room for one number more.
+-- While a queue is made, its pass gains room for one more number.
 abbrev pub widened : Hand → Hand
 widened v = hand v.num v.den (v.room + 1) v.put v.taken
 
--- A number that a pass puts stands after those that it put before.
+-- A number that a pass puts follows those that it put before.
 abbrev pub with_put : Hand → ℕ → Hand
 with_put v x = hand v.num v.den v.room (v.put ++ x ∷ []) v.taken
 
--- A number that a pass takes stands after those that it took before.
+-- A number that a pass takes follows those that it took before.
 abbrev pub with_taken : Hand → ℕ → Hand
 with_taken v x = hand v.num v.den v.room v.put (v.taken ++ x ∷ [])
 

@@ -10,7 +10,7 @@ use Rattle.llb_ready.specs.Hands.{HasAll}
 abbrev pub hand_of : ReadyPass → Hand
 hand_of p = view p.pass
 
--- A queue has room for that many numbers.
+-- A queue has room for n numbers.
 abbrev pub capacity_of : ReadyQueue → ℕ
 capacity_of q = ruled_capacity q.queue
 

@@ -64,14 +64,14 @@ Refuses ask.Status s fault = ⊥
 Refuses (ask.Tree v i) s fault = ⊥
 Refuses ask.Quit s fault = ⊥
 
--- what a request comes to: it is granted, or all is as before, and memory was refused or a cause stands
+-- the result of a request: it is granted, or all is as before, and memory was refused or a cause applies
 abbrev pub Comes : Request → Stepping → Stepping → Result (Vec ℕ Global) StepperFault → Type 0
 Comes r s t (Ok text) = Grants r s text.items t
 Comes r s t (Err fault) = (t ≡ s) × (stepper_memory fault ≡ false → Refuses r s fault)
 
 -- ---- a line
 
--- a refusal is told in a line, and changes nothing
+-- a refusal prints a line, and changes nothing
 pub record TellsRefusal (r : Request) (s : Stepping) (text : List ℕ) (t : Stepping) : Type 0 where
   pub fault : StepperFault
   pub refused : stepper_memory fault ≡ false → Refuses r s fault

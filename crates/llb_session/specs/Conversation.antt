@@ -37,7 +37,7 @@ Talks s n [] text t = (text ≡ []) × (t ≡ s)
 Talks s n (line ∷ lines) text t =
     (said : List ℕ) × (more : List ℕ) × (u : Stepping) × Answers s n line said u × Talks u (n + 1) lines more t × (text ≡ said ++ more)
 
--- where a conversation stands: the session, the number of the line that is begun, and what was heard of it
+-- the state of a conversation: the session, the number of the line that is begun, and what was heard of it
 pub record Standing : Type 0 where
   pub session : Stepping
   pub number : ℕ

@@ -9,7 +9,7 @@ use Rattle.llb_session.specs.declared.fault.SessionFault.TheVariants.{Failed, Un
 use Rattle.llb_session.specs.Answers.{Answers, Quits}
 use Rattle.llb_session.specs.Conversation.{Talks, Talked, Standing, Answered, Quit, CutShort, AtLineEnd, last_line}
 
--- where a conversation stands
+-- the state of a conversation
 abbrev pub standing : Stepping → Pending → Standing
 standing s p = record { session = s; number = p.answered + 1; line = p.line.items }
 

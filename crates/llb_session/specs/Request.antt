@@ -11,7 +11,7 @@ use Rattle.llb_session.specs.declared.request.Request.TheVariants as ask
 abbrev pub is_space : ℕ → Bool
 is_space b = b == 32
 
--- the word before the first space of a text, and what stands after it
+-- the word before the first space of a text, and the rest after it
 abbrev pub parted : List ℕ → Option (List ℕ × List ℕ)
 parted text = if nat_lt (position_or_len is_space text) (length text) then Some (before_first is_space text, after_first is_space text) else None
 
@@ -41,11 +41,11 @@ break_at word rest =
     else if is_text word (codes "settle") then option_map (λ v. ask.Break (Settles v)) (number_in rest)
     else None
 
--- what stands after `break`
+-- the text after `break`
 abbrev pub break_in : List ℕ → Option Request
 break_in rest = if is_text rest (codes "fail") then Some (ask.Break Fails) else then_in (parted rest) (λ p. break_at p.0 p.1)
 
--- a line of a word and what stands after it
+-- a line of a word and the rest after it
 abbrev pub behind : List ℕ → List ℕ → Option Request
 behind word rest =
     if is_text word (codes "break") then break_in rest

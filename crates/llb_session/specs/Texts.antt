@@ -43,7 +43,7 @@ ended (Some text) = text ++ codes "\n"
 abbrev pub record_line : Stepping → ℕ → List ℕ
 record_line s i = ended (option_map (record_text s.board.build.graph.vertices i) (record_at s i))
 
--- the lines of that many events after the first ones
+-- the lines of n events after the first ones
 unfoldable pub record_lines : Stepping → ℕ → ℕ → List ℕ
 record_lines s from zero = []
 record_lines s from (suc k) = record_lines s from k ++ record_line s (from + k + 1)

@@ -23,7 +23,7 @@ pub record Seen : Type 0 where
   pub rows : List Row
   pub events : List Event
 
--- that many workers, and the caches that are handed in
+-- the number of workers, and the caches that are handed in
 abbrev pub opening_with : ℕ → List Row → Opening
 opening_with workers rows = record { workers = workers; store = store_of rows }
 

@@ -31,7 +31,7 @@ pub record OutcomeValue : Type 0 where
 abbrev pub begun_on : Job → Left
 begun_on j = record { work = j.work; fault = None }
 
--- that many micro-steps and no more are left to a job, and they leave this; it shows what the job shows
+-- n micro-steps and no more are left to a job, and they leave this; it shows what the job shows
 pub record IsOutcome (j : Job) (count : ℕ) (left : Left) : Type 0 where
   pub few : j.done + count < 2 ^ 32
   pub all : AreLeft j.program.steps j.done (begun_on j) count
@@ -73,7 +73,7 @@ pub record IsRunOf (b : Build) (store : Store) (w : ℕ) (x : Execution) (job : 
   pub clean : x.fault ≡ None
   pub same : job ≡ job_now b store w x
 
--- the desk of a worker that has done that many micro-steps more, which left this
+-- the desk of a worker that has done n more micro-steps, which left this
 abbrev pub desk_left : ℕ → Option VertexFault → View → Option Desk → Desk
 desk_left n fault view (Some (desk.Runs l x)) = desk.Runs l (record x { done = x.done + n; fault = fault; view = view })
 desk_left n fault view (Some desk.Idle) = desk.Idle

@@ -10,6 +10,6 @@ use Rattle.llb_links.specs.Links.{Linked, has_inputs}
 abbrev pub done_in : List Status → ℕ → Bool
 done_in statuses u = is_done (ending_at statuses u)
 
--- the counts tell of each vertex whether the trees of all its inputs are there
+-- a vertex's count is 0 exactly where the trees of all its inputs are there
 abbrev pub TellsInputs : Build → List Status → Linked → Type 0
 TellsInputs b statuses l = (v : ℕ) (x : Vertex) → slice_get b.graph.vertices v ≡ Some x → has_inputs l v ≡ is_some (inputs_from (ending_at statuses) x.inputs)

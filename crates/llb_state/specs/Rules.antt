@@ -1,4 +1,4 @@
--- What each call answers: what the table gives, or the first cause of its refusal as a fault.
+-- What each call returns: what the table gives, or the first cause of its refusal as a fault.
 use Rattle.std.specs.Prelude.{ℕ, Bool, true, false, List, Option, Some, None, Result, Ok, Err, if◌then◌else◌}
 use Rattle.llb_wire.specs.Answer as answer
 use Rattle.llb_loader.specs.declared.graph.Vertex.{Vertex}
@@ -32,14 +32,14 @@ use Rattle.llb_events.specs.declared.fault.SettleFault.TheVariants as settle
 use Rattle.llb_events.specs.declared.fault.CancelFault.{CancelFault}
 use Rattle.llb_events.specs.declared.fault.CancelFault.TheVariants as cancel
 
--- ---- what an event answers: what the table gives, with its cause as a fault
+-- ---- the result of an event: what the table gives, with its cause as a fault
 
 -- a cause as a fault
 abbrev pub faulted : {A C F : Type 0} → (C → F) → Result A C → Result A F
 faulted fault (Ok x) = Ok x
 faulted fault (Err cause) = Err (fault cause)
 
--- ---- what a claim answers, and what it begins
+-- ---- the result of a claim, and what it begins
 
 abbrev pub claim_fault : ClaimCause → ClaimFault
 claim_fault no_claim.NoWorker = claim.NoWorker
@@ -74,7 +74,7 @@ abbrev pub begun : Build → CachesValue → ℕ → ℕ → Vertex → Option (
 begun b c w v vertex (Some trees) = Ok (begun_at b c w v vertex trees (places_taken c.out (needs_of vertex)))
 begun b c w v vertex None = Err claim.NotReady
 
--- ---- what a step answers, and what its micro-step leaves
+-- ---- the result of a step, and what its micro-step leaves
 
 abbrev pub step_fault : StepCause → StepFault
 step_fault no_step.NoWorker = step.NoWorker
@@ -121,7 +121,7 @@ written_by rows ps (Err e) = Err e
 abbrev pub worked_in : Build → List Row → Execution → Result Written StepFault
 worked_in b rows x = written_by rows x.places (worked (program_in b x).steps x (trees_at (store_of rows) x.places))
 
--- ---- what a settle answers, and what it leaves
+-- ---- the result of a settle, and what it leaves
 
 abbrev pub settle_fault : SettleCause → SettleFault
 settle_fault no_settle.NoWorker = settle.NoWorker
@@ -137,13 +137,13 @@ settle_memory e = false
 abbrev pub GivesSettle : {X Y : Type 0} → (X → Y) → Result X SettleFault → Result Y SettleFault → Type 0
 GivesSettle = answer.Gives settle_memory
 
--- the vertex that a worker leaves, and how it stands then
+-- the vertex that a worker leaves, and its status then
 abbrev pub left_at : Build → Option At → Result (ℕ × Status) SettleFault
 left_at b None = Err settle.NoWorker
 left_at b (Some Idle) = Err settle.NotRunning
 left_at b (Some (Runs x)) = if is_finished (program_in b x).steps x then Ok (x.vertex, Settled (ending_from (program_in b x) x)) else Err settle.NotFinished
 
--- ---- what a cancel answers, and what it leaves
+-- ---- the result of a cancel, and what it leaves
 
 abbrev pub cancel_fault : CancelCause → CancelFault
 cancel_fault no_cancel.NoWorker = cancel.NoWorker

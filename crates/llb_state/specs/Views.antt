@@ -1,4 +1,4 @@
--- What the board's data stands for, in the words of the machine's definitions.
+-- What the board's data represents, in the words of the machine's definitions.
 use Rattle.std.specs.Prelude.{ℕ, Bool, List, map, Option, Some, None, option_map, slice_get, if◌then◌else◌}
 use Rattle.llb_cache.specs.Caches.{Row}
 use Rattle.llb_model.specs.Kept.{store_of}
@@ -24,7 +24,7 @@ use Rattle.llb_state.specs.declared.stand.Desk.{Desk}
 use Rattle.llb_state.specs.declared.stand.Desk.TheVariants as desk
 use Rattle.llb_state.specs.declared.stand.Execution.{Execution}
 
--- what stands at a vertex
+-- the status of a vertex
 abbrev pub status_of : Stand → model.Status
 status_of stand.Waiting = model.Waiting
 status_of (stand.Running w) = model.Running w

@@ -39,7 +39,7 @@ failed_text v = decimal v ++ codes " failed"
 abbrev pub pair_text : ℕ → ℕ → List ℕ
 pair_text a b = decimal a ++ (codes " " ++ decimal b)
 
--- a micro-step's fault; that of a command is told by its status
+-- a micro-step's fault; a command's is its status
 abbrev pub fault_text : VertexFault → List ℕ
 fault_text (vertex.Action a n) = codes "fault " ++ pair_text a n
 fault_text (vertex.Exit c s) = codes "ran " ++ pair_text c s

@@ -1,4 +1,4 @@
--- What the calls of a stepper answer.
+-- What the calls of a stepper return.
 use Rattle.std.specs.Prelude.{◌≡◌, ℕ, ◌<◌, Bool, true, false, List, take, Some, Result, Ok, Err, slice_get}
 use Rattle.std.specs.List.{list_any}
 use Rattle.llb_wire.specs.Answer as answer
@@ -12,7 +12,7 @@ use Rattle.llb_stepper.specs.declared.fault.StepperFault.{StepperFault}
 use Rattle.llb_stepper.specs.declared.fault.StepperFault.TheVariants as fault
 use Rattle.llb_stepper.specs.Stepping.{Stepping, GoesBack, answered, onward, meets, meets_at, run_on}
 
--- out of memory, of the board or of the stepper itself
+-- memory was refused to the board or to the stepper itself
 abbrev pub stepper_memory : StepperFault → Bool
 stepper_memory (fault.Board e) = walk_memory e
 stepper_memory fault.NothingBefore = false
@@ -30,7 +30,7 @@ done_by s (Err e) = Err (fault.Board e)
 abbrev pub done_of : Stepping → Event → Result Stepping StepperFault
 done_of s e = done_by s (walk_of s.board e)
 
--- the chosen event is refused only where it is out of memory
+-- the chosen event is refused only where memory is refused
 abbrev pub ChosenIsDone : Stepping → Type 0
 ChosenIsDone s = (e : Event) (fault : StepperFault) → chosen s.board.build s.board.state ≡ Some e → done_of s e ≡ Err fault → stepper_memory fault ≡ true
 
@@ -38,7 +38,7 @@ ChosenIsDone s = (e : Event) (fault : StepperFault) → chosen s.board.build s.b
 abbrev pub ThereAndBack : Stepping → Type 0
 ThereAndBack s = (e : Event) (t u : Stepping) → done_of s e ≡ Ok t → GoesBack t u → u ≡ s
 
--- one event was granted, and that tells whether it meets a breakpoint
+-- one event was granted, and the stop says whether it meets a breakpoint
 abbrev pub MeetsOn : Stepping → Event → Stepping → Bool → Type 0
 MeetsOn s e t met = (b : Seen) × (r : Reply) × (answered s.board e ≡ Some (b, r)) × (t ≡ onward s b) × (met ≡ list_any (meets e r) s.breaks)
 

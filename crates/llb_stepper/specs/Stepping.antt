@@ -145,7 +145,7 @@ unfoldable pub AreChosen : Seen → List Event → Type 0
 AreChosen b [] = Unit {0}
 AreChosen b (e ∷ es) = (chosen b.build b.state ≡ Some e) × ChosenThen (answered b e) (λ c. AreChosen c es)
 
--- the chosen events were done as a stop tells; where no breakpoint was met, up to where none is chosen
+-- the chosen events were done as a stop says; where no breakpoint was met, up to where none is chosen
 pub record IsGo (s t : Stepping) (p : Stop) : Type 0 where
   pub events : List Event
   pub are : AreChosen s.board events

@@ -1,4 +1,4 @@
--- Breakpoints and lines by what the board's own type tells of a reply, in which a claim's job is left out.
+-- Breakpoints and lines by the board's own type of replies, in which a claim's job is left out.
 use Rattle.std.specs.Prelude.{ℕ, ◌==◌, Bool, true, false, List, ◌++◌, codes, slice_get}
 use Rattle.std.specs.Fmt.{decimal}
 use Rattle.llb_loader.specs.declared.graph.Vertex.{Vertex}
@@ -61,7 +61,7 @@ told_text vertices e (reply.Cancelled c) = pair_text c.vertex c.done
 abbrev pub line_text : List Vertex → ℕ → Event → Reply → List ℕ
 line_text vertices number e r = decimal number ++ (codes " " ++ (event_text e ++ (codes " -> " ++ told_text vertices e r)))
 
--- an event with its reply, as the board's own types tell them
+-- an event with its reply, in the board's own types
 abbrev pub seen_pair : own.Event × Reply → Event × Reply
 seen_pair p = (event_of p.0, p.1)
 

@@ -1,4 +1,4 @@
--- Read first Answer (how an answer is stated, in every crate), Spelling (the grammar of the wire), Reading (a record from left to right, with its first
+-- Read first Answer (how a result is specified, in every crate), Spelling (the grammar of the wire), Reading (a record from left to right, with its first
 -- fault) and Records, then Sink (what takes bytes), Hexadecimal, Digest, Hashing and Faults. Laws are for those who rest on the grammar.
 pub mod Answer
 pub mod Spelling

@@ -17,7 +17,7 @@ varint_from more [] = Err Truncated
 varint_from zero (b ∷ bs) = if nat_lt 1 b then Err LongVarint else Ok (b, 1)
 varint_from (suc more) (b ∷ bs) = if nat_lt b 128 then Ok (b, 1) else (varint_from more bs >>= λ m. Ok (b - 128 + 128 * m.0, suc m.1))
 
--- what a varint of that many bytes and one stays below
+-- the number of the last n + 1 of a varint's ten bytes is below this
 abbrev pub varint_limit : ℕ → ℕ
 varint_limit zero = 2
 varint_limit (suc more) = 128 * varint_limit more
@@ -34,7 +34,7 @@ number_of n = if n == 0 then Err BadField else if nat_lt 536_870_911 n then Err 
 abbrev pub wire_of : ℕ → Result Wire WireFault
 wire_of code = if code == 0 then Ok Varint else if code == 1 then Ok I64 else if code == 2 then Ok Len else if code == 5 then Ok I32 else Err BadWireType
 
--- that many bytes from a place on, as a number
+-- the bytes of a fixed width at a place, as a number, and where they end
 abbrev pub fixed_at : Width → List ℕ → ℕ → Result (ℕ × ℕ) WireFault
 fixed_at w bytes at = if nat_lt (length (drop at bytes)) (byte_len w) then
     Err Truncated else Ok (from_le_bytes w (take (byte_len w) (drop at bytes)), at + byte_len w)

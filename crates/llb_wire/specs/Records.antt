@@ -8,7 +8,7 @@ use Rattle.llb_wire.specs.declared.field.Field.{Field}
 use Rattle.llb_wire.specs.Spelling.{code_of, IsFieldNumber, IsVarint, AreBytes, varint_text, value_text, record_text}
 use Rattle.llb_wire.specs.Reading.{next_field}
 
--- the payload, and the whole record's own bytes as they stand
+-- the payload, and the whole record's own bytes as they are
 pub record Record : Type 0 where
   pub number : ℕ
   pub wire : Wire
@@ -16,11 +16,11 @@ pub record Record : Type 0 where
   pub payload : List ℕ
   pub text : List ℕ
 
--- the record that stands at the start of the bytes
+-- the record at the start of the bytes
 abbrev pub record_of : List ℕ → Field → Record
 record_of bytes f = record { number = f.number; wire = f.wire; value = f.value; payload = drop f.start (take f.«end» bytes); text = take f.«end» bytes }
 
--- the record that stands at a place of the bytes
+-- the record at a place of the bytes
 abbrev pub record_at : List ℕ → ℕ → Field → Record
 record_at bytes at f = record {
   number = f.number;

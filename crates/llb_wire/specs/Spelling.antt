@@ -44,7 +44,7 @@ pub record CutVarint (bytes : List ℕ) (at : ℕ) : Type 0 where
   pub more : IsOpen (drop at bytes)
   pub few : length (drop at bytes) ≤ 9
 
--- that many bytes say that more come, and the one after them is above 1
+-- n bytes say that more follow, and the one after them is above 1
 abbrev pub IsLong : ℕ → List ℕ → Type 0
 IsLong more [] = ⊥
 IsLong zero (b ∷ bs) = 1 < b
@@ -140,7 +140,7 @@ pub record HasNoWire (bytes : List ℕ) (at : ℕ) : Type 0 where
   pub number : IsFieldNumber (tag / 8)
   pub none : (w : Wire) → tag % 8 ≢ code_of w
 
--- why no record is read at a place: each cause holds only where what stands before it in the record is good
+-- why no record is read at a place: each cause holds only where everything before it in the record is good
 abbrev pub RecordCause : List ℕ → ℕ → WireFault → Type 0
 RecordCause bytes at Truncated = CutVarint bytes at ⊎ BehindTag CutPayload bytes at
 RecordCause bytes at LongVarint = TenthAboveOne bytes at ⊎ BehindTag LongPayload bytes at
