@@ -84,7 +84,15 @@ impl Trial for OnTrees {
         let (base, twin) = tree_and_twin(rt, alloc, on);
         OnTrees {
             call,
-            op: op_of(rt, alloc, if call.contains(": ") { call } else { "rm: path \"/\"" }),
+            op: op_of(
+                rt,
+                alloc,
+                if call.contains(": ") {
+                    call
+                } else {
+                    "rm: path \"/\""
+                },
+            ),
             handed: two_copies(rt, alloc, &twin),
             base,
             twin,
@@ -113,7 +121,7 @@ impl Trial for OnTrees {
         }
     }
 
-    fn is_as_before(&self) -> bool {
+    fn is_as_before(&mut self, _rt: &impl Abort, _alloc: Global) -> bool {
         self.base.same(&self.twin) && self.second.same(&self.other)
     }
 }
@@ -128,21 +136,67 @@ const DIRS_AND_F: &str = "d 0755 0 0 /\nd 0755 0 0 /d\nd 0755 0 0 /d/f\nf 0644 0
 
 const D_AND_FILE: &str = "d 0755 0 0 /\nd 0755 0 0 /d\nf 0644 0 0 6869 /d/f\n";
 
-const D_FROM_S: &str = "d 0755 0 0 /\nd 0755 0 0 /d\nd 0755 0 0 /d/f\nd 0755 0 0 /d/s\nf 0644 0 0 6869 /d/s/f\n";
+const D_FROM_S: &str =
+    "d 0755 0 0 /\nd 0755 0 0 /d\nd 0755 0 0 /d/f\nd 0755 0 0 /d/s\nf 0644 0 0 6869 /d/s/f\n";
 
 const MKDIRS: &str = "d 0755 0 0 /\nf 0600 1 1 - /old\nd 0755 0 0 /x\nd 0755 0 0 /x/y\n";
 
 const ROWS: &[Row] = &[
     ("mkdir: path \"/d\", mode 493", "OLD", "53", OLD_AND_D),
-    ("mkdir: path \"/x/y\", mode 493, makeParents true", "copy of OLD", "53", MKDIRS),
-    ("mkfile: path \"/a\", mode 420, data 6869", "OLD", "53", OLD_AND_FILE),
-    ("mkfile: path \"/a\", mode 420, data 6869", "copy of OLD", "53", OLD_AND_FILE),
-    ("copy: src \"/f\", dest \"/d/\", mode -1, createDestPath true", "OLD with F", "53", OLD_AND_F),
-    ("copy: src \"/f\", dest \"/d/f\", mode -1", "D_F with F", "53", DIRS_AND_F),
-    ("copy: src \"/s\", dest \"/d\", mode -1", "D_F with S_F", "53", D_FROM_S),
-    ("copy: src \"/s\", dest \"/d\", mode -1, dirCopyContents true", "EMPTY with S_F", "53", D_AND_FILE),
-    ("copy: src \"*.c\", dest \"/d/\", allowWildcard true, allowEmptyWildcard true", "D_F with F", "53", "D_F"),
-    ("copy: src \"s*\", dest \"/d\", mode -1, allowWildcard true", "D_F with S_F", "53", D_FROM_S),
+    (
+        "mkdir: path \"/x/y\", mode 493, makeParents true",
+        "copy of OLD",
+        "53",
+        MKDIRS,
+    ),
+    (
+        "mkfile: path \"/a\", mode 420, data 6869",
+        "OLD",
+        "53",
+        OLD_AND_FILE,
+    ),
+    (
+        "mkfile: path \"/a\", mode 420, data 6869",
+        "copy of OLD",
+        "53",
+        OLD_AND_FILE,
+    ),
+    (
+        "copy: src \"/f\", dest \"/d/\", mode -1, createDestPath true",
+        "OLD with F",
+        "53",
+        OLD_AND_F,
+    ),
+    (
+        "copy: src \"/f\", dest \"/d/f\", mode -1",
+        "D_F with F",
+        "53",
+        DIRS_AND_F,
+    ),
+    (
+        "copy: src \"/s\", dest \"/d\", mode -1",
+        "D_F with S_F",
+        "53",
+        D_FROM_S,
+    ),
+    (
+        "copy: src \"/s\", dest \"/d\", mode -1, dirCopyContents true",
+        "EMPTY with S_F",
+        "53",
+        D_AND_FILE,
+    ),
+    (
+        "copy: src \"*.c\", dest \"/d/\", allowWildcard true, allowEmptyWildcard true",
+        "D_F with F",
+        "53",
+        "D_F",
+    ),
+    (
+        "copy: src \"s*\", dest \"/d\", mode -1, allowWildcard true",
+        "D_F with S_F",
+        "53",
+        D_FROM_S,
+    ),
     ("rm: path \"/old\"", "OLD", "53", "EMPTY"),
     ("rm: path \"/old\"", "copy of OLD", "53", "EMPTY"),
     ("rm: path \"o*\", allowWildcard true", "OLD", "53", "EMPTY"),

@@ -54,7 +54,9 @@ fn handed(rt: &impl Abort, alloc: Global, name: &str) -> Vec<(Text, Tree)> {
     let mut handed = Vec::new(alloc);
     for _ in 0..2 {
         let tree = tree_named(rt, alloc, "F");
-        handed.push((text_of(rt, alloc, name), tree)).expect(rt, "memory");
+        handed
+            .push((text_of(rt, alloc, name), tree))
+            .expect(rt, "memory");
     }
     handed
 }
@@ -111,7 +113,11 @@ impl Trial for OnGraph {
         let (call, on, _, _) = *row;
         let (written, locals) = on.split_once(" on ").unwrap_or((on, ""));
         let is_made = call == "load" || call == "link";
-        let graph = if is_made { "MAKES_A; RESULT 0" } else { written };
+        let graph = if is_made {
+            "MAKES_A; RESULT 0"
+        } else {
+            written
+        };
         OnGraph {
             call,
             definition: definition_of(rt, alloc, if call == "load" { written } else { graph }),
@@ -151,7 +157,7 @@ impl Trial for OnGraph {
         }
     }
 
-    fn is_as_before(&self) -> bool {
+    fn is_as_before(&mut self, _rt: &impl Abort, _alloc: Global) -> bool {
         self.graph.same(&self.other) && self.locals.same(&self.twin)
     }
 }
@@ -177,19 +183,44 @@ const P_OLD: &str = "p|d 0755 0 0 /\nf 0600 1 1 - /old\n";
 const ROWS: &[Row] = &[
     ("load", "MAKES_A; RESULT 0", "91", "1 0"),
     ("load", RUN, "91", "3 2"),
-    ("load", "locked: write /c/a x && false; RESULT 0", "91", "1 0"),
-    ("load", "sh: nosuch; RESULT 0", "91", "89 0 Script 71 nosuch"),
+    (
+        "load",
+        "locked: write /c/a x && false; RESULT 0",
+        "91",
+        "1 0",
+    ),
+    (
+        "load",
+        "sh: nosuch; RESULT 0",
+        "91",
+        "89 0 Script 71 nosuch",
+    ),
     ("load", "raw 3a00; RESULT 0", "91", "88 0 DiffOp"),
     ("link", " = a MAKES_A = b D_ON_A = t ON_B", "91", "2 1"),
     ("link", " = b D_ON_A = a MAKES_A = t ON_B", "91", "2 1"),
     ("link", " = a MAKES_A = b SCRIPT_ON_A = t ON_B", "91", "2 1"),
     ("Graph::copy", CHANGED, "", "3 2"),
-    ("Locals::add p", CHANGED, "92", "p|d 0755 0 0 /\nf 0644 0 0 6869 /f\n"),
+    (
+        "Locals::add p",
+        CHANGED,
+        "92",
+        "p|d 0755 0 0 /\nf 0644 0 0 6869 /f\n",
+    ),
     ("Locals::add q", ON_P, "", BOTH),
-    ("Locals::add p", ON_P, "", "p|d 0755 0 0 /\nf 0644 0 0 6869 /f\n"),
+    (
+        "Locals::add p",
+        ON_P,
+        "",
+        "p|d 0755 0 0 /\nf 0644 0 0 6869 /f\n",
+    ),
     ("Locals::copy", ON_P, "92", P_OLD),
     ("evaluate", MERGED, "103", "PR"),
-    ("evaluate", RUN_ON_BOTH, "103", "d 0755 0 0 /\nf 0644 0 0 6869 /y\n"),
+    (
+        "evaluate",
+        RUN_ON_BOTH,
+        "103",
+        "d 0755 0 0 /\nf 0644 0 0 6869 /y\n",
+    ),
     ("evaluate", ON_BOTH, "103", D_AND_F),
     ("evaluate", ON_P, "103", "101 q"),
 ];

@@ -5,6 +5,10 @@
 #[cfg(test)]
 mod actions;
 #[cfg(test)]
+mod boards;
+#[cfg(test)]
+mod caches;
+#[cfg(test)]
 mod entries;
 #[cfg(test)]
 mod graphs;
@@ -13,7 +17,13 @@ mod growths;
 #[cfg(test)]
 mod ops;
 #[cfg(test)]
+mod programs;
+#[cfg(test)]
+mod runs;
+#[cfg(test)]
 mod scripts;
+#[cfg(test)]
+mod steppers;
 #[cfg(test)]
 mod texts;
 #[cfg(test)]

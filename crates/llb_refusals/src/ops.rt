@@ -121,31 +121,40 @@ impl Trial for OnEntries {
         }
     }
 
-    fn is_as_before(&self) -> bool {
+    fn is_as_before(&mut self, _rt: &impl Abort, _alloc: Global) -> bool {
         self.op.same(&self.other) && all_same(self.entries.as_slice(), self.twin.as_slice())
     }
 }
 
 // A file `/a` with the content `hi` on nothing.
-const A: &str = "raw 2230122e08ffffffffffffffffff0110ffffffffffffffffff012a160a022f6110a4031a02686928ffffffffffffffffff01";
+const A: &str =
+    "raw 2230122e08ffffffffffffffffff0110ffffffffffffffffff012a160a022f6110a4031a02686928ffffffffffffffffff01";
 
-const A_BYTES: &str = "2230122e08ffffffffffffffffff0110ffffffffffffffffff012a160a022f6110a4031a02686928ffffffffffffffffff01";
+const A_BYTES: &str =
+    "2230122e08ffffffffffffffffff0110ffffffffffffffffff012a160a022f6110a4031a02686928ffffffffffffffffff01";
 
 // A merge of nothing, with a platform and constraints.
 const MERGE: &str = "raw 320d0a0b08ffffffffffffffffff01520e0a05616d64363412056c696e75785a00";
 
 const MERGE_BYTES: &str = "320d0a0b08ffffffffffffffffff01520e0a05616d64363412056c696e75785a00";
 
-const TWO: &str = "raw 2230122e08ffffffffffffffffff0110ffffffffffffffffff012a160a022f6110a4031a02686928ffffffffffffffffff01; RESULT 0";
+const TWO: &str =
+    "raw 2230122e08ffffffffffffffffff0110ffffffffffffffffff012a160a022f6110a4031a02686928ffffffffffffffffff01; RESULT 0";
 
-const TWO_BYTES: &str = "0a322230122e08ffffffffffffffffff0110ffffffffffffffffff012a160a022f6110a4031a02686928ffffffffffffffffff01\
+const TWO_BYTES: &str =
+    "0a322230122e08ffffffffffffffffff0110ffffffffffffffffff012a160a022f6110a4031a02686928ffffffffffffffffff01\
     0a4b0a490a477368613235363a65303064363535393738393537393066376463323664626637323461343131626438336338653135383831616233656561313865613735303935373832646162";
 
 const ROWS: &[Row] = &[
     ("read_op", A, "14", A_BYTES),
     ("read_op", MERGE, "14", MERGE_BYTES),
     ("read_op", "raw b20000", "14", "3200"),
-    ("read_op", "raw 32020a00320d0a0b08ffffffffffffffffff01", "14", "320f0a000a0b08ffffffffffffffffff01"),
+    (
+        "read_op",
+        "raw 32020a00320d0a0b08ffffffffffffffffff01",
+        "14",
+        "320f0a000a0b08ffffffffffffffffff01",
+    ),
     ("write_op", A, "14", A_BYTES),
     ("write_op", MERGE, "14", MERGE_BYTES),
     ("write_op", "raw 0a0410011002", "14", "0a021002"),

@@ -3,9 +3,7 @@
 use super::growths::{Row, Trial, are_refused};
 use super::told::{fault_told, path_of, say, text_of, text_told, tree_told};
 use super::written::tree_named;
-use llb_applet::{
-    Command, Joined, Script, ScriptFault, Setting, View, read_script, run_command,
-};
+use llb_applet::{Command, Joined, Script, ScriptFault, Setting, View, read_script, run_command};
 use llb_mount::Shown;
 use llb_wire::{Many, Same, Text};
 use std::alloc::Global;
@@ -73,7 +71,13 @@ fn setting_of(rt: &impl Abort, alloc: Global) -> Setting {
     }
 }
 
-fn push_mount(rt: &impl Abort, mounts: &mut Vec<Shown>, dest: &str, from: &str, tree: &'static str) {
+fn push_mount(
+    rt: &impl Abort,
+    mounts: &mut Vec<Shown>,
+    dest: &str,
+    from: &str,
+    tree: &'static str,
+) {
     let alloc = *mounts.allocator();
     let shown = Shown {
         dest: path_of(rt, alloc, dest),
@@ -158,7 +162,11 @@ fn ran_told(rt: &impl Abort, alloc: Global, status: u8, view: &View) -> String {
 
 impl OnView {
     fn is_same_script(&self, script: &Script) -> &'static str {
-        if script.same(&self.script) { "the script" } else { "another" }
+        if script.same(&self.script) {
+            "the script"
+        } else {
+            "another"
+        }
     }
 
     fn is_same_command(&self, command: &Command) -> &'static str {
@@ -173,7 +181,10 @@ impl Trial for OnView {
     fn ready(rt: &impl Abort, alloc: Global, row: &Row) -> OnView {
         let (call, on, _, _) = *row;
         let (text, root) = on.split_once(" on ").unwrap_or((on, "EMPTY"));
-        let view = view_of(rt, mounts_of(rt, alloc, root.trim_start_matches("copy of ")));
+        let view = view_of(
+            rt,
+            mounts_of(rt, alloc, root.trim_start_matches("copy of ")),
+        );
         let twin = if root.starts_with("copy of ") {
             view.copy().expect(rt, "memory")
         } else {
@@ -222,14 +233,15 @@ impl Trial for OnView {
         }
     }
 
-    fn is_as_before(&self) -> bool {
+    fn is_as_before(&mut self, _rt: &impl Abort, _alloc: Global) -> bool {
         self.view.same(&self.twin)
     }
 }
 
 const SCRIPT: &str = "cp /t/in/f /t/x && cp /t/x /y && write /t/in/g k";
 
-const MOUNTED: &str = "|d 0755 0 0 /\n|d 0755 0 0 /\n|d 0755 0 0 /\nd 0755 0 0 /sub\nf 0644 0 0 6869 /sub/f\n";
+const MOUNTED: &str =
+    "|d 0755 0 0 /\n|d 0755 0 0 /\n|d 0755 0 0 /\nd 0755 0 0 /sub\nf 0644 0 0 6869 /sub/f\n";
 
 const ROWS: &[Row] = &[
     ("View::make", SCRIPT, "", MOUNTED),
@@ -237,31 +249,141 @@ const ROWS: &[Row] = &[
     ("Shown::copy", SCRIPT, "62", "SUB"),
     ("Setting::copy", SCRIPT, "75", "1"),
     ("read_script", SCRIPT, "74", "the script"),
-    ("read_script", "false || write /x a ; true", "74", "the script"),
+    (
+        "read_script",
+        "false || write /x a ; true",
+        "74",
+        "the script",
+    ),
     ("read_script", "true && nosuch", "74", "71 nosuch"),
     ("Script::copy", SCRIPT, "74", "the script"),
     ("Command::copy", SCRIPT, "74", "the command"),
-    ("run_command", "cp /t/in/f /t/x on EMPTY", "75", "0|d 0755 0 0 /\n|d 0755 0 0 /\nf 0644 0 0 6869 /x\n|d 0755 0 0 /\nd 0755 0 0 /sub\nf 0644 0 0 6869 /sub/f\n"),
-    ("run_command", "cp /t/in/f /t/x on copy of EMPTY", "75", "0|d 0755 0 0 /\n|d 0755 0 0 /\nf 0644 0 0 6869 /x\n|d 0755 0 0 /\nd 0755 0 0 /sub\nf 0644 0 0 6869 /sub/f\n"),
-    ("run_command", "cp /t/in/f /y on EMPTY", "75", "0|d 0755 0 0 /\nf 0644 0 0 6869 /y\n|d 0755 0 0 /\n|d 0755 0 0 /\nd 0755 0 0 /sub\nf 0644 0 0 6869 /sub/f\n"),
-    ("run_command", "write /t/in/g k on EMPTY", "75", "0|d 0755 0 0 /\n|d 0755 0 0 /\n|d 0755 0 0 /\nd 0755 0 0 /sub\nf 0644 0 0 6869 /sub/f\nf 0644 0 0 6b0a /sub/g\n"),
-    ("run_command", "write /t/in/g k on copy of EMPTY", "75", "0|d 0755 0 0 /\n|d 0755 0 0 /\n|d 0755 0 0 /\nd 0755 0 0 /sub\nf 0644 0 0 6869 /sub/f\nf 0644 0 0 6b0a /sub/g\n"),
-    ("run_command", "write /c/a x on EMPTY", "75", "1|d 0755 0 0 /\n|d 0755 0 0 /\n|d 0755 0 0 /\nd 0755 0 0 /sub\nf 0644 0 0 6869 /sub/f\n"),
-    ("run_command", "sha256 /f /h on ABC", "75", "0|d 0755 0 0 /\nf 0644 0 0 616263 /f\nf 0644 0 0 626137383136626638663031636665613431343134306465356461653232323362303033363161333936313737613963623431306666363166323030313561640a /h\n|d 0755 0 0 /\n|d 0755 0 0 /\nd 0755 0 0 /sub\nf 0644 0 0 6869 /sub/f\n"),
-    ("run_command", "mkdir -p /a on A", "75", "0|d 0755 0 0 /\nd 0755 0 0 /a\n|d 0755 0 0 /\n|d 0755 0 0 /\nd 0755 0 0 /sub\nf 0644 0 0 6869 /sub/f\n"),
-    ("run_command", "mkdir -p /x/y on EMPTY", "75", "0|d 0755 0 0 /\nd 0755 0 0 /x\nd 0755 0 0 /x/y\n|d 0755 0 0 /\n|d 0755 0 0 /\nd 0755 0 0 /sub\nf 0644 0 0 6869 /sub/f\n"),
-    ("run_command", "mkdir -p /x/y on copy of EMPTY", "75", "0|d 0755 0 0 /\nd 0755 0 0 /x\nd 0755 0 0 /x/y\n|d 0755 0 0 /\n|d 0755 0 0 /\nd 0755 0 0 /sub\nf 0644 0 0 6869 /sub/f\n"),
-    ("run_command", "mkdir /a on A", "75", "1|d 0755 0 0 /\nd 0755 0 0 /a\n|d 0755 0 0 /\n|d 0755 0 0 /\nd 0755 0 0 /sub\nf 0644 0 0 6869 /sub/f\n"),
-    ("run_command", "rm /f on copy of ABC", "75", "0|d 0755 0 0 /\n|d 0755 0 0 /\n|d 0755 0 0 /\nd 0755 0 0 /sub\nf 0644 0 0 6869 /sub/f\n"),
-    ("run_command", "append /f k on copy of ABC", "75", "0|d 0755 0 0 /\nf 0644 0 0 6162636b0a /f\n|d 0755 0 0 /\n|d 0755 0 0 /\nd 0755 0 0 /sub\nf 0644 0 0 6869 /sub/f\n"),
-    ("run_command", "append /f k on ABC", "75", "0|d 0755 0 0 /\nf 0644 0 0 6162636b0a /f\n|d 0755 0 0 /\n|d 0755 0 0 /\nd 0755 0 0 /sub\nf 0644 0 0 6869 /sub/f\n"),
-    ("run_command", "concat /g /f /f on ABC", "75", "0|d 0755 0 0 /\nf 0644 0 0 616263 /f\nf 0644 0 0 616263616263 /g\n|d 0755 0 0 /\n|d 0755 0 0 /\nd 0755 0 0 /sub\nf 0644 0 0 6869 /sub/f\n"),
-    ("run_command", "chmod 0600 /f on copy of ABC", "75", "0|d 0755 0 0 /\nf 0600 0 0 616263 /f\n|d 0755 0 0 /\n|d 0755 0 0 /\nd 0755 0 0 /sub\nf 0644 0 0 6869 /sub/f\n"),
-    ("run_command", "test -f /f on ABC", "75", "0|d 0755 0 0 /\nf 0644 0 0 616263 /f\n|d 0755 0 0 /\n|d 0755 0 0 /\nd 0755 0 0 /sub\nf 0644 0 0 6869 /sub/f\n"),
-    ("run_command", "listing /t/in /l on EMPTY", "75", "0|d 0755 0 0 /\nf 0644 0 0 660a /l\n|d 0755 0 0 /\n|d 0755 0 0 /\nd 0755 0 0 /sub\nf 0644 0 0 6869 /sub/f\n"),
-    ("run_command", "envfile /e on EMPTY", "75", "0|d 0755 0 0 /\nf 0644 0 0 413d310a /e\n|d 0755 0 0 /\n|d 0755 0 0 /\nd 0755 0 0 /sub\nf 0644 0 0 6869 /sub/f\n"),
-    ("run_command", "true on EMPTY", "", "0|d 0755 0 0 /\n|d 0755 0 0 /\n|d 0755 0 0 /\nd 0755 0 0 /sub\nf 0644 0 0 6869 /sub/f\n"),
-    ("run_command", "false on EMPTY", "", "1|d 0755 0 0 /\n|d 0755 0 0 /\n|d 0755 0 0 /\nd 0755 0 0 /sub\nf 0644 0 0 6869 /sub/f\n"),
+    (
+        "run_command",
+        "cp /t/in/f /t/x on EMPTY",
+        "75",
+        "0|d 0755 0 0 /\n|d 0755 0 0 /\nf 0644 0 0 6869 /x\n|d 0755 0 0 /\nd 0755 0 0 /sub\nf 0644 0 0 6869 /sub/f\n",
+    ),
+    (
+        "run_command",
+        "cp /t/in/f /t/x on copy of EMPTY",
+        "75",
+        "0|d 0755 0 0 /\n|d 0755 0 0 /\nf 0644 0 0 6869 /x\n|d 0755 0 0 /\nd 0755 0 0 /sub\nf 0644 0 0 6869 /sub/f\n",
+    ),
+    (
+        "run_command",
+        "cp /t/in/f /y on EMPTY",
+        "75",
+        "0|d 0755 0 0 /\nf 0644 0 0 6869 /y\n|d 0755 0 0 /\n|d 0755 0 0 /\nd 0755 0 0 /sub\nf 0644 0 0 6869 /sub/f\n",
+    ),
+    (
+        "run_command",
+        "write /t/in/g k on EMPTY",
+        "75",
+        "0|d 0755 0 0 /\n|d 0755 0 0 /\n|d 0755 0 0 /\nd 0755 0 0 /sub\nf 0644 0 0 6869 /sub/f\nf 0644 0 0 6b0a /sub/g\n",
+    ),
+    (
+        "run_command",
+        "write /t/in/g k on copy of EMPTY",
+        "75",
+        "0|d 0755 0 0 /\n|d 0755 0 0 /\n|d 0755 0 0 /\nd 0755 0 0 /sub\nf 0644 0 0 6869 /sub/f\nf 0644 0 0 6b0a /sub/g\n",
+    ),
+    (
+        "run_command",
+        "write /c/a x on EMPTY",
+        "75",
+        "1|d 0755 0 0 /\n|d 0755 0 0 /\n|d 0755 0 0 /\nd 0755 0 0 /sub\nf 0644 0 0 6869 /sub/f\n",
+    ),
+    (
+        "run_command",
+        "sha256 /f /h on ABC",
+        "75",
+        "0|d 0755 0 0 /\nf 0644 0 0 616263 /f\nf 0644 0 0 626137383136626638663031636665613431343134306465356461653232323362303033363161333936313737613963623431306666363166323030313561640a /h\n|d 0755 0 0 /\n|d 0755 0 0 /\nd 0755 0 0 /sub\nf 0644 0 0 6869 /sub/f\n",
+    ),
+    (
+        "run_command",
+        "mkdir -p /a on A",
+        "75",
+        "0|d 0755 0 0 /\nd 0755 0 0 /a\n|d 0755 0 0 /\n|d 0755 0 0 /\nd 0755 0 0 /sub\nf 0644 0 0 6869 /sub/f\n",
+    ),
+    (
+        "run_command",
+        "mkdir -p /x/y on EMPTY",
+        "75",
+        "0|d 0755 0 0 /\nd 0755 0 0 /x\nd 0755 0 0 /x/y\n|d 0755 0 0 /\n|d 0755 0 0 /\nd 0755 0 0 /sub\nf 0644 0 0 6869 /sub/f\n",
+    ),
+    (
+        "run_command",
+        "mkdir -p /x/y on copy of EMPTY",
+        "75",
+        "0|d 0755 0 0 /\nd 0755 0 0 /x\nd 0755 0 0 /x/y\n|d 0755 0 0 /\n|d 0755 0 0 /\nd 0755 0 0 /sub\nf 0644 0 0 6869 /sub/f\n",
+    ),
+    (
+        "run_command",
+        "mkdir /a on A",
+        "75",
+        "1|d 0755 0 0 /\nd 0755 0 0 /a\n|d 0755 0 0 /\n|d 0755 0 0 /\nd 0755 0 0 /sub\nf 0644 0 0 6869 /sub/f\n",
+    ),
+    (
+        "run_command",
+        "rm /f on copy of ABC",
+        "75",
+        "0|d 0755 0 0 /\n|d 0755 0 0 /\n|d 0755 0 0 /\nd 0755 0 0 /sub\nf 0644 0 0 6869 /sub/f\n",
+    ),
+    (
+        "run_command",
+        "append /f k on copy of ABC",
+        "75",
+        "0|d 0755 0 0 /\nf 0644 0 0 6162636b0a /f\n|d 0755 0 0 /\n|d 0755 0 0 /\nd 0755 0 0 /sub\nf 0644 0 0 6869 /sub/f\n",
+    ),
+    (
+        "run_command",
+        "append /f k on ABC",
+        "75",
+        "0|d 0755 0 0 /\nf 0644 0 0 6162636b0a /f\n|d 0755 0 0 /\n|d 0755 0 0 /\nd 0755 0 0 /sub\nf 0644 0 0 6869 /sub/f\n",
+    ),
+    (
+        "run_command",
+        "concat /g /f /f on ABC",
+        "75",
+        "0|d 0755 0 0 /\nf 0644 0 0 616263 /f\nf 0644 0 0 616263616263 /g\n|d 0755 0 0 /\n|d 0755 0 0 /\nd 0755 0 0 /sub\nf 0644 0 0 6869 /sub/f\n",
+    ),
+    (
+        "run_command",
+        "chmod 0600 /f on copy of ABC",
+        "75",
+        "0|d 0755 0 0 /\nf 0600 0 0 616263 /f\n|d 0755 0 0 /\n|d 0755 0 0 /\nd 0755 0 0 /sub\nf 0644 0 0 6869 /sub/f\n",
+    ),
+    (
+        "run_command",
+        "test -f /f on ABC",
+        "75",
+        "0|d 0755 0 0 /\nf 0644 0 0 616263 /f\n|d 0755 0 0 /\n|d 0755 0 0 /\nd 0755 0 0 /sub\nf 0644 0 0 6869 /sub/f\n",
+    ),
+    (
+        "run_command",
+        "listing /t/in /l on EMPTY",
+        "75",
+        "0|d 0755 0 0 /\nf 0644 0 0 660a /l\n|d 0755 0 0 /\n|d 0755 0 0 /\nd 0755 0 0 /sub\nf 0644 0 0 6869 /sub/f\n",
+    ),
+    (
+        "run_command",
+        "envfile /e on EMPTY",
+        "75",
+        "0|d 0755 0 0 /\nf 0644 0 0 413d310a /e\n|d 0755 0 0 /\n|d 0755 0 0 /\nd 0755 0 0 /sub\nf 0644 0 0 6869 /sub/f\n",
+    ),
+    (
+        "run_command",
+        "true on EMPTY",
+        "",
+        "0|d 0755 0 0 /\n|d 0755 0 0 /\n|d 0755 0 0 /\nd 0755 0 0 /sub\nf 0644 0 0 6869 /sub/f\n",
+    ),
+    (
+        "run_command",
+        "false on EMPTY",
+        "",
+        "1|d 0755 0 0 /\n|d 0755 0 0 /\n|d 0755 0 0 /\nd 0755 0 0 /sub\nf 0644 0 0 6869 /sub/f\n",
+    ),
 ];
 
 #[test]

@@ -153,7 +153,7 @@ impl Trial for OnText {
     }
 
     // What was written is the beginning of what is to be written.
-    fn is_as_before(&self) -> bool {
+    fn is_as_before(&mut self, _rt: &impl Abort, _alloc: Global) -> bool {
         self.wanted.as_bytes().starts_with(self.out.as_slice())
             && self.tree.same(&self.twin)
             && all_same(self.entries.as_slice(), self.others.as_slice())
@@ -163,9 +163,11 @@ impl Trial for OnText {
 // A merge of nothing, with a platform and constraints.
 const MERGE: &str = "raw 320d0a0b08ffffffffffffffffff01520e0a05616d64363412056c696e75785a00";
 
-const MERGE_DEFINITION: &str = "0a21320d0a0b08ffffffffffffffffff01520e0a05616d64363412056c696e75785a00";
+const MERGE_DEFINITION: &str =
+    "0a21320d0a0b08ffffffffffffffffff01520e0a05616d64363412056c696e75785a00";
 
-const MERGE_TEXT: &str = "op {\n  merge {\n    inputs {\n      input -1\n    }\n  }\n  extra 520e0a05616d64363412056c696e75785a00\n}\n";
+const MERGE_TEXT: &str =
+    "op {\n  merge {\n    inputs {\n      input -1\n    }\n  }\n  extra 520e0a05616d64363412056c696e75785a00\n}\n";
 
 const A_DEFINITION: &str = "0a1c221a121808ffffffffffffffffff012a0b0a022f6110a4031a026869";
 

@@ -119,7 +119,7 @@ impl Trial for OnTree {
         }
     }
 
-    fn is_as_before(&self) -> bool {
+    fn is_as_before(&mut self, _rt: &impl Abort, _alloc: Global) -> bool {
         self.tree.same(&self.twin)
     }
 }
@@ -150,7 +150,12 @@ const ROWS: &[Row] = &[
     ("graft /z", "A", "27", A_AND_Z),
     ("graft /z", "A_B", "27", A_B_AND_Z),
     ("graft /z", "copy of A_B", "27", A_B_AND_Z),
-    ("subtree /a", "A_B", "", "d 0755 0 0 /\nf 0644 0 0 6869 /b\n"),
+    (
+        "subtree /a",
+        "A_B",
+        "",
+        "d 0755 0 0 /\nf 0644 0 0 6869 /b\n",
+    ),
     ("copy", "A_B", "", "A_B"),
     ("list /a", "A_B", "27", " b"),
     ("list /", "A", "27", " a"),

@@ -45,7 +45,7 @@ impl Trial for OnBytes {
         }
     }
 
-    fn is_as_before(&self) -> bool {
+    fn is_as_before(&mut self, _rt: &impl Abort, _alloc: Global) -> bool {
         self.out.len() == self.before && self.out.starts_with(b"0123456".as_slice())
     }
 }
@@ -53,10 +53,30 @@ impl Trial for OnBytes {
 const ROWS: &[Row] = &[
     ("write_varint 300", "0123456", "5", "30313233343536ac02"),
     ("write_varint 300", "01234567", "5", "3031323334353637ac02"),
-    ("write_record 1 Varint 150", "0123456", "5", "30313233343536089601"),
-    ("write_record 1 Varint 150", "01234567", "5", "3031323334353637089601"),
-    ("write_record 3 LEN /a", "0123456", "5", "303132333435361a022f61"),
-    ("write_record 3 LEN /a", "01234567", "5", "30313233343536371a022f61"),
+    (
+        "write_record 1 Varint 150",
+        "0123456",
+        "5",
+        "30313233343536089601",
+    ),
+    (
+        "write_record 1 Varint 150",
+        "01234567",
+        "5",
+        "3031323334353637089601",
+    ),
+    (
+        "write_record 3 LEN /a",
+        "0123456",
+        "5",
+        "303132333435361a022f61",
+    ),
+    (
+        "write_record 3 LEN /a",
+        "01234567",
+        "5",
+        "30313233343536371a022f61",
+    ),
 ];
 
 #[test]
