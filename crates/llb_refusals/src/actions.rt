@@ -181,6 +181,12 @@ const ROWS: &[Row] = &[
     ),
     (
         "copy: src \"/s\", dest \"/d\", mode -1, dirCopyContents true",
+        "D with S_F",
+        "53",
+        D_AND_FILE,
+    ),
+    (
+        "copy: src \"/s\", dest \"/d\", mode -1, dirCopyContents true",
         "EMPTY with S_F",
         "53",
         D_AND_FILE,

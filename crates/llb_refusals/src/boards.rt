@@ -244,7 +244,7 @@ fn openings(rt: HostRuntime) {
     are_refused::<OnParts>(&rt, rt.alloc(), OPENINGS);
 }
 
-// A board, one that is the same, and one on which the event was done that is asked for; and jobs for two calls that take them.
+// A board, one that is the same, and one on which the event was done that is asked for; and jobs for calls that take them.
 #[derive(Drop)]
 struct OnBoard {
     call: &'static str,
@@ -256,8 +256,8 @@ struct OnBoard {
 }
 
 // The job of a claim.
-fn push_job(rt: &impl Abort, jobs: &mut Vec<Job>, board: &mut Board, w: u32, v: u32) {
-    match claimed(board, w, v) {
+fn push_job(rt: &impl Abort, jobs: &mut Vec<Job>, board: &mut Board, v: u32) {
+    match claimed(board, 0, v) {
         Answer::Claimed(Ok(job)) => jobs.push(job).expect(rt, "memory"),
         _ => panic!(rt; "no job"),
     }
@@ -333,11 +333,11 @@ impl Trial for OnBoard {
         let mut twin = board_of(rt, alloc, &written);
         let mut goal = board_of(rt, alloc, &written);
         let mut jobs = Vec::new(alloc);
-        if call == "work" {
-            push_job(rt, &mut jobs, &mut board, 0, 0);
-            push_job(rt, &mut jobs, &mut goal, 0, 0);
-            push_job(rt, &mut jobs, &mut twin, 0, 0);
-            let _ = jobs.pop();
+        if let Some(vertex) = call.strip_prefix("work ") {
+            let v = vertex.parse::<u32>().ok().expect(rt, "a number");
+            push_job(rt, &mut jobs, &mut board, v);
+            push_job(rt, &mut jobs, &mut goal, v);
+            push_job(rt, &mut jobs, &mut twin, v);
         } else {
             let _ = board_called(&mut goal, call);
         }
@@ -358,8 +358,8 @@ impl Trial for OnBoard {
         self.answer = match self.call {
             "Board::copy" => Answer::Copied(self.board.copy()),
             "Events::copy" => Answer::Events(self.board.events().copy()),
-            "work" => worked(alloc, &mut self.jobs),
-            _ => board_called(&mut self.board, self.call),
+            call if call.starts_with("work ") => worked(alloc, &mut self.jobs),
+            call => board_called(&mut self.board, call),
         };
     }
 
@@ -430,16 +430,17 @@ const ROWS: &[Row] = &[
     ("step 0", SKIPS, "", "Skipped(1), the board"),
     ("Board::copy", LOCKED_ONCE, "141", "the board"),
     ("Events::copy", LOCKED_ONCE, "141", "the events"),
-    ("work", TWO_FILES, "142", "1 done, false"),
-    ("work", LOCKED, "142", "1 done, false"),
+    ("work 0", TWO_FILES, "142", "1 done, false"),
+    ("work 0", LOCKED, "142", "1 done, false"),
+    ("work 2", ON_VIEW, "142", "3 done, false"),
     (
-        "work",
+        "work 0",
         "2: locked: write /c/a x && false; RESULT 0",
         "142",
         "2 done, true",
     ),
     (
-        "work",
+        "work 0",
         "2: sh: write /x a || false && write /y b; RESULT 0",
         "142",
         "3 done, false",

@@ -4,7 +4,7 @@ use super::boards::{Open, TWO_FILES, are_same, board_in, board_on};
 use super::growths::{MOST, Row, Trial, are_refused, is_lack, print_count, refuse, was_refused};
 use super::told::{fault_told, is_same, text_told, tree_told};
 use super::written::tree_text;
-use llb_board::Board;
+use llb_board::{At, Board};
 use llb_ready::{ReadyFault, ReadyQueue};
 use llb_stepper::Stepper;
 use llb_work::{RunEnd, run_alone, run_workers};
@@ -129,6 +129,16 @@ fn crew<R: Threads + Wait + Sync>(rt: &R, alloc: Global, board: Board) -> RunEnd
     run_workers(rt, alloc, board, &Open)
 }
 
+// Whether no worker runs anything, and no cache is held.
+fn are_idle(board: &Board) -> bool {
+    for w in 0..64 {
+        if matches!(board.worker(w), Some(At::Runs(..))) {
+            return false;
+        }
+    }
+    board.caches().leases() == 0
+}
+
 fn alone_told(rt: &impl Abort, alloc: Global, board: Board) -> String {
     end_told(rt, alloc, &alone(board))
 }
@@ -148,6 +158,7 @@ fn is_growth<R: Abort + Threads + Wait + Sync>(rt: &R, alloc: Global, row: &Row,
         "growth {k}: {told}"
     );
     assert!(rt; is_replayed(alloc, &end, opened), "growth {k}");
+    assert!(rt; are_idle(&end.board), "growth {k}");
     let RunEnd {
         board,
         made: _,

@@ -1,7 +1,7 @@
 //! What is told of values.
 
 use llb_tree::{Path, Tree};
-use llb_treetext::{print_tree, read_tree};
+use llb_treetext::{print_tree, read_tree, tree_digest};
 use llb_wire::{Over, Text, push_hex};
 use std::alloc::Global;
 use std::fmt::Display;
@@ -41,10 +41,18 @@ pub(crate) fn path_told(rt: &impl Abort, alloc: Global, path: &Path) -> String {
     text
 }
 
-// A tree by its text.
+fn digest_told(rt: &impl Abort, alloc: Global, tree: &Tree) -> String {
+    let digest = tree_digest(alloc, tree).expect(rt, "memory");
+    text_told(rt, alloc, digest.as_str())
+}
+
+// A tree by its text, or by its digest where that is long.
 pub(crate) fn tree_told(rt: &impl Abort, alloc: Global, tree: &Tree) -> String {
     let mut text = Vec::new(alloc);
     print_tree(alloc, tree, &mut Over::new(&mut text)).expect(rt, "memory");
+    if text.len() > 1000 {
+        return digest_told(rt, alloc, tree);
+    }
     String::from_utf8(text).ok().expect(rt, "a text")
 }
 

@@ -129,6 +129,8 @@ const A_AND_Z: &str = "d 0755 0 0 /\nd 0755 0 0 /a\nd 0755 0 0 /z\nf 0644 0 0 68
 const A_B_AND_Z: &str =
     "d 0755 0 0 /\nd 0755 0 0 /a\nf 0644 0 0 6869 /a/b\nd 0755 0 0 /z\nf 0644 0 0 6869 /z/b\n";
 
+const WITH_500: &str = "sha256:78d831ae104aef4e90db47bae37161b498ed53d324d8f1e2743c1b7a5406b731";
+
 const ROWS: &[Row] = &[
     ("read /a/b/c", "EMPTY", "27", "/a/b/c"),
     ("read a//b/../c", "EMPTY", "27", "/a/c"),
@@ -139,6 +141,8 @@ const ROWS: &[Row] = &[
     ("put_file /a/b", "copy of A", "27", "A_B"),
     ("put_file /a/b", "A_B", "27", "A_B"),
     ("put_file /a/b", "copy of A_B", "27", "A_B"),
+    ("put_file /d/500", "WIDE", "27", WITH_500),
+    ("put_file /d/500", "copy of WIDE", "27", WITH_500),
     ("put_dir /a", "EMPTY", "27", "A"),
     ("put_dir /a", "copy of EMPTY", "27", "A"),
     ("put_dir /", "A", "", "A"),

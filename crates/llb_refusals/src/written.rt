@@ -20,6 +20,7 @@ const TREES: &[(&str, &str)] = &[
     ("A_B", "d 0755 0 0 /\nd 0755 0 0 /a\nf 0644 0 0 6869 /a/b\n"),
     ("OLD", "d 0755 0 0 /\nf 0600 1 1 - /old\n"),
     ("F", "d 0755 0 0 /\nf 0644 0 0 6869 /f\n"),
+    ("D", "d 0755 0 0 /\nd 0755 0 0 /d\n"),
     ("D_F", "d 0755 0 0 /\nd 0755 0 0 /d\nd 0755 0 0 /d/f\n"),
     ("ABC", "d 0755 0 0 /\nf 0644 0 0 616263 /f\n"),
     ("PQ", "d 0755 0 0 /\nd 0755 0 0 /p\nf 0644 0 0 31 /p/q\n"),
@@ -42,9 +43,22 @@ pub(crate) fn tree_text(name: &'static str) -> &'static str {
     name
 }
 
+// A directory `/d` with the empty files `000` to `999`.
+fn wide_tree(rt: &impl Abort, alloc: Global) -> Tree {
+    let mut text = String::new(alloc);
+    say(rt, &mut text, "d 0755 0 0 /\nd 0755 0 0 /d\n");
+    for number in 0..1000u32 {
+        write!(text, "f 0644 0 0 - /d/{number:03}\n").expect(rt, "memory");
+    }
+    tree_of(rt, alloc, text.as_str())
+}
+
 /// The tree of that name.
 pub(crate) fn tree_named(rt: &impl Abort, alloc: Global, name: &'static str) -> Tree {
-    tree_of(rt, alloc, tree_text(name))
+    match name {
+        "WIDE" => wide_tree(rt, alloc),
+        _ => tree_of(rt, alloc, tree_text(name)),
+    }
 }
 
 /// A tree, and another that is the same: a copy, which shares its nodes, where `copy of` stands before the name; else one that is made in
