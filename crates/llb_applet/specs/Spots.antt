@@ -81,6 +81,10 @@ abbrev pub dirs_below : TreeMap → List (List ℕ) → List (List ℕ) → Resu
 dirs_below t p [] = Ok t
 dirs_below t p (n ∷ ns) = answer.◌>>=◌ (dir_at t (p ++ n ∷ [])) (λ next. dirs_below next (p ++ n ∷ []) ns)
 
+-- a directory is made, and directories for these names below it
+abbrev pub put_then_below : TreeMap → List (List ℕ) → List (List ℕ) → Result TreeMap TreeFault
+put_then_below t p ns = answer.◌>>=◌ (put_dir t p new_dir_meta) (λ next. dirs_below next p ns)
+
 -- a directory and its missing parents are made below the dest, or it is there
 abbrev pub with_dirs : Mounts → Spot → Option Mounts
 with_dirs view spot =

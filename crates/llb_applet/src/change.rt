@@ -1,18 +1,18 @@
 //! The changes of a view at a spot. A change puts the mount's tree aside, changes it and puts it back; one that is refused,
 //! or lacks memory, leaves the view as it was.
 
-ghost use Rattle.std.specs.Prelude.{◌≡◌, ◌+◌, ◌<◌, ◌≤◌, length, OnErr};
+ghost use Rattle.std.specs.Prelude.{◌≡◌, ◌+◌, ◌<◌, ◌≤◌, [], false, length, Ok, IfOk, OnErr};
 ghost use Rattle.std.specs.FinMap as finite;
 ghost use Rattle.llb_tree.specs.Tree as tree;
-ghost use Rattle.llb_tree.specs.Tree.{Gives};
-ghost use Rattle.llb_applet.specs.Spots.{IsSpot, tree_at, with_change, with_file, with_dir, without_spot, with_new_dir, with_dirs, dirs_below};
+ghost use Rattle.llb_tree.specs.Tree.{Gives, empty_tree, is_dir};
+ghost use Rattle.llb_applet.specs.Spots.{IsSpot, tree_at, with_change, with_file, with_dir, without_spot, with_new_dir, with_dirs, dirs_below, put_then_below};
 ghost use Rattle.llb_applet.specs.Changes.{PutsAside, Does, settled};
 
 use crate::fault::Memory;
 use crate::spot::Spot;
 use llb_mount::View;
 use llb_tree::{Bytes, Meta, Name, Path, Tree, TreeFault};
-use std::alloc::Global;
+use std::alloc::{AllocError, Global};
 
 // Takes a mount's tree out of the view, with an empty one in its place; nothing where the mount is read-only.
 fn put_aside(alloc: Global, view: &mut View, mount: u32) -> Result<Option<Tree>, Memory>
@@ -145,7 +145,7 @@ pub fn make_dirs(alloc: Global, view: &mut View, spot: &Spot) -> Result<bool, Me
     match put_aside(alloc, view, spot.mount)? {
         None => Ok(false),
         Some(mut tree) => {
-            let change = dirs_below(&mut tree, &selector, names);
+            let change = dirs_below(alloc, &mut tree, &selector, names);
             let _aside = view.swap_tree(spot.mount, tree);
             settled(change)
         }
@@ -153,18 +153,53 @@ pub fn make_dirs(alloc: Global, view: &mut View, spot: &Spot) -> Result<bool, Me
 }
 
 // Makes a directory for each of the names, one below the other, where none is there. After a refusal the tree is unchanged.
-fn dirs_below(tree: &mut Tree, at: &Path, names: &[Name]) -> Result<(), TreeFault>
+fn dirs_below(alloc: Global, tree: &mut Tree, at: &Path, names: &[Name]) -> Result<(), TreeFault>
     requires { length at.now + length names.now ≤ 128 }
     ensures gives { Gives (λ _. tree.new) result (dirs_below tree.old at.now names.now) }
     ensures err { OnErr result (tree.new ≡ tree.old) }
 {
-    let mut made = tree.copy()?;
-    make_below(&mut made, at, names)?;
-    *tree = made;
-    Ok(())
+    match names.split_first() {
+        None => Ok(()),
+        Some((name, more)) => {
+            let mut next = at.copy()?;
+            next.push(name.copy()?)?;
+            if tree.is_dir(&next) {
+                return dirs_below(alloc, tree, &next, more);
+            }
+            put_dirs(alloc, tree, &next, more)
+        }
+    }
 }
 
-// The same, where a refusal may leave some of the directories.
+// Makes a directory where none is, and below it one for each of the names, in one edit. After a refusal the tree is unchanged.
+fn put_dirs(alloc: Global, tree: &mut Tree, path: &Path, names: &[Name]) -> Result<(), TreeFault>
+    requires short { length path.now + length names.now ≤ 128 }
+    requires missing { is_dir (finite.get tree.old path.now) ≡ false }
+    ensures gives { Gives (λ _. tree.new) result (put_then_below tree.old path.now names.now) }
+    ensures err { OnErr result (tree.new ≡ tree.old) }
+{
+    if names.is_empty() || tree.get(path).is_some() {
+        return tree.put_dir(path, Meta::new_dir());
+    }
+    let made = chain(alloc, names)?;
+    tree.graft(path, &made)
+}
+
+// A tree of directories alone, one for each of the names, one below the other.
+fn chain(alloc: Global, names: &[Name]) -> Result<Tree, AllocError>
+    requires { length names.now ≤ 128 }
+    ensures { IfOk result (λ t. dirs_below empty_tree [] names.now ≡ Ok t) }
+{
+    let Ok(mut made) = Tree::empty(alloc) else {
+        return Err(AllocError);
+    };
+    match make_below(&mut made, &Path::root(alloc), names) {
+        Err(_) => Err(AllocError),
+        Ok(()) => Ok(made),
+    }
+}
+
+// Makes a directory for each of the names, as above, but a refusal may leave some of them.
 fn make_below(tree: &mut Tree, at: &Path, names: &[Name]) -> Result<(), TreeFault>
     requires { length at.now + length names.now ≤ 128 }
     ensures { Gives (λ _. tree.new) result (dirs_below tree.old at.now names.now) }

@@ -17,10 +17,12 @@ use llb_wire::{Same, Text, all_same};
 use std::alloc::Global;
 use std::marker::Model;
 use std::mem;
+use std::sync::Arc;
 
-/// A script: commands in the order in which they run, each with how it follows those before it. Contracts see the list of them.
+/// A script: commands in the order in which they run, each with how it follows those before it. Its copies share them. Contracts
+/// see the list of them.
 pub struct Script {
-    commands: Vec<Joined>,
+    commands: Arc<Vec<Joined>>,
 }
 
 // Written out, so that the crates above drop one by this one function.
@@ -32,11 +34,12 @@ impl Drop for Script {
 
 impl Model for Script {
     ghost use Rattle.std.specs.Prelude.{List};
+    ghost use Rattle.std.specs.Arc.{arc_value};
     ghost use Rattle.llb_applet.specs.declared.join.Joined.{Joined};
 
     ghost Value = { List Joined };
 
-    ghost view = { λ s. s.commands.items };
+    ghost view = { λ s. (arc_value s.commands).items };
 }
 
 impl Script {
@@ -47,15 +50,11 @@ impl Script {
         self.commands.as_slice()
     }
 
-    /// An equal second owner; 74 `Memory`.
+    /// An equal second owner, which shares the commands; 74 `Memory`.
     pub fn copy(&self) -> Result<Script, ScriptFault>
         ensures { Gives (λ s. s) result (Ok self.now) }
     {
-        let alloc = *self.commands.allocator();
-        let mut commands = Vec::new(alloc);
-        for command in &self.commands {
-            commands.push(command.copy()?)?;
-        }
+        let commands = Arc::try_clone(&self.commands)?;
         Ok(Script { commands })
     }
 }
@@ -192,10 +191,11 @@ pub fn read_script(alloc: Global, args: &[Text]) -> Result<Script, ScriptFault>
     ensures gives { Gives (λ s. s) result (script_of args.now) }
     ensures last { MemoryLast result (script_of args.now) }
 {
-    if !is_shell(args) {
-        let commands = read_call(alloc, args)?;
-        return Ok(Script { commands });
-    }
-    let commands = read_shell(alloc, args[2].as_str())?;
+    let commands = if is_shell(args) {
+        read_shell(alloc, args[2].as_str())?
+    } else {
+        read_call(alloc, args)?
+    };
+    let commands = Arc::new(alloc, commands)?;
     Ok(Script { commands })
 }

@@ -330,12 +330,6 @@ module _ (row : Pair) (x : Fields) (o : Option Pair) (stands : IsRow row) (parts
   made : o ≡ Some row
   made = gives ∙ ap row_from parts ∙ row_from_is row stands
 
-  -- the parts of a row that stands always give a row
-  pub row_not_made : {A : Type 0} → o ≡ None → A
-  row_not_made none = let one : ◌≡◌ {A = Option Pair} None (Some row) = sym none ∙ made in absurd cc
-
-  -- and the row that they give stands, and is the one of the line
-  pub row_made : (read : Pair) (bytes later : List ℕ) → bytes ≡ line_of row ++ later → o ≡ Some read → IsRow read × (bytes ≡ line_of read ++ later)
-  row_made read bytes later text is =
-      let own : row ≡ read = some_is row read (sym made ∙ is) in
-      (subst IsRow own stands, text ∙ ap (λ r. line_of r ++ later) own)
+  -- and what they give is the row
+  pub row_made : (read : Pair) → o ≡ Some read → row ≡ read
+  row_made read is = some_is row read (sym made ∙ is)
