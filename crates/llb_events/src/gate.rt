@@ -1,4 +1,4 @@
-//! What stands before work: a worker passes it once before it works, and it may stop the worker there.
+//! The gate: a worker passes it once before it works on a vertex, and it may stop the worker there.
 
 ghost use Rattle.std.specs.Prelude.{ℕ, Bool, IfErr, IsTrue};
 

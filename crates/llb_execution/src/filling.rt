@@ -17,7 +17,7 @@ use llb_wire::Memory;
 use std::alloc::Global;
 use std::mem;
 
-/// As many empty trees. `Memory`: out of memory, the one refusal.
+/// As many empty trees. Fails with `Memory` alone.
 pub fn empty_trees(alloc: Global, count: u32) -> Result<Vec<Tree>, Memory>
     ensures { IfOk result (λ v. v.items ≡ replicate count empty_tree) }
 {
@@ -35,7 +35,7 @@ fn blanks(alloc: Global, count: usize) -> Result<Vec<Tree>, NoMemory>
     Ok(trees)
 }
 
-// Exchanges each tree with the one in the mount of its number. The spare tree stands where a tree is on its way.
+// Exchanges each tree with the one in the mount of its number. The spare tree takes the place of a tree that is being moved.
 fn swap_all(mounts: &mut Mounts, numbers: &[u32], trees: &mut Vec<Tree>, spare: Tree) -> Tree
     requires apart { Distinct numbers.now }
     requires within { All (λ n. n < length mounts.old) numbers.now }

@@ -18,7 +18,7 @@ use llb_wire::{Many, Memory, Text};
 use std::alloc::Global;
 
 /// Where the commands of a vertex run: an exec's cwd and env, and of any other vertex, which has no commands, the root and no env.
-/// `Memory`: out of memory, the one refusal.
+/// Fails with `Memory` alone.
 pub fn setting_of(alloc: Global, vertex: &Vertex) -> Result<Setting, Memory>
     ensures { IfOk result (λ s. s ≡ kind_setting vertex.now.op.kind) }
 {
@@ -138,7 +138,7 @@ fn tree_shown(alloc: Global, inputs: &[Tree], mount: &Mount) -> Result<Tree, NoM
     }
 }
 
-/// The tree of an input by its number; `None` stands for the empty tree. Takes no memory.
+/// The tree of an input by its number; `None` means the empty tree. Does not allocate.
 pub fn input_tree(inputs: &[Tree], input: i64) -> Option<&Tree>
     ensures { unwrap_or (option_map (λ t. t.now) result) empty_tree ≡ base_in input inputs.now }
 {

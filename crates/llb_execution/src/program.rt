@@ -55,7 +55,7 @@ impl Model for Program {
 }
 
 impl Program {
-    /// The program of a vertex. Actions are shared with the vertex; `Memory`: out of memory, the one refusal.
+    /// The program of a vertex. Actions are shared with the vertex. Fails with `Memory` alone.
     pub fn of(alloc: Global, vertex: &Vertex) -> Result<Program, Memory>
         ensures { IfOk result (λ p. p ≡ program_of vertex.now) }
     {
@@ -82,7 +82,7 @@ impl Program {
     }
 }
 
-// The laying of the input whose number stands there.
+// The laying of the input with that number.
 fn number_at<'a>(numbers: &[i64], k: u32) -> Option<MicroStep<'a>>
     ensures { option_map step_in result ≡ slice_get (map LayInput numbers.now) k }
 {

@@ -68,7 +68,7 @@ impl Model for View {
 
 impl View {
     /// Before the first micro-step of a vertex: on the trees of its inputs, with the numbers of the mounts that show caches, in the
-    /// order of the needs. `Memory`: out of memory, the one refusal.
+    /// order of the needs. Fails with `Memory` alone.
     pub fn on(
         alloc: Global,
         locals: &Locals,
@@ -84,7 +84,7 @@ impl View {
         Ok(View { own })
     }
 
-    /// An equal second owner, whose trees are shared. `Memory`: out of memory, the one refusal.
+    /// An equal second owner, whose trees are shared. Fails with `Memory` alone.
     pub fn copy(&self) -> Result<View, Memory>
         ensures { IfOk result (λ v. v ≡ self.now) }
     {
@@ -114,7 +114,7 @@ impl View {
 
     /// Does micro-step k; that number is in its fault. The trees are those of the instances of the caches that the view shows,
     /// in the order of the needs, and a command leaves them as it changes them. The answer is the fault, where there is one, and
-    /// then the view and the trees are as they were but for the last status. `Memory`: out of memory, the one refusal; then they
+    /// then the view and the trees are as they were but for the last status. Fails with `Memory` alone; then they
     /// are as they were.
     pub fn step(
         &mut self,
@@ -195,7 +195,7 @@ impl View {
         }
     }
 
-    // The tree of that number that an action can begin with; `None` stands for the empty tree.
+    // The tree with that number, which an action can begin with; `None` means the empty tree.
     fn tree(&self, number: i64) -> Option<&Tree>
         ensures { unwrap_or (option_map (λ t. t.now) result) empty_tree ≡ base_in number (trees_in self.now) }
     {
@@ -241,7 +241,7 @@ impl View {
         }
     }
 
-    // The first that many results of a file op.
+    // The first results of a file op, by their count.
     pub(crate) fn keep_results(&mut self, count: usize)
         ensures { self.new ≡ put_back (Results count) self.old }
     {

@@ -154,8 +154,8 @@ fn empty(alloc: Global, count: usize) -> Result<Vec<Vec<u32>>, AllocError>
     Ok(lists)
 }
 
-// Vertex v, which is above all that are listed, stands at the end of the list of each vertex to which one of the edges leads, and
-// these are that many.
+// Appends vertex v, which is above all that are listed, to the list of each vertex that one of the edges leads to, and returns
+// the number of these vertices.
 fn enter(users: &mut Vec<Vec<u32>>, v: u32, edges: &[Edge]) -> Result<u32, AllocError>
     requires below { All (λ (e : edge.Edge). e.vertex < length users.old.items) edges.now }
     requires few { length users.old.items < 2 ^ 32 }
@@ -169,7 +169,7 @@ fn enter(users: &mut Vec<Vec<u32>>, v: u32, edges: &[Edge]) -> Result<u32, Alloc
     Ok(more)
 }
 
-// The number stands at the end of a list; how often it was put there.
+// Appends the number to a list; returns how often it was put there.
 fn enter_once(list: &mut Vec<u32>, v: u32) -> Result<u32, AllocError>
     ensures again { (front : List ℕ) → list.old.items ≡ front ++ v ∷ [] → IfOk result (λ n. (list.new.items ≡ list.old.items) × (n ≡ 0)) }
     ensures fresh { All (λ x. x < v) list.old.items → IfOk result (λ n. (list.new.items ≡ list.old.items ++ v ∷ []) × (n ≡ 1)) }

@@ -1,4 +1,4 @@
-//! Messages by what they are of their records, and how one stands in another: once, repeated, or as a member of a oneof.
+//! Messages as functions of their records, and how one is part of another: singular, repeated, or a member of a oneof.
 
 ghost use Rattle.std.specs.Prelude.{◌≡◌, List, ℕ, Result, IfOk, true};
 ghost use Rattle.llb_wire.specs.Records.{Record as Read};
@@ -92,7 +92,7 @@ pub fn joined_message<M: Message>(
     read_message(alloc, &bytes)
 }
 
-/// A message that stands once: its payloads, one after the other.
+/// Reads a singular message from its payloads, one after the other.
 #[tactic(auto, unfolding(crate::specs::Records::one))]
 pub fn one<M: Message>(
     alloc: Global,

@@ -20,12 +20,12 @@ use crate::writing::{put_bytes, put_extra, put_messages, put_one_of, put_set_byt
 use llb_wire::{Boxed, Bytes, Many, Memory, Text};
 use std::alloc::Global;
 
-/// A vertex of the build graph as its entry tells it.
+/// A vertex of the build graph, as its entry has it.
 pub struct Op {
     pub inputs: Many<Input>,
     /// The member that is set, if any.
     pub kind: Option<Kind>,
-    /// The records of fields that the message doesn't name, as they stand.
+    /// The records of fields that the message doesn't name, as they are.
     pub extra: Bytes,
 }
 

@@ -382,7 +382,7 @@ pub fn are_unnamed(message: MessageName, bytes: &[u8]) -> bool
     }
 }
 
-/// The fields that the message doesn't name, as they stand.
+/// The fields that the message doesn't name, as they are.
 pub fn unnamed(alloc: Global, message: MessageName, records: &[Record<'_>]) -> Result<Bytes, Memory>
     ensures { IfOk result (λ b. b ≡ unnamed_of (shape_of message) (views records.now)) }
 {

@@ -45,7 +45,7 @@ impl Drop for Attributes {
     }
 }
 
-/// What stands after a key.
+/// What follows a key.
 pub struct Attribute {
     pub value: Text,
     pub extra: Bytes,

@@ -143,7 +143,7 @@ pub fn put_one_of<M: Member>(
     Ok(())
 }
 
-/// The records of fields that the message doesn't name, as they stand.
+/// The records of fields that the message doesn't name, as they are.
 pub fn put_extra(out: &mut Vec<u8>, extra: &Bytes) -> Result<(), Memory>
     ensures { OnOk result (out.new.items ≡ out.old.items ++ extra.now) }
 {

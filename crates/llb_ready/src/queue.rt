@@ -40,7 +40,7 @@ impl ReadyQueue {
     {
         let (queue, whole) = RuledArrayQueue::ruled(alloc, n as usize)?;
         let mut pass = whole;
-        // The rule comes to know the room, by one number at a time. This changes nothing in the queue.
+        // The rule gains the room, one number at a time. This changes nothing in the queue.
         for _i in 0..n {
             drop(queue.another::<Widens>(&mut pass));
         }

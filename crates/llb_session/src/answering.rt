@@ -1,4 +1,4 @@
-//! A line of a session: what it asks for is done on the stepper, and told in a text.
+//! A line of a session: what it asks for is done on the stepper, and answered by a text.
 
 ghost use Rattle.std.specs.Prelude.{◌≡◌, ◌++◌, ◌-◌, length, true, IfOk, IfErr, OnErr, string_bytes};
 ghost use Rattle.llb_session.specs.declared.request.Request.TheVariants as ask;

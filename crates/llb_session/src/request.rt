@@ -88,7 +88,7 @@ fn break_at(word: &str, rest: &str) -> Option<Request>
     }
 }
 
-// What stands after `break`.
+// The text after `break`.
 fn break_in(rest: &str) -> Option<Request>
     ensures { result ≡ break_in rest.now }
 {
@@ -99,7 +99,7 @@ fn break_in(rest: &str) -> Option<Request>
     break_at(word, number)
 }
 
-// A line of a word and what stands after it.
+// A line of a word and the rest after it.
 fn behind(word: &str, rest: &str) -> Option<Request>
     ensures { result ≡ behind word.now rest.now }
 {

@@ -86,7 +86,7 @@ pub(crate) fn record_text(
     Ok(text)
 }
 
-/// The text of a tree, and a line that tells that there is none.
+/// The text of a tree, and the line for no tree.
 pub(crate) fn tree_text(alloc: Global, tree: Option<&Tree>) -> Result<Vec<u8>, StepperFault>
     ensures lines { IfOk result (λ v. v.items ≡ tree_lines (option_map (λ t. t.now) tree.entry)) }
     ensures memory { IfErr result (λ e. stepper_memory e ≡ true) }

@@ -51,7 +51,7 @@ pub fn is_hex(text: &str) -> bool
 }
 
 /// The bytes of pairs of hexadecimal digits, and none of `-`; `None` where the text is neither. Takes upper-case digits
-/// too: `is_hex` tells the texts that are written so.
+/// too: `is_hex` accepts exactly the texts that are written so.
 pub fn read_hex(alloc: Global, text: &str) -> Result<Option<Bytes>, Memory>
     ensures { IfOk result (λ o. option_map (λ b. b) o ≡ bytes_in text.now) }
 {

@@ -20,7 +20,7 @@ pub trait Sink {
     // The reference behind which the bytes go, where there is one: it stays the same.
     ghost lender: { Self → Option GName } = { λ _. None };
 
-    /// Takes some bytes from the start, at least one where there are any, and tells how many; or has
+    /// Takes some bytes from the start, at least one where there are any, and returns how many; or has
     /// failed, and answers `Failed` from then on.
     fn write(&mut self, bytes: &[u8]) -> Result<usize, Failed>
         ensures takes { Takes (taken self.old) (failed self.old) (taken self.new) (failed self.new)
