@@ -7,7 +7,7 @@ use Rattle.llb_loader.specs.Locals.{Local}
 use Rattle.llb_commands.specs.Answer.{Runs, Draws}
 use Rattle.llb_commands.specs.Assembly.{Assembles, Disassembles}
 use Rattle.llb_commands.specs.CommandLine.{llbm_app, given, IsByWords, Says, TellsWords}
-use Rattle.llb_commands.specs.Pages.{HasPage, TellsRefusal}
+use Rattle.llb_commands.specs.Pages.{HasPage, TellsWithPage}
 use Rattle.llb_commands.specs.Sources.{Gathers, TellsSource}
 use Rattle.llb_commands.specs.Stepping.{Steps}
 use Rattle.llb_commands.specs.declared.sources.SourceFault.{SourceFault}
@@ -47,7 +47,7 @@ pub record IsRefusedByWords (words : List Text) (out out' err err' : Option (Lis
   pub refused : IsByWords (fault_of llbm_app words) (given (subcommand_of llbm_app words)) (Err fault)
   pub asked : HasPage (fault_of llbm_app words) words fault page
   pub none : Keeps out out'
-  pub told : TellsRefusal err err' fault page status
+  pub told : TellsWithPage err err' fault page status
 
 -- They name a local source that has no tree, and a line says why.
 pub record LacksSource (files : Shelf) (line : Line) (out out' err err' : Option (List ℕ)) (status : ℕ) : Type 0 where

@@ -41,7 +41,7 @@ page_for DisplayHelp command = help_page command
 page_for DisplayVersion command = VERSION_PAGE.now
 page_for _ command = []
 
--- what follows the line of a fault: where `clap` refuses, the page for one of its kinds (it gives two for none that has a page)
+-- what follows the line of a fault: where `clap` refuses, the page for its kind (where it gives two kinds, neither has a page)
 abbrev pub HasPage : Kinds → List Text → WordsFault → Text → Type 0
 HasPage kinds words (Words None) page = (k : ErrorKind) × IsAmong k kinds × (page ≡ page_for k (named_first words))
 HasPage kinds words _ page = page ≡ []
@@ -52,6 +52,6 @@ IsByWordsWithPage kinds locals words (Ok line) = kinds ≡ []
 IsByWordsWithPage kinds locals words (Err r) = Refuses kinds locals r.fault × HasPage kinds words r.fault r.page.now
 
 -- the line of the fault is out and the page below it, and the status is the fault's; or they could not be written, and the status is 3
-abbrev pub TellsRefusal : Option (List ℕ) → Option (List ℕ) → WordsFault → Text → ℕ → Type 0
-TellsRefusal err err' fault page status =
+abbrev pub TellsWithPage : Option (List ℕ) → Option (List ℕ) → WordsFault → Text → ℕ → Type 0
+TellsWithPage err err' fault page status =
     ((status ≡ words_status fault) × Appends err err' (fault_line (words_text fault) ++ page)) ⊎ (status ≡ 3)

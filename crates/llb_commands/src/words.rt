@@ -2,7 +2,7 @@
 
 ghost use Rattle.std.specs.Prelude.{◌≡◌, Some};
 ghost use Rattle.llb_commands.specs.CommandLine.{words_status, words_text, TellsWords};
-ghost use Rattle.llb_commands.specs.Pages.{TellsRefusal};
+ghost use Rattle.llb_commands.specs.Pages.{TellsWithPage};
 
 use llb_wire::Many;
 use std::alloc::{AllocError, AllocFailed};
@@ -139,7 +139,7 @@ impl From<AllocError> for Refusal<'_> {
 /// The line of refused words goes out, and below it the page that they ask for; the fault's status is the answer, or 3 where they can't be
 /// written.
 pub(crate) fn tell_refusal<E: Write>(refusal: &Refusal<'_>, err: &mut E) -> u8
-    ensures { TellsRefusal (E.contents err.old) (E.contents err.new) refusal.now.fault refusal.now.page.now result }
+    ensures { TellsWithPage (E.contents err.old) (E.contents err.new) refusal.now.fault refusal.now.page.now result }
 {
     if write!(err, "fault {}\n{}", refusal.fault, refusal.page).is_err() {
         return 3;
