@@ -3,9 +3,11 @@
 import json
 import os
 import pathlib
+import re
 import subprocess
 import unittest
 
+import faults
 from tests import base
 from tests.base import ROOT, Folder, run
 
@@ -188,6 +190,27 @@ class WithProgram(Folder):
             events = [one for one in told if "reply" in one]
             self.assertEqual([one["number"] for one in events], list(range(1, len(events) + 1)))
             self.assertEqual(told[-1], {"kind": "fault", "fault": 173, "line": 7})
+
+    def test_each_line_for_183_is_taken(self):
+        place = EXAMPLES / "first-run.definition"
+        settled = {"N": "2", "FILE": str(place), "NAME=FILE ...": f"a={EXAMPLES / 'source.tree'}"}
+        for line in [row.line for row in faults.read_page().lines[183]]:
+            name, *words = re.findall(r"NAME=FILE \.\.\.|[^ \[\]]+", line)
+            self.assertEqual(name, "llbm")
+            for first in words[0].split("|"):
+                given = [settled.get(word, word) for word in [first, *words[1:]]]
+                text = (EXAMPLES / "first-run.text").read_bytes() if first == "asm" else place.read_bytes()
+                done = self.llbm(*given, given=b"" if first == "step" else text)
+                if given[-1] in ("--help", "--version"):
+                    self.assertRegex(done.stderr, b"^fault 183\n.*llbm")
+                else:
+                    self.assertEqual((done.returncode, done.stderr), (0, b""), given)
+
+    def test_each_line_for_173_is_taken(self):
+        lines = [re.sub("[VWI]", "0", row.line) for row in faults.read_page().lines[173]]
+        self.assertEqual((len(set(lines)), lines[-1]), (14, "quit"))
+        answers = self.output("step", EXAMPLES / "first-run.definition", given="\n".join(lines).encode())
+        self.assertNotIn(b"fault 173", answers)
 
     def test_a_text_that_is_too_long(self):
         self.make(b"a", b"")

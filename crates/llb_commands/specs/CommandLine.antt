@@ -18,26 +18,27 @@ use Rattle.llb_commands.specs.declared.words.Local.{Local}
 use Rattle.llb_commands.specs.declared.words.WordsFault.{WordsFault}
 use Rattle.llb_commands.specs.declared.words.WordsFault.TheVariants.{Words, Memory}
 
--- the program's name is no word of its own, and `help` is no command
+-- the program's name is no word of its own, `help` is no command, and the version can be asked for
 abbrev pub base_app : App
 base_app = record {
-  top = record (new_app (codes "llbm")).top { no_binary_name = true; disable_help_subcommand = true };
+  top = record (new_app (codes "llbm")).top { has_version = true; no_binary_name = true; disable_help_subcommand = true };
   subs = [];
 }
 
 -- words that name local sources, as many as there are
 abbrev pub local_rule : Rule
-local_rule = record (new_rule (codes "local")) { action = Some Append }
+local_rule = record (new_rule (codes "local")) { action = Some Append; value_names = 1 }
 
 -- the file of the definition, which has to be there
 abbrev pub file_rule : Rule
-file_rule = record (new_rule (codes "file")) { action = Some Set; required = true }
+file_rule = record (new_rule (codes "file")) { action = Some Set; required = true; value_names = 1 }
 
 -- the number of workers, one of 32 bits, after `--workers`
 abbrev pub workers_rule : Rule
 workers_rule = record (new_rule (codes "workers")) {
   long = Some (codes "workers");
   action = Some Set;
+  value_names = 1;
   parser = Some (Signed (pos 0) (pos 4294967295));
 }
 

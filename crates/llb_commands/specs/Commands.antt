@@ -7,6 +7,7 @@ use Rattle.llb_loader.specs.Locals.{Local}
 use Rattle.llb_commands.specs.Answer.{Runs, Draws}
 use Rattle.llb_commands.specs.Assembly.{Assembles, Disassembles}
 use Rattle.llb_commands.specs.CommandLine.{llbm_app, given, IsByWords, Says, TellsWords}
+use Rattle.llb_commands.specs.Pages.{HasPage, TellsWithPage}
 use Rattle.llb_commands.specs.Sources.{Gathers, TellsSource}
 use Rattle.llb_commands.specs.Stepping.{Steps}
 use Rattle.llb_commands.specs.declared.sources.SourceFault.{SourceFault}
@@ -39,12 +40,14 @@ abbrev pub Performs : Shelf → Line → List Local → Option (List ℕ) → Op
     → ℕ → Type 0
 Performs files line = PerformsAs files line.command line
 
--- The words are refused, and a line says so.
+-- The words are refused, and a line says so; the page that they ask for follows it.
 pub record IsRefusedByWords (words : List Text) (out out' err err' : Option (List ℕ)) (status : ℕ) : Type 0 where
   pub fault : WordsFault
+  pub page : Text
   pub refused : IsByWords (fault_of llbm_app words) (given (subcommand_of llbm_app words)) (Err fault)
+  pub asked : HasPage (fault_of llbm_app words) words fault page
   pub none : Keeps out out'
-  pub told : TellsWords err err' fault status
+  pub told : TellsWithPage err err' fault page status
 
 -- They name a local source that has no tree, and a line says why.
 pub record LacksSource (files : Shelf) (line : Line) (out out' err err' : Option (List ℕ)) (status : ℕ) : Type 0 where

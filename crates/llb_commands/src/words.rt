@@ -2,6 +2,7 @@
 
 ghost use Rattle.std.specs.Prelude.{◌≡◌, Some};
 ghost use Rattle.llb_commands.specs.CommandLine.{words_status, words_text, TellsWords};
+ghost use Rattle.llb_commands.specs.Pages.{TellsWithPage};
 
 use llb_wire::Many;
 use std::alloc::{AllocError, AllocFailed};
@@ -105,4 +106,43 @@ pub fn words_refusal<E: Write>(fault: &WordsFault<'_>, err: &mut E) -> u8
         return 3;
     }
     fault.status()
+}
+
+/// Words that say nothing: why, and the page that they ask for, an empty one where they ask for none.
+#[derive(Clone, Copy, Debug)]
+pub(crate) struct Refusal<'a> {
+    pub(crate) fault: WordsFault<'a>,
+    pub(crate) page: &'static str,
+}
+
+impl<'a> From<WordsFault<'a>> for Refusal<'a> {
+    ghost use Rattle.std.specs.Prelude.{◌≡◌, []};
+
+    ghost from_gives = { λ fault e. (e.fault ≡ fault) × (e.page.now ≡ []) };
+
+    fn from(fault: WordsFault<'a>) -> Self {
+        Refusal { fault, page: "" }
+    }
+}
+
+impl From<AllocError> for Refusal<'_> {
+    ghost use Rattle.std.specs.Prelude.{◌≡◌, []};
+    ghost use Rattle.llb_commands.specs.declared.words.WordsFault.TheVariants.{Memory};
+
+    ghost from_gives = { λ _ e. (e.fault ≡ Memory) × (e.page.now ≡ []) };
+
+    fn from(_: AllocError) -> Self {
+        Refusal::from(WordsFault::Memory)
+    }
+}
+
+/// The line of refused words goes out, and below it the page that they ask for; the fault's status is the answer, or 3 where they can't be
+/// written.
+pub(crate) fn tell_refusal<E: Write>(refusal: &Refusal<'_>, err: &mut E) -> u8
+    ensures { TellsWithPage (E.contents err.old) (E.contents err.new) refusal.now.fault refusal.now.page.now result }
+{
+    if write!(err, "fault {}\n{}", refusal.fault, refusal.page).is_err() {
+        return 3;
+    }
+    refusal.fault.status()
 }

@@ -9,6 +9,7 @@ mod file_actions;
 mod layers;
 mod local_trees;
 mod messages;
+mod pages;
 mod pieces;
 mod reading;
 mod run;

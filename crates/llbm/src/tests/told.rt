@@ -163,6 +163,15 @@ fn ran<R: Abort + Threads + Wait + Sync>(rt: &R, alloc: Global, call: &Call<'_>)
     }
 }
 
+/// What comes of these words on no input.
+pub(crate) fn ran_words<R: Abort + Threads + Wait + Sync>(
+    rt: &R,
+    alloc: Global,
+    words: &str,
+) -> Ran {
+    ran(rt, alloc, &call_in(words))
+}
+
 // What was written, and a line that says so where it has no end.
 fn say_bytes(rt: &impl Abort, text: &mut String, bytes: &[u8]) {
     let written = str::from_utf8(bytes).unwrap_or("no text\n");
