@@ -5,6 +5,7 @@
 
 mod compare;
 mod content;
+mod covering;
 mod edit;
 mod fault;
 mod fits;
@@ -15,8 +16,8 @@ mod name;
 mod names;
 mod node;
 mod overlay;
-mod overlay_in_place;
 mod path;
+mod putting;
 mod reads;
 mod tree;
 mod walk;
