@@ -1,7 +1,6 @@
 -- Children that have every name of those that they are laid over.
-use Rattle.std.proofs.Common.{◌≡◌, ℕ, zero, suc, ◌+◌, ◌<◌, ◌≤◌, Bool, true, false, cond, List, [], ◌∷◌, length, map, take, get_or, set, option_map}
+use Rattle.std.proofs.Common.{◌≡◌, ℕ, zero, suc, ◌+◌, ◌<◌, ◌≤◌, true, false, cond, List, [], ◌∷◌, length, map, take, get_or, set}
 use Rattle.std.proofs.Common.{Option, Some, None, Ok, is_some, T, refl, sym, ap, subst, ◌∙◌, arith, add-one}
-use Rattle.std.specs.declared.cmp.Ordering.{Ordering}
 use Rattle.std.specs.declared.cmp.Ordering.TheVariants.{Less, Equal, Greater}
 use Rattle.std.specs.Option.{option_or}
 use Rattle.std.specs.Ordering.{is_eq, eq_by_cmp}
@@ -10,11 +9,11 @@ use Rattle.std.specs.Cmp.Lexicographic.{nat_list_cmp_total}
 use Rattle.std.specs.FinMap as finite
 use Rattle.llb_tree.specs.Path.{name_cmp}
 use Rattle.llb_tree.specs.PathOrder.{name_cmp-IsAntisymmetric}
-use Rattle.llb_tree.specs.Tree.{TreeMap, Entry, Dir}
+use Rattle.llb_tree.specs.Tree.{TreeMap, Dir}
 use Rattle.llb_tree.specs.Meta.{MetaValue}
 use Rattle.llb_tree.specs.Nodes.{Pairs, name_of, pair_of, AreSorted, child, look_in, place}
 use Rattle.llb_tree.specs.Overlay.{WayValue, below_file, over, over_at}
-use Rattle.llb_tree.specs.Laying.{Lays, IsOver, IsLaid, AreLaid, TakesWhole, Covers, HasLater, written}
+use Rattle.llb_tree.specs.Laying.{Lays, IsOver, AreLaid, TakesWhole, Covers, HasLater, written}
 use Rattle.llb_tree.specs.declared.node.Child.{Child}
 use Rattle.llb_tree.proofs.Dressing.{worn_all}
 use Rattle.llb_tree.proofs.InPlace.{found_made, sorted_made}

@@ -1,4 +1,4 @@
-use Rattle.std.proofs.Common.{◌≡◌, ◌+◌, Option, Ok, Err, Some, None, T, arith, map, option_map, unwrap_or, true, sym, ap, subst, ◌∙◌, refl}
+use Rattle.std.proofs.Common.{◌≡◌, ◌+◌, Option, Ok, Err, None, T, arith, map, option_map, unwrap_or, true, sym, ap, subst, ◌∙◌, refl}
 use Rattle.std.specs.Arc.{arc_value}
 use Rattle.std.specs.FinMap as finite
 use Rattle.llb_tree.specs.Nodes.{AreSorted, name_of, place, look_in, kids_of, map_of, pair_of}
