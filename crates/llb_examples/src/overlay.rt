@@ -107,6 +107,28 @@ const LAID: &str = "
     > tree
     d d/a(755 2:2) f/a/x(644 2:2)=up f/a/y(600 1:1)=low d/b(755 2:2) f/b/e(644 2:2)=up d/c(755 2:2) f/c/d(644 2:2)=up f/z(644 2:2)=up
 
+    # Names that the upper tree has all, but for one below a directory that both have.
+    > new
+    > dir / 711 2:2
+    > dir /a 755 2:2
+    > file /a/x 644 2:2 up
+    > dir /b 755 2:2
+    > file /b/y 644 2:2 up
+    > file /c 644 2:2 up
+    > dir /e 755 2:2
+    > swap
+    > dir /a 700 1:1
+    > file /a/x 600 1:1 low
+    > dir /b 700 1:1
+    > file /b/y 600 1:1 low
+    > file /b/z 600 1:1 low
+    > dir /c 700 1:1
+    > file /c/w 600 1:1 low
+    > dir /e 700 1:1
+    > overlay - - - -
+    > tree
+    d(711 2:2) d/a(755 2:2) f/a/x(644 2:2)=up d/b(755 2:2) f/b/y(644 2:2)=up f/b/z(600 1:1)=low f/c(644 2:2)=up d/e(755 2:2)
+
     # Directories that both have stay.
     > new
     > dir /a 755 2:2

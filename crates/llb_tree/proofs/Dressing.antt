@@ -45,7 +45,8 @@ worn_same : (w : WayValue) (e : Entry) → ((m : MetaValue) → given w m ≡ m)
 worn_same w (Dir m) same = ap Dir (same m)
 worn_same w (File m b) same = ap (λ x. File x b) (same m)
 
-worn_all : (w : WayValue) (o : Option Entry) → ((m : MetaValue) → given w m ≡ m) → option_map (worn w) o ≡ o
+-- and none of what is there, if anything is
+pub worn_all : (w : WayValue) (o : Option Entry) → ((m : MetaValue) → given w m ≡ m) → option_map (worn w) o ≡ o
 worn_all w None same = refl
 worn_all w (Some e) same = ap (λ x. Some x) (worn_same w e same)
 

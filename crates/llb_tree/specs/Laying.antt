@@ -1,12 +1,14 @@
 -- What the steps of laying one tree over another make of nodes and of their children.
-use Rattle.std.specs.Prelude.{◌≡◌, ◌≢◌, ◌<◌, ◌^◌, ℕ, true, T, List, [], ◌∷◌, ◌++◌, map, Option, Some, None}
+use Rattle.std.specs.Prelude.{◌≡◌, ◌≢◌, ◌<◌, ◌^◌, ℕ, zero, suc, true, false, T, List, [], ◌∷◌, ◌++◌, map, Option, Some, None, is_some, Vec}
+use Rattle.std.proofs.Common.{Global}
 use Rattle.std.specs.declared.cmp.Ordering.{Ordering}
 use Rattle.std.specs.FinMap as finite
 use Rattle.std.specs.FinMap.Entries.{below_all}
 use Rattle.llb_tree.specs.Path.{name_cmp}
 use Rattle.llb_tree.specs.Tree.{TreeMap, Entry}
 use Rattle.llb_tree.specs.Nodes.{AreSorted, Pairs, child, look_in, name_of, pair_of}
-use Rattle.llb_tree.specs.Overlay.{WayValue, is_mode, over, over_at}
+use Rattle.llb_tree.specs.Meta.{MetaValue}
+use Rattle.llb_tree.specs.Overlay.{WayValue, is_mode, given, over, over_at}
 use Rattle.llb_tree.specs.declared.node.Child.{Child}
 
 -- each entry in the mode and the owner that are given
@@ -21,6 +23,10 @@ pub record Lays (w : WayValue) (upper old new : List Child) : Type 0 where
   pub sorted : AreSorted new
   pub children : (m : List ℕ) (q : List (List ℕ)) → look_in (child m new) q ≡ over_at w (look_in (child m old)) (look_in (child m upper)) q
 
+-- what stands in the place of an upper child: it laid over the lower one of its name, if there is one
+abbrev pub IsOver : WayValue → List Child → Child → TreeMap → Type 0
+IsOver w old upper t = (q : List (List ℕ)) → finite.get t q ≡ over_at w (look_in (child (name_of upper) old)) (finite.get upper.node) q
+
 -- a child made of the upper one and of the lower one of its name, if there is one
 pub record IsLaid (w : WayValue) (old : List Child) (upper made : Child) : Type 0 where
   pub named : name_of made ≡ name_of upper
@@ -31,6 +37,36 @@ AreLaid w old [] [] = Unit {0}
 AreLaid w old [] (k ∷ made) = ⊥
 AreLaid w old (u ∷ upper) [] = ⊥
 AreLaid w old (u ∷ upper) (k ∷ made) = IsLaid w old u k × AreLaid w old upper made
+
+-- an entry that is laid stands as it is, whatever was there
+pub record TakesWhole (w : WayValue) : Type 0 where
+  pub own : (m : MetaValue) → given w m ≡ m
+  pub upper : w.keeps ≡ false
+
+-- children come to stand as they are
+pub record StandWhole (w : WayValue) (upper new : List Child) : Type 0 where
+  pub way : TakesWhole w
+  pub same : map pair_of new ≡ map pair_of upper
+
+-- each name of the lower children is one of the upper ones'
+abbrev pub Covers : List Child → List Child → Type 0
+Covers upper lower = (n : List ℕ) → is_some (child n lower) ≡ true → is_some (child n upper) ≡ true
+
+-- one of the children has the name, and theirs are the names of those after it
+pub record HasLater (n : List ℕ) (kids more : List Child) : Type 0 where
+  pub here : is_some (child n kids) ≡ true
+  pub later : Covers kids more
+
+-- what is made, or the children where nothing is
+abbrev pub those : Option (Vec Child Global) → List Child → List Child
+those None ks = ks
+those (Some made) ks = made.items
+
+-- another tree under the name at a place
+abbrev pub written : ℕ → TreeMap → Pairs → Pairs
+written i t [] = []
+written zero t (k ∷ ks) = (k.0, t) ∷ ks
+written (suc i) t (k ∷ ks) = k ∷ written i t ks
 
 -- children after others are put in one by one, each in the place of the one of its name
 abbrev pub puts : Pairs → Pairs → Pairs

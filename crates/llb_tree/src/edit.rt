@@ -13,7 +13,7 @@ use std::alloc::{AllocError, Global};
 use std::sync::Arc;
 
 // Second owners of the same children.
-fn copies(alloc: Global, kids: &[Child]) -> Result<Vec<Child>, AllocError>
+pub(crate) fn copies(alloc: Global, kids: &[Child]) -> Result<Vec<Child>, AllocError>
     ensures { IfOk result (λ v. map pair_of v.items ≡ map pair_of kids.now) }
 {
     let mut copied = Vec::new(alloc);

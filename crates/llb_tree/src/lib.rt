@@ -4,6 +4,8 @@
 #![tactic(auto)]
 
 mod compare;
+mod content;
+mod covering;
 mod edit;
 mod fault;
 mod fits;
@@ -14,13 +16,14 @@ mod name;
 mod names;
 mod node;
 mod overlay;
-mod overlay_in_place;
 mod path;
+mod putting;
 mod reads;
 mod tree;
 mod walk;
 mod way;
 
+pub use content::Content;
 pub use fault::TreeFault;
 pub use llb_wire::{Bytes, Text};
 pub use meta::Meta;

@@ -4,7 +4,7 @@ ghost use Rattle.std.specs.Prelude.{◌≡◌, IsTrue, Some};
 ghost use Rattle.llb_tree.specs.Tree.{Dir};
 ghost use Rattle.llb_tree.specs.Meta.{MetaValue};
 ghost use Rattle.llb_tree.specs.Overlay.{way_of, given, over};
-ghost use Rattle.llb_tree.specs.Laying.{IsWay, owner_fits};
+ghost use Rattle.llb_tree.specs.Laying.{IsWay, TakesWhole, owner_fits};
 
 use crate::meta::Meta;
 use std::marker::Model;
@@ -66,6 +66,13 @@ impl Way {
         ensures { IsTrue result → (own : MetaValue) → given self.now own ≡ own }
     {
         self.mode.is_none() && self.uid.is_none() && self.gid.is_none()
+    }
+
+    // Whether what is laid stands as it is, directories that both trees have too.
+    pub(crate) fn takes_whole(&self) -> bool
+        ensures { IsTrue result → TakesWhole self.now }
+    {
+        !self.keeps && self.gives_nothing()
     }
 
     // The mode and the owner of a directory that both trees have.

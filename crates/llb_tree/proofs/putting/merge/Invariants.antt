@@ -1,7 +1,7 @@
 use Rattle.std.proofs.Common.{◌≡◌, ◌+◌, ◌≤◌, ◌++◌, length, map, vec_len, vec_capacity}
 use Rattle.llb_tree.specs.Nodes.{AreSorted, pair_of}
 use Rattle.llb_tree.specs.Laying.{puts}
-use Rattle.llb_tree.proofs.overlay_in_place.merge.Given as goal
+use Rattle.llb_tree.proofs.putting.merge.Given as goal
 
 abbrev pub invariant-loop-child : goal.invariant-loop-child
 invariant-loop-child l =

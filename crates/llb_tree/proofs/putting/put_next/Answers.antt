@@ -4,7 +4,7 @@ use Rattle.llb_tree.specs.Laying.{IsNotFirst, TakesFirst}
 use Rattle.llb_tree.specs.Path.{name_cmp}
 use Rattle.llb_tree.specs.Nodes.{name_of}
 use Rattle.llb_tree.proofs.Merging.{one_passes, next_put}
-use Rattle.llb_tree.proofs.overlay_in_place.put_next.Goals as goal
+use Rattle.llb_tree.proofs.putting.put_next.Goals as goal
 
 pub loop-kid-preserved : goal.loop-kid-preserved
 loop-kid-preserved c =

@@ -4,7 +4,7 @@ use Rattle.llb_tree.specs.Nodes.{name_of, pair_of, place}
 use Rattle.llb_tree.specs.declared.node.Child.{Child}
 use Rattle.llb_tree.proofs.Laying.{put_found}
 use Rattle.llb_tree.proofs.Placed.{is_gap}
-use Rattle.llb_tree.proofs.overlay_in_place.put_child.Goals as goal
+use Rattle.llb_tree.proofs.putting.put_child.Goals as goal
 
 pub returns-in-Ok-clause-put : goal.returns-in-Ok-clause-put
 returns-in-Ok-clause-put c =

@@ -1,6 +1,6 @@
 use Rattle.std.proofs.Common.{◌≡◌, ◌+◌, length, vec_len, vec_capacity}
 use Rattle.llb_tree.proofs.Merging.{Passes}
-use Rattle.llb_tree.proofs.overlay_in_place.put_next.Given as goal
+use Rattle.llb_tree.proofs.putting.put_next.Given as goal
 
 abbrev pub invariant-loop-kid : goal.invariant-loop-kid
 invariant-loop-kid l =
