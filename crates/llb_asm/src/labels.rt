@@ -1,14 +1,15 @@
-//! The labels of the entries before: the texts of their digests, found through an index.
+//! The labels of the entries before: the texts of their digests, found through an index in their order, whose cost no choice of entries
+//! makes worse.
 
 ghost use Rattle.std.specs.Prelude.{◌≡◌, ◌++◌, ◌∷◌, [], IfOk, OnOk, OnErr};
 ghost use Rattle.llb_wire.specs.Digest.{digest_text};
 ghost use Rattle.llb_asm.specs.Labels.{IsIndex};
 ghost use Rattle.llb_asm.specs.Plain.{label_for};
 
-use indexmap::IndexMap;
 use llb_wire::{Memory, Text, text_of_digest};
 use sha2::{Digest, Sha256};
 use std::alloc::Global;
+use std::collections::BTreeMap;
 use std::marker::Model;
 
 /// The text of an entry's digest.
@@ -19,7 +20,7 @@ pub(crate) fn digest_of(alloc: Global, entry: &[u8]) -> Result<Text, Memory>
 }
 
 /// Puts a text after those that an index finds, where it isn't one of them.
-fn learn(first: &mut IndexMap<String, u64>, texts: &[Text], text: &Text) -> Result<(), Memory>
+fn learn(first: &mut BTreeMap<String, u64>, texts: &[Text], text: &Text) -> Result<(), Memory>
     requires { IsIndex texts.now first.old }
     ensures learnt { OnOk result (IsIndex (texts.now ++ text.now ∷ []) first.new) }
     ensures kept { OnErr result (IsIndex texts.now first.new) }
@@ -34,7 +35,7 @@ fn learn(first: &mut IndexMap<String, u64>, texts: &[Text], text: &Text) -> Resu
 pub struct Labels {
     texts: Vec<Text>,
     /// The first entry with each text.
-    first: IndexMap<String, u64>,
+    first: BTreeMap<String, u64>,
 }
 
 // Written out, so that what owns one drops it by this one function.
@@ -62,7 +63,7 @@ impl Labels {
     {
         Labels {
             texts: Vec::new(alloc),
-            first: IndexMap::new(alloc),
+            first: BTreeMap::new(alloc),
         }
     }
 

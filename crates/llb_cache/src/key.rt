@@ -154,16 +154,19 @@ impl Eq for Key {
     ghost laws = { key_equiv };
 }
 
-// Keys of one ID are few, so that the ID alone is hashed.
+// The ID, and the seed where there is one, so that keys of one ID with other seeds are hashed apart.
 impl Hash for Key {
-    ghost use Rattle.std.specs.Hash as fed;
-    ghost use Rattle.llb_cache.specs.Key.{keys_alike};
+    ghost use Rattle.llb_cache.specs.Key.{key_fed, keys_alike};
 
-    ghost hash_input = { λ k. fed.str k.id };
+    ghost hash_input = { key_fed };
 
     ghost respects_eq = { keys_alike };
 
     fn hash<H: Hasher>(&self, state: &mut H) {
         self.id.as_str().hash(state);
+        if let Some(seed) = &self.seed {
+            seed.digest.as_str().hash(state);
+            seed.index.hash(state);
+        }
     }
 }

@@ -18,14 +18,14 @@ use crate::op_sizes::count_of;
 use crate::row::Row;
 use crate::row_lookup::row_of;
 use crate::rules::broken_rule;
-use indexmap::IndexMap;
 use llb_ops::{Input, Op};
 use std::alloc::{AllocError, Global};
+use std::collections::BTreeMap;
 
 /// Each input of a marked row names a row.
 pub(crate) fn check_names(
     rows: &[Row],
-    index: &IndexMap<&str, usize>,
+    index: &BTreeMap<&str, usize>,
     terminal: usize,
     ops: &[Op],
     seen: &[bool],
@@ -52,7 +52,7 @@ pub(crate) fn check_names(
 // The first input that names no row.
 fn first_unknown(
     rows: &[Row],
-    index: &IndexMap<&str, usize>,
+    index: &BTreeMap<&str, usize>,
     terminal: usize,
     op: &Op,
 ) -> Option<usize>

@@ -19,9 +19,9 @@ use crate::reach::reached;
 use crate::reading::ops_of;
 use crate::row::Row;
 use crate::row_lookup::{all_same, index_of, links_of, row_of, terminal_of};
-use indexmap::IndexMap;
 use llb_ops::Op;
 use std::alloc::Global;
+use std::collections::BTreeMap;
 
 /// The graph of the rows. The last row given is the terminal; its first input is the result.
 ///
@@ -46,7 +46,7 @@ pub fn link(alloc: Global, rows: &[Row]) -> Result<Graph, LoadFault>
 fn link_read(
     alloc: Global,
     rows: &[Row],
-    index: IndexMap<&str, usize>,
+    index: BTreeMap<&str, usize>,
     terminal: usize,
     ops: Vec<Op>,
 ) -> Result<Graph, LoadFault>
