@@ -38,7 +38,7 @@ any_in p (q ∷ ps) e = elim (either (same_place p q) (list_any (same_place p) p
   | inr later ↦ inr (any_in p ps later)
 ]
 
-in_any : (p : Place) (ps : List Place) → In ps p → list_any (same_place p) ps ≡ true
+pub in_any : (p : Place) (ps : List Place) → In ps p → list_any (same_place p) ps ≡ true
 in_any p [] h = absurd h
 in_any p (q ∷ ps) (inl is) = ap (λ b. b || list_any (same_place p) ps) (ap (same_place p) (sym is) ∙ place_itself p)
 in_any p (q ∷ ps) (inr h) = ap (λ b. same_place p q || b) (in_any p ps h) ∙ or_true (same_place p q)
@@ -151,7 +151,7 @@ before_short : (less : Leases) → length (before less) ≤ length less + 1
 before_short [] = omega arith
 before_short (o ∷ less) = omega arith
 
-trimmed_has : (out : Leases) (a : ℕ) (qs : List Place) → Has (trimmed out) a qs → Has out a qs
+pub trimmed_has : (out : Leases) (a : ℕ) (qs : List Place) → Has (trimmed out) a qs → Has out a qs
 unfolding trimmed
 trimmed_has [] a qs at = at
 trimmed_has (Some ps ∷ out) zero qs at = at

@@ -111,6 +111,19 @@ private_free out key apart = go (first_free out key 0 (leases out)) (least out k
         let free = l.free (omega (arith, all)) in
         true≢false (sym is ∙ free))
 
+-- a number that no lease has, where leases have all below it, is the one that the key gives
+pub first_unheld : (out : Leases) (key : Key) (r : ℕ) → AreApart out → ((k : ℕ) → k < r → is_held out (place key k) ≡ true)
+    → is_held out (place key r) ≡ false → first_free out key 0 (leases out) ≡ r
+first_unheld out key r apart below free =
+    let l = least out key 0 (leases out) in
+    elim (dec_lt (first_free out key 0 (leases out)) r) [
+      | yes less ↦ absurd (true≢false (sym (below (first_free out key 0 (leases out)) less) ∙ private_free out key apart))
+      | no past ↦ elim (dec_lt r (first_free out key 0 (leases out))) [
+        | yes more ↦ absurd (true≢false (sym (l.below r (omega arith) more) ∙ free))
+        | no none ↦ omega (arith, past, none)
+      ]
+    ]
+
 pub number_within : (out : Leases) (key : Key) (m : Mode) → number_for out key m ≤ leases out
 number_within out key Shared = omega arith
 number_within out key Locked = omega arith

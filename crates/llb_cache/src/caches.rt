@@ -7,16 +7,15 @@ ghost use Rattle.llb_cache.specs.Caches.{IsOut, place_for, AreExclusive, IsCache
 ghost use Rattle.llb_cache.specs.Caches.{tree_at, with_content, given_back, is_locked, is_held, number_for, place};
 ghost use Rattle.llb_cache.specs.Faults.{Gives, MemoryLast};
 
-use crate::copying::{copied_leases, copied_rows, same_rows};
+use crate::any_key::{Rows, trees_at, trees_with};
+use crate::copying::{copied_leases, copied_marks, copied_rows, same_rows};
 use crate::fault::{LeaseFault, Memory};
-use crate::growing::{
-    admitted, make_all, places_at, places_for, readied, set_at, take_back, take_lease,
-};
+use crate::growing::{make_all, places_at, places_for, set_at, take_back, take_lease, unmark_all};
 use crate::key::Key;
 use crate::key_ref::KeyRef;
+use crate::marks::Marks;
 use crate::need::{Need, Place};
-use crate::search::{count, is_shut, keys_differ, number_for};
-use crate::trees::Trees;
+use crate::search::{count, keys_differ};
 use indexmap::IndexMap;
 use llb_tree::Tree;
 use llb_wire::{Many, all_same};
@@ -50,21 +49,28 @@ impl Lease {
 
 /// Caches, and the leases of them that are out. Contracts see both as lists.
 pub struct Caches {
-    rows: IndexMap<Key, Trees>,
-    out: Vec<Option<Many<Place>>>,
+    pub(crate) rows: Rows,
+    // For each row the marks of the instances that leases have: those of locked and private keys are exact.
+    pub(crate) marks: Vec<Marks>,
+    pub(crate) out: Vec<Option<Many<Place>>>,
 }
 
 // Written out, so that the crates above drop one by this one function.
 impl Drop for Caches {
     fn drop(self) {
-        let Caches { rows: _, out: _ } = self;
+        let Caches {
+            rows: _,
+            marks: _,
+            out: _,
+        } = self;
     }
 }
 
 impl Model for Caches {
     ghost use Rattle.std.specs.Coded.{codes};
     ghost use Rattle.llb_tree.specs.Tree.{coded_tree};
-    ghost use Rattle.llb_cache.specs.Caches.{CachesValue, IsCaches};
+    ghost use Rattle.llb_cache.specs.Caches.{CachesValue};
+    ghost use Rattle.llb_cache.specs.Marks.{IsMarked};
 
     ghost Value = { CachesValue };
 
@@ -72,7 +78,7 @@ impl Model for Caches {
 
     ghost view = { λ c. record { rows = c.rows.entries; out = c.out.items } };
 
-    ghost invariant = { λ c. IsCaches (record { rows = c.rows.entries; out = c.out.items }) };
+    ghost invariant = { λ c. IsMarked (record { rows = c.rows.entries; out = c.out.items }) c.marks.items };
 }
 
 impl Caches {
@@ -82,6 +88,7 @@ impl Caches {
     {
         Caches {
             rows: IndexMap::new(alloc),
+            marks: Vec::new(alloc),
             out: Vec::new(alloc),
         }
     }
@@ -109,12 +116,13 @@ impl Caches {
         ensures last { MemoryLast result (lease_of self.old needs) }
         ensures err { OnErr result (self.new ≡ self.old) }
     {
-        let needs = admitted(&self.out, needs.into_vec())?;
-        let readies = readied(&self.out, needs)?;
-        let places = places_for(&self.out, &readies)?;
+        let needs = self.admitted(needs.into_vec())?;
+        let readies = self.readied(needs)?;
+        let places = places_for(*self.out.allocator(), &readies)?;
         self.rows.reserve(readies.len())?;
+        self.marks.reserve(readies.len())?;
         self.out.reserve(1)?;
-        make_all(&mut self.rows, readies);
+        make_all(&mut self.rows, &mut self.marks, readies);
         let number = take_lease(&mut self.out, places);
         Ok(Lease { number })
     }
@@ -153,7 +161,7 @@ impl Caches {
         ensures { tree_at self.now.rows (place_at self.now.out lease.now need) ≡ Some result.now }
     {
         let place = &places_at(&self.out, lease.number)[need as usize];
-        self.rows[&place.key].at(place.number)
+        trees_at(&self.rows, &place.key).at(place.number)
     }
 
     /// Puts a tree in the place of the one that the instance of a need has, for all leases that have it. Takes no memory.
@@ -170,6 +178,11 @@ impl Caches {
         requires { IsOut self.old.out lease }
         ensures { self.new ≡ given_back self.old lease }
     {
+        unmark_all(
+            &self.rows,
+            &mut self.marks,
+            places_at(&self.out, lease.number),
+        );
         take_back(&mut self.out, lease.number);
     }
 
@@ -177,14 +190,14 @@ impl Caches {
     pub fn is_shut(&self, key: &KeyRef<'_>) -> bool
         ensures { result ≡ (is_locked key.now.mode && is_held self.now.out (place key.now 0)) }
     {
-        is_shut(&self.out, key)
+        self.has_shut(key)
     }
 
     /// The number of the instance that a lease of this key would have now. Takes no memory.
     pub fn next_instance(&self, key: &Key) -> u32
         ensures { result ≡ number_for self.now.out key.now key.now.mode }
     {
-        number_for(&self.out, &key.by_ref(), count(&self.out))
+        self.number_for(&key.by_ref())
     }
 
     /// How many leases are out. Takes no memory.
@@ -198,7 +211,7 @@ impl Caches {
     pub fn instances(&self, key: &Key) -> u32
         ensures { result ≡ length (trees_of self.now.rows key.now) }
     {
-        match self.rows.get(key) {
+        match trees_with(&self.rows, key) {
             Some(trees) => trees.len() as u32,
             None => 0,
         }
@@ -208,10 +221,7 @@ impl Caches {
     pub fn instance(&self, key: &Key, number: u32) -> Option<&Tree>
         ensures { option_map (λ t. t.now) result ≡ slice_get (trees_of self.now.rows key.now) number }
     {
-        match self.rows.get(key) {
-            Some(trees) => trees.get(number),
-            None => None,
-        }
+        trees_with(&self.rows, key)?.get(number)
     }
 
     /// An equal second owner, of the leases too; 112 `Memory`.
@@ -219,8 +229,9 @@ impl Caches {
         ensures { IfOk result (λ c. c ≡ self.now) }
     {
         let rows = copied_rows(&self.rows)?;
+        let marks = copied_marks(&self.marks)?;
         let out = copied_leases(&self.out)?;
-        Ok(Caches { rows, out })
+        Ok(Caches { rows, marks, out })
     }
 
     /// Whether both have the same keys in the same order with the same trees, and the same leases. Takes no memory.

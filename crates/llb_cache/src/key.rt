@@ -7,7 +7,6 @@ ghost use Rattle.llb_cache.specs.Key.{same_key, same_seed, same_seeds, same_mode
 use crate::fault::Memory;
 use llb_wire::Text;
 use std::fmt;
-use std::hash::{Hash, Hasher};
 
 /// How leases share the instances of a cache.
 #[derive(Clone, Copy, Debug)]
@@ -152,21 +151,4 @@ impl Eq for Key {
     ghost use Rattle.llb_cache.specs.Key.{key_equiv};
 
     ghost laws = { key_equiv };
-}
-
-// The ID, and the seed where there is one, so that keys of one ID with other seeds are hashed apart.
-impl Hash for Key {
-    ghost use Rattle.llb_cache.specs.Key.{key_fed, keys_alike};
-
-    ghost hash_input = { key_fed };
-
-    ghost respects_eq = { keys_alike };
-
-    fn hash<H: Hasher>(&self, state: &mut H) {
-        self.id.as_str().hash(state);
-        if let Some(seed) = &self.seed {
-            seed.digest.as_str().hash(state);
-            seed.index.hash(state);
-        }
-    }
 }
