@@ -4,6 +4,7 @@ import json
 import os
 import pathlib
 import re
+import resource
 import subprocess
 import unittest
 
@@ -12,6 +13,14 @@ from tests import base
 from tests.base import ROOT, Folder, run
 
 EXAMPLES = ROOT / "examples"
+DEEPEST = 65_535
+STACK = 256 << 10
+
+
+def narrow():
+    """This process has a small stack from now on: no room for four bytes a vertex of the deepest graph."""
+    _, hard = resource.getrlimit(resource.RLIMIT_STACK)
+    resource.setrlimit(resource.RLIMIT_STACK, (STACK, hard))
 
 
 class WithProgram(Folder):
@@ -23,13 +32,13 @@ class WithProgram(Folder):
         super().setUp()
         self.at = pathlib.Path(os.fsdecode(self.folder))
 
-    def llbm(self, *words, given):
+    def llbm(self, *words, given, **settings):
         """A run of the program on this input."""
-        return subprocess.run([base.llbm, *words], input=given, capture_output=True, timeout=120)
+        return subprocess.run([base.llbm, *words], input=given, capture_output=True, timeout=120, **settings)
 
-    def output(self, *words, given):
+    def output(self, *words, given, **settings):
         """What the program prints, where it ends well."""
-        done = self.llbm(*words, given=given)
+        done = self.llbm(*words, given=given, **settings)
         self.assertEqual((done.returncode, done.stderr), (0, b""), words)
         return done.stdout
 
@@ -218,3 +227,29 @@ class WithProgram(Folder):
         done = self.build(base.ending(base.source("local://src")), f"src={self.at / 'in'}")
         self.assertEqual(done.returncode, 2)
         self.assertRegex(done.stderr, rb"\nthe text has [0-9,]+ bytes: .*\n(.*\n)*fault 185\n  185: ")
+
+    def narrow_lines(self, *words, given):
+        """The lines that the program prints with a small stack, where it ends well."""
+        return self.output(*words, given=given, preexec_fn=narrow).decode().splitlines()
+
+    def test_the_deepest_graph_needs_no_deep_stack(self):
+        given = run("bigdef", "chain", str(DEEPEST)).stdout
+        last = DEEPEST - 1
+        inputs = ["-", *(f"{number}.0" for number in range(last))]
+        shown = [f"{number} file steps 1 outputs 1 inputs {on}" for number, on in enumerate(inputs)]
+        self.assertTrue(self.narrow_lines("show", given=given) == [*shown, f"result {last}.0"])
+        paths = ["/", "/d", *(f"/e{number}" for number in range(7))]
+        for words in [["run"], ["run", "--workers", "2"]]:
+            self.assertEqual(self.narrow_lines(*words, given=given), [f"d 0755 0 0 {path}" for path in paths])
+        text = self.output("dis", given=given, preexec_fn=narrow)
+        self.assertTrue(self.output("asm", given=text, preexec_fn=narrow) == given)
+
+    def test_the_deepest_graph_is_walked_to_its_end_and_back(self):
+        given = run("bigdef", "chain", str(DEEPEST)).stdout
+        events = 3 * DEEPEST
+        commands = b"go\n" + b"back\n" * (events + 1)
+        lines = self.narrow_lines("step", self.file(b"definition", given), "--workers=1", given=commands)
+        parts = ["claim 0 {} -> file 1", "step 0 -> acted 0", "settle 0 -> {} done"]
+        gone = [f"{number + 1} {parts[number % 3].format(number // 3)}" for number in range(events)]
+        back = [f"back {number}" for number in reversed(range(events))]
+        self.assertTrue(lines == [*gone, "end", *back, "fault 172"])

@@ -25,17 +25,23 @@ mod farm;
 #[cfg(test)]
 mod faults;
 #[cfg(test)]
+mod gates;
+#[cfg(test)]
 mod instances;
 #[cfg(test)]
 mod landings;
 #[cfg(test)]
 mod local_trees;
 #[cfg(test)]
+mod midway;
+#[cfg(test)]
 mod openings;
 #[cfg(test)]
 mod plain;
 #[cfg(test)]
 mod queue;
+#[cfg(test)]
+mod records;
 #[cfg(test)]
 mod runs;
 #[cfg(test)]

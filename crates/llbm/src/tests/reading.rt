@@ -34,6 +34,7 @@ fn an_input_past_a_bound_is_not_read(rt: HostRuntime) {
         (5, 6, 9, 0, "hello", ""),
         (4, 6, 9, 2, "", "fault 81 13\n"),
         (5, 5, 9, 3, "", "fault 181\n"),
+        (5, 3, 9, 3, "", "fault 181\n"),
         (5, 0, 9, 3, "", "fault 181\n"),
         (5, 6, 2, 3, "", "fault 181\n"),
     ];
