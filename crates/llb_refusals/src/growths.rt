@@ -45,7 +45,17 @@ pub(crate) fn was_refused(alloc: Global) -> bool {
 
 /// Whether what is told of a refusal is one of those that may come for want of memory.
 pub(crate) fn is_lack(told: &str, lacks: &str) -> bool {
-    lacks.split(" and ").any(|one| one == told) || lacks.split(" or ").any(|one| one == told)
+    for lack in lacks.split(" and ") {
+        if lack == told {
+            return true;
+        }
+    }
+    for lack in lacks.split(" or ") {
+        if lack == told {
+            return true;
+        }
+    }
+    false
 }
 
 // Whether a growth of that number was refused, and what was told then. All is as before after it, and the same call is granted.
@@ -72,10 +82,19 @@ fn told_at<T: Trial>(rt: &impl Abort, alloc: Global, row: &Row, k: usize) -> Opt
     Some(told)
 }
 
+fn is_among(lack: &str, came: &[String]) -> bool {
+    for told in came {
+        if told.as_str() == lack {
+            return true;
+        }
+    }
+    false
+}
+
 // Whether each of the faults that have to come is among those that came.
 fn all_came(lacks: &str, came: &[String]) -> bool {
     for lack in lacks.split(" and ") {
-        if !came.iter().any(|told| told.as_str() == lack) {
+        if !is_among(lack, came) {
             return false;
         }
     }

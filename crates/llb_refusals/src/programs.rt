@@ -46,7 +46,12 @@ impl Ran {
     // The first refusal in what is out.
     fn refusal(&self) -> Option<&str> {
         let text = str::from_utf8(self.out.as_slice()).ok()?;
-        text.lines().find(|line| line.starts_with("fault "))
+        for line in text.lines() {
+            if line.starts_with("fault ") {
+                return Some(line);
+            }
+        }
+        None
     }
 
     // A status that is not 0 with what is on `err`, else the first refusal that is out, else what is out.
@@ -329,7 +334,7 @@ fn is_growth<R: Abort + Threads + Wait + Sync>(rt: &R, alloc: Global, row: &Row,
 fn growths<R: Abort + Threads + Wait + Sync>(rt: &R, alloc: Global, row: &Row) -> usize {
     for k in 1..MOST {
         if !is_growth(rt, alloc, row, k) {
-            return k - 1;
+            return k.saturating_sub(1);
         }
     }
     panic!(rt; "no end of growths");

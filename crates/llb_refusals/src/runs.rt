@@ -171,7 +171,7 @@ fn is_growth<R: Abort + Threads + Wait + Sync>(rt: &R, alloc: Global, row: &Row,
 fn growths<R: Abort + Threads + Wait + Sync>(rt: &R, alloc: Global, row: &Row) -> usize {
     for k in 1..MOST {
         if !is_growth(rt, alloc, row, k) {
-            return k - 1;
+            return k.saturating_sub(1);
         }
     }
     panic!(rt; "no end of growths");

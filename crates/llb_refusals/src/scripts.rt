@@ -112,10 +112,17 @@ fn handed(rt: &impl Abort, alloc: Global, root: &'static str) -> Vec<Many<Shown>
     handed
 }
 
+fn view_made(mounts: Many<Shown>) -> Answer {
+    if View::can_make(mounts.as_slice()) {
+        return Answer::View(View::make(mounts));
+    }
+    Answer::None
+}
+
 fn made(handed: &mut Vec<Many<Shown>>) -> Answer {
     match handed.pop() {
-        Some(mounts) if View::can_make(mounts.as_slice()) => Answer::View(View::make(mounts)),
-        _ => Answer::None,
+        Some(mounts) => view_made(mounts),
+        None => Answer::None,
     }
 }
 
