@@ -154,6 +154,12 @@ is_dir None = false
 is_dir (Some (Dir m)) = true
 is_dir (Some (File m content)) = false
 
+-- the content of what stands at a path, if that is a file
+abbrev pub content_of : Option Entry → Option (List ℕ)
+content_of None = None
+content_of (Some (Dir m)) = None
+content_of (Some (File m content)) = Some content
+
 -- a directory stands at the path
 abbrev pub IsDirAt : Look → List (List ℕ) → Type 0
 IsDirAt look p = (m : MetaValue) × (look p ≡ Some (Dir m))

@@ -4,6 +4,7 @@
 #![tactic(auto)]
 
 mod compare;
+mod content;
 mod edit;
 mod fault;
 mod fits;
@@ -21,6 +22,7 @@ mod tree;
 mod walk;
 mod way;
 
+pub use content::Content;
 pub use fault::TreeFault;
 pub use llb_wire::{Bytes, Text};
 pub use meta::Meta;

@@ -50,7 +50,7 @@ impl Model for Tree {
 }
 
 // Whether a file may be put at the names.
-fn file_may_stand(root: &Node, names: &[Name]) -> Result<(), TreeFault>
+pub(crate) fn file_may_stand(root: &Node, names: &[Name]) -> Result<(), TreeFault>
     ensures { result ≡ file_fits (finite.get root.now names.now) }
 {
     match root.get(names) {
