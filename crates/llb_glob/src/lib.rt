@@ -14,4 +14,5 @@ mod places;
 
 pub use fault::PatternFault;
 pub use laws::{reads_by_the_grammar, reads_without_classes};
+pub use part::Part;
 pub use pattern::Pattern;

@@ -12,11 +12,12 @@ use crate::fault::PatternFault;
 use crate::item::{Item, Letter};
 use crate::letters::Letters;
 use crate::places::matches_letters;
+use llb_tree::{Name, NameTest};
 use std::alloc::Global;
 use std::marker::Model;
 use std::mem;
 
-/// A part of a pattern. Contracts see the list of its items.
+/// A part of a pattern: a test of one name. Contracts see the list of its items.
 pub struct Part {
     items: Vec<Item>,
 }
@@ -38,8 +39,8 @@ impl Model for Part {
 }
 
 impl Part {
-    /// The part that a text spells; 41 `BadPattern`, 42 `Memory`.
-    pub fn read(alloc: Global, text: &str) -> Result<Part, PatternFault>
+    // The part that a text spells; 41 `BadPattern`, 42 `Memory`.
+    pub(crate) fn read(alloc: Global, text: &str) -> Result<Part, PatternFault>
         requires { length text.now ≤ 255 }
         ensures { Gives (λ p. p) result (items_of (chars text.now)) }
     {
@@ -60,13 +61,24 @@ impl Part {
         })
     }
 
-    /// Whether a name matches.
-    pub fn matches(&self, name: &str) -> bool
+    // Whether a name matches.
+    pub(crate) fn matches(&self, name: &str) -> bool
         requires { length name.now ≤ 255 }
         ensures { IsTrue result ↔ MatchesName self.now (chars name.now) }
     {
         let letters = Letters::of(name);
         matches_letters(self.items.as_slice(), letters.as_slice())
+    }
+}
+
+impl NameTest for Part {
+    ghost use Rattle.std.specs.Str.{chars};
+    ghost use Rattle.llb_glob.specs.Matching.{name_matches};
+
+    ghost passes = { λ part name. name_matches part (chars name) };
+
+    fn passes(&self, name: &Name) -> bool {
+        self.matches(name.as_str())
     }
 }
 

@@ -1,7 +1,7 @@
 //! Patterns. A text is read as that of a path is, and then each part is cut into items. Reading looks the text through
 //! once without memory, so that a bad pattern is told apart from out of memory, and then makes the pattern.
 
-ghost use Rattle.std.specs.Prelude.{◌≡◌, ◌↔◌, List, ℕ, [], length, take, is_ok, IsTrue};
+ghost use Rattle.std.specs.Prelude.{◌≡◌, ◌↔◌, List, ℕ, [], is_ok, IsTrue};
 ghost use Rattle.llb_tree.specs.Path.{enter};
 ghost use Rattle.llb_glob.specs.Faults.{Gives, MemoryLast};
 ghost use Rattle.llb_glob.specs.Matching.{Matches, path_matches};
@@ -72,14 +72,11 @@ impl Pattern {
         all_match(&self.parts, path.names())
     }
 
-    /// Whether a path matches, or the one above it that has as many names as the pattern has parts.
-    pub fn matches_at_or_above(&self, path: &Path) -> bool
-        ensures { result ≡ path_matches self.now (take (length self.now) path.now) }
+    /// The parts, from the root down. Each is a test of the name at its place.
+    pub fn parts(&self) -> &[Part]
+        ensures { result.now ≡ self.now }
     {
-        let names = path.names();
-        let count = self.parts.len().min(names.len());
-        let (front, _) = names.split_at(count);
-        all_match(&self.parts, front)
+        &self.parts
     }
 
     /// Whether the root alone matches.
