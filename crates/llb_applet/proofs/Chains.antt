@@ -1,7 +1,8 @@
 -- Directories one below the other: a tree of them that is put at a path is what making them there one by one gives.
 use denote.Param.Weighed.{most}
 use Rattle.std.proofs.Common.{◌≡◌, ℕ, ◌+◌, ◌≤◌, nat_lt, Bool, true, false, cond, ◌&&◌, List, [], ◌∷◌, ◌++◌, length, drop, map, Option}
-use Rattle.std.proofs.Common.{Some, None, IsSome, is_some, option_map, Result, Ok, Err, refl, sym, ap, subst, ◌∙◌, true≢false, arith, length-append, append_assoc}
+use Rattle.std.proofs.Common.{Some, None, IsSome, is_some, option_map, Result, Ok, Err, refl, sym, ap, subst, ◌∙◌, true≢false, arith}
+use Rattle.std.proofs.Common.{length-append, append_assoc}
 use Rattle.std.proofs.lemmas.Bool.{le-ltb}
 use Rattle.std.proofs.lemmas.List.{append-nil}
 use Rattle.std.specs.declared.cmp.Ordering.{Ordering}
@@ -13,7 +14,8 @@ use Rattle.std.specs.FinMap as finite
 use Rattle.llb_wire.specs.Answer.{◌>>=◌, bind_ok}
 use Rattle.llb_tree.specs.Path.{path_cmp, is_within}
 use Rattle.llb_tree.specs.PathOrder.{path_cmp-IsTotalOrder, path_cmp-IsAntisymmetric}
-use Rattle.llb_tree.specs.Tree.{Entry, Dir, File, Look, TreeMap, new_dir_meta, parents, all_dirs, walk, dir_fits, put_dir, is_dir, height, places_fit, with_tree}
+use Rattle.llb_tree.specs.Tree.{Entry, Dir, File, Look, TreeMap, new_dir_meta, parents, all_dirs, walk, dir_fits, put_dir, is_dir, height}
+use Rattle.llb_tree.specs.Tree.{places_fit, with_tree}
 use Rattle.llb_tree.specs.Tree.{graft, empty_tree, Gives, IsTree}
 use Rattle.llb_tree.specs.Falls.{height_le}
 use Rattle.llb_tree.specs.Inside.{walk-cons, walk_below}
