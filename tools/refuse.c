@@ -1,9 +1,9 @@
-/* Stands between a test and its memory: `tools/refuse` loads it beside the tests of `llb_refusals`, which ask it by the sizes of
-   requests that no allocator grants. A request of ASK + k bytes makes the k-th request from then on fail, and only that one. A request of
-   TELL bytes is granted where that one was refused, and fails where it was not; either way nothing fails from then on. Each request that
-   failed so is counted: one byte is written to the descriptor whose number is in the environment, under REFUSED.
-
-   It has no headers, so that a compiler without a C library's serves. */
+/* Stands between a test and its memory: `tools/refuse` loads it beside the tests of `llb_refusals`, which ask it
+   by the sizes of requests that no allocator grants. A request of ASK + k bytes makes the k-th request from
+   then on fail, and only that one. A request of TELL bytes is granted where that one was refused, and fails
+   where it was not; either way nothing fails from then on. Each request that failed so is counted: one byte is
+   written to the descriptor whose number is in the environment, under REFUSED. It has no headers, so that a
+   compiler without a C library's serves. */
 
 typedef unsigned long size;
 

@@ -75,8 +75,8 @@ class WithProgram(Folder):
         self.assertEqual(self.text_of("out"), text)
 
     def test_the_example_is_built(self):
-        tree = EXAMPLES / "source.tree"
-        given = (EXAMPLES / "execution.definition").read_bytes()
+        tree = EXAMPLES / "tour.tree"
+        given = (EXAMPLES / "tour.definition").read_bytes()
         self.passes(run("directory-of-tree", self.at / "source", text=tree.read_bytes()))
         text = self.output("run", f"source={tree}", given=given)
         for workers in ["--workers=1", "--workers=4"]:
@@ -202,7 +202,7 @@ class WithProgram(Folder):
 
     def test_each_line_for_183_is_taken(self):
         place = EXAMPLES / "first-run.definition"
-        settled = {"N": "2", "FILE": str(place), "NAME=FILE ...": f"a={EXAMPLES / 'source.tree'}"}
+        settled = {"N": "2", "FILE": str(place), "NAME=FILE ...": f"a={EXAMPLES / 'tour.tree'}"}
         for line in [row.line for row in faults.read_page().lines[183]]:
             name, *words = re.findall(r"NAME=FILE \.\.\.|[^ \[\]]+", line)
             self.assertEqual(name, "llbm")

@@ -54,7 +54,8 @@ else:
             self.assertIn(f"    {wrong}", told)
 
     def test_no_tests(self):
-        self.assertEqual(self.refuse(self.tests(names=())), (1, ["0 growths of 0 calls were refused", "0 passed, 0 failed"]))
+        none = ["0 growths of 0 calls were refused", "0 passed, 0 failed"]
+        self.assertEqual(self.refuse(self.tests(names=())), (1, none))
 
     def test_command_lines_are_refused(self):
         for words in [("/none",), ("a", "b"), ("--nosuch",)]:
