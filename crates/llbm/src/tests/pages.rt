@@ -84,15 +84,18 @@ fn nothing_follows_another_refusal(rt: HostRuntime) {
     }
 }
 
+const NARROW: &[(&str, &str)] = &[
+    ("[3 told] --help", "fau"),
+    ("[12 told] run -h", "fault 183\nRu"),
+    ("[20 told] --version", "fault 183\nllbm 1.0, "),
+];
+
 #[test]
 fn a_page_that_cannot_be_written_ends_with_three(rt: HostRuntime) {
-    for (bounded, told) in [
-        ("[3 told] --help", "fau"),
-        ("[12 told] run -h", "fault 183\nRu"),
-    ] {
+    for (words, told) in NARROW {
         assert!(rt;
-            ran_words(&rt, rt.alloc(), bounded).is(3, "", told),
-            "{bounded}"
+            ran_words(&rt, rt.alloc(), words).is(3, "", told),
+            "{words}"
         );
     }
 }
