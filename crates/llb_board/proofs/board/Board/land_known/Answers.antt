@@ -13,5 +13,6 @@ returns c =
     let can = c.begun_are_plain.ensures.land c.args.w c.args.outcome.job c.requires.known in
     record {
       gives = subst (λ (s : Settled). Lands c.args.self.now c.args.w c.args.outcome c.settle.new.self (settle_reply s)) (sym c.unwrap_or.ensures)
-          (lands c.args.self.now c.go_through.new.self c.settle.new.self c.args.w c.args.outcome c.settle.result _ can c.go_through.ensures c.settle.ensures.gives);
+          (lands c.args.self.now c.go_through.new.self c.settle.new.self c.args.w c.args.outcome c.settle.result _ can
+            c.go_through.ensures c.settle.ensures.gives);
     }
