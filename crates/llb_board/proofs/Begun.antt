@@ -1,11 +1,12 @@
 -- What a worker that has done no micro-step is to do, at a vertex with no cache mount at or before it.
-use Rattle.std.proofs.Common.{◌≡◌, ℕ, true, List, [], map, Some, None, sym, ap, ◌∙◌}
-use Rattle.std.specs.Prelude.{option_map, slice_get}
+use Rattle.std.proofs.Common.{◌≡◌, ℕ, true, List, [], map, None, sym, ap, ◌∙◌}
+use Rattle.std.specs.List.{list_any}
+use Rattle.std.specs.Prelude.{option_map}
 use Rattle.llb_model.specs.Caches.{Place, trees_at}
 use Rattle.llb_loader.specs.Graph.{IsGraph}
 use Rattle.llb_model.specs.Program.{Build, Program, View, Left, Start, Need, needs_of, program_of, program_at, start_with, begin, part}
 use Rattle.llb_model.specs.Outcome.{is_plain}
-use Rattle.llb_model.specs.State.{Execution, Runs, State, program_in, ending_at, held, places_for, first_trees}
+use Rattle.llb_model.specs.State.{Execution, State, program_in, ending_at, held, places_for, first_trees}
 use Rattle.llb_model.specs.Table.{Job, Reply, Claimed, job_on}
 use Rattle.llb_model.specs.Plain.{left_of, IsUnderWay, StandsByOutcomes}
 use Rattle.llb_model.proofs.Lists.{some_of, inside}
@@ -15,10 +16,8 @@ use Rattle.llb_model.proofs.Outcomes.{inputs_mono, plain_needs, plain_inputs}
 use Rattle.llb_model.proofs.Plain.{ending_plain}
 use Rattle.llb_execution.specs.Parts.{work_with}
 use Rattle.llb_state.specs.Board.{Seen}
-use Rattle.llb_state.specs.Jobs.{is_shared, has_shared}
-use Rattle.llb_board.specs.Begun.{plain_start, job_from, plain_job, IsBegunPlainly, BegunArePlain, ClaimsArePlain, IsKnown, KnownLand}
-use Rattle.llb_board.specs.Landing.{CanLand}
-use Rattle.std.specs.List.{list_any}
+use Rattle.llb_state.specs.Jobs.{is_shared}
+use Rattle.llb_board.specs.Begun.{plain_start, job_from, IsBegunPlainly, BegunArePlain, ClaimsArePlain, KnownLand}
 
 module _ (b : Seen) (w : ℕ) (x : Execution) (under : IsUnderWay b.build x) (first : x.done ≡ 0) where
   at_first : record { work = begin b.build (start_with under.vertex under.trees) []; fault = None } ≡ left_of x
