@@ -80,7 +80,7 @@ claims_are_plain b graph stands w v t job is given =
     let bare : claim_places b.state start ≡ [] = ap (places_for (held b.state.workers)) none in
     let inputs = inputs_mono (λ j. is_plain b.build j ≡ true) (ending_at b.state.statuses) (outcomes.plain b.build)
     (ending_plain b.build graph b.state stands) start.vertex.inputs (plain_inputs b.build graph v start.vertex c.begins.there is)
-        start.inputs c.begins.inputs in
+    start.inputs c.begins.inputs in
     ap (λ o. option_map (job_from b.build w v) (plain_start b.build o)) c.begins.there
     ∙ ap (λ o. option_map (job_from b.build w v) (option_map (start_with start.vertex) o)) inputs
     ∙ ap (λ j. some_of j) (sym (

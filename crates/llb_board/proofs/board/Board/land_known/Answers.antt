@@ -14,5 +14,5 @@ returns c =
     record {
       gives = subst (λ (s : Settled). Lands c.args.self.now c.args.w c.args.outcome c.settle.new.self (settle_reply s)) (sym c.unwrap_or.ensures)
           (lands c.args.self.now c.go_through.new.self c.settle.new.self c.args.w c.args.outcome c.settle.result _ can
-            c.go_through.ensures c.settle.ensures.gives);
+          c.go_through.ensures c.settle.ensures.gives);
     }
