@@ -1,12 +1,14 @@
 //! The landing of an outcome: the block of all micro-steps that are left to a worker and of its settle, for work that was done away from
-//! the board. It stands on settles; it does no micro-step and compares trees by value alone.
+//! the board. It stands on settles and does no micro-step. `land` compares trees, by value alone; `land_known` compares nothing.
 
 ghost use Rattle.std.specs.Prelude.{◌≡◌, slice_get, IfOk, IfErr, OnOk, OnErr};
+ghost use Rattle.llb_board.specs.Begun.{IsKnown};
 ghost use Rattle.llb_board.specs.Landing.{CanLand, StandsInWay, IsRefused, land_fault, runs_shared, IsThrough, Lands};
 ghost use Rattle.llb_state.specs.Views.{settle_reply};
 
 use crate::board::Board;
 use crate::fault::LandFault;
+use crate::laws::begun_are_plain;
 use llb_events::Settled;
 use llb_state::{Desk, Job, Outcome, desk_at, has_shared, is_run_of, put_left, write_back};
 
@@ -35,6 +37,18 @@ impl Board {
         let vertex = outcome.job().vertex();
         self.go_through(w, outcome);
         Ok(self.settle(w).unwrap_or(Settled::Done(vertex)))
+    }
+
+    /// The same where the outcome's job is known to be what the worker runs: with no cache mount at or before its vertex and no
+    /// micro-step done. Nothing is compared. No memory.
+    pub fn land_known(&mut self, w: u32, outcome: Outcome) -> Settled
+        requires known { IsKnown self.old w outcome.job }
+        ensures gives { Lands self.old w outcome self.new (settle_reply result) }
+    {
+        begun_are_plain(self);
+        let vertex = outcome.job().vertex();
+        self.go_through(w, outcome);
+        self.settle(w).unwrap_or(Settled::Done(vertex))
     }
 
     /// Whether what a worker runs has an instance of a shared cache, so that nothing lands of it. False of a worker that runs nothing,

@@ -8,6 +8,7 @@ ghost use Rattle.llb_model.specs.Consistent.{IsConsistent};
 ghost use Rattle.llb_model.specs.Landing.{LandsAsBlock};
 ghost use Rattle.llb_model.specs.Laws as machine;
 ghost use Rattle.llb_state.specs.Board.{SettledArePlain, ChosenIsGranted, OthersKeep, OneWorkerEach, ReadyBehindDone, BlockedBehindAFailure, OutcomeByInputs};
+ghost use Rattle.llb_board.specs.Begun.{BegunArePlain, ClaimsArePlain, KnownLand};
 ghost use Rattle.llb_board.specs.Headline.{Headline, StandsInClaimOrder};
 
 use crate::board::Board;
@@ -174,4 +175,15 @@ pub fn outcome_by_inputs(board: &Board)
     ensures { OutcomeByInputs board.now }
 {
     board.is_graph();
+}
+
+/// A worker that has done no micro-step of a vertex with no cache mount at or before it has what the build and the vertex alone determine,
+/// whatever was done before; a claim of the vertex hands out just that job. So its outcome lands, and no tree has to be compared.
+pub fn begun_are_plain(board: &Board)
+    ensures begun { BegunArePlain board.now }
+    ensures claims { ClaimsArePlain board.now }
+    ensures land { KnownLand board.now }
+{
+    board.is_graph();
+    board.replays();
 }

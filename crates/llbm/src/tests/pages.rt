@@ -1,6 +1,7 @@
 //! The pages of help and of the version, each held against the text that `clap` renders for the same words.
 
-use super::told::ran_words;
+use super::devices::AMPLE;
+use super::told::{ran_words, tried};
 use llb_commands::llbm_command;
 use std::alloc::Global;
 use std::process::Abort;
@@ -84,15 +85,19 @@ fn nothing_follows_another_refusal(rt: HostRuntime) {
     }
 }
 
+// Words, and all that standard error takes of what is told.
+const NARROW: &[(&str, &str)] = &[
+    ("--help", "fau"),
+    ("run -h", "fault 183\nRu"),
+    ("--version", "fault 183\nllbm 1.0, "),
+];
+
 #[test]
 fn a_page_that_cannot_be_written_ends_with_three(rt: HostRuntime) {
-    for (bounded, told) in [
-        ("[3 told] --help", "fau"),
-        ("[12 told] run -h", "fault 183\nRu"),
-    ] {
-        assert!(rt;
-            ran_words(&rt, rt.alloc(), bounded).is(3, "", told),
-            "{bounded}"
-        );
+    for (words, told) in NARROW {
+        let mut rooms = AMPLE;
+        rooms.err = told.len();
+        let ran = tried(&rt, rt.alloc(), words, rooms);
+        assert!(rt; ran.is(3, "", told), "{words}");
     }
 }
