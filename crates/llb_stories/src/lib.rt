@@ -11,6 +11,8 @@ mod calling;
 #[cfg(test)]
 mod calls;
 #[cfg(test)]
+mod chain;
+#[cfg(test)]
 mod conversations;
 #[cfg(test)]
 mod crew;

@@ -1,4 +1,5 @@
-//! A chain of as many vertices as a definition may have: it is read, evaluated, run, and walked to its end and back.
+//! A chain of as many vertices as a definition may have: it is read, evaluated, run, and walked to its end and back. As `rt ci` builds it, it
+//! takes seconds; `rt try --test`, whose programs check each call, takes minutes for it (`--seconds 900`).
 
 use llb_asm::assemble;
 use llb_board::Board;
