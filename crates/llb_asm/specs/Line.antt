@@ -84,7 +84,7 @@ held_by labels row kind.Bool text = or_else (Breaks BadValue) (option_map (numbe
 unfoldable pub held_in : List (List ℕ) → Row → List ℕ → Result Held Refusal
 held_in labels row text = held_by labels row row.1.kind text
 
--- ---- where a line stands: the message, its last field, whether a member of its oneof is set, and how often the last field stood
+-- ---- the place of a line: the message, its last field, whether a member of its oneof is set, and how often the last field occurred
 
 -- at the start of a message
 abbrev pub inside : MessageName → Here
@@ -100,7 +100,7 @@ behind here f = record {
   ended = false;
 }
 
--- after the extra bytes, where nothing more may stand
+-- after the extra bytes, where no more lines of the message may follow
 abbrev pub at_end : Here → Here
 at_end here = record { message = here.message; last = here.last; set = here.set; count = here.count; ended = true }
 

@@ -38,7 +38,7 @@ held_text kind.Enum labels name held = []
 held_text kind.Bool labels name held = []
 held_text (kind.Message m) labels name held = []
 
--- ---- lines, each with how deep it stands
+-- ---- lines, each with its depth
 
 abbrev pub PlainLine : Type 0
 PlainLine = ℕ × List ℕ
@@ -115,7 +115,7 @@ plain_text xs = text_of_lines (plain_lines [] xs)
 
 -- ---- the law
 
--- the text of the entries of a definition stands for these entries
+-- the text of the entries of a definition is read as these entries
 abbrev pub ReadsBack : List (List ℕ) → Type 0
 ReadsBack entries =
     definition_of (definition_bytes entries) ≡ Ok entries → (xs : List Formed) → AreFormed entries xs

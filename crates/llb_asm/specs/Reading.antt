@@ -1,4 +1,4 @@
--- Which lines are the items of a message and the entries of a definition, what they stand for, and which line is the first that is
+-- Which lines are the items of a message and the entries of a definition, what they are read as, and which line is the first that is
 -- refused. Nothing here knows how lines are read.
 use Rattle.std.specs.Prelude.{◌≡◌, ◌≢◌, ◌≤◌, ℕ, ◌+◌, ◌&&◌, ◌⊎◌, nat_lt, nat_le, Bool, if◌then◌else◌, List, [], ◌∷◌, ◌++◌, length, map, codes, Option}
 use Rattle.std.specs.Prelude.{Some, None, Result, Ok, Err}
@@ -41,7 +41,7 @@ is_within earlier size = nat_le size entry_limit && nat_le (length (definition_b
 
 -- ---- the message at hand
 
--- where the next line stands in it, its bytes so far, and whether the entry is within the limits where it has that many, all messages closed
+-- the place of the next line in it, its bytes so far, and whether an entry that has n bytes, all messages closed, is within the limits
 pub record Hand : Type 0 where
   pub here : Here
   pub bytes : List ℕ
@@ -199,7 +199,7 @@ AreEntries earlier (op line items entry rest) =
     × (entry_in earlier (records_of items) ≡ Ok entry) × AreEntries (earlier ++ entry ∷ []) rest
 AreEntries earlier (open_op line items) = (begun_in earlier line ≡ Ok Structured) × Fits (labels_of earlier) (outermost earlier) items
 
--- the lines stand for these entries
+-- the lines are read as these entries
 pub record StandsFor (lines : List Line) (entries : List (List ℕ)) : Type 0 where
   pub parts : Entries
   pub are : AreEntries [] parts
@@ -257,7 +257,7 @@ Assembles text (Err fault.Write) = ⊥
 abbrev pub at_line : ℕ → Refusal → ℕ × Refusal
 at_line n e = (n, e)
 
--- a text stands for one list of entries at most, or it has one first fault, and never both
+-- a text is read as one list of entries at most, or it has one first fault, and never both
 pub record HasOneAnswer (text : List ℕ) : Type 0 where
   pub entries : (a b : List (List ℕ)) → StandsFor (kept text) a → StandsFor (kept text) b → a ≡ b
   pub apart : (a : List (List ℕ)) (n : ℕ) (e : Refusal) → StandsFor (kept text) a → ¬ FaultAt (kept text) n e

@@ -37,7 +37,7 @@ seen s = record { here = s.here; bytes = s.bytes; below = reverse s.below }
 abbrev pub at_front : Seen
 at_front = record { here = inside named.Op; bytes = []; below = [] }
 
--- whether the entry has room for that many bytes of the message at hand
+-- whether the entry has room for the message at hand where that has `size` bytes
 abbrev pub room_in : (ℕ → Bool) → List Frame → ℕ → Bool
 room_in room [] size = room size
 room_in room (f ∷ below) size = room_in room below (length f.bytes + record_length f.number size)
@@ -123,7 +123,7 @@ unfoldable pub run_from : ℕ → Progress → List Line → Result (List (List 
 run_from last p [] = finish last p.earlier p.current
 run_from last p (l ∷ lines) = next l.0 (λ q. run_from l.0 q lines) (step_of p l.1)
 
--- out of memory aside, that is what is answered
+-- the result of a call is the expected one, or its fault is the one for refused memory
 abbrev pub Gives : Result (List (List ℕ)) AsmFault → Result (List (List ℕ)) (ℕ × Refusal) → Type 0
 Gives (Ok entries) r = r ≡ Ok entries
 Gives (Err (fault.Line n rule)) r = r ≡ Err (n, Breaks rule)
@@ -131,7 +131,7 @@ Gives (Err (fault.UnknownLabel n)) r = r ≡ Err (n, UnknownLabel)
 Gives (Err fault.Memory) r = Unit {0}
 Gives (Err fault.Write) r = ⊥
 
--- the answer with the entries that are reached
+-- the result with the entries that are reached
 abbrev pub reached : List (List ℕ) → Result (Unit {0}) AsmFault → Result (List (List ℕ)) AsmFault
 reached entries (Ok u) = Ok entries
 reached entries (Err f) = Err f

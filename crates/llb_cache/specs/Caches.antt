@@ -38,7 +38,7 @@ place key number = record { key = key; number = number }
 abbrev pub trees_of : List Row → Key → List TreeMap
 trees_of rows key = unwrap_or (lookup (same_key key) rows) []
 
--- a key has these trees, in the place of those that it had; a new key stands after all others
+-- a key has these trees, in the place of those that it had; a new key comes after all others
 abbrev pub with_trees : List Row → Key → List TreeMap → List Row
 with_trees rows key trees = insert_entry same_key rows key trees
 
@@ -86,12 +86,12 @@ place_at out lease i = slice_index_or (places_of out lease) i (place (record { i
 
 -- ---- what a lease takes
 
--- the least number from n on whose instance no lease has, where it is among that many or the one after them
+-- the least number at or after n whose instance no lease has, if it is one of the first `more` numbers; else n + more
 unfoldable pub first_free : Leases → Key → ℕ → ℕ → ℕ
 first_free out key n zero = n
 first_free out key n (suc more) = if is_held out (place key n) then first_free out key (n + 1) more else n
 
--- the number of the instance that a key gives: of a private one the least that no lease has, where that many are out
+-- the number of the instance for a key: 0, or for a private key the least whose instance no lease has, searched among as many numbers as there are leases
 abbrev pub number_for : Leases → Key → Mode → ℕ
 number_for out key Shared = 0
 number_for out key Locked = 0
@@ -149,7 +149,7 @@ lease_of c needs = lease_by c needs (find (is_shut c.out) needs)
 
 -- ---- the other calls
 
--- with another tree in the instance of a need
+-- the caches with another tree in the instance of a need
 abbrev pub with_content : CachesValue → ℕ → ℕ → TreeMap → CachesValue
 with_content c lease i tree = record c { rows = put c.rows (place_at c.out lease i) tree }
 

@@ -15,7 +15,7 @@ pub record FitsIn (r : Ready) : Type 0 where
   pub mark : r.place.number < length r.marks
   pub clear : (k : ℕ) → slice_index_or r.marks k false ≡ false
 
--- the need that is refused gives the fault
+-- the need that is refused decides the fault
 abbrev pub IsRefusal : Option Need → LeaseFault → Type 0
 IsRefusal None e = ⊥
 IsRefusal (Some n) e = e ≡ Held n.key

@@ -60,7 +60,7 @@ abbrev pub plain_result : Build → Option TreeMap
 plain_result b = output_in (ending_in (outcome b b.graph.result.vertex)) b.graph.result.index
 
 -- bytes that are the definition of a graph whose result, where a run on these local trees by these workers has ended, is a tree of that text; then no
--- vertex has failed, and without caches it is the tree that the plain outcomes give
+-- vertex has failed, and without caches it is the result's tree by the plain outcomes
 pub record Yields (workers : ℕ) (locals : List Local) (bytes text : List ℕ) : Type 0 where
   pub graph : Numbered
   pub loaded : IsGraphIn bytes graph
@@ -127,9 +127,9 @@ abbrev pub FailsAll : ℕ → List Local → Option (List ℕ) → Option (List 
 FailsAll workers locals err err' bytes = (y : YieldsNone workers locals bytes)
     × Appends err err' (failed_lines (build_of locals y.graph) y.state (length y.graph.vertices))
 
--- How a run by a number of workers ends. 0: the text of the result is out, and nothing else. 1: a vertex failed, so that the result is no tree, and nothing is
--- out but the lines of the failures. 2: the bytes are refused, a local tree is missing, or there are no workers or too many, and nothing is out but the line
--- that says which. 3: a device, a thread or memory failed; nothing is out, or a prefix of the text.
+-- How a run by a number of workers ends. 0: the text of the result is written, and nothing else. 1: a vertex failed, so that the result is no tree, and
+-- nothing is written but the lines of the failures. 2: the bytes are refused, a local tree is missing, or there are no workers or too many, and nothing is
+-- written but the line that says which. 3: a device, a thread or memory failed; nothing is written, or a prefix of the text.
 abbrev pub Runs : ℕ → List Local → Option (List ℕ) → Option (List ℕ) → Option (List ℕ) → Option (List ℕ) → Option (List ℕ) → ℕ → Type 0
 Runs workers locals input out out' err err' status =
     ((status ≡ 0) × Keeps err err' × IfSome input (YieldsAll workers locals out out'))

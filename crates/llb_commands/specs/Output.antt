@@ -1,4 +1,4 @@
--- What is out of a text that was to be written.
+-- How much of a text that was to be written is written.
 use Rattle.std.specs.Prelude.{ℕ, List, Option, Result, Ok, Err}
 use Rattle.std.specs.Io.KnownBytes.{Appends}
 use Rattle.llb_wire.specs.Sink.{PartOut}

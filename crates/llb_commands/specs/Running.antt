@@ -74,7 +74,7 @@ Answers workers locals input out out' (Ok (Some b)) = Keeps out out' × IfSome i
 Answers workers locals input out out' (Err e) =
     (Keeps out out' × TellsRefusal (IsNotRun workers locals) input e) ⊎ ((¬ IsRefusal e) × IfSome input (YieldsPart workers locals out out'))
 
--- the exit status for an answer, with its lines: 0 for a text that is out, 1 where there is none, 2 for a refusal, and 3 where a device fails after any of them
+-- the exit status for a result, with its lines: 0 for a text that is written, 1 where there is none, 2 for a refusal, and 3 where a device fails after any
 abbrev pub Ends : Option (List ℕ) → Option (List ℕ) → Option (List ℕ) → Option (List ℕ) → Result (Option Seen) ProgramFault → ℕ → Type 0
 Ends out out' err err' (Ok None) status = Keeps out out' × (((status ≡ 0) × Keeps err err') ⊎ (status ≡ 3))
 Ends out out' err err' (Ok (Some b)) status =

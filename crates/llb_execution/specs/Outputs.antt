@@ -11,7 +11,7 @@ abbrev pub actions_in : Option Kind → List Action
 actions_in (Some (kind.File f)) = f.actions
 actions_in _ = []
 
--- the numbers of the outputs that actions give
+-- the numbers of the outputs of actions
 abbrev pub numbers_of : List Action → List ℤ
 numbers_of actions = map (λ (a : Action). a.output) actions
 

@@ -26,7 +26,7 @@ word_rules = rule.NoMeta ∷ rule.NoArgs ∷ rule.NoMounts ∷ []
 abbrev pub path_rules : List Rule
 path_rules = rule.NoRoot ∷ rule.BadPath ∷ rule.SameDest ∷ []
 
--- what they show and give
+-- what they show, and the outputs that they make
 abbrev pub mount_rules : List Rule
 mount_rules = rule.MountKind ∷ rule.MountInput ∷ rule.MountOutput ∷ []
 

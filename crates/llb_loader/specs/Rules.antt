@@ -136,7 +136,7 @@ IsKnownSharing None = ⊤
 abbrev pub IsShared : Mount → Type 0
 IsShared m = m.mount_type ≡ cache → IsKnownSharing m.cache_opt
 
--- only a mount that is neither a cache nor a tmpfs gives an output, and outputs are numbered from 0
+-- only a mount that is neither a cache nor a tmpfs has an output, and outputs are numbered from 0
 pub record AreMountOutputs (mounts : List Mount) : Type 0 where
   pub numbered : AreOutputs (mount_outputs mounts)
   pub caches : All (λ m. m.mount_type ≡ cache → m.output ≡ none) mounts

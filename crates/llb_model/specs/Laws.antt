@@ -127,7 +127,7 @@ HeldAreThere b = (s : State) → IsReached b s → (w : ℕ) (x : Execution) →
 
 -- ---- scripts
 
--- of an exec before its first command: its mounts, and which of them show caches
+-- the work of an exec before its first command: its mounts, and which of them show caches
 abbrev pub at_start : List Shown → List ℕ → List TreeMap → Work
 at_start mounts caches trees = record { own = Mounted mounts caches 0; trees = trees }
 

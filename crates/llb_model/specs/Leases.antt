@@ -64,7 +64,7 @@ pub record AreLeased (out : Leases) (workers : List At) (ls : List (Option ℕ))
 abbrev pub LeasedHoldsAs : Type 0
 LeasedHoldsAs = (out : Leases) (workers : List At) (ls : List (Option ℕ)) → AreLeased out workers ls → HoldsAs out workers
 
--- a claim leases where it has instances, a step keeps its lease, a settle and a cancel give it back
+-- a claim leases where it has instances, a step keeps its lease, a settle and a cancel release it
 abbrev pub ClaimLeases : Type 0
 ClaimLeases = (out : Leases) (workers : List At) (ls : List (Option ℕ)) (w : ℕ) (z : Execution) → AreLeased out workers ls → slice_get workers w ≡ Some Idle
     → AreLeased (cache.with_lease out (cache.free_lease out) z.places) (slice_set workers w (Runs z)) (slice_set ls w (Some (cache.free_lease out)))

@@ -50,7 +50,7 @@ pub data MicroStep : Type 0 where
   LayInput : ℤ → MicroStep
   Run : Setting → Joined → Bool → MicroStep
 
--- the micro-steps of a vertex, how many outputs it has, and of an exec the number of the output that each mount gives
+-- the micro-steps of a vertex, how many outputs it has, and, for an exec, the output number of each mount
 pub record Program : Type 0 where
   pub steps : List MicroStep
   pub outputs : ℕ
@@ -116,12 +116,12 @@ seed_as s = record { digest = s.digest; index = index_of s.index }
 abbrev pub key_as : CacheKey → Key
 key_as k = record { id = k.id; seed = option_map seed_as k.seed; mode = mode_of k.mode }
 
--- of a mount that shows a cache, before the later ones
+-- the needs of a mount, before the later ones: one if it shows a cache
 abbrev pub with_need : ℕ → Mount → Option CacheKey → List Need → List Need
 with_need i m (Some k) needs = record { mount = i; key = key_as k; input = m.input } ∷ needs
 with_need i m None needs = needs
 
--- of mounts from a number on
+-- the needs of mounts that are numbered from i
 abbrev pub needs_from : List Input → ℕ → List Mount → List Need
 needs_from inputs i [] = []
 needs_from inputs i (m ∷ ms) = with_need i m (mounts.key_of inputs m) (needs_from inputs (i + 1) ms)
@@ -168,7 +168,7 @@ steps_of None script = []
 abbrev pub program_of : Vertex → Program
 program_of v = record { steps = steps_of v.op.kind v.script; outputs = v.outputs; given = mount_outputs (kind_mounts v.op.kind) }
 
--- of a number that no vertex has: nothing to do
+-- a number that no vertex has has a program without steps
 abbrev pub program_at : Option Vertex → Program
 program_at (Some v) = program_of v
 program_at None = record { steps = []; outputs = 0; given = [] }
@@ -359,7 +359,7 @@ result_for i (ReadLocal ∷ steps) (t ∷ results) = result_for i steps results
 result_for i (LayInput n ∷ steps) (t ∷ results) = result_for i steps results
 result_for i (Run setting command ends ∷ steps) (t ∷ results) = result_for i steps results
 
--- the whole tree of the mount that gives the output of number i
+-- the whole tree of the mount whose output has number i
 abbrev pub tree_for : ℕ → List ℤ → List Shown → TreeMap
 tree_for i [] mounts = empty_tree
 tree_for i (n ∷ given) [] = empty_tree

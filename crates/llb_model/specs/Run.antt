@@ -6,7 +6,7 @@ use Rattle.llb_model.specs.Outcome.{Outcome, Ended, Blocked}
 use Rattle.llb_model.specs.State.{Status, Waiting, Running, Settled, At, Idle, Runs, State, is_ready, is_blocked, is_finished, program_in}
 use Rattle.llb_model.specs.Table.{Event, Claim, Step, Settle, Cancel, Reply, worker_of, table}
 
--- a run goes on from what an event gives, with its reply first
+-- a run goes on from the state after an event, with its reply first
 abbrev pub after : Option (State × Reply) → (State → Option (State × List Reply)) → Option (State × List Reply)
 after None go = None
 after (Some (s, r)) go = option_map (λ (t : State × List Reply). (t.0, r ∷ t.1)) (go s)

@@ -15,13 +15,13 @@ use Rattle.llb_model.specs.Caches.{Place, place, Store, content, trees_at, is_in
 use Rattle.llb_model.specs.Program.{Build, MicroStep, Program, View, Work, Need, Start, start_with, program_at, needs_of, base_in, begin}
 use Rattle.llb_model.specs.Outcome.{Ending, Done, Failed, ended, inputs_from}
 
--- of a vertex
+-- the status of a vertex
 pub data Status : Type 0 where
   Waiting : Status
   Running : ℕ → Status
   Settled : Ending → Status
 
--- of a running worker: its vertex, the micro-steps done (one that faults is counted), their fault if any, its view, and the
+-- what a running worker holds: its vertex, the micro-steps done (one that faults is counted), their fault if any, its view, and the
 -- instances of caches that it has, in the order of the needs
 pub record Execution : Type 0 where
   pub vertex : ℕ
@@ -30,7 +30,7 @@ pub record Execution : Type 0 where
   pub own : View
   pub places : List Place
 
--- of a worker
+-- the state of a worker
 pub data At : Type 0 where
   Idle : At
   Runs : Execution → At
@@ -107,7 +107,7 @@ abbrev pub next_stopped : List Status → List Bool → Vertex → Bool
 next_stopped statuses before v =
     is_failed (ending_at statuses (length before)) || list_any (λ (e : Edge). unwrap_or (slice_get before e.vertex) false) v.inputs
 
--- of each vertex, by number
+-- for each vertex, by number: whether it is stopped
 abbrev pub stopped : Build → List Status → List Bool
 stopped b statuses = by_number (next_stopped statuses) [] b.graph.vertices
 
@@ -165,7 +165,7 @@ abbrev pub first_free : List Place → Key → ℕ → ℕ → ℕ
 first_free ps k n zero = n
 first_free ps k n (suc tries) = if is_in ps (place k n) then first_free ps k (n + 1) tries else n
 
--- of a private cache the least that is not held; the others have one instance
+-- the number of the instance of a key: of a private cache the least that is not held; the others have one instance, 0
 abbrev pub number_for : List Place → Key → Mode → ℕ
 number_for ps k Shared = 0
 number_for ps k Locked = 0

@@ -31,7 +31,7 @@ abbrev pub unless_shut : List Need → Option Key → Result (List Need) ClaimFa
 unless_shut needs None = Ok needs
 unless_shut needs (Some k) = Err (claim.Held k)
 
--- the instances that a lease gives
+-- the instances that a lease takes
 abbrev pub places_taken : Leases → List Need → List Place
 places_taken out needs = map (λ (n : Need). cache.place_for out n.key) needs
 

@@ -31,7 +31,7 @@ last_line (b ∷ rest) = (b ∷ rest) ∷ []
 
 -- ---- what is said to them
 
--- the lines, counted from n on, are answered one after the other: texts are appended, states handed on
+-- the lines, counted from n, get their replies one after the other: texts are appended, states handed on
 abbrev pub Talks : Stepping → ℕ → List (List ℕ) → List ℕ → Stepping → Type 0
 Talks s n [] text t = (text ≡ []) × (t ≡ s)
 Talks s n (line ∷ lines) text t =
@@ -46,7 +46,7 @@ pub record Standing : Type 0 where
 abbrev pub opening : Stepping → Standing
 opening s = record { session = s; number = 1; line = [] }
 
--- bytes were heard: the lines that end in them are answered, and the last one is begun
+-- bytes were heard: the lines that end in them get their replies, and the last one is begun
 pub record Talked (p : Standing) (bytes text : List ℕ) (q : Standing) : Type 0 where
   pub lines : List (List ℕ)
   pub spelled : Spelled lines q.line (p.line ++ bytes)
@@ -55,7 +55,7 @@ pub record Talked (p : Standing) (bytes text : List ℕ) (q : Standing) : Type 0
 
 -- ---- what is out when it ends
 
--- the answers to the lines that ended in the bytes are out, and nothing else
+-- the replies to the lines that ended in the bytes are written, and nothing else
 pub record Answered (p : Standing) (bytes : List ℕ) (t : Stepping) (out out' : Option (List ℕ)) : Type 0 where
   pub text : List ℕ
   pub at : Standing
@@ -68,7 +68,7 @@ pub record Quit (p : Standing) (bytes : List ℕ) (t : Stepping) (out out' : Opt
   pub before : Answered p bytes t out out'
   pub quits : Quits before.at.line
 
--- the line that is begun is answered too, and of its answer a prefix is out
+-- the line that is begun gets its reply too, of which a prefix is written
 pub record CutShort (p : Standing) (bytes : List ℕ) (t : Stepping) (out out' : Option (List ℕ)) : Type 0 where
   pub text : List ℕ
   pub at : Standing
@@ -84,7 +84,7 @@ pub record CutShort (p : Standing) (bytes : List ℕ) (t : Stepping) (out out' :
 abbrev pub AtLineEnd : List ℕ → (List ℕ → Type 0) → Type 0
 AtLineEnd heard P = (before : List ℕ) × (heard ≡ before ++ 10 ∷ []) × P before
 
--- all lines of an input are answered, a last one without its end too
+-- all lines of an input get their replies, a last one without its end too
 pub record Concluded (s : Stepping) (input : List ℕ) (t : Stepping) (out out' : Option (List ℕ)) : Type 0 where
   pub lines : List (List ℕ)
   pub rest : List ℕ

@@ -51,7 +51,7 @@ pub record Replays (b : Seen) : Type 0 where
 abbrev pub after_event : Seen → Event → State → Seen
 after_event b e s = record b { state = s; rows = rows_after b.rows s (worker_of e); events = b.events ++ e ∷ [] }
 
--- what an event gives, with the event at the end of the record; where it is not granted, the cause as a fault
+-- the board and the reply after an event, with the event at the end of the record; where it is not granted, the cause as a fault
 abbrev pub recorded : {C F : Type 0} → Seen → Event → (C → F) → Result (State × Reply) C → Result (Seen × Reply) F
 recorded b e fault (Ok (s, r)) = Ok (after_event b e s, r)
 recorded b e fault (Err cause) = Err (fault cause)

@@ -1,4 +1,4 @@
--- What a board keeps so that no event to come needs memory for the record but a claim after a cancel, nor a settle memory for its outputs,
+-- What a board keeps so that no event to come needs memory for the record but a claim after a cancel, and no settle needs memory for its outputs;
 -- that commands run where their exec says and see the caches that it shows, that each running worker has a lease of its instances, and that no
 -- search begins anew.
 use Rattle.std.specs.Prelude.{◌+◌, ◌≡◌, ℕ, ◌<◌, ◌≤◌, Bool, true, ◌||◌, List, [], map, replicate, length, Option, Some, None, slice_get}

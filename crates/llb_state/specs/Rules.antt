@@ -1,4 +1,4 @@
--- What each call returns: what the table gives, or the first cause of its refusal as a fault.
+-- What each call returns: the table's result, or the first cause of its refusal as a fault.
 use Rattle.std.specs.Prelude.{ℕ, Bool, true, false, List, Option, Some, None, Result, Ok, Err, if◌then◌else◌}
 use Rattle.llb_wire.specs.Answer as answer
 use Rattle.llb_loader.specs.declared.graph.Vertex.{Vertex}
@@ -32,7 +32,7 @@ use Rattle.llb_events.specs.declared.fault.SettleFault.TheVariants as settle
 use Rattle.llb_events.specs.declared.fault.CancelFault.{CancelFault}
 use Rattle.llb_events.specs.declared.fault.CancelFault.TheVariants as cancel
 
--- ---- the result of an event: what the table gives, with its cause as a fault
+-- ---- the result of an event: the table's, with its cause as a fault
 
 -- a cause as a fault
 abbrev pub faulted : {A C F : Type 0} → (C → F) → Result A C → Result A F

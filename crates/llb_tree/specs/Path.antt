@@ -59,7 +59,7 @@ abbrev pub follow : List (List ℕ) → List (List ℕ) → Result (List (List �
 follow path [] = Ok path
 follow path (part ∷ parts) = enter path part >>= λ next. follow next parts
 
--- what stands between the `/` of a text
+-- the parts of a text between its `/`
 abbrev pub parts_of : List ℕ → List (List ℕ)
 parts_of = slice_split (λ b. b == 47)
 

@@ -15,7 +15,7 @@ use Rattle.llb_treetext.specs.TreeText.{path_text}
 use Rattle.llb_treetext.specs.declared.parts.Parts.{Parts}
 use Rattle.llb_treetext.specs.declared.row.Row.{Row}
 
--- a reading goes on with what another gave
+-- a reading goes on with the value of another
 abbrev pub on : {A B : Type 0} → Option A → (A → Option B) → Option B
 on None f = None
 on (Some x) f = f x

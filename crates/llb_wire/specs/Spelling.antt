@@ -149,7 +149,7 @@ RecordCause bytes at BadWireType = HasNoWire bytes at
 
 -- ---- the shortest spellings
 
--- of at most one byte more than the count
+-- the shortest spelling of a number whose spelling has at most `more` + 1 bytes
 unfoldable pub shortest : ℕ → ℕ → List ℕ
 shortest zero n = n ∷ []
 shortest (suc more) n = if nat_lt n 128 then n ∷ [] else (128 + n % 128) ∷ shortest more (n / 128)
