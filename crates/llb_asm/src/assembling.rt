@@ -134,13 +134,13 @@ fn run_lines(alloc: Global, text: &[u8]) -> Result<Entries, AsmFault>
     Ok(Entries::new(earlier.into_entries()))
 }
 
-/// The entries that a text stands for.
+/// Returns the entries that a text is read as.
 ///
-/// One item stands on a line; spaces, tabs and carriage returns at its ends, empty lines and lines that begin with `#` are dropped.
-/// An entry is `raw HEX`, or `op {`, items and `}`; docs/FORMATS.md has the grammar. The entry of an op is its canonical bytes. The
-/// first faulty line is answered, with the first of its faults in this order: `Line` (161) with `Syntax`, `UnknownField`, `Order` or
+/// There is one item on a line; spaces, tabs and carriage returns at its ends, empty lines and lines that begin with `#` are dropped.
+/// An entry is `raw HEX`, or `op {`, items and `}`; docs/FORMATS.md has the grammar. The entry of an op is its canonical bytes. The call
+/// fails at the first faulty line, with the first of its faults in this order: `Line` (161) with `Syntax`, `UnknownField`, `Order` or
 /// `BadValue`, `UnknownLabel` (162), `Line` with `OverLimit`; and, after all of these, `Line` with `Unclosed` and the last line that is
-/// not dropped. `Memory` (163) where memory is refused.
+/// not dropped. Fails with `Memory` (163) where memory is refused.
 pub fn assemble(alloc: Global, text: &[u8]) -> Result<Entries, AsmFault>
     ensures { Assembles text.now result }
 {

@@ -110,7 +110,7 @@ impl Earlier {
         Ok(())
     }
 
-    /// Gives the entries back.
+    /// Returns the entries.
     pub(crate) fn into_entries(self) -> Vec<Bytes>
         ensures { result.items ≡ self }
     {

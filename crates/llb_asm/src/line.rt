@@ -25,7 +25,7 @@ pub enum Refusal {
     UnknownLabel,
 }
 
-/// Where a line stands.
+/// The place of a line.
 #[derive(Clone, Copy)]
 pub struct Here {
     pub message: MessageName,
@@ -33,9 +33,9 @@ pub struct Here {
     pub last: u32,
     /// Whether a member of the message's oneof is set.
     pub set: bool,
-    /// How often the last field stood.
+    /// How often the last field occurred.
     pub count: usize,
-    /// Whether the extra bytes stood.
+    /// Whether the extra bytes were there.
     pub ended: bool,
 }
 
@@ -46,7 +46,7 @@ pub enum Held {
     Opens(u32, MessageName),
 }
 
-/// What a line adds, and where the line after it stands in the same message.
+/// What a line adds, and the place of the line after it in the same message.
 #[derive(Drop)]
 pub struct Item {
     pub next: Here,
@@ -99,7 +99,7 @@ impl Here {
         }
     }
 
-    /// Numbers ascend, a repeated field may stand again, one member of a oneof stands, and nothing after the extra bytes.
+    /// Returns whether a field may follow: numbers ascend, a repeated field may recur, at most one member of a oneof is set, and the extra bytes are last.
     fn is_followed_by(self, field: NamedField) -> bool
         ensures { result ≡ follows self field }
     {
@@ -186,7 +186,7 @@ fn bytes_record(alloc: Global, field: NamedField, bytes: &[u8]) -> Result<Held, 
     Ok(Held::Record(Bytes::new(out)))
 }
 
-/// The record of a digest that a label gives.
+/// Returns the record of a digest that a label names.
 fn label_record(
     alloc: Global,
     labels: &[Text],
@@ -242,7 +242,7 @@ fn opening_in(field: NamedField, message: MessageName, text: &[u8]) -> Result<He
     Err(Refusal::Breaks(Rule::BadValue))
 }
 
-/// What the value of a field is spelled as.
+/// Reads the value of a field from its spelling.
 #[tactic(auto, unfolding(crate::specs::Line::held_in))]
 fn held_in(
     alloc: Global,
@@ -263,7 +263,7 @@ fn held_in(
     }
 }
 
-/// What the line of the extra bytes adds.
+/// Returns what the line of the extra bytes adds.
 fn extra_in(alloc: Global, here: Here, text: &[u8]) -> Result<Result<Item, Refusal>, Memory>
     ensures { IfOk result (λ r. r ≡ extra_in here text.now) }
 {
@@ -279,7 +279,7 @@ fn extra_in(alloc: Global, here: Here, text: &[u8]) -> Result<Result<Item, Refus
     }
 }
 
-/// What the line of a field adds.
+/// Returns what the line of a field adds.
 fn field_in(
     alloc: Global,
     labels: &[Text],
@@ -309,7 +309,7 @@ fn field_in(
     }
 }
 
-/// What a line adds to the message at hand, or why it is refused. The labels are the texts of the digests of the entries before.
+/// Returns what a line adds to the message at hand, or why it is refused. The labels are the texts of the digests of the entries before.
 #[tactic(auto, unfolding(crate::specs::Line::line_in))]
 pub(crate) fn line_in(
     alloc: Global,

@@ -14,7 +14,7 @@ use llb_wire::{Bytes, Memory, is_hex, read_hex};
 use std::alloc::Global;
 use std::str::from_utf8;
 
-/// The number that decimal digits are, the greatest of 64 bits for all that are greater than it; `None` of other texts, and of none.
+/// Reads a decimal number; all above 2^64 - 1 are read as 2^64 - 1. Returns `None` for other texts, an empty one among them.
 #[tactic(auto, unfolding(crate::specs::Values::magnitude))]
 pub fn magnitude(text: &[u8]) -> Option<u64>
     ensures { result ≡ option_map capped (magnitude text.now) }
@@ -87,7 +87,7 @@ pub(crate) fn number_in(kind: FieldKind, text: &[u8]) -> Option<u64>
     }
 }
 
-/// What a lower-case hexadecimal digit is.
+/// Returns the value of a lower-case hexadecimal digit.
 fn digit_of(byte: u8) -> Option<u8>
     ensures { result ≡ lower_digit byte }
 {
@@ -98,7 +98,7 @@ fn digit_of(byte: u8) -> Option<u8>
     }
 }
 
-/// What two lower-case hexadecimal digits are, where that is at most 7f.
+/// Returns the value of two lower-case hexadecimal digits, where that is at most 7f.
 fn escape_of(high: u8, low: u8) -> Option<u8>
     ensures { result ≡ escape_of high low }
 {
@@ -142,7 +142,7 @@ fn next_byte(text: &[u8]) -> Option<(u8, &[u8])>
     }
 }
 
-/// The string whose spelling goes on so, up to a quote at the end.
+/// Reads the rest of a string's spelling, up to a quote at the end.
 fn string_behind(alloc: Global, text: &[u8]) -> Result<Option<Bytes>, Memory>
     ensures { IfOk result (λ o. o ≡ string_from closed text.now) }
 {
@@ -158,7 +158,7 @@ fn string_behind(alloc: Global, text: &[u8]) -> Result<Option<Bytes>, Memory>
     Ok(None)
 }
 
-/// The string that a text between quotes is: `\"`, `\\`, and `\x` with two lower-case digits up to 7f stand for one byte.
+/// Reads the string that a text between quotes is: `\"`, `\\`, and `\x` with two lower-case digits up to 7f are one byte.
 pub(crate) fn string_in(alloc: Global, text: &[u8]) -> Result<Option<Bytes>, Memory>
     ensures { IfOk result (λ o. o ≡ string_in text.now) }
 {
@@ -298,7 +298,7 @@ pub(crate) fn push_label(alloc: Global, out: &mut Vec<u8>, entry: u64) -> Result
     push_decimal(alloc, out, entry)
 }
 
-/// What is written for a value is read as the value, and stands on one line as it is.
+/// A law: what is written for a value is read as the value, and fits on one line as it is.
 pub(crate) fn values_are_read_back()
     ensures read_back { ValuesAreReadBack }
     ensures solid { ValuesAreSolid }

@@ -62,7 +62,7 @@ impl From<llb_wire::Memory> for Memory {
     }
 }
 
-/// Of a copy of a tree, which can only lack memory.
+/// Converts the fault of a copy of a tree, which can only lack memory.
 impl From<TreeFault> for Memory {
     fn from(_: TreeFault) -> Memory {
         Memory

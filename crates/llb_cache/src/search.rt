@@ -69,7 +69,7 @@ impl Caches {
         }
     }
 
-    // The number of the instance that a key gives.
+    // The number of the instance that is chosen for a key.
     pub(crate) fn number_for(&self, key: &KeyRef<'_>) -> u32
         ensures { result ≡ number_for self.now.out key.now key.now.mode }
     {

@@ -1,4 +1,4 @@
-//! The trees of local sources, read from the texts of their files. Which files there are is told by a trait, so that
+//! The trees of local sources, read from the texts of their files. A trait says which files there are, so that
 //! the program's are the only ones whose bytes are not known here.
 
 ghost use Rattle.std.specs.Prelude.{◌≡◌, ℕ, List, [], Option, Some, IfOk, IfErr, OnOk, IfSome};
@@ -73,7 +73,7 @@ pub fn local_from<R: Read>(alloc: Global, input: &mut R) -> Result<Tree, SourceF
     }
 }
 
-// What is told of the reading of a text.
+// The fault of the reading of a text, as one of a local source.
 fn told(read: Result<Tree, TextFault>) -> Result<Tree, SourceFault>
     ensures { result ≡ told read }
 {
@@ -125,7 +125,7 @@ pub fn locals_of<F: Sources>(
 }
 
 impl SourceFault {
-    /// The status with which the program ends, once the fault's line is out: 2 where the text is refused, else 3.
+    /// Returns the status with which the program ends, once the fault's line is written: 2 where the text is refused, else 3.
     pub fn status(&self) -> u8
         ensures { result ≡ source_status self.now }
     {
@@ -138,7 +138,7 @@ impl SourceFault {
     }
 }
 
-/// The line of a local source that has no tree goes out, and its fault's status is the answer; 3 where the line can't be written.
+/// Writes the line of a local source that has no tree, and returns its fault's status; 3 where the line can't be written.
 pub fn source_refusal<E: Write>(fault: &SourceFault, err: &mut E) -> u8
     ensures { TellsSource (E.contents err.old) (E.contents err.new) fault.now result }
 {

@@ -44,7 +44,7 @@ fn same_own(own: &Own, other: &Own) -> bool
 }
 
 impl Program {
-    /// Whether this is the program of a vertex, as `of` makes it. Takes no memory.
+    /// Returns whether this is the program of a vertex, as `of` makes it. Does not allocate.
     pub fn is_of(&self, vertex: &Vertex) -> bool
         ensures { IsTrue result ↔ (self.now ≡ program_of vertex.now) }
     {
@@ -54,7 +54,7 @@ impl Program {
     }
 }
 
-// Whether these are the numbers of the outputs that mounts give.
+// Whether these are the output numbers of the mounts.
 fn are_outputs(numbers: &[i64], mounts: &[Mount]) -> bool
     ensures { IsTrue result ↔ (numbers.now ≡ mount_outputs mounts.now) }
 {

@@ -154,7 +154,7 @@ fn asked_inputs(op: &Op, reached: bool, terminal: bool) -> usize
     if terminal { 1 } else { 0 }
 }
 
-// The first of that many inputs whose index is that of no output.
+// The first of `asked` inputs whose index is that of no output.
 fn first_bad(op: &Op, named: &[usize], counts: &[usize], asked: usize) -> Option<usize>
     requires named { asked ≤ length named.now }
     requires inputs { asked ≤ length op.now.inputs }

@@ -197,14 +197,14 @@ impl From<AllocError> for Memory {
     }
 }
 
-/// Of a copy of a tree, which can only lack memory.
+/// Converts the fault of a copy of a tree, which can only lack memory.
 impl From<TreeFault> for Memory {
     fn from(_: TreeFault) -> Memory {
         Memory
     }
 }
 
-/// Of a copy of a text.
+/// Converts the fault of a copy of a text.
 impl From<llb_wire::Memory> for Memory {
     fn from(_: llb_wire::Memory) -> Memory {
         Memory

@@ -1,4 +1,4 @@
-//! What an op has that is not taken. Each test looks at the ops of one kind; the order of features is that of `features`.
+//! The features of an op that are not taken. Each test looks at the ops of one kind; the order of features is that of `features`.
 
 ghost use Rattle.std.specs.Prelude.{◌≡◌};
 ghost use Rattle.std.specs.List.{list_any, find};

@@ -104,7 +104,7 @@ pub(crate) fn rows_of(
     Ok(named)
 }
 
-/// What each row names.
+/// Returns the rows that each row names.
 pub(crate) fn links_of(
     alloc: Global,
     rows: &[Row],

@@ -1,4 +1,4 @@
-//! That canonical bytes are fields by the table of messages.
+//! A law: canonical bytes are fields by the table of messages.
 
 ghost use Rattle.llb_ops.specs.Fields.{EntryHasFields};
 

@@ -1,4 +1,4 @@
-//! Which vertices mount a cache. What a vertex leaves that has a cache at or before it can hang on the order in which vertices
+//! Which vertices mount a cache. What a vertex leaves that has a cache at or before it may depend on the order in which vertices
 //! run, so no graph with a cache is evaluated.
 
 ghost use Rattle.std.specs.Prelude.{◌≡◌};

@@ -1,4 +1,4 @@
-//! What holds of the records that bytes spell.
+//! Laws of the records that bytes spell.
 
 ghost use Rattle.std.specs.Prelude.{◌≡◌, ◌↔◌, List};
 ghost use Rattle.llb_wire.specs.Records.{Record, SpellRecords, Walks};

@@ -20,8 +20,8 @@ pub trait Sink {
     // The reference behind which the bytes go, where there is one: it stays the same.
     ghost lender: { Self → Option GName } = { λ _. None };
 
-    /// Takes some bytes from the start, at least one where there are any, and returns how many; or has
-    /// failed, and answers `Failed` from then on.
+    /// Takes some bytes from the start, at least one where there are any, and returns how many; or
+    /// fails with `Failed`, and then does so in every later call.
     fn write(&mut self, bytes: &[u8]) -> Result<usize, Failed>
         ensures takes { Takes (taken self.old) (failed self.old) (taken self.new) (failed self.new)
             bytes.now result }
