@@ -76,7 +76,7 @@ pub fn perform<T: Threads + Wait + Sync, S: Sources, R: Read, W: Write, E: Write
     }
 }
 
-/// The program: does what the words after its name say, and returns the exit status. Words that say nothing end it with a line (183, 184),
+/// Runs the program: does what the words after its name say, and returns the exit status. Words that say nothing end it with a line (183, 184),
 /// and below it the page that they ask for, where they ask for help or for the version; so does the first local source that has no tree
 /// (31 to 34, 92, 181, 184, 185); else the command is done on their trees, and the status is its own. It may wait where the command is `run`
 /// with more than one worker.

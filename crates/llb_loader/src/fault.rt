@@ -1,4 +1,4 @@
-//! Why rows are no graph. A fault prints what stands after the word `fault` in a refusal: its number and
+//! Why rows are no graph. A fault prints what comes after the word `fault` in a refusal: its number and
 //! its arguments, features and rules by their names. Refusals of memory of any kind become `Memory` by `?`.
 
 ghost use Rattle.std.specs.Prelude.{Some};

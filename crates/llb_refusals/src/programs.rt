@@ -167,7 +167,7 @@ impl Trial for OnInput {
         self.ran.told(rt, alloc, self.call != "asm_over")
     }
 
-    // What is out is the beginning of what is to be out; a session goes on after its refusals.
+    // What is written is the beginning of what is to be written; a session goes on after its refusals.
     fn is_as_before(&mut self, _rt: &impl Abort, _alloc: Global) -> bool {
         match self.call {
             "step_over" => true,
@@ -233,7 +233,7 @@ fn commands(rt: HostRuntime) {
     are_refused::<OnInput>(&rt, rt.alloc(), ROWS);
 }
 
-// The words of a command line, or bytes that are read up to a bound. All that is kept of the answer is what it comes to.
+// The words of a command line, or bytes that are read up to a bound. All that is kept of the result is its text.
 #[derive(Drop)]
 struct OnWords {
     call: &'static str,

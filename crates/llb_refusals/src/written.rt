@@ -61,7 +61,7 @@ pub(crate) fn tree_named(rt: &impl Abort, alloc: Global, name: &'static str) -> 
     }
 }
 
-/// A tree, and another that is the same: a copy, which shares its nodes, where `copy of` stands before the name; else one that is made in
+/// Makes a tree, and another that is the same: a copy, which shares its nodes, where `copy of` comes before the name; else one that is made in
 /// the same steps.
 pub(crate) fn tree_and_twin(rt: &impl Abort, alloc: Global, on: &'static str) -> (Tree, Tree) {
     match on.strip_prefix("copy of ") {

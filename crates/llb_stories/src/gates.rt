@@ -16,7 +16,7 @@ impl Gate for Open {
     }
 }
 
-/// Counts who passes, at the vertices below a number and at the others. At vertex 0 it gives way to other threads for a while.
+/// Counts who passes, at the vertices below a number and at the others. At vertex 0 it yields to other threads for a while.
 #[derive(Drop)]
 pub(crate) struct Counting {
     from: u32,

@@ -2,7 +2,7 @@
 //!
 //! Entries are separated by `; `. One is a name of `definitions` or `execution_definitions`, or a script on the empty tree at `/` and the
 //! cache `k` at `/c`, after the way in which the cache is shared: `locked: SCRIPT`, `private: SCRIPT` or `shared: SCRIPT`. A new instance
-//! begins empty, or, where the way is followed by ` on 0`, with what the first entry gives. `sh: SCRIPT` has no cache. A `;` of a script
+//! begins empty, or, where the way is followed by ` on 0`, with the output of the first entry. `sh: SCRIPT` has no cache. A `;` of a script
 //! is written as `\x3b`.
 
 use super::definitions::ENTRIES;

@@ -40,7 +40,7 @@ impl Model for Content {
 }
 
 impl Content {
-    /// The bytes. Takes no memory.
+    /// Returns the bytes. Does not allocate.
     pub fn bytes(&self) -> &Bytes
         ensures { result.now ≡ self.now }
     {
@@ -81,8 +81,8 @@ impl Node {
 }
 
 impl Tree {
-    /// The content of the file at a path, which it shares and does not copy; none where no file is. 27 `Memory`, only where
-    /// the content has too many owners.
+    /// Returns the content of the file at a path, which it shares and does not copy; `None` where no file is. Fails with 27 `Memory` alone, only
+    /// where the content has too many owners.
     pub fn content(&self, path: &Path) -> Result<Option<Content>, TreeFault>
         ensures { Gives (λ c. c) result (Ok (content_of (finite.get self.now path.now))) }
     {

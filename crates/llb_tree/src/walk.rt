@@ -106,7 +106,7 @@ fn descend<'a>(
 }
 
 impl Tree {
-    /// A walk over the entries, from the root on. Takes no memory.
+    /// Starts a walk over the entries, from the root on. Does not allocate.
     pub fn walk(&self) -> Walk<'_>
         ensures { result ≡ finite.entries self.now }
     {
@@ -119,7 +119,7 @@ impl Tree {
 }
 
 impl<'a> Walk<'a> {
-    /// The first entry that is left, and its path; none at the end. Takes no memory.
+    /// Returns the first entry that is left, and its path; `None` at the end. Does not allocate.
     pub fn at(&self) -> Option<(&Path, Entry<'_>)>
         ensures { option_map pair_seen result ≡ slice_get self.now 0 }
     {

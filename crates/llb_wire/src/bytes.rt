@@ -1,4 +1,4 @@
-//! Byte strings, which contracts see as lists. That the elements are bytes is kept by the type.
+//! Byte strings, which contracts see as lists. The type keeps that the elements are bytes.
 
 ghost use Rattle.std.specs.Prelude.{◌≡◌, IfOk};
 ghost use Rattle.llb_wire.specs.Spelling.{AreBytes};
