@@ -48,7 +48,7 @@ other_bytes entry op is other (op', is', same) =
 not_read : (entry : List ℕ) (f : OpFault) → op_of entry ≡ Err f → ¬ IsStructured entry
 not_read entry f is (op, read, same) = no_op op f (sym read ∙ is)
 
--- the canonical bytes of what is read of an entry tell whether it is so written
+-- the canonical bytes of what is read of an entry decide whether it is so written
 pub structured_by : (entry bytes : List ℕ) (b : Bool) → Some bytes ≡ canonical_of (op_of entry) → b ≡ bytes_eq bytes entry
     → (b ≡ true → IsStructured entry) × (IsStructured entry → b ≡ true)
 structured_by entry bytes b = go (op_of entry) refl
@@ -121,7 +121,7 @@ next_in (x ∷ xs) (suc k) d all less =
     let later : drop (suc k + 1) (x ∷ xs) ≡ drop (k + 1) xs = ap (λ n. drop n (x ∷ xs)) (add-one (suc k)) ∙ sym (ap (λ n. drop n xs) (add-one k)) in
     record { form = y.form; has = y.has; is = y.is ∙ ap (λ l. (get_or (map (λ x. x.0) xs) k d, y.form) ∷ l) (sym later) }
 
--- of entries in their forms, the one at a place has the form that stands there
+-- in entries with their forms, the one at a place has the form at that place
 pub next_form : (entries : List (List ℕ)) (xs : List Formed) (k : ℕ) (entry : List ℕ) → AreFormed entries xs → k < length entries
     → entry ≡ get_or entries k entry → Next xs k entry
 next_form entries xs k entry are less is =

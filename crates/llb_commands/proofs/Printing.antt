@@ -10,7 +10,7 @@ use Rattle.llb_wire.specs.Sink.{part_then, part_after}
 use Rattle.llb_commands.specs.Output.{Writes}
 
 module _ {A : Type 0} where
-  -- the item at a place stands between those before it and those after
+  -- the item at a place is between those before it and those after
   split_here : (es : List A) (at : ℕ) (e : A) → slice_get es at ≡ Some e → es ≡ take at es ++ (e ∷ drop (suc at) es)
   split_here [] zero e there = absurd cc
   split_here [] (suc at) e there = absurd cc
