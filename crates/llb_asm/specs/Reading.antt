@@ -59,7 +59,7 @@ item_at labels hand line = do
   _ ← guard (Breaks OverLimit) (hand.room (length hand.bytes + added i.held))
   Ok i
 
--- after some more bytes, and in a message
+-- the message at hand after some more bytes, and a message in it
 abbrev pub beyond : Hand → Here → List ℕ → Hand
 beyond hand next bytes = record { here = next; bytes = hand.bytes ++ bytes; room = hand.room }
 
@@ -68,7 +68,7 @@ within hand number sub = record { here = inside sub; bytes = []; room = λ size.
 
 -- ---- the items of a message
 
--- with the lines that spell them: each a line with its record, or a message between an opening line and a closing one. The last one
+-- Items with the lines that spell them: each is a line with its record, or a message between an opening line and a closing one. The last one
 -- may be a message that is not closed yet.
 pub data Items : Type 0 where
   done : Items
@@ -143,7 +143,7 @@ abbrev pub canonical_of : Result Op OpFault → Option (List ℕ)
 canonical_of (Err f) = None
 canonical_of (Ok op) = Some (op_bytes op)
 
--- within the limits
+-- the canonical bytes, within the limits
 abbrev pub canonical_in : List (List ℕ) → Option (List ℕ) → Result (List ℕ) Refusal
 canonical_in earlier None = Err (Breaks OverLimit)
 canonical_in earlier (Some entry) = if is_within earlier (length entry) then Ok entry else Err (Breaks OverLimit)
@@ -222,7 +222,7 @@ IsRefused earlier (raw l bytes rest) line e = IsRefused (earlier ++ bytes ∷ []
 IsRefused earlier (op l items entry rest) line e = IsRefused (earlier ++ entry ∷ []) rest line e
 IsRefused earlier (open_op l items) line e = IsRefusedIn earlier items line e
 
--- the lines before it are those of entries, and it is refused
+-- line n is refused with e, and the lines before it are those of entries
 pub record StopsAt (lines : List Line) (n : ℕ) (e : Refusal) : Type 0 where
   pub before : List Line
   pub line : List ℕ

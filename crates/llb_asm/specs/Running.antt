@@ -45,7 +45,7 @@ room_in room (f ∷ below) size = room_in room below (length f.bytes + record_le
 abbrev pub hand_of : (ℕ → Bool) → Seen → Hand
 hand_of room s = record { here = s.here; bytes = s.bytes; room = room_in room s.below }
 
--- an item more
+-- the open op with an item more
 abbrev pub with_held : Seen → Here → Held → Seen
 with_held s next (Record bytes) = record { here = next; bytes = s.bytes ++ bytes; below = s.below }
 with_held s next (Opens number sub) = record { here = inside sub; bytes = []; below = record { here = next; number = number; bytes = s.bytes } ∷ s.below }
@@ -110,7 +110,7 @@ step_on earlier (Some s) line = step_in earlier s line
 abbrev pub step_of : Progress → List ℕ → Result Progress Refusal
 step_of p line = step_on p.earlier p.current line
 
--- after the last line, of that number
+-- the result after the last line, of that number
 abbrev pub finish : ℕ → List (List ℕ) → Option Seen → Result (List (List ℕ)) (ℕ × Refusal)
 finish n earlier None = Ok earlier
 finish n earlier (Some s) = Err (n, Breaks Unclosed)

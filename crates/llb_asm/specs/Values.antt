@@ -17,7 +17,7 @@ use Rattle.llb_ops.specs.declared.table.FieldKind.TheVariants.{Int64, Int32, Uin
 abbrev pub is_text : List ℕ → List ℕ → Bool
 is_text a b = pointwise nat_eq a b
 
--- what a value is where it passes a test
+-- a value where a test passes, else nothing
 abbrev pub where_so : {A : Type 0} → Bool → A → Option A
 where_so true x = Some x
 where_so false x = None
@@ -31,7 +31,7 @@ then_in (Some x) f = f x
 abbrev pub is_digit : ℕ → Bool
 is_digit b = nat_le 48 b && nat_le b 57
 
--- the number that decimal digits are, at least one of them
+-- the number of a text of decimal digits, at least one
 unfoldable pub magnitude : List ℕ → Option ℕ
 magnitude text = where_so (not (length text == 0) && list_all is_digit text) (digits_value 10 text)
 
@@ -108,7 +108,7 @@ string_from backslash (b ∷ text) =
 string_from first (b ∷ text) = if is_lower b && nat_lt (digit_of b) 8 then string_from (second (digit_of b)) text else None
 string_from (second d) (b ∷ text) = if is_lower b then after_it (16 * d + digit_of b) (string_from closed text) else None
 
--- what a digit is, and two of them
+-- the value of a digit, and of two digits
 abbrev pub lower_digit : ℕ → Option ℕ
 lower_digit b = where_so (is_lower b) (digit_of b)
 
@@ -186,7 +186,7 @@ pub record IsSolid (t : List ℕ) : Type 0 where
   pub plain : list_all (λ b. nat_le 32 b) t ≡ true
   pub utf8 : is_utf8 t ≡ true
 
--- each text that is written for a value is so
+-- each text that is written for a value is solid
 pub record ValuesAreSolid : Type 0 where
   pub number_solid : (kind : FieldKind) (v : ℕ) → IsNumberOf kind v → IsSolid (number_text kind v)
   pub string_solid : (s : List ℕ) → is_utf8 s ≡ true → IsSolid (string_text s)

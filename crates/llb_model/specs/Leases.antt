@@ -30,12 +30,12 @@ abbrev pub RefusesAlike : Leases → List At → Type 0
 RefusesAlike out workers = (inputs : List TreeMap) (needs : List Need) → HoldsAs out workers
     → option_map (λ (n : cache_need.Need). n.key) (find (cache.is_shut out) (asked inputs needs)) ≡ held_key (held workers) needs
 
--- it takes the instances that a claim takes
+-- a lease takes the instances that a claim takes
 abbrev pub TakesAlike : Leases → List At → Type 0
 TakesAlike out workers = (inputs : List TreeMap) (needs : List Need) → HoldsAs out workers → AreApart out
     → map (λ (t : cache.Taken). t.0) (cache.taken out (asked inputs needs)) ≡ places_for (held workers) needs
 
--- and it leaves the contents that a claim leaves
+-- a lease leaves the contents that a claim leaves
 abbrev pub MakesAlike : List Row → Leases → List At → Type 0
 MakesAlike rows out workers = (inputs : List TreeMap) (needs : List Need) → HoldsAs out workers → AreApart out → AreThere rows out → Distinct (map key_of needs)
     → store_of (cache.made_all rows (cache.taken out (asked inputs needs)))

@@ -20,7 +20,7 @@ run b s (e ∷ es) = after (table b s e) (λ t. run b t es)
 abbrev pub events_by : ℕ → List Event → ℕ
 events_by w es = count_by (λ e. worker_of e == w) es
 
--- the next event of the lowest running worker, from a worker on
+-- the next event of the lowest running worker, where the workers of the list are numbered from w
 abbrev pub next_of : Build → ℕ → List At → Option Event
 next_of b w [] = None
 next_of b w (Idle ∷ workers) = next_of b (w + 1) workers
@@ -66,7 +66,7 @@ claims_of (Step w ∷ es) = claims_of es
 claims_of (Settle w ∷ es) = claims_of es
 claims_of (Cancel w ∷ es) = claims_of es
 
--- each of some numbers is above another
+-- each of some numbers is above n
 abbrev pub AllAbove : ℕ → List ℕ → Type 0
 AllAbove n [] = Unit {0}
 AllAbove n (m ∷ ms) = (n < m) × AllAbove n ms

@@ -45,7 +45,7 @@ pub record Opening : Type 0 where
   pub workers : ℕ
   pub store : Store
 
--- the name of a source whose local tree is not there
+-- the name of a source, where it has no local tree
 abbrev pub lacks : List Local → Option (List ℕ) → Option (List ℕ)
 lacks locals None = None
 lacks locals (Some name) = if is_some (tree_of_local locals name) then None else Some name
@@ -54,7 +54,7 @@ abbrev pub first_of : {A : Type 0} → Option A → Option A → Option A
 first_of (Some x) later = Some x
 first_of None later = later
 
--- the first of the names that local trees are missing for, by vertex
+-- the first name of a local source, by vertex, that has no tree
 abbrev pub missing_local : List Local → List Vertex → Option (List ℕ)
 missing_local locals [] = None
 missing_local locals (v ∷ vs) = first_of (lacks locals (local_name v.op)) (missing_local locals vs)
@@ -131,7 +131,7 @@ program_in b x = program_at (slice_get b.graph.vertices x.vertex)
 abbrev pub work_of : State → Execution → Work
 work_of s x = record { own = x.own; trees = trees_at s.store x.places }
 
--- after its first fault, or the last of its micro-steps
+-- an execution is finished after its first fault, or after the last of its micro-steps
 abbrev pub is_finished : List MicroStep → Execution → Bool
 is_finished steps x = is_some x.fault || nat_le (length steps) x.done
 
@@ -145,17 +145,17 @@ ending_from p x = ended p x.own x.fault
 
 -- ---- the instances that claims take
 
--- those that the running workers have
+-- the instances that the running workers hold
 abbrev pub held : List At → List Place
 held [] = []
 held (Idle ∷ workers) = held workers
 held (Runs x ∷ workers) = x.places ++ held workers
 
--- no running worker has it
+-- no running worker holds the instance
 abbrev pub IsFree : List At → Place → Type 0
 IsFree workers p = (w : ℕ) (x : Execution) → slice_get workers w ≡ Some (Runs x) → Has x.places p → ⊥
 
--- above the number of each place
+-- a number above that of each place
 abbrev pub above : List Place → ℕ
 above [] = 0
 above (p ∷ ps) = p.number + 1 + above ps
@@ -178,7 +178,7 @@ place_for ps n = place n.key (number_for ps n.key n.key.mode)
 abbrev pub places_for : List Place → List Need → List Place
 places_for ps needs = map (place_for ps) needs
 
--- it is locked, and its instance is held
+-- a key is locked, and its instance is held
 abbrev pub is_shut : List Place → Key → Mode → Bool
 is_shut ps k Locked = is_in ps (place k 0)
 is_shut ps k Private = false

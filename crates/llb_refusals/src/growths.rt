@@ -11,7 +11,7 @@ use std::process::Abort;
 /// of a tree, in the place of its text.
 pub(crate) type Row = (&'static str, &'static str, &'static str, &'static str);
 
-/// A call with what it needs, and its last answer.
+/// A call with what it needs, and its last result.
 pub(crate) trait Trial: Sized + Drop {
     /// What the call of a row needs, made anew.
     fn ready(rt: &impl Abort, alloc: Global, row: &Row) -> Self;

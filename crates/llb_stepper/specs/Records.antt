@@ -77,7 +77,7 @@ replied None e = None
 replied (Some b) None = None
 replied (Some b) (Some e) = option_map (λ (p : Seen × Reply). (e, p.1)) (answered b e)
 
--- event i of the board's record, counted from 1, with its reply: of those alone that were done here
+-- event i of the board's record, counted from 1, with its reply; only events that were done here have one
 abbrev pub record_at : Stepping → ℕ → Option (Event × Reply)
 record_at s i =
     if nat_le 1 i && nat_le i (length s.board.events) then replied (slice_get s.past (length s.board.events - i)) (slice_get s.board.events (i - 1)) else None

@@ -30,7 +30,7 @@ onward s b = record s { board = b; past = s.board ∷ s.past }
 abbrev pub lesser : ℕ → ℕ → ℕ
 lesser a b = if nat_lt a b then a else b
 
--- one event fewer, over the same build, and breakpoints as they were
+-- the stepper after an event is taken back: one event fewer, over the same build, and breakpoints as they were
 pub record GoesBack (s t : Stepping) : Type 0 where
   pub past : s.past ≡ t.board ∷ t.past
   pub build : t.board.build ≡ s.board.build

@@ -57,12 +57,12 @@ pub record HasLater (n : List ℕ) (kids more : List Child) : Type 0 where
   pub here : is_some (child n kids) ≡ true
   pub later : Covers kids more
 
--- what is made, or the children where nothing is
+-- the children that were made, or the given ones where none were
 abbrev pub those : Option (Vec Child Global) → List Child → List Child
 those None ks = ks
 those (Some made) ks = made.items
 
--- another tree under the name at a place
+-- the children with another tree under the name at a place
 abbrev pub written : ℕ → TreeMap → Pairs → Pairs
 written i t [] = []
 written zero t (k ∷ ks) = (k.0, t) ∷ ks
@@ -94,7 +94,7 @@ abbrev pub owner_fits : Option ℕ → Type 0
 owner_fits None = Unit {0}
 owner_fits (Some owner) = owner < 2 ^ 32
 
--- the mode is one, and so are the owners
+-- the mode of a way is a mode, and its owners are owners
 pub record IsWay (w : WayValue) : Type 0 where
   pub mode : is_mode w.mode ≡ true
   pub uid : owner_fits w.uid

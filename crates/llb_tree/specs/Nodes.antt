@@ -55,7 +55,7 @@ map_of k = finite.from_entries (entries_of k)
 abbrev pub pair_of : Child → List ℕ × TreeMap
 pair_of k = (name_of k, k.node)
 
--- by name, each once
+-- children are sorted by name, each once
 abbrev pub AreSorted : List Child → Type 0
 AreSorted ks = T (finite.is_sorted name_cmp (map pair_of ks))
 
@@ -68,7 +68,7 @@ abbrev pub look_in : Option TreeMap → Look
 look_in None q = None
 look_in (Some t) q = finite.get t q
 
--- one place further
+-- the result for one place further
 abbrev pub later : Result ℕ ℕ → Result ℕ ℕ
 later (Ok i) = Ok (i + 1)
 later (Err i) = Err (i + 1)

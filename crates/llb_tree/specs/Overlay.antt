@@ -28,7 +28,7 @@ is_mode (Some mode) = if nat_lt 4095 mode then false else true
 abbrev pub way_of : Option ℕ → Option ℕ → Option ℕ → Bool → Option WayValue
 way_of mode uid gid keeps = if is_mode mode then Some (record { mode = mode; uid = uid; gid = gid; keeps = keeps }) else None
 
--- its own where none is given
+-- the mode and the owner that are given, and an entry's own where none is
 abbrev pub given : WayValue → MetaValue → MetaValue
 given w m = record { mode = unwrap_or w.mode m.mode; uid = unwrap_or w.uid m.uid; gid = unwrap_or w.gid m.gid }
 

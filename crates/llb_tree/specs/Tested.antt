@@ -30,11 +30,11 @@ module _ {X : Type 0} (passes : X → List ℕ → Bool) where
   abbrev pub any_goes : List X → TreeMap → Bool
   any_goes ts t = list_any (goes ts) (finite.keys t)
 
-  -- what is left where those go
+  -- the tree without the paths that go
   abbrev pub thin : List X → TreeMap → TreeMap
   thin ts t = finite.retain_keys t (λ q. not (goes ts q))
 
-  -- the tree without them, if there are any; the root can't go
+  -- the same, if any path goes; the root can't go
   abbrev pub rid_of : List X → TreeMap → Result (Option TreeMap) TreeFault
   rid_of [] t = Err Root
   rid_of (x ∷ ts) t = Ok (if any_goes (x ∷ ts) t then Some (thin (x ∷ ts) t) else None)

@@ -21,7 +21,7 @@ pub data Entry : Type 0 where
   Dir : MetaValue → Entry
   File : MetaValue → List ℕ → Entry
 
--- its mode and its owner
+-- the mode and the owner of an entry
 abbrev pub meta_in : Entry → MetaValue
 meta_in (Dir m) = m
 meta_in (File m bytes) = m
