@@ -55,7 +55,7 @@ pairs_map R f (x ∷ xs) all =
 
 -- ---- numbers
 
--- without the first that is this one
+-- a list without the first item that is this number
 without : ℕ → List ℕ → List ℕ
 without n [] = []
 without n (m ∷ ms) = cond (eqb n m) ms (m ∷ without n ms)

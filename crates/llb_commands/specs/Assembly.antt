@@ -53,16 +53,16 @@ abbrev pub IsUnread : ProgramFault → List ℕ → Type 0
 IsUnread p definition = ((e : OpFault) × (definition_of definition ≡ Err e) × (p ≡ fault.Unread e))
     ⊎ ((limit < length definition) × (p ≡ fault.Refused (Definition OverLimit)))
 
--- what comes of the input is out, and nothing else
+-- the bytes made from the input are written, and nothing else
 abbrev pub IsOut : (List ℕ → List ℕ → Type 0) → Option (List ℕ) → Option (List ℕ) → List ℕ → Type 0
 IsOut Comes out out' input = (text : List ℕ) × Comes input text × Appends out out' text
 
--- a prefix of it is, and no more
+-- a prefix of them is written, and no more
 abbrev pub IsPartOut : (List ℕ → List ℕ → Type 0) → Option (List ℕ) → Option (List ℕ) → List ℕ → Type 0
 IsPartOut Comes out out' input = (text : List ℕ) × Comes input text × PartOut out out' text
 
--- How a command ends that writes what comes of its input. 0: all of it is out, and nothing else. 2: the input is refused, and nothing is out but the line that
--- says why. 3: a device or memory failed; nothing is out, or a prefix of it.
+-- How a command ends that writes what it makes from its input. 0: all of it is written, and nothing else. 2: the input is refused, and nothing is written but
+-- the line that says why. 3: a device or memory failed; nothing is written, or a prefix of it.
 abbrev pub Ends : (List ℕ → List ℕ → Type 0) → (ProgramFault → List ℕ → Type 0) → Option (List ℕ) → Option (List ℕ) → Option (List ℕ) → Option (List ℕ)
     → Option (List ℕ) → ℕ → Type 0
 Ends Comes IsRefused input out out' err err' status =

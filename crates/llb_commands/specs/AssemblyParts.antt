@@ -20,7 +20,7 @@ assembling_fault (asm.UnknownLabel n) = fault.Assembling (asm.UnknownLabel n)
 assembling_fault asm.Memory = fault.Text asm.Memory
 assembling_fault asm.Write = fault.Text asm.Write
 
--- how a fault of reading entries is
+-- how a fault of reading entries is passed on
 abbrev pub entries_fault : OpFault → ProgramFault
 entries_fault e = if ops.is_memory e then fault.Entries else fault.Unread e
 

@@ -17,11 +17,11 @@ use Rattle.llb_commands.specs.declared.words.Line.{Line}
 use Rattle.llb_commands.specs.declared.words.WordsFault.{WordsFault}
 use Rattle.llb_commands.specs.declared.words.WordsFault.TheVariants.{Words}
 
--- what files have, where it is known
+-- what files hold, where it is known
 abbrev pub Shelf : Type 0
 Shelf = List ℕ → Option (List ℕ)
 
--- a session over the definition in a file; where no file is named, or it is not opened or not read, nothing is out but the line that says so
+-- a session over the definition in a file; where no file is named, or it is not opened or not read, nothing is written but the line that says so
 abbrev pub StepsAt : Shelf → Option (Bor (List ℕ)) → ℕ → List Local → Option (List ℕ) → Option (List ℕ) → Option (List ℕ) → Option (List ℕ)
     → Option (List ℕ) → Option (List ℕ) → ℕ → Type 0
 StepsAt files None workers locals commands commands' out out' err err' status = Keeps out out' × TellsWords err err' (Words None) status

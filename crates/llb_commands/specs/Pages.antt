@@ -51,7 +51,7 @@ abbrev pub IsByWordsWithPage : Kinds → List Text → List Text → Result Line
 IsByWordsWithPage kinds locals words (Ok line) = kinds ≡ []
 IsByWordsWithPage kinds locals words (Err r) = Refuses kinds locals r.fault × HasPage kinds words r.fault r.page.now
 
--- the line of the fault is out and the page below it, and the status is the fault's; or they could not be written, and the status is 3
+-- the line of the fault is written and the page below it, and the status is the fault's; or they could not be written, and the status is 3
 abbrev pub TellsWithPage : Option (List ℕ) → Option (List ℕ) → WordsFault → Text → ℕ → Type 0
 TellsWithPage err err' fault page status =
     ((status ≡ words_status fault) × Appends err err' (fault_line (words_text fault) ++ page)) ⊎ (status ≡ 3)

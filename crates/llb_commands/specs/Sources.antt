@@ -52,6 +52,6 @@ source_status (Text e) = if is_memory e then 3 else 2
 source_status Reading = 3
 source_status Adding = 3
 
--- the line of the fault is out, and the status is the fault's; or the line could not be written, and the status is 3
+-- the line of the fault is written, and the status is the fault's; or the line could not be written, and the status is 3
 abbrev pub TellsSource : Option (List ℕ) → Option (List ℕ) → SourceFault → ℕ → Type 0
 TellsSource err err' e = TellsLine err err' (source_text e) (source_status e)

@@ -31,7 +31,7 @@ abbrev pub placed : ℤ → TreeMap → List TreeMap → List TreeMap
 placed (pos i) t trees = slice_set trees i t
 placed (negsuc i) t trees = trees
 
--- by the number of the output, where there is one
+-- a tree in the place of an output by its number, where there is one
 abbrev pub placed_by : Option ℤ → TreeMap → List TreeMap → List TreeMap
 placed_by (Some n) t trees = placed n t trees
 placed_by None t trees = trees

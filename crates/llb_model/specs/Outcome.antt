@@ -45,7 +45,7 @@ all_there (o ∷ os) = both o (all_there os)
 unfoldable pub inputs_from : (ℕ → Option Ending) → List Edge → Option (List TreeMap)
 inputs_from ending_of edges = all_there (map (λ (e : Edge). output_in (ending_of e.vertex) e.index) edges)
 
--- the outcome of a vertex: what its whole program leaves on the trees of the inputs, with no instances of caches
+-- the outcome of a vertex: Blocked without the trees of its inputs, else what its whole program leaves on them, with no instances of caches
 abbrev pub outcome_on : Build → Vertex → Option (List TreeMap) → Outcome
 outcome_on b v None = Blocked
 outcome_on b v (Some trees) = Ended (ending (program_of v) (whole (program_of v).steps (begin b (start_with v trees) [])))

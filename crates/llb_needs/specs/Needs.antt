@@ -21,7 +21,7 @@ use Rattle.llb_needs.specs.declared.needs.Wanted.{Wanted}
 abbrev pub is_shut : Leases → Key → Bool
 is_shut out k = is_locked k.mode && is_held out (place k 0)
 
--- the first such key
+-- the first locked key among the needs that a lease has
 abbrev pub shut_key : Leases → List Need → Option Key
 shut_key out [] = None
 shut_key out (n ∷ needs) = if is_shut out n.key then Some n.key else shut_key out needs

@@ -1,4 +1,4 @@
--- The results of this crate's calls: what their rule gives, or the fault of memory. A rule never gives the fault of memory.
+-- The results of this crate's calls: the result of the call's rule, or the fault `Memory`. A rule never returns `Memory`.
 use Rattle.std.specs.Prelude.{◌≡◌, Bool, true, false, Result, Ok, Err}
 use Rattle.llb_wire.specs.Answer as answer
 use Rattle.llb_plain.specs.declared.fault.PlainFault.{PlainFault}
@@ -21,7 +21,7 @@ may_want_memory (Err (MissingLocal name)) = true
 may_want_memory (Err (HasCache v)) = false
 may_want_memory (Err Memory) = false
 
--- the fault of memory comes last
+-- and `Memory` is last, but for the name of a missing local tree
 abbrev pub MemoryLast : {X Y : Type 0} → Result X PlainFault → Result Y PlainFault → Type 0
 MemoryLast (Ok x) rule = Unit {0}
 MemoryLast (Err e) rule = is_memory e ≡ true → may_want_memory rule ≡ true

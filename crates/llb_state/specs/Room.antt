@@ -102,7 +102,7 @@ pub record IsKept (b : Seen) (desks : List Desk) (out : Leases) (stop_marks : Li
 abbrev pub AreOver : Build → List Status → ℕ → Type 0
 AreOver b statuses n = (v : ℕ) → v < n → (is_settled (slice_get statuses v) || is_blocked b statuses v) ≡ true
 
--- and from where on a Ready vertex is looked for, and how many inputs of each are open
+-- from where a Ready vertex is looked for, how many inputs of each are open, and what else a board keeps
 pub record IsTracked (b : Seen) (desks : List Desk) (out : Leases) (stop_marks : List Bool) (links : Linked) (space : Space) (first_open : ℕ) : Type 0 where
   pub kept : IsKept b desks out stop_marks space
   pub over : AreOver b.build b.state.statuses first_open

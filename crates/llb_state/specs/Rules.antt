@@ -51,7 +51,7 @@ claim_fault (no_claim.Held key) = claim.Held key
 abbrev pub claim_of : Seen → ℕ → ℕ → Result (Seen × Reply) ClaimFault
 claim_of b w v = recorded b (Claim w v) claim_fault (claim_grant b.build b.state w v)
 
--- inputs that are not all there are no trees to begin with
+-- inputs that are not all there are refused as `NotReady`
 abbrev pub or_not_ready : {A : Type 0} → Option A → Result A ClaimFault
 or_not_ready (Some x) = Ok x
 or_not_ready None = Err claim.NotReady
@@ -62,7 +62,7 @@ pub record Begun : Type 0 where
   pub reply : Reply
   pub needs : List cache_need.Need
 
--- on the trees of the inputs, and these instances
+-- what a claim begins on the trees of the inputs, and these instances
 abbrev pub begun_at : Build → CachesValue → ℕ → ℕ → Vertex → List TreeMap → List Place → Begun
 begun_at b c w v vertex trees ps = record {
   execution = execution_on v (begin_at b (store_of c.rows) (start_with vertex trees) ps) ps;

@@ -28,7 +28,7 @@ abbrev pub is_refused_memory : PrintFault → Bool
 is_refused_memory print.Memory = true
 is_refused_memory print.Write = false
 
--- a text is out, or a prefix of it where memory was refused or the sink has failed
+-- a text is written, or a prefix of it where memory was refused or the sink has failed
 abbrev pub Prints : Option (List ℕ) → Option (List ℕ) → Bool → List ℕ → Result (Unit {0}) PrintFault → Type 0
 Prints = output.Writes is_refused_memory
 

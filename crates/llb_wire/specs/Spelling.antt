@@ -178,7 +178,7 @@ tag_text number wire = varint_text (8 * number + code_of wire)
 abbrev pub record_text : ℕ → Wire → ℕ → List ℕ → List ℕ
 record_text number wire value payload = tag_text number wire ++ payload_text wire value payload
 
--- the number that is read of what was written: of a LEN its length
+-- the number that is read of what was written: for a LEN its length
 abbrev pub value_text : Wire → ℕ → List ℕ → ℕ
 value_text Varint value payload = value
 value_text I64 value payload = value
