@@ -53,7 +53,7 @@ pub struct Item {
     pub held: Held,
 }
 
-/// At the start of a message.
+/// Returns the place at the start of a message.
 pub(crate) fn inside(message: MessageName) -> Here
     ensures { result ≡ inside message }
 {
@@ -67,7 +67,7 @@ pub(crate) fn inside(message: MessageName) -> Here
 }
 
 impl Here {
-    /// After one more field, which has room.
+    /// Returns the place after one more field, which has room.
     fn behind(self, field: NamedField) -> Here
         requires { has_room self field ≡ true }
         ensures { result ≡ behind self field }
@@ -86,7 +86,7 @@ impl Here {
         }
     }
 
-    /// After the extra bytes.
+    /// Returns the place after the extra bytes.
     fn at_end(self) -> Here
         ensures { result ≡ at_end self }
     {
@@ -116,14 +116,14 @@ impl Here {
     }
 }
 
-/// Where the first space is.
+/// Returns where the first space is.
 fn space(line: &[u8]) -> Option<usize>
     ensures { result ≡ position (λ b. nat_eq b 32) line.now }
 {
     line.iter().position(|b| *b == b' ')
 }
 
-/// The name and the value of an item, which has one space between them.
+/// Returns the name and the value of an item, which has one space between them.
 #[tactic(auto, unfolding(crate::specs::Line::parted))]
 pub(crate) fn parted(line: &[u8]) -> Option<(&[u8], &[u8])>
     ensures { option_map (λ p. (p.0.now, p.1.now)) result ≡ parted line.now }
@@ -139,14 +139,14 @@ pub(crate) fn parted(line: &[u8]) -> Option<(&[u8], &[u8])>
     Some((name, value))
 }
 
-/// A value that is 0 or empty is written: it says that the field is there.
+/// Returns whether a value that is 0 or empty is written: it says that the field is there.
 fn may_be_empty(field: NamedField) -> bool
     ensures { result ≡ may_be_empty field }
 {
     field.member || field.repeated || field.of_entry
 }
 
-/// A value that is 0 or empty is left out where it may not be so.
+/// Returns whether a value is left out: one that is 0 or empty where it may not be so.
 fn is_left_out(field: NamedField, is_default: bool) -> bool
     ensures { result ≡ is_default && not (may_be_empty field) }
 {
@@ -165,7 +165,7 @@ fn number_record(alloc: Global, field: NamedField, value: u64) -> Result<Held, M
     Ok(Held::Record(Bytes::new(out)))
 }
 
-/// A record with a length, at the end of some bytes.
+/// Writes a record with a length, at the end of some bytes.
 #[tactic(auto, using(crate::proofs::Records::bytes_spelled))]
 pub(crate) fn put_bytes(out: &mut Vec<u8>, number: u32, bytes: &[u8]) -> Result<(), Memory>
     ensures { OnOk result (out.new.items ≡ out.old.items ++ set_bytes number bytes.now) }

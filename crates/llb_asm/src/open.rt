@@ -51,7 +51,7 @@ fn has_room(earlier: &Earlier, below: &[Frame], size: usize) -> bool
     }
 }
 
-/// How many bytes a line adds.
+/// Returns how many bytes a line adds.
 fn added(held: &Held) -> usize
     ensures same { result ≡ added held.now }
     ensures small { result < 2 ^ 63 }
@@ -63,7 +63,7 @@ fn added(held: &Held) -> usize
 }
 
 impl Open {
-    /// An op at its start.
+    /// Returns an op at its start.
     pub(crate) fn new(alloc: Global) -> Open
         ensures { seen result ≡ at_front }
     {

@@ -243,7 +243,7 @@ fn refused_by<'a>(error: Error) -> WordsFault<'a>
     }
 }
 
-/// The same as `command_of`, and of words that are refused the page that they ask for.
+/// Returns what `command_of` returns, and for words that are refused also the page that they ask for.
 pub(crate) fn line_or_page<'a, S: AsStr>(
     alloc: Global,
     words: &'a [S],

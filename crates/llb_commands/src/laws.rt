@@ -16,7 +16,7 @@ use llb_stepper::{Stepper, past_is_the_records, replay_is_the_run, tells_the_run
 use llb_wire::Bytes;
 use std::alloc::Global;
 
-/// For a text that is read as some entries: the definition that it is assembled to, and any bytes that have these entries, run on the
+/// A law: for a text that is read as some entries, the definition that it is assembled to, and any bytes that have these entries, run on the
 /// same local trees to the text of one and the same result.
 pub fn assembled_runs_alike(text: &[u8], entries: &Entries, bytes: &Bytes)
     ensures { RunsAlike text.now entries.now bytes.now }

@@ -21,7 +21,7 @@ use std::io::{Read, Write};
 use std::sync::Wait;
 use std::thread::Threads;
 
-// The graph of the definition in a file, which is read to its end and closed. 181 where it is not opened.
+// The graph of the definition in a file, which is read to its end and closed; or 181 where it is not opened.
 fn graph_in<S: Sources>(alloc: Global, sources: &S, file: &str) -> Result<Graph, ProgramFault>
     ensures { Loads (S.bytes sources.now file.now) result }
 {

@@ -60,8 +60,8 @@ pub trait Sources {
         ensures { IfOk result (λ input. IfSome (bytes self.now file.now) (λ xs. Self.Input.remaining input ≡ Some xs)) };
 }
 
-/// Reads a text to its end as a tree. 181 where a read fails, or the end is not met in 2^27 reads; 185 past 67,108,864
-/// bytes; 31 to 34; 184.
+/// Reads a text to its end as a tree. Fails with 181 where a read fails, or the end is not met in 2^27 reads; with 185 past
+/// 67,108,864 bytes; with 31 to 34; with 184.
 pub fn local_from<R: Read>(alloc: Global, input: &mut R) -> Result<Tree, SourceFault>
     ensures { Reads (R.remaining input.old) result }
 {

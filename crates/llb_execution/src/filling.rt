@@ -1,4 +1,4 @@
-//! A command on mounts of which some show caches, whose trees come in from outside for that one command. Stands on mounts and
+//! A command on mounts of which some show caches, whose trees come in from outside for that one command. It rests on mounts and
 //! on commands; it knows neither keys nor instances.
 
 ghost use Rattle.std.specs.Prelude.{◌≡◌, ◌<◌, length, replicate, IfOk, OnErr};
@@ -24,7 +24,7 @@ pub fn empty_trees(alloc: Global, count: u32) -> Result<Vec<Tree>, Memory>
     Ok(blanks(alloc, count as usize)?)
 }
 
-// As many empty trees.
+// `count` empty trees.
 fn blanks(alloc: Global, count: usize) -> Result<Vec<Tree>, NoMemory>
     ensures { IfOk result (λ v. v.items ≡ replicate count empty_tree) }
 {

@@ -44,7 +44,7 @@ pub fn step_of<'a>(vertex: &'a Vertex, setting: &'a Setting, k: u32) -> Option<M
     }
 }
 
-/// The one micro-step of a source.
+/// Returns the one micro-step of a source.
 pub(crate) fn read_at<'a>(k: u32) -> Option<MicroStep<'a>>
     ensures { option_map step_in result ≡ slice_get (ReadLocal ∷ []) k }
 {
@@ -54,7 +54,7 @@ pub(crate) fn read_at<'a>(k: u32) -> Option<MicroStep<'a>>
     Some(MicroStep::ReadLocal)
 }
 
-/// The action of that number.
+/// Returns the action of that number.
 pub(crate) fn act_at<'a>(actions: &'a [Action], k: u32) -> Option<MicroStep<'a>>
     ensures { option_map step_in result ≡ slice_get (map Act actions.now) k }
 {
@@ -74,7 +74,7 @@ fn lay_at<'a>(inputs: &'a [MergeInput], k: u32) -> Option<MicroStep<'a>>
     }
 }
 
-/// The command of that number.
+/// Returns the command of that number.
 pub(crate) fn run_at<'a>(
     setting: &'a Setting,
     commands: &'a [Joined],
@@ -92,7 +92,7 @@ pub(crate) fn run_at<'a>(
     }
 }
 
-/// The commands of a script, where there is one.
+/// Returns the commands of a script, where there is one.
 pub(crate) fn commands_of(script: &Option<Script>) -> &[Joined]
     ensures { result.now ≡ unwrap_or script.now [] }
 {

@@ -28,7 +28,7 @@ pub fn setting_of(alloc: Global, vertex: &Vertex) -> Result<Setting, Memory>
     }
 }
 
-/// Where commands run that have this meta.
+/// Returns where commands run that have this meta.
 pub(crate) fn setting_with(alloc: Global, meta: &Option<Meta>) -> Result<Setting, NoMemory>
     ensures { IfOk result (λ s. s ≡ setting_of meta.now) }
 {
@@ -80,7 +80,7 @@ pub fn mounts_of(kind: &Option<Kind>) -> &[Mount]
     }
 }
 
-/// The view of mounts that show these inputs.
+/// Returns the view of mounts that show these inputs.
 pub(crate) fn view_of(alloc: Global, inputs: &[Tree], mounts: &[Mount]) -> Result<View, NoMemory>
     requires { IsView (map (shown_of inputs.now) mounts.now) }
     ensures { IfOk result (λ v. v ≡ map (shown_of inputs.now) mounts.now) }

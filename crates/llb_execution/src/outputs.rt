@@ -1,5 +1,5 @@
 //! The outputs of a vertex, as they are taken from what all its micro-steps left, in the places of the empty trees that were made
-//! for them. Nothing here takes memory.
+//! for them. Nothing here allocates.
 
 ghost use Rattle.std.specs.Prelude.{◌≡◌, map, length, replicate, slice_get};
 ghost use Rattle.std.specs.List.{range_with_len};
@@ -16,7 +16,7 @@ use llb_mount::Shown;
 use llb_ops::{Action, Kind, Mount};
 use llb_tree::Tree;
 
-/// The outputs of what all micro-steps of a vertex left.
+/// Returns the outputs of what all micro-steps of a vertex left.
 pub(crate) fn outputs_of(own: Own, outputs: Vec<Tree>, vertex: &Vertex) -> Vec<Tree>
     requires { outputs.items ≡ replicate (length outputs.items) empty_tree }
     ensures { result.items ≡ outputs_of (record (program_of vertex.now) { outputs = length outputs.items }) (own_of own) }

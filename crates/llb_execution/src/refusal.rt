@@ -1,4 +1,4 @@
-//! Out of memory, as all calls of lower crates that are made here can refuse it: each of their refusals is one.
+//! Refused memory, the only fault of all calls of lower crates that are made here.
 
 use llb_applet::ScriptFault;
 use llb_tree::TreeFault;

@@ -28,7 +28,7 @@ impl<'a> Model for Key<'a> {
     ghost view = { λ k. record { id = k.id.now; seed = seed_by (option_copied k.seed); mode = k.mode } };
 }
 
-/// The key of the cache that a mount shows, if it shows one.
+/// Returns the key of the cache that a mount shows, if it shows one.
 pub(crate) fn key_of<'a>(inputs: &'a [Input], mount: &'a Mount) -> Option<Key<'a>>
     ensures { result ≡ key_of inputs.now mount.now }
 {

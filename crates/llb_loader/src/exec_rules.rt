@@ -18,7 +18,7 @@ use llb_ops::{CacheOpt, ExecOp, Input, Mount};
 use llb_wire::Memory;
 use std::alloc::{AllocError, Global};
 
-/// The first of the rules on execs that the op on these inputs breaks.
+/// Returns the first of the rules on execs that the op on these inputs breaks.
 pub(crate) fn broken_in_exec(
     alloc: Global,
     inputs: &[Input],

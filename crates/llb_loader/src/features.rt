@@ -15,7 +15,7 @@ use llb_ops::{
     UserOpt,
 };
 
-/// The first feature of the op that is not taken.
+/// Returns the first feature of the op that is not taken.
 pub(crate) fn first_feature(op: &Op) -> Option<Feature>
     ensures { result ≡ feature_of op.now }
 {

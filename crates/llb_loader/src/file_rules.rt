@@ -10,7 +10,7 @@ use crate::indices::{are_outputs, is_input};
 use llb_ops::{Action, ActionKind, FileOp, Input};
 use std::alloc::{AllocError, Global};
 
-/// The first of the rules on file ops that the op on these inputs breaks.
+/// Returns the first of the rules on file ops that the op on these inputs breaks.
 pub(crate) fn broken_in_file(
     alloc: Global,
     inputs: &[Input],

@@ -38,7 +38,7 @@ pub struct Front<'a> {
     pub after: &'a [u8],
 }
 
-/// The form of the field of that number, where the message names it.
+/// Returns the form of the field of that number, where the message names it.
 fn form(message: MessageName, number: u32) -> Option<Form>
     ensures { result ≡ form_of (shape_of message) number }
 {
@@ -48,7 +48,7 @@ fn form(message: MessageName, number: u32) -> Option<Form>
     }
 }
 
-/// The record has the wire type of its field, where the message names it.
+/// Returns whether the record has the wire type of its field, where the message names it.
 fn fits(message: MessageName, field: &Field) -> bool
     ensures { result ≡ wire_fits (form_of (shape_of message) field.now.number) field.now.wire }
 {
@@ -157,7 +157,7 @@ pub fn parts<'a>(
     Ok(records)
 }
 
-/// The last record of a field, which holds.
+/// Returns the last record of a field, which holds.
 fn last<'a>(records: &[Record<'a>], number: u32) -> Option<Record<'a>>
     ensures { option_map view result ≡ last_of (all_of number (views records.now)) }
 {

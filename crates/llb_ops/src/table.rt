@@ -46,7 +46,7 @@ pub enum FieldKind {
 }
 
 impl FieldKind {
-    /// How the readers take a field of the kind.
+    /// Returns how the readers take a field of the kind.
     pub(crate) fn form(self) -> Form
         ensures { result ≡ form_of_kind self }
     {

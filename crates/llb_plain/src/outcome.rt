@@ -62,7 +62,7 @@ impl Model for Outcomes {
 }
 
 impl Outcomes {
-    /// None yet.
+    /// Returns no outcomes yet.
     pub(crate) fn new(alloc: Global) -> Outcomes
         ensures { result ≡ [] }
     {
@@ -71,7 +71,7 @@ impl Outcomes {
         }
     }
 
-    /// One more, of the next vertex.
+    /// Appends the outcome of the next vertex.
     pub(crate) fn push(&mut self, outcome: Outcome) -> Result<(), PlainFault>
         ensures ok { OnOk result (self.new ≡ self.old ++ outcome_of outcome ∷ []) }
         ensures err { OnErr result (self.new ≡ self.old) }

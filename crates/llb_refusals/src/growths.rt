@@ -13,16 +13,16 @@ pub(crate) type Row = (&'static str, &'static str, &'static str, &'static str);
 
 /// A call with what it needs, and its last result.
 pub(crate) trait Trial: Sized + Drop {
-    /// What the call of a row needs, made anew.
+    /// Makes anew what the call of a row needs.
     fn ready(rt: &impl Abort, alloc: Global, row: &Row) -> Self;
 
-    /// The call and nothing else.
+    /// Makes the call and nothing else.
     fn call(&mut self, alloc: Global);
 
     /// Returns the result in words.
     fn told(&self, rt: &impl Abort, alloc: Global) -> String;
 
-    /// Whether what the call was made on is as it was before, by a second one that was made in the same steps.
+    /// Returns whether what the call was made on is as it was before, by a second one that was made in the same steps.
     fn is_as_before(&mut self, rt: &impl Abort, alloc: Global) -> bool;
 }
 
@@ -38,7 +38,7 @@ pub(crate) fn refuse(alloc: Global, k: usize) {
     let _ = Vec::<u8>::with_capacity(alloc, ASK | k);
 }
 
-/// Whether a growth was refused; from now on none is.
+/// Returns whether a growth was refused, and refuses none from now on.
 pub(crate) fn was_refused(alloc: Global) -> bool {
     Vec::<u8>::with_capacity(alloc, TELL).is_ok()
 }

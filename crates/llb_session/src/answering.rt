@@ -14,7 +14,7 @@ use llb_wire::{Failed, Over, write_all};
 use std::alloc::{AllocError, Global};
 use std::io::Write;
 
-// One breakpoint more.
+// Adds a breakpoint.
 fn breaks(alloc: Global, stepper: &mut Stepper, stop: Break) -> Result<Vec<u8>, StepperFault>
     ensures { Comes (ask.Break stop) stepper.old stepper.new result }
 {
@@ -22,7 +22,7 @@ fn breaks(alloc: Global, stepper: &mut Stepper, stop: Break) -> Result<Vec<u8>, 
     Ok(Vec::new(alloc))
 }
 
-// No breakpoint is left.
+// Removes all breakpoints.
 fn clears(alloc: Global, stepper: &mut Stepper) -> Result<Vec<u8>, StepperFault>
     ensures { Comes ask.Clear stepper.old stepper.new result }
 {

@@ -118,7 +118,7 @@ fn reply_text(
     }
 }
 
-/// The line of an event under its number, with its reply, and without its end.
+/// Returns the line of an event under its number, with its reply, and without its end.
 pub(crate) fn line_text(
     alloc: Global,
     vertices: &[Vertex],

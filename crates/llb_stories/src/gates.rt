@@ -33,7 +33,7 @@ impl Counting {
         }
     }
 
-    /// How many have passed at the vertices below that number, and at the others.
+    /// Returns how many have passed at the vertices below that number, and at the others.
     pub(crate) fn passed(&self) -> (u64, u64) {
         let below = self.below.load(Ordering::SeqCst);
         (below, self.others.load(Ordering::SeqCst))

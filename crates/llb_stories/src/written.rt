@@ -157,7 +157,7 @@ pub(crate) fn board_of(
     board_on(rt, alloc, graph, locals_of(rt, alloc, given), workers)
 }
 
-/// The text of the local trees of that name; none where there is none.
+/// Returns the text of the local trees of that name; none where there is none.
 pub(crate) fn locals_named(name: &str) -> &'static str {
     match name {
         "EMPTY_P" => EMPTY_P,
@@ -168,7 +168,7 @@ pub(crate) fn locals_named(name: &str) -> &'static str {
     }
 }
 
-/// The board of a story by its first line: the number of workers, after ` on ` the name of its local trees where it has some, and after `: `
+/// Returns the board of a story by its first line: the number of workers, after ` on ` the name of its local trees where it has some, and after `: `
 /// the entries of its definition.
 pub(crate) fn board_in(rt: &impl Abort, alloc: Global, head: &str) -> Board {
     let (opened, definition) = head.split_once(": ").expect(rt, "a definition");

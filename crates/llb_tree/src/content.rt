@@ -92,9 +92,9 @@ impl Tree {
         }
     }
 
-    /// Puts a file at a path, or replaces the file there, as `put_file` does, with a content that is shared and not copied. In
-    /// this order: 25 `Root` at the root, 21 `NotFound` or 22 `NotDir` at the first parent that is missing or a file, 23
-    /// `IsDir` where a directory is there; 27 `Memory`. After a refusal the tree is unchanged.
+    /// Puts a file at a path, or replaces the file there, as `put_file` does, with a content that is shared and not copied. Fails, in
+    /// this order, with 25 `Root` at the root, 21 `NotFound` or 22 `NotDir` at the first parent that is missing or a file, 23
+    /// `IsDir` where a directory is there; else with 27 `Memory`. After a refusal the tree is unchanged.
     pub fn put_content(
         &mut self,
         path: &Path,

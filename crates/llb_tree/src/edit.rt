@@ -67,7 +67,7 @@ fn set_in(
     }
 }
 
-// The same where the children may be shared: makes them its own first.
+// Does the same where the children may be shared: makes them its own first.
 #[cycle(set)]
 fn set_below(
     kids: &mut Arc<Vec<Child>>,

@@ -1,5 +1,5 @@
 //! The mode and the owner of an entry. A value has a mode of at most 4095 by its type, and contracts see
-//! its three numbers. Nothing here takes memory.
+//! its three numbers. Nothing here allocates.
 
 ghost use Rattle.std.specs.Prelude.{◌≡◌, ◌≤◌};
 ghost use Rattle.llb_tree.specs.Meta.{IsMeta, meta_of, new_dir_meta};

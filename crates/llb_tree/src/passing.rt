@@ -44,7 +44,7 @@ fn find<T: NameTest>(
     Ok(())
 }
 
-// The same of a child of the node at the path.
+// Does the same for a child of the node at the path.
 #[cycle(find)]
 fn find_in<T: NameTest>(
     kid: &Child,

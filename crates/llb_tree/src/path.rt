@@ -132,7 +132,7 @@ impl Path {
         self.names.is_empty()
     }
 
-    /// Goes down to a name; 26 `BadName` where it would be the 129th, else 27 `Memory`.
+    /// Goes down to a name. Fails with 26 `BadName` where it would be the 129th, else with 27 `Memory`.
     pub fn push(&mut self, name: Name) -> Result<(), TreeFault>
         ensures gives { Gives (λ _. self.new) result (below self.old name) }
         ensures last { MemoryLast result (below self.old name) }

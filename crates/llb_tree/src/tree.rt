@@ -159,8 +159,8 @@ impl Tree {
         let _root = &self.root;
     }
 
-    /// Puts a file at a path, or replaces the file there. In this order: 25 `Root` at the root, 21 `NotFound` or 22
-    /// `NotDir` at the first parent that is missing or a file, 23 `IsDir` where a directory is there; 27 `Memory`.
+    /// Puts a file at a path, or replaces the file there. Fails, in this order, with 25 `Root` at the root, 21 `NotFound` or 22
+    /// `NotDir` at the first parent that is missing or a file, 23 `IsDir` where a directory is there; else with 27 `Memory`.
     /// After a refusal the tree is unchanged.
     pub fn put_file(&mut self, path: &Path, meta: Meta, content: Bytes) -> Result<(), TreeFault>
         ensures gives { Gives (λ _. self.new) result (put_file self.old path.now meta content) }
@@ -181,8 +181,8 @@ impl Tree {
         Ok(())
     }
 
-    /// Makes a directory at a path; one that is there, the root too, takes the new mode and owner. In this order: 21
-    /// `NotFound` or 22 `NotDir` at the first parent that is missing or a file, 24 `Conflict` where a file is there;
+    /// Makes a directory at a path; one that is there, the root too, takes the new mode and owner. Fails, in this order, with 21
+    /// `NotFound` or 22 `NotDir` at the first parent that is missing or a file, 24 `Conflict` where a file is there; else with
     /// 27 `Memory`. After a refusal the tree is unchanged.
     pub fn put_dir(&mut self, path: &Path, meta: Meta) -> Result<(), TreeFault>
         ensures gives { Gives (λ _. self.new) result (put_dir self.old path.now meta) }
@@ -199,8 +199,8 @@ impl Tree {
         Ok(())
     }
 
-    /// Takes away what is at or below a path. In this order: 25 `Root` at the root, 21 `NotFound` where nothing is there,
-    /// also below a file; 27 `Memory`. After a refusal the tree is unchanged.
+    /// Removes what is at or below a path. Fails, in this order, with 25 `Root` at the root, 21 `NotFound` where nothing is there,
+    /// also below a file; else with 27 `Memory`. After a refusal the tree is unchanged.
     pub fn remove(&mut self, path: &Path) -> Result<(), TreeFault>
         ensures gives { Gives (λ _. self.new) result (remove self.old path.now) }
         ensures last { MemoryLast result (remove self.old path.now) }
@@ -215,9 +215,9 @@ impl Tree {
         Ok(())
     }
 
-    /// Puts another tree's entries at and below a path, in place of what is there; they are shared, not copied. In this
-    /// order: 21 `NotFound` or 22 `NotDir` at the first parent that is missing or a file, 26 `BadName` where an entry's path
-    /// would have more than 128 names; 27 `Memory`. After a refusal the tree is unchanged.
+    /// Puts another tree's entries at and below a path, in place of what is there; they are shared, not copied. Fails, in this
+    /// order, with 21 `NotFound` or 22 `NotDir` at the first parent that is missing or a file, 26 `BadName` where an entry's path
+    /// would have more than 128 names; else with 27 `Memory`. After a refusal the tree is unchanged.
     pub fn graft(&mut self, path: &Path, other: &Tree) -> Result<(), TreeFault>
         ensures gives { Gives (λ _. self.new) result (graft self.old path.now other.now) }
         ensures last { MemoryLast result (graft self.old path.now other.now) }

@@ -1,5 +1,5 @@
 //! Equality by value: two values are the same where contracts see the same. Here are numbers, flags, options and slices;
-//! the types of this crate have it in their own files. Nothing here takes memory.
+//! the types of this crate have it in their own files. Nothing here allocates.
 
 ghost use Rattle.std.specs.Prelude.{◌≡◌, ◌↔◌, IsTrue};
 

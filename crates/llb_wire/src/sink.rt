@@ -68,7 +68,7 @@ impl<'a, W: Write> Sink for Over<'a, W> {
     }
 }
 
-/// Writes all of the bytes, in as many turns as it takes. Where the sink fails, a prefix of them is out.
+/// Writes all of the bytes, in as many turns as it takes. Where the sink fails, a prefix of them is written.
 pub fn write_all<S: Sink>(sink: &mut S, bytes: &[u8]) -> Result<(), Failed>
     ensures takes { TakesAll (S.taken sink.old) (S.taken sink.new) (S.failed sink.new)
         bytes.now result }

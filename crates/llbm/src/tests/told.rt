@@ -80,7 +80,7 @@ fn lines_ended(rt: &impl Abort, alloc: Global, text: &str) -> Bytes {
     Bytes::new(lines)
 }
 
-/// The definition of the entries that are written, or the bytes that are spelled.
+/// Returns the definition of the entries that are written, or the bytes that are spelled.
 pub(crate) fn definition_of(rt: &impl Abort, alloc: Global, entries: &str) -> Bytes {
     if let Some(digits) = entries.strip_prefix("=") {
         return read_hex(alloc, digits)
