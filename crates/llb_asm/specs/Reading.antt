@@ -41,7 +41,7 @@ is_within earlier size = nat_le size entry_limit && nat_le (length (definition_b
 
 -- ---- the message at hand
 
--- the place of the next line in it, its bytes so far, and whether an entry that has n bytes, all messages closed, is within the limits
+-- the place of the next line in it, its bytes so far, and whether the entry is within the limits where it has n bytes, all messages closed
 pub record Hand : Type 0 where
   pub here : Here
   pub bytes : List ℕ

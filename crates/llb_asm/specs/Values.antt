@@ -35,7 +35,7 @@ is_digit b = nat_le 48 b && nat_le b 57
 unfoldable pub magnitude : List ℕ → Option ℕ
 magnitude text = where_so (not (length text == 0) && list_all is_digit text) (digits_value 10 text)
 
--- as a 64-bit number holds it: 2^64 - 1 for all numbers above it
+-- a number as a 64-bit number holds it: 2^64 - 1 for all numbers above it
 abbrev pub capped : ℕ → ℕ
 capped n = if nat_lt n (2 ^ 64) then n else 2 ^ 64 - 1
 
@@ -172,7 +172,7 @@ pub record BeginsSolid (t : List ℕ) : Type 0 where
   pub is : t ≡ byte ∷ behind
   pub above : 33 ≤ byte
 
--- and ends with one
+-- the text ends with a byte that is no blank
 pub record EndsSolid (t : List ℕ) : Type 0 where
   pub before : List ℕ
   pub byte : ℕ

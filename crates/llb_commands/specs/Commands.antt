@@ -49,14 +49,14 @@ pub record IsRefusedByWords (words : List Text) (out out' err err' : Option (Lis
   pub none : Keeps out out'
   pub told : TellsWithPage err err' fault page status
 
--- They name a local source that has no tree, and a line says why.
+-- The words name a local source that has no tree, and a line says why.
 pub record LacksSource (files : Shelf) (line : Line) (out out' err err' : Option (List ℕ)) (status : ℕ) : Type 0 where
   pub fault : SourceFault
   pub gathered : Gathers files line.locals [] (Err fault)
   pub none : Keeps out out'
   pub told : TellsSource err err' fault status
 
--- Or the command is done on the trees of the local sources.
+-- The command is done on the trees of the local sources.
 pub record IsDone (files : Shelf) (line : Line) (input input' out out' err err' : Option (List ℕ)) (status : ℕ) : Type 0 where
   pub locals : List Local
   pub gathered : Gathers files line.locals [] (Ok locals)

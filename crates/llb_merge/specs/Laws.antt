@@ -45,7 +45,7 @@ get-lay a b q =
 pub lay_only : (a b t : TreeMap) → ((q : List (List ℕ)) → finite.get t q ≡ lay_at (finite.get a) (finite.get b) q) → t ≡ lay a b
 lay_only a b t is = finite.same_map path_cmp-IsTotalOrder path_cmp-IsAntisymmetric t (lay a b) (λ q. is q ∙ sym (get-lay a b q))
 
--- so it is a tree laid over another in the way that changes no mode and no owner, and keeps no directory of the lower one
+-- a tree over another in the way that changes no mode and no owner, and keeps no directory of the lower one, is the laying
 abbrev plain_way : WayValue
 plain_way = record { mode = None; uid = None; gid = None; keeps = false }
 

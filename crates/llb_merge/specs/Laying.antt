@@ -11,7 +11,7 @@ abbrev pub or_else : Option Entry → Option Entry → Option Entry
 or_else (Some e) other = Some e
 or_else None other = other
 
--- at a path, what the upper tree has; else what the lower one has, where no proper prefix of the path is a file of the upper one
+-- the entry at a path: what the upper tree has; else what the lower one has, where no proper prefix of the path is a file of the upper one
 abbrev pub lay_at : Look → Look → Look
 lay_at lower upper p = or_else (upper p) (if below_file upper p then None else lower p)
 

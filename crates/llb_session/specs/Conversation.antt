@@ -24,7 +24,7 @@ pub record Spelled (lines : List (List ℕ)) (rest bytes : List ℕ) : Type 0 wh
   pub each : All IsLine lines
   pub begun : IsLine rest
 
--- after the last line end: no line, or one without its end
+-- the lines after the last line end: none, or one without its end
 abbrev pub last_line : List ℕ → List (List ℕ)
 last_line [] = []
 last_line (b ∷ rest) = (b ∷ rest) ∷ []

@@ -37,7 +37,7 @@ abbrev pub kept_next : Build → Option (State × List Row) → Event → Option
 kept_next b None e = None
 kept_next b (Some (s, rows)) e = option_map (λ (a : State × Reply). (a.0, rows_after rows a.0 (worker_of e))) (table b s e)
 
--- and those after events, each of which is granted
+-- the state and the lists of instances after events, each of which is granted
 abbrev pub kept_along : Build → State → List Row → List Event → Option (State × List Row)
 kept_along b s rows es = fold (kept_next b) (Some (s, rows)) es
 

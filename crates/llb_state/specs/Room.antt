@@ -77,7 +77,7 @@ abbrev pub needed : Build → At → Supplies
 needed b Idle = supplies_for None
 needed b (Runs x) = supplies_for (slice_get b.graph.vertices x.vertex)
 
--- over a build and the caches that were handed in
+-- a board as contracts see it, over a build and the caches that were handed in
 abbrev pub seen : Build → List Row → List Stand → List Desk → List Row → List Event → Seen
 seen b first stands desks rows events = record {
   build = b;

@@ -84,7 +84,7 @@ TakesFirst n o old None new = (new ≡ old) × IsNotFirst n o old
 TakesFirst n o old (Some k) new = (old ≡ k ∷ new) × (name_cmp (name_of k) n ≡ o)
 
 -- What a step of one pass keeps, which puts a child in and moves others from the rest to the list. After it, the list and then the
--- rest, with any names above the child's put in, are what they would be if the child were put in together with those.
+-- rest, with any children of names above the child's put in, are what they would be if the child were put in together with those.
 abbrev pub PutsNext : Child → List Child → List Child → List Child → List Child → Type 0
 PutsNext child list rest list_after rest_after = (ks : Pairs) → T (below_all name_cmp (name_of child) ks)
     → map pair_of list_after ++ puts ks (map pair_of rest_after) ≡ map pair_of list ++ puts (pair_of child ∷ ks) (map pair_of rest)

@@ -50,7 +50,7 @@ TreeMap = FinMap path_cmp Entry
 abbrev pub coded_tree : Coded TreeMap
 coded_tree = finite.code (coded_list (coded_list coded_ℕ)) coded_entry
 
--- one more than the names of the longest path
+-- the height of a tree: one more than the names of its longest path
 abbrev pub height : TreeMap → ℕ
 height t = most (λ (e : List (List ℕ) × Entry). length e.0 + 1) (finite.entries t)
 
