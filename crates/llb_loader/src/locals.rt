@@ -37,7 +37,7 @@ impl Model for Locals {
 }
 
 impl Locals {
-    /// Returns no trees.
+    /// Makes an empty list of trees.
     #[tactic(auto, unfolding(crate::specs::Locals::locals_of))]
     pub fn new(alloc: Global) -> Locals
         ensures { result ≡ [] }

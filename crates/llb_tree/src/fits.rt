@@ -11,7 +11,7 @@ use crate::path::Path;
 use crate::tree::Tree;
 
 impl Tree {
-    /// Returns whether the entries have room at and below a path: fails with 26 `BadName` where a path would have more than 128 names. Does not
+    /// Checks that the entries have room at and below a path. Fails with 26 `BadName` where a path would have more than 128 names. Does not
     /// allocate.
     pub fn fits(&self, path: &Path) -> Result<(), TreeFault>
         ensures fit { result ≡ places_fit path.now (finite.keys self.now) }

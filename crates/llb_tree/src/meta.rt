@@ -40,7 +40,7 @@ impl Meta {
         }
     }
 
-    /// Returns those of a directory that is made where none are given: 0755 0:0.
+    /// Returns the mode and the owner of a directory that is made where none are given: 0755 0:0.
     pub fn new_dir() -> Meta
         ensures { result ≡ new_dir_meta }
     {

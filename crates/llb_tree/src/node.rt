@@ -75,7 +75,7 @@ pub(crate) fn place_of(kids: &[Child], name: &Name) -> Result<usize, usize>
 }
 
 impl Node {
-    /// Returns the entry here. Does not allocate.
+    /// Returns the node's own entry. Does not allocate.
     pub fn entry(&self) -> Entry<'_>
         ensures { Some (seen result) ≡ finite.get self.now [] }
     {
