@@ -136,7 +136,7 @@ module _ (text done : List ℕ) (labels : List (List ℕ)) (xs : List Formed) (k
       split ∙ ap (λ l. done ++ text_of_lines (plain_lines labels l)) next.is
       ∙ ap (λ l. done ++ l) (flat_map-append line_text (entry_lines labels entry next.form) (plain_lines (labels ++ digest_text entry ∷ []) (drop (k + 1) xs)))
 
--- what is out where an entry is not
+-- what is written where an entry is not
 pub stops_inside : (a b c : Option (List ℕ)) (failed : Bool) (text done line rest : List ℕ) → Appends a b done → text ≡ done ++ (line ++ rest) → (f : AsmFault)
     → Prints b c failed line (Err f) → (r : Result (Unit {0}) AsmFault) → IsErrAnd r (λ e. e ≡ f) → Prints a c failed text r
 stops_inside a b c failed text done line rest before split f stopped (Ok u) same = absurd same

@@ -236,7 +236,7 @@ module _ (workers : ℕ) (ls : List Local) (left out out' last err err' : Option
 
 -- ---- a show
 
--- a text that is out is a prefix of itself
+-- a text that is written is a prefix of itself
 pub drawn_unflushed : (left out out' last : Option (List ℕ)) (g : Numbered) → IfSome left (λ bytes. IsGraphIn bytes g)
     → Appends out out' (graph_text g) → Keeps out' last → IfSome left (DrawsPart out last)
 drawn_unflushed left out out' last g loads whole keeps =

@@ -43,7 +43,7 @@ impl Ran {
         self.err.clear();
     }
 
-    // The first refusal in what is out.
+    // The first refusal in what is written.
     fn refusal(&self) -> Option<&str> {
         let text = str::from_utf8(self.out.as_slice()).ok()?;
         for line in text.lines() {
@@ -54,7 +54,7 @@ impl Ran {
         None
     }
 
-    // A status that is not 0 with what is on `err`, else the first refusal that is out, else what is out.
+    // A status that is not 0 with what is on `err`, else the first refusal that is written, else what is written.
     fn told(&self, rt: &impl Abort, alloc: Global, is_text: bool) -> String {
         let (status, err) = (
             self.status,

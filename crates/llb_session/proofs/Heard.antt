@@ -41,7 +41,7 @@ cut_none p t o o' is (said, answers, (front, rest, split, printed)) = record {
 
 -- ---- after bytes that were heard
 
--- the text of the lines that ended is out
+-- the text of the lines that ended is written
 pub went_none : (p : Standing) (o : Option (List ℕ)) → IsLine p.line → Went p [] p o o
 went_none p o is = record { text = []; talked = Talked-none p is; printed = Appends-nil o }
 
