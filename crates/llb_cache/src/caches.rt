@@ -104,7 +104,7 @@ impl Caches {
         keys_differ(needs)
     }
 
-    /// Leases an instance for each need, or none at all: of a shared or a locked key instance 0, of a private one the least that no
+    /// Leases an instance for each need, or none at all: for a shared or a locked key instance 0, for a private one the least that no
     /// lease has. An instance that is not there is made with the tree of its need. The keys of the needs differ, and there are fewer
     /// than 65,536 leases. Fails with 111 `Held` with the first locked key whose instance a lease has; then with 112 `Memory`. After
     /// a refusal the caches are unchanged.

@@ -202,8 +202,8 @@ pub fn run_over<R: Read, W: Write, E: Write>(
 }
 
 /// Does the same with this number of workers, where they are several each in a thread of its own, which it waits for. Where no cache is mounted,
-/// the text is that of the plain outcomes, for any number of workers. 2 also where the number is 0, or more than 64 (`fault 122`); 3 also where a
-/// thread could not be started (`fault 153`).
+/// the text is that of the plain outcomes, for any number of workers. The status is 2 also where the number is 0, or more than 64 (`fault 122`),
+/// and 3 also where a thread could not be started (`fault 153`).
 pub fn run_many_over<T: Threads + Wait + Sync, R: Read, W: Write, E: Write>(
     rt: &T,
     alloc: Global,

@@ -1,5 +1,5 @@
-//! One tree laid over another: what the upper one has is kept as it has it, and of the lower one what no file of the upper
-//! one is above.
+//! One tree laid over another: what the upper one has is kept as it has it, and of the lower one what is below no file of the
+//! upper one.
 
 ghost use Rattle.std.specs.Prelude.{◌≡◌, IfOk, OnOk, OnErr, Some, None, false};
 ghost use Rattle.llb_tree.specs.Overlay.{way_of};

@@ -237,7 +237,7 @@ fn laid_child(kids: &[Child], alloc: Global, way: &Way, upper: &Child) -> Result
 
 impl Tree {
     /// Lays another tree over this one, and returns the result: at a path it has what the other has there, in the mode and the owner of the
-    /// way, and of this tree what no file of the other is above. A directory that both have is the other's, or stays as
+    /// way, and else what this tree has there, unless a file of the other is above. A directory that both have is the other's, or stays as
     /// it is where the way keeps it. Fails with 27 `Memory` alone. It goes down both trees at once and touches only what both have; what only
     /// one has is shared, not copied. Only where the way has a mode or an owner does what is laid get nodes of its own, and
     /// even then its contents are shared.

@@ -1,7 +1,7 @@
 //! The program as transcripts. A line with `> ` first is a call, and the lines after it are what the call writes, its error lines (`! ` first),
 //! and its status where that is not 0. One with `# ` first says what the next calls show. A call is the program's words; after ` < ` the
 //! entries that it reads as a definition (`written`), or `=` and the bytes in hexadecimal, or `@` and the name of a text, or `$` and a
-//! text in which `|` ends a line; of a session then, after the last ` | `, its commands, each ended by `;`. The file `FILE` is the definition, too,
+//! text in which `|` ends a line; for a session then, after the last ` | `, its commands, each ended by `;`. The file `FILE` is the definition, too,
 //! and the other files are those of `local_trees`. What `asm` writes is shown in hexadecimal. All devices do a byte at a time.
 
 use super::assembling::TEXTS;
