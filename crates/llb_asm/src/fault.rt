@@ -1,4 +1,4 @@
-//! Why a text is not assembled, or entries are not written. A fault prints what stands after the word `fault` in a refusal: its
+//! Why a text is not assembled, or entries are not written. A fault prints what comes after the word `fault` in a refusal: its
 //! number, and then its arguments.
 
 ghost use Rattle.std.specs.Prelude.{Some};

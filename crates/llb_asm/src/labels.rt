@@ -12,7 +12,7 @@ use std::alloc::Global;
 use std::collections::BTreeMap;
 use std::marker::Model;
 
-/// The text of an entry's digest.
+/// Returns the text of an entry's digest.
 pub(crate) fn digest_of(alloc: Global, entry: &[u8]) -> Result<Text, Memory>
     ensures { IfOk result (λ text. text ≡ digest_text entry.now) }
 {
@@ -57,7 +57,7 @@ impl Model for Labels {
 }
 
 impl Labels {
-    /// No labels.
+    /// Makes an index without labels.
     pub(crate) fn new(alloc: Global) -> Labels
         ensures { result ≡ [] }
     {
@@ -67,7 +67,7 @@ impl Labels {
         }
     }
 
-    /// The least entry with that text of its digest.
+    /// Returns the least entry whose digest has this text.
     pub(crate) fn label_for(&self, digest: &str) -> Option<u64>
         ensures { result ≡ label_for self.now digest.now }
     {

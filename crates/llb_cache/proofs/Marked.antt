@@ -68,7 +68,7 @@ absent [] marks p h = refl
 absent (e ∷ es) [] p h = refl
 absent (e ∷ es) (m ∷ marks) p h = ap (λ b. cond b (slice_index_or m p.number false) (marked (keys_of es) marks p)) h.0 ∙ absent es marks p h.1
 
--- of a key that has a row, and of one that has none
+-- the mark of a key that has a row, and of one that has none
 pub mark_there : (es : List Row) (marks : List (List Bool)) (p : Place) (i : ℕ) → position (same_key p.key) (keys_of es) ≡ Some i
     → marked (keys_of es) marks p ≡ mark_at marks i p.number
 mark_there es marks p i e = at_first es marks p i (first_row p.key es i e)
@@ -147,7 +147,7 @@ pub remarked : (es : List Row) (marks : List (List Bool)) (p : Place) (i : ℕ) 
     → Sets (slice_index_or marks i []) new p.number b → Remarks (keys_of es) marks (keys_of es) (slice_set marks i new) (λ q. same_place q p) b
 remarked es marks p i new b e below sets = at_row es marks p i new b (first_row p.key es i e) below sets
 
--- of a key that has none, no mark is left to be taken away
+-- a key that has none has no mark left to be taken away
 pub unmarked : (es : List Row) (marks : List (List Bool)) (p : Place) → false ≡ is_some (lookup (same_key p.key) es)
     → Remarks (keys_of es) marks (keys_of es) marks (λ q. same_place q p) false
 unmarked es marks p e q = go (same_place q p) refl

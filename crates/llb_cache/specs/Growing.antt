@@ -9,13 +9,13 @@ use Rattle.llb_cache.specs.Caches.{Taken}
 abbrev pub shown : Ready → Taken
 shown r = (r.place, r.tree)
 
--- its room is enough for its instance and all before that, and so is that for its mark, with none set
+-- there is room for its instance and all before that, and for its mark, with none set
 pub record FitsIn (r : Ready) : Type 0 where
   pub tree : r.place.number < r.room
   pub mark : r.place.number < length r.marks
   pub clear : (k : ℕ) → slice_index_or r.marks k false ≡ false
 
--- the need that is refused gives the fault
+-- the need that is refused decides the fault
 abbrev pub IsRefusal : Option Need → LeaseFault → Type 0
 IsRefusal None e = ⊥
 IsRefusal (Some n) e = e ≡ Held n.key

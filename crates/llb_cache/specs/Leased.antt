@@ -102,7 +102,7 @@ some_same ps qs e = ap (λ o. unwrap_or o ps) e
 pub free_within : (out : Leases) → free_lease out ≤ length out
 free_within out = prefix_len-le-length _ out
 
--- where all numbers are taken, that many leases are out
+-- where all numbers are taken, there are as many leases as numbers
 all_out : (out : Leases) → length out ≤ free_lease out → leases out ≡ length out
 all_out [] h = refl
 all_out (None ∷ out) h = absurd (omega (arith, h))
@@ -174,7 +174,7 @@ back_cases out n a qs at = elim (set_cases out n None a qs (trimmed_has (slice_s
 pub back_short : (out : Leases) (n : ℕ) → length (trimmed (slice_set out n None)) ≤ length out
 back_short out n = let less = trimmed_short (slice_set out n None) in let same = length-set out n None in omega (arith, less, same)
 
--- after the last lease that is out
+-- a list whose last lease is out stays as it is when it is trimmed
 pub trimmed_some : (out : Leases) (ps : List Place) → trimmed (out ++ Some ps ∷ []) ≡ out ++ Some ps ∷ []
 unfolding trimmed
 trimmed_some [] ps = refl

@@ -1,4 +1,4 @@
-//! The keys of the rows. A row's key owns its texts, and it is found by one that borrows them, so that a look takes no memory.
+//! The keys of the rows. A row's key owns its texts, and it is found by one that borrows them, so that a look does not allocate.
 
 ghost use Rattle.std.specs.Prelude.{◌≡◌, ◌↔◌, ◌<◌, IsTrue, IfOk, IfSome, IsSome, Some, is_some, option_map, position, slice_get, length};
 ghost use Rattle.std.specs.Map.{keys_of, values_of, lookup};

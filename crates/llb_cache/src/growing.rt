@@ -1,4 +1,4 @@
-//! How a lease takes its instances: what may be refused comes first, and then the changes take no memory.
+//! How a lease takes its instances: what may be refused comes first, and then the changes do not allocate.
 
 ghost use Rattle.std.specs.Prelude.{◌≡◌, ◌<◌, ◌≤◌, ◌+◌, true, false, map, slice_set, length, vec_len, vec_capacity, IfOk, None};
 ghost use Rattle.std.specs.List.{All};

@@ -29,14 +29,14 @@ impl<'a> Model for KeyRef<'a> {
 }
 
 impl<'a> KeyRef<'a> {
-    /// The key of this ID, with the digest text and the index of its seed, where it has one. Takes no memory.
+    /// Returns the key of this ID, with the digest text and the index of its seed, where it has one. Does not allocate.
     pub fn new(id: &'a str, seed: Option<(&'a str, u32)>, mode: Mode) -> KeyRef<'a>
         ensures { result ≡ record { id = id.now; seed = option_map (λ s. seed_by s.0.now s.1) seed.entry; mode = mode } }
     {
         KeyRef { id, seed, mode }
     }
 
-    /// An equal key that owns its texts. 112 `Memory`; a key without a byte of text takes none.
+    /// Returns an equal key that owns its texts. Fails with 112 `Memory` alone; a key without a byte of text takes no memory.
     pub fn to_key(&self, alloc: Global) -> Result<Key, Memory>
         ensures ok { IfOk result (λ k. k ≡ self.now) }
         ensures memory { IfErr result (λ _. has_text self.now ≡ true) }
@@ -91,7 +91,7 @@ impl<'a> KeyRef<'a> {
 }
 
 impl Key {
-    /// The key as one that borrows its texts. Takes no memory.
+    /// Returns the key as one that borrows its texts. Does not allocate.
     pub fn by_ref(&self) -> KeyRef<'_>
         ensures { result ≡ self.now }
     {

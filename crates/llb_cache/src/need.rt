@@ -1,4 +1,4 @@
-//! What a lease is asked for, and what it has: an instance of a cache for each need.
+//! What is asked of a lease, and what it has: an instance of a cache for each need.
 
 ghost use Rattle.std.specs.Prelude.{◌≡◌, IfOk};
 

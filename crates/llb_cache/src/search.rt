@@ -1,4 +1,4 @@
-//! What leases have, and what is free. A look at an instance goes by its key's row and the mark of its number, and over no lease.
+//! What leases have, and what is free. A look at an instance uses its key's row and the mark of its number, and reads no lease.
 
 ghost use Rattle.std.specs.Prelude.{◌≡◌, ◌≢◌, ◌↔◌, ◌<◌, ◌≤◌, ◌&&◌, ℕ, true, false, IsTrue, AllPairs, length, map, slice_get, IfOk, IfSome};
 ghost use Rattle.std.specs.Prelude.{MatchResult, None, option_and_then};
@@ -69,7 +69,7 @@ impl Caches {
         }
     }
 
-    // The number of the instance that a key gives.
+    // The number of the instance that is chosen for a key.
     pub(crate) fn number_for(&self, key: &KeyRef<'_>) -> u32
         ensures { result ≡ number_for self.now.out key.now key.now.mode }
     {

@@ -53,7 +53,7 @@ step_app = with_rule (with_rule (with_rule (new_app (codes "step")) workers_rule
 abbrev pub with_plain : App → Text → App
 with_plain app name = with_subcommand app (new_app name).top
 
--- those on graphs
+-- the commands on graphs
 abbrev pub graph_app : App
 graph_app = with_subcommand (with_plain (with_subcommand base_app run_app.top) (codes "show")) step_app.top
 
@@ -172,6 +172,6 @@ abbrev pub words_status : WordsFault → ℕ
 words_status (Words w) = 2
 words_status Memory = 3
 
--- the line of the fault is out, and the status is the fault's; or the line could not be written, and the status is 3
+-- the line of the fault is written, and the status is the fault's; or the line could not be written, and the status is 3
 abbrev pub TellsWords : Option (List ℕ) → Option (List ℕ) → WordsFault → ℕ → Type 0
 TellsWords err err' e = TellsLine err err' (words_text e) (words_status e)

@@ -41,17 +41,17 @@ page_for DisplayHelp command = help_page command
 page_for DisplayVersion command = VERSION_PAGE.now
 page_for _ command = []
 
--- what follows the line of a fault: where `clap` refuses, the page for its kind (where it gives two kinds, neither has a page)
+-- what follows the line of a fault: where `clap` refuses, the page for its kind (where two kinds are possible, neither has a page)
 abbrev pub HasPage : Kinds → List Text → WordsFault → Text → Type 0
 HasPage kinds words (Words None) page = (k : ErrorKind) × IsAmong k kinds × (page ≡ page_for k (named_first words))
 HasPage kinds words _ page = page ≡ []
 
--- what is answered to words, with the page of a refusal
+-- the result for words, with the page of a refusal
 abbrev pub IsByWordsWithPage : Kinds → List Text → List Text → Result Line Refusal → Type 0
 IsByWordsWithPage kinds locals words (Ok line) = kinds ≡ []
 IsByWordsWithPage kinds locals words (Err r) = Refuses kinds locals r.fault × HasPage kinds words r.fault r.page.now
 
--- the line of the fault is out and the page below it, and the status is the fault's; or they could not be written, and the status is 3
+-- the line of the fault is written and the page below it, and the status is the fault's; or they could not be written, and the status is 3
 abbrev pub TellsWithPage : Option (List ℕ) → Option (List ℕ) → WordsFault → Text → ℕ → Type 0
 TellsWithPage err err' fault page status =
     ((status ≡ words_status fault) × Appends err err' (fault_line (words_text fault) ++ page)) ⊎ (status ≡ 3)

@@ -130,7 +130,7 @@ fn graph_commands<'a>(alloc: Global) -> Result<clap::Command<'a>, AllocError>
         .subcommand(step_command(alloc)?)
 }
 
-/// The command line as `clap` takes it, with all commands.
+/// Returns the command line as `clap` takes it, with all commands.
 pub fn llbm_command<'a>(alloc: Global) -> Result<clap::Command<'a>, AllocError>
     ensures { IfOk result (λ c. app_of c ≡ llbm_app) }
 {
@@ -232,7 +232,7 @@ fn run_alone<'a>(alloc: Global) -> Line<'a>
     }
 }
 
-// What a refusal by `clap` comes to.
+// The fault for a refusal by `clap`.
 fn refused_by<'a>(error: Error) -> WordsFault<'a>
     ensures { StandsFor (kind_of error) result }
 {
@@ -243,7 +243,7 @@ fn refused_by<'a>(error: Error) -> WordsFault<'a>
     }
 }
 
-/// The same as `command_of`, and of words that are refused the page that they ask for.
+/// Returns what `command_of` returns, and for words that are refused also the page that they ask for.
 pub(crate) fn line_or_page<'a, S: AsStr>(
     alloc: Global,
     words: &'a [S],
@@ -267,8 +267,8 @@ pub(crate) fn line_or_page<'a, S: AsStr>(
     }
 }
 
-/// What the words after the program's name say: no words are `run`. 183 without a word where `clap` refuses them, a
-/// request for help among them; 183 with the first word for a local source that has no `=`; 184.
+/// Returns what the words after the program's name say: no words are `run`. Fails with 183 without a word where `clap` refuses them, a
+/// request for help among them; with 183 and the first word for a local source that has no `=`; with 184.
 pub fn command_of<'a, S: AsStr>(alloc: Global, words: &'a [S]) -> Result<Line<'a>, WordsFault<'a>>
     ensures says { IfOk result (Says (subcommand_of llbm_app (map S.text words.entry.now))) }
     ensures refuses { IsByWords (fault_of llbm_app (map S.text words.entry.now)) (given (subcommand_of llbm_app (map S.text words.entry.now))) result }

@@ -80,7 +80,7 @@ Options:
   -h, --help  Print help
 ";
 
-/// The command of that name.
+/// Returns the command of that name.
 pub(crate) fn named(name: &str) -> Option<Command>
     ensures { result ≡ command_named name.now }
 {
@@ -99,7 +99,7 @@ pub(crate) fn named(name: &str) -> Option<Command>
     }
 }
 
-/// The command that the first word names.
+/// Returns the command that the first word names.
 pub(crate) fn named_first<S: AsStr>(words: &[S]) -> Option<Command>
     ensures { result ≡ named_first (map S.text words.now) }
 {
@@ -123,7 +123,7 @@ fn help_page(command: Option<Command>) -> &'static str
     }
 }
 
-/// The page that words ask for which `clap` refuses so, by the command that the first of them names; it is empty where they ask for none.
+/// Returns the page that words ask for which `clap` refuses so, by the command that the first names; it is empty where they ask for none.
 pub(crate) fn page_for(kind: ErrorKind, command: Option<Command>) -> &'static str
     ensures { result.now ≡ page_for kind command }
 {

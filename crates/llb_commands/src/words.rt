@@ -1,4 +1,4 @@
-//! What the words of the command line say, or why they say nothing.
+//! What the words of the command line say, or why they are rejected.
 
 ghost use Rattle.std.specs.Prelude.{◌≡◌, Some};
 ghost use Rattle.llb_commands.specs.CommandLine.{words_status, words_text, TellsWords};
@@ -18,7 +18,7 @@ pub enum Command {
     Show,
     /// To step through the run of a definition.
     Step,
-    /// To write the definition of the entries that a text stands for.
+    /// To write the definition of the entries that a text is read as.
     Assemble,
     /// To write the entries of a definition as text.
     Disassemble,
@@ -87,7 +87,7 @@ impl<T: Drop> From<AllocFailed<T>> for WordsFault<'_> {
 }
 
 impl WordsFault<'_> {
-    /// The status with which the program ends, once the fault's line is out: 2 for the words, 3 where it is out of memory.
+    /// Returns the status with which the program ends, once the fault's line is written: 2 for the words, 3 where it is out of memory.
     pub fn status(&self) -> u8
         ensures { result ≡ words_status self.now }
     {
@@ -98,7 +98,7 @@ impl WordsFault<'_> {
     }
 }
 
-/// The line of words that say nothing goes out, and their fault's status is the answer; 3 where the line can't be written.
+/// Writes the line of words that say nothing, and returns their fault's status; 3 where the line can't be written.
 pub fn words_refusal<E: Write>(fault: &WordsFault<'_>, err: &mut E) -> u8
     ensures { TellsWords (E.contents err.old) (E.contents err.new) fault.now result }
 {
@@ -136,7 +136,7 @@ impl From<AllocError> for Refusal<'_> {
     }
 }
 
-/// The line of refused words goes out, and below it the page that they ask for; the fault's status is the answer, or 3 where they can't be
+/// Writes the line of refused words, and below it the page that they ask for; returns the fault's status, or 3 where they can't be
 /// written.
 pub(crate) fn tell_refusal<E: Write>(refusal: &Refusal<'_>, err: &mut E) -> u8
     ensures { TellsWithPage (E.contents err.old) (E.contents err.new) refusal.now.fault refusal.now.page.now result }

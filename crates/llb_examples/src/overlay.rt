@@ -1,4 +1,4 @@
-//! One tree laid over another in a way: told by the entries of what comes of it.
+//! One tree laid over another in a way: shown by the entries of the result.
 
 use super::stage::are_told;
 use super::told::{Row, is_so, made, row_holds};
@@ -232,7 +232,7 @@ fn in_place(rt: &impl Abort, mut lower: Tree, upper: &Tree) -> Tree {
     lower
 }
 
-// Whether a tree that another is laid over in place, and then one that is handed over, come to the same as one that is lent.
+// Whether a tree that another is laid over in place, and then one that is handed over, end the same as one that is lent.
 fn lays_the_same(rt: &impl Abort, alloc: Global, lower: &[Row<'_>], upper: &[Row<'_>]) -> bool {
     let (first, second) = (made(rt, alloc, lower), made(rt, alloc, lower));
     let upper = made(rt, alloc, upper);
@@ -255,7 +255,7 @@ fn a_lower_tree_is_lent_or_handed_over_or_laid_over_in_place(rt: HostRuntime) {
     }
 }
 
-// Whether a way that keeps and gives comes to the same in place.
+// Whether a way that keeps directories and sets modes and owners ends the same in place.
 fn way_in_place(rt: &impl Abort, alloc: Global) -> bool {
     let (mut lower, upper) = (made(rt, alloc, LOWER), made(rt, alloc, UPPER));
     let way = Way::new(Some(0o4640), None, Some(5), true).expect(rt, "a way");

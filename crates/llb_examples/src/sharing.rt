@@ -205,7 +205,7 @@ const EDITS: [&str; 8] = [
     "share /a/b /c 600 1:2",
 ];
 
-// Passes whichever allocation fails, as long as it is one: at most one story is then not told to its end.
+// Passes whichever allocation fails, as long as it is one: at most one story is then cut short.
 #[test]
 fn a_refused_edit_leaves_a_shared_tree_as_it_was(rt: HostRuntime) {
     let mut is_refused = false;

@@ -2,7 +2,7 @@
 //!
 //! `dir PATH MODE OWNER` and `file PATH MODE OWNER CONTENT` put an entry; `remove PATH` removes what is at or below a path; `graft PATH GOAL`
 //! puts what is at or below the path at the goal as well; `share PATH GOAL MODE OWNER` puts a file of the content of the one at the path there,
-//! if one is; `overlay MODE USER GROUP KEEPS` lays the other tree over this one. `look PATH`, `list PATH` and `tree` tell of this one. `copy` and
+//! if one is; `overlay MODE USER GROUP KEEPS` lays the other tree over this one. `look PATH`, `list PATH` and `tree` show this one. `copy` and
 //! `subtree PATH` make the other tree of this one, `below PATH` makes it an empty tree with this one at the path, and `swap` exchanges the two.
 //! A content that ends in `\n` ends in an end of line.
 
@@ -128,7 +128,7 @@ fn change(alloc: Global, trees: &mut Trees, name: &str, call: &str) -> Result<()
     Ok(())
 }
 
-// What is told of a tree.
+// The text of a tree.
 fn tell(
     rt: &impl Abort,
     alloc: Global,
@@ -148,7 +148,7 @@ fn tell(
     Ok(())
 }
 
-// What a call answers, or its fault.
+// The result of a call, or its fault.
 pub(crate) fn answer(
     rt: &impl Abort,
     alloc: Global,

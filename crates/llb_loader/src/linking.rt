@@ -23,10 +23,10 @@ use llb_ops::Op;
 use std::alloc::Global;
 use std::collections::BTreeMap;
 
-/// The graph of the rows. The last row given is the terminal; its first input is the result.
+/// Returns the graph of the rows. The last row given is the terminal; its first input is the result.
 ///
-/// The first fault is answered, of the least row and its least input: `Entry` (82), `TooFew` (83), `Collision` (84),
-/// `NoResult` (85), `UnknownDigest` (86), `Cycle` (87), `Unsupported` (88), `Invalid` (89), `BadIndex` (90). `Memory` (91)
+/// Fails with the first fault, of the least row and its least input: `Entry` (82), `TooFew` (83), `Collision` (84),
+/// `NoResult` (85), `UnknownDigest` (86), `Cycle` (87), `Unsupported` (88), `Invalid` (89), `BadIndex` (90). Fails with `Memory` (91)
 /// where memory is refused.
 pub fn link(alloc: Global, rows: &[Row]) -> Result<Graph, LoadFault>
     requires { length rows.now ≤ 65_536 }

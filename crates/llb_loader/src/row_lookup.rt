@@ -14,7 +14,7 @@ use llb_wire::{Same, Text};
 use std::alloc::{AllocError, Global};
 use std::collections::BTreeMap;
 
-/// Whether there are fewer than two distinct rows.
+/// Returns whether there are fewer than two distinct rows.
 pub(crate) fn all_same(rows: &[Row]) -> bool
     ensures { IsTrue result ↔ AllSame rows.now }
 {
@@ -32,7 +32,7 @@ fn same(row: &Row, other: &Row) -> bool
     row.digest.same(&other.digest) && row.bytes.same(&other.bytes)
 }
 
-/// The first row of each digest text, where no two rows of one digest differ.
+/// Returns the first row of each digest text, where no two rows of one digest differ.
 pub(crate) fn index_of<'a>(
     alloc: Global,
     rows: &'a [Row],
@@ -56,7 +56,7 @@ pub(crate) fn index_of<'a>(
     Ok(index)
 }
 
-/// The terminal: the first row with the last row's digest text.
+/// Returns the terminal: the first row with the last row's digest text.
 pub(crate) fn terminal_of(rows: &[Row], index: &BTreeMap<&str, usize>) -> usize
     requires some { 0 < length rows.now }
     requires index { IsIndex rows.now index.now }
@@ -70,7 +70,7 @@ pub(crate) fn terminal_of(rows: &[Row], index: &BTreeMap<&str, usize>) -> usize
     }
 }
 
-/// The row that a digest text names, if it names one.
+/// Returns the row that a digest text names, if it names one.
 pub(crate) fn row_of(
     rows: &[Row],
     index: &BTreeMap<&str, usize>,
@@ -84,7 +84,7 @@ pub(crate) fn row_of(
     if row == terminal { None } else { Some(row) }
 }
 
-/// The rows that the op's inputs name.
+/// Returns the rows that the op's inputs name.
 pub(crate) fn rows_of(
     alloc: Global,
     rows: &[Row],
@@ -104,7 +104,7 @@ pub(crate) fn rows_of(
     Ok(named)
 }
 
-/// What each row names.
+/// Returns the rows that each row names.
 pub(crate) fn links_of(
     alloc: Global,
     rows: &[Row],

@@ -68,7 +68,7 @@ pub trait Member: Drop {
         ensures { IfOk result (λ v. v.items ≡ writing self.now) };
 }
 
-/// A message is read of the records that its bytes are split into.
+/// Reads a message from the records that its bytes are split into.
 #[tactic(auto, unfolding(crate::specs::Records::message_of))]
 pub fn read_message<M: Message>(alloc: Global, bytes: &[u8]) -> Result<M, OpFault>
     ensures { Gives (λ m. m) result (message_of M.shape M.reading bytes.now) }
@@ -77,7 +77,7 @@ pub fn read_message<M: Message>(alloc: Global, bytes: &[u8]) -> Result<M, OpFaul
     M::read(alloc, &records)
 }
 
-/// A message of the payloads of its records, one after the other. That of a single record is read where it lies.
+/// Reads a message from the payloads of its records, one after the other. The payload of a single record is read where it lies.
 pub fn joined_message<M: Message>(
     alloc: Global,
     records: &[Record<'_>],
@@ -126,7 +126,7 @@ pub fn each<M: Message>(
     Ok(Many::new(messages))
 }
 
-/// The member of a oneof that is set, if any.
+/// Reads the member of a oneof that is set, if any.
 pub fn one_of<M: Member>(
     alloc: Global,
     records: &[Record<'_>],

@@ -53,7 +53,7 @@ impl From<llb_wire::Memory> for PlainFault {
     }
 }
 
-/// Of a call on a tree that can only lack memory, or of the read of a text that is a path.
+/// Converts the fault of a call on a tree that can only lack memory, or of the reading of a text that is a path.
 impl From<TreeFault> for PlainFault {
     ghost use Rattle.std.specs.Prelude.{◌≡◌};
     ghost use Rattle.llb_plain.specs.declared.fault.PlainFault.TheVariants as plain;

@@ -89,7 +89,7 @@ fn parts_of(rt: &impl Abort, alloc: Global, written: &Written) -> Parts {
     }
 }
 
-/// A board before any event.
+/// Makes a board before any event.
 pub(crate) fn board_on(rt: &impl Abort, alloc: Global, written: &Written) -> Board {
     match opened(parts_of(rt, alloc, written), written.workers, alloc) {
         Answer::Opened(Ok(board)) => board,
@@ -129,7 +129,7 @@ fn is_done(board: &mut Board, event: Event) -> bool {
     }
 }
 
-/// A board after its events.
+/// Makes a board after its events.
 pub(crate) fn board_of(rt: &impl Abort, alloc: Global, written: &Written) -> Board {
     let mut board = board_on(rt, alloc, written);
     for line in written.events.split("; ") {

@@ -1,4 +1,4 @@
-//! Each growth of a call refused in turn. A test asks `tools/refuse.c`, which stands between a test and its memory, by the sizes of requests
+//! Each growth of a call refused in turn. A test asks `tools/refuse.c`, which is between a test and its memory, by the sizes of requests
 //! that no allocator grants.
 
 use super::told::is_same;
@@ -6,23 +6,23 @@ use super::written::tree_text;
 use std::alloc::Global;
 use std::process::Abort;
 
-/// A call in words, what it is called on, what is told of its answer where memory is refused, and what where it is granted. A call that takes
-/// no memory has no text for the first of these. Of faults with ` and ` between them each comes; with ` or ` any may. The last may be the name
+/// A call in words, what it is called on, its result in words where memory is refused, and its result where it is granted. A call that does
+/// not allocate has no text for the first of these. Of faults with ` and ` between them each comes; with ` or ` any may. The last may be the name
 /// of a tree, in the place of its text.
 pub(crate) type Row = (&'static str, &'static str, &'static str, &'static str);
 
-/// A call with what it needs, and its last answer.
+/// A call with what it needs, and its last result.
 pub(crate) trait Trial: Sized + Drop {
-    /// What the call of a row needs, made anew.
+    /// Makes anew what the call of a row needs.
     fn ready(rt: &impl Abort, alloc: Global, row: &Row) -> Self;
 
-    /// The call and nothing else.
+    /// Makes the call and nothing else.
     fn call(&mut self, alloc: Global);
 
-    /// What is told of the answer.
+    /// Returns the result in words.
     fn told(&self, rt: &impl Abort, alloc: Global) -> String;
 
-    /// Whether what the call was made on is as it was before, by a second one that was made in the same steps.
+    /// Returns whether what the call was made on is as it was before, by a second one that was made in the same steps.
     fn is_as_before(&mut self, rt: &impl Abort, alloc: Global) -> bool;
 }
 
@@ -33,17 +33,17 @@ const TELL: usize = 0x2000_0000_0000_0000;
 /// No call takes so many growths.
 pub(crate) const MOST: usize = 100_000;
 
-/// From now on the growth of that number is refused, where the library stands between; else none is.
+/// Refuses the growth of that number from now on, where the library is in between; else refuses none.
 pub(crate) fn refuse(alloc: Global, k: usize) {
     let _ = Vec::<u8>::with_capacity(alloc, ASK | k);
 }
 
-/// Whether a growth was refused; from now on none is.
+/// Returns whether a growth was refused, and refuses none from now on.
 pub(crate) fn was_refused(alloc: Global) -> bool {
     Vec::<u8>::with_capacity(alloc, TELL).is_ok()
 }
 
-/// Whether what is told of a refusal is one of those that may come for want of memory.
+/// Returns whether a refusal in words is one of those that may come for want of memory.
 pub(crate) fn is_lack(told: &str, lacks: &str) -> bool {
     for lack in lacks.split(" and ") {
         if lack == told {
@@ -58,7 +58,7 @@ pub(crate) fn is_lack(told: &str, lacks: &str) -> bool {
     false
 }
 
-// Whether a growth of that number was refused, and what was told then. All is as before after it, and the same call is granted.
+// The result in words where a growth of that number was refused, else `None`. All is as before after it, and the same call is granted.
 fn told_at<T: Trial>(rt: &impl Abort, alloc: Global, row: &Row, k: usize) -> Option<String> {
     let (call, on, lacks, wanted) = *row;
     let mut trial = T::ready(rt, alloc, row);

@@ -43,7 +43,7 @@ impl Ran {
         self.err.clear();
     }
 
-    // The first refusal in what is out.
+    // The first refusal in what is written.
     fn refusal(&self) -> Option<&str> {
         let text = str::from_utf8(self.out.as_slice()).ok()?;
         for line in text.lines() {
@@ -54,7 +54,7 @@ impl Ran {
         None
     }
 
-    // A status that is not 0 with what is on `err`, else the first refusal that is out, else what is out.
+    // A status that is not 0 with what is on `err`, else the first refusal that is written, else what is written.
     fn told(&self, rt: &impl Abort, alloc: Global, is_text: bool) -> String {
         let (status, err) = (
             self.status,
@@ -167,7 +167,7 @@ impl Trial for OnInput {
         self.ran.told(rt, alloc, self.call != "asm_over")
     }
 
-    // What is out is the beginning of what is to be out; a session goes on after its refusals.
+    // What is written is the beginning of what is to be written; a session goes on after its refusals.
     fn is_as_before(&mut self, _rt: &impl Abort, _alloc: Global) -> bool {
         match self.call {
             "step_over" => true,
@@ -233,7 +233,7 @@ fn commands(rt: HostRuntime) {
     are_refused::<OnInput>(&rt, rt.alloc(), ROWS);
 }
 
-// The words of a command line, or bytes that are read up to a bound. All that is kept of the answer is what it comes to.
+// The words of a command line, or bytes that are read up to a bound. All that is kept of the result is its text.
 #[derive(Drop)]
 struct OnWords {
     call: &'static str,

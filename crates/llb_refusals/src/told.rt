@@ -1,4 +1,4 @@
-//! What is told of values.
+//! The texts of values.
 
 use llb_tree::{Path, Tree};
 use llb_treetext::{print_tree, read_tree, tree_digest};
@@ -7,7 +7,7 @@ use std::alloc::Global;
 use std::fmt::Display;
 use std::process::Abort;
 
-// Ends the test where what is told is not what is wanted; the failure shows both.
+// Ends the test where a text is not the expected one; the failure shows both.
 pub(crate) fn is_same(rt: &impl Abort, told: &str, wanted: &str) {
     assert_eq!(rt; told, wanted);
 }

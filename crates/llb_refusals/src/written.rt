@@ -33,7 +33,7 @@ const TREES: &[(&str, &str)] = &[
     ("S_F", "d 0755 0 0 /\nd 0755 0 0 /s\nf 0644 0 0 6869 /s/f\n"),
 ];
 
-/// The text of the tree of that name; the name itself where there is none.
+/// Returns the text of the tree of that name; the name itself where there is none.
 pub(crate) fn tree_text(name: &'static str) -> &'static str {
     for (known, text) in TREES {
         if *known == name {
@@ -53,7 +53,7 @@ fn wide_tree(rt: &impl Abort, alloc: Global) -> Tree {
     tree_of(rt, alloc, text.as_str())
 }
 
-/// The tree of that name.
+/// Returns the tree of that name.
 pub(crate) fn tree_named(rt: &impl Abort, alloc: Global, name: &'static str) -> Tree {
     match name {
         "WIDE" => wide_tree(rt, alloc),
@@ -61,7 +61,7 @@ pub(crate) fn tree_named(rt: &impl Abort, alloc: Global, name: &'static str) -> 
     }
 }
 
-/// A tree, and another that is the same: a copy, which shares its nodes, where `copy of` stands before the name; else one that is made in
+/// Makes a tree, and another that is the same: a copy, which shares its nodes, where `copy of` comes before the name; else one that is made in
 /// the same steps.
 pub(crate) fn tree_and_twin(rt: &impl Abort, alloc: Global, on: &'static str) -> (Tree, Tree) {
     match on.strip_prefix("copy of ") {
@@ -124,7 +124,7 @@ fn push_entry(rt: &impl Abort, text: &mut String, entry: &str) {
     }
 }
 
-/// The assembler's text of entries.
+/// Returns the assembler's text of entries.
 pub(crate) fn entries_text(rt: &impl Abort, alloc: Global, written: &str) -> String {
     let mut text = String::new(alloc);
     for entry in written.split("; ") {
@@ -147,7 +147,7 @@ pub(crate) fn graph_of(rt: &impl Abort, alloc: Global, written: &str) -> Graph {
     load(alloc, definition.as_slice()).expect(rt, "a graph")
 }
 
-/// Local trees, as `NAME=TREE`, with a space between them.
+/// Makes local trees, as `NAME=TREE`, with a space between them.
 pub(crate) fn locals_of(rt: &impl Abort, alloc: Global, given: &'static str) -> Locals {
     let mut locals = Locals::new(alloc);
     for local in given.split(' ') {

@@ -1,4 +1,4 @@
-//! Why a conversation ends before its end. A fault prints what stands after the word `fault`, and takes no memory for it.
+//! Why a conversation ends before its end. A fault prints what comes after the word `fault`, and does not allocate for it.
 
 use std::io::ErrorKind;
 use thiserror::Error;

@@ -135,8 +135,8 @@ fn by_words(line: &str) -> Option<Request>
     }
 }
 
-/// What a line without its end asks for: `None` of any other line, an empty one and one that is not UTF-8 among them. Words are parted by
-/// exactly one space, and numbers are decimal digits below 2^32. No memory.
+/// Returns what a line without its end asks for: `None` for any other line, an empty one and one that is not UTF-8 among them. Words are parted by
+/// exactly one space, and numbers are decimal digits below 2^32. Does not allocate.
 pub fn request_in(line: &[u8]) -> Option<Request>
     ensures { result ≡ request_in line.now }
 {

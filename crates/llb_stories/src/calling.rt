@@ -79,7 +79,7 @@ fn looked_at(stepper: &mut Stepper) -> Option<usize> {
     Some(stepper.board().events().len())
 }
 
-// The definition that a text stands for.
+// The definition that a text is read as.
 fn assembled(alloc: Global, text: &[u8]) -> Option<Bytes> {
     let entries = assemble(alloc, text).ok()?;
     write_definition(alloc, &entries).ok()

@@ -17,7 +17,7 @@ use std::sync::atomic::{AtomicU64, Ordering};
 use std::thread;
 use std::thread::Threads;
 
-// Holds each of the first vertices until that many have arrived, at most 1,000,000 turns.
+// Holds each of the first vertices until `count` have arrived, at most 1,000,000 turns.
 #[derive(Drop)]
 struct Gather {
     count: u64,
@@ -44,7 +44,7 @@ impl Gate for Gather {
     }
 }
 
-// That many entries that make the files `/00`, `/01` and so on.
+// `count` entries that make the files `/00`, `/01` and so on.
 fn push_files(rt: &impl Abort, text: &mut String, count: u32) {
     for i in 0..count {
         let entry = write!(
@@ -67,7 +67,7 @@ fn push_layers(rt: &impl Abort, text: &mut String, count: u32) {
     }
 }
 
-// The merge of that many entries, which is the result.
+// The merge of `count` entries, which is the result.
 fn push_merge(rt: &impl Abort, text: &mut String, count: u32) {
     text.push_str("op {\n").expect(rt, "memory");
     push_digests(rt, text, count);
@@ -127,7 +127,7 @@ pub(crate) fn have_one_tree(one: &Board, other: &Board, v: u32) -> bool {
     }
 }
 
-// How many events a run of that many workers has, where its result is that of the board given.
+// How many events a run of a number of workers has, where its result is that of the board given.
 fn made_by<R: Abort + Threads + Wait + Sync>(
     rt: &R,
     alloc: Global,
@@ -182,7 +182,7 @@ const ON_CACHES: &str =
     "locked: write /c/a x; locked: write /c/b y; private: write /c/a x; private: write /c/b y; \
     shared: append /c/l a && append /c/l b; shared: append /c/l c && append /c/l d";
 
-// The merge of what that many entries give.
+// The merge of the outputs of a number of entries.
 pub(crate) fn merge_on(
     rt: &impl Abort,
     alloc: Global,
@@ -196,7 +196,7 @@ pub(crate) fn merge_on(
     board_from(rt, alloc, text.as_str(), workers)
 }
 
-// Executions on a cache that is shared in each of the three ways, two of each, and the merge of what they give.
+// Executions on a cache that is shared in each of the three ways, two of each, and the merge of their outputs.
 fn on_caches(rt: &impl Abort, alloc: Global) -> Board {
     merge_on(rt, alloc, ON_CACHES, 6, 64)
 }
@@ -211,7 +211,7 @@ fn a_record_of_threads_on_caches_is_replayed(rt: HostRuntime) {
     is_so(&rt, stop.is_some() && are_same(stepper.board(), &end.board));
 }
 
-// What has a shared cache is behind the first four vertices.
+// The vertices with a shared cache have numbers after the first four.
 #[test]
 fn each_vertex_passes_the_gate_once(rt: HostRuntime) {
     let gate = Counting::new(4);

@@ -19,7 +19,7 @@ fn board_by(rt: &impl Abort, alloc: Global, workers: u32) -> Board {
     merge_on(rt, alloc, DEFINITION, 5, workers)
 }
 
-// What the events of each vertex are answered, in their order; the last is the merge of the others.
+// The replies to the events of each vertex, in their order; the last is the merge of the others.
 const ANSWERS: &[&[&str]] = &[
     &["file 1", "acted 0", "0 done"],
     &["file 1", "acted 0", "1 done"],
@@ -37,7 +37,7 @@ fn worker_of(event: Event) -> u32 {
     }
 }
 
-// The answer to the last of these events: that of its place among those of its worker from its claim on.
+// The reply to the last of these events: that of its place among those of its worker from its claim on.
 fn answer_to(events: &[Event]) -> &'static str {
     let mut place = 0usize;
     let worker = events.last().map(|event| worker_of(*event));

@@ -60,7 +60,7 @@ found_here n kids rest more kid is same so_far =
       later = λ m t. all m (covers_rest kid more m t);
     }
 
--- ---- upper children that stand as they are, or are written anew
+-- ---- upper children that stay as they are, or are written anew
 
 -- the first i children are laid over others, and those after them are the upper ones
 abbrev pub HasLaid : WayValue → List Child → ℕ → List Child → Pairs → Type 0
@@ -98,7 +98,7 @@ module _ (w : WayValue) (old : List Child) where
   writes (suc i) (u ∷ us) (e ∷ es) d t lt h over = (h.0, writes i us es d t (omega arith) h.1 over)
 
   module _ (i : ℕ) (us : List Child) (es : Pairs) (kid : Child) (lt : i < length us) (is : kid ≡ get_or us i kid) (so_far : HasLaid w old i us es) where
-    -- the next upper child stands as it is
+    -- the next upper child stays as it is
     pub one_stays : IsOver w old kid kid.node → HasLaid w old (i + 1) us es
     one_stays over = subst (λ j. HasLaid w old j us es) (sym (add-one i)) (stays i us es kid lt so_far (subst (λ (k : Child). IsOver w old k k.node) is over))
 
@@ -130,7 +130,7 @@ pub over_found : (ks : List Child) (n : List ℕ) (i : ℕ) (there : Child) (cop
 over_found ks n i there copy at same = ap (λ t. Some t) same ∙ sym ((is_found n ks i (sym at)).found there)
 
 module _ (w : WayValue) (takes : TakesWhole w) where
-  -- a file stands as it is over anything
+  -- a file stays as it is over anything
   pub file_stays : (old : List Child) (kid : Child) → IsLone (finite.get kid.node) → IsOver w old kid kid.node
   file_stays old kid lone q = sym (over_file w (look_in (child (name_of kid) old)) (finite.get kid.node) q lone
       ∙ worn_all w (finite.get kid.node q) takes.own)

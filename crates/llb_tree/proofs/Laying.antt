@@ -79,7 +79,7 @@ lone_file k m c t view is = record {
 pub root_there : (k : Kind) (t : TreeMap) → map_of k ≡ t → finite.get t [] ≡ Some (own_entry k)
 root_there k t view = ap (λ x. finite.get x []) (sym view) ∙ get-root k
 
--- a directory with its entry over another's and its children laid over the other's stands for one tree over the other
+-- a directory with its entry over another's and its children laid over the other's represents one tree over the other
 pub node_laid : (w : WayValue) (k u j : Kind) (m l : MetaValue) → AreSorted (kids_of k) → AreSorted (kids_of u) → own_entry k ≡ Dir m → own_entry u ≡ Dir l
     → own_entry j ≡ over w (Some (Dir m)) (Dir l) → Lays w (kids_of u) (kids_of k) (kids_of j)
     → (q : List (List ℕ)) → finite.get (map_of j) q ≡ over_at w (finite.get (map_of k)) (finite.get (map_of u)) q

@@ -54,7 +54,7 @@ module _ {X : Type 0} (passes : X → List ℕ → Bool) where
       stands = λ q e is. left_there (x ∷ ts) t q (Some e) is refl (λ out same. tree.stands q e same);
     }
 
-    -- what is left of a tree is whole, and what the rule gives
+    -- what is left of a tree is whole, and the result of the rule
     pub thinned_tree : (new : TreeMap) (d : ℕ) (all : List X) → all ≡ x ∷ ts → IsWhole t d → (o : Option TreeMap) → o ≡ Some new
         → Thins passes (x ∷ ts) t o → IsWhole new d × (rid_of passes all t ≡ Ok (Some new))
     thinned_tree new d all is whole o some told =
@@ -70,7 +70,7 @@ module _ {X : Type 0} (passes : X → List ℕ → Bool) where
           (λ i. rid_of passes (is i) t) ∙ (λ i. Ok (cond (sym thins.any i) (Some (sym same i)) None)),
         )
 
-    -- where nothing goes, the rule gives none
+    -- where nothing goes, the result of the rule is `None`
     pub unthinned_tree : (all : List X) → all ≡ x ∷ ts → (o : Option TreeMap) → o ≡ None → Thins passes (x ∷ ts) t o → rid_of passes all t ≡ Ok None
     unthinned_tree all is o none told =
         let thins = subst (Thins passes (x ∷ ts) t) none told in

@@ -30,27 +30,27 @@ module _ {X : Type 0} (passes : X → List ℕ → Bool) where
   abbrev pub any_goes : List X → TreeMap → Bool
   any_goes ts t = list_any (goes ts) (finite.keys t)
 
-  -- what is left where those go
+  -- the tree without the paths that go
   abbrev pub thin : List X → TreeMap → TreeMap
   thin ts t = finite.retain_keys t (λ q. not (goes ts q))
 
-  -- the tree without them, if there are any; the root can't go
+  -- the same, if any path goes; the root can't go
   abbrev pub rid_of : List X → TreeMap → Result (Option TreeMap) TreeFault
   rid_of [] t = Err Root
   rid_of (x ∷ ts) t = Ok (if any_goes (x ∷ ts) t then Some (thin (x ∷ ts) t) else None)
 
   -- ---- nodes
 
-  -- what stands at a path, unless that goes
+  -- the entry at a path, unless that goes
   abbrev pub unless_goes : List X → List (List ℕ) → Option Entry → Option Entry
   unless_goes ts q o = cond (not (goes ts q)) o None
 
-  -- what is left of a node, where any of it goes
+  -- the rest of a node, where any of it goes
   pub record Thins (ts : List X) (old : TreeMap) (new : Option TreeMap) : Type 0 where
     pub any : is_some new ≡ any_goes ts old
     pub looks : (q : List (List ℕ)) → finite.get (unwrap_or new old) q ≡ unless_goes ts q (finite.get old q)
 
-  -- what is left of children, where any of it goes
+  -- the rest of children, where any of it goes
   pub record KeepsAll (ts : List X) (old : List Child) (new : Option (List Child)) : Type 0 where
     pub any : is_some new ≡ list_any (goes ts) (map (λ e. e.0) (flat old))
     pub order : AreSorted old → AreSorted (unwrap_or new old)

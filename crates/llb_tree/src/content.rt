@@ -40,7 +40,7 @@ impl Model for Content {
 }
 
 impl Content {
-    /// The bytes. Takes no memory.
+    /// Returns the bytes. Does not allocate.
     pub fn bytes(&self) -> &Bytes
         ensures { result.now ≡ self.now }
     {
@@ -81,8 +81,8 @@ impl Node {
 }
 
 impl Tree {
-    /// The content of the file at a path, which it shares and does not copy; none where no file is. 27 `Memory`, only where
-    /// the content has too many owners.
+    /// Returns the content of the file at a path, which it shares and does not copy; `None` where no file is. Fails with 27 `Memory` alone, only
+    /// where the content has too many owners.
     pub fn content(&self, path: &Path) -> Result<Option<Content>, TreeFault>
         ensures { Gives (λ c. c) result (Ok (content_of (finite.get self.now path.now))) }
     {
@@ -92,9 +92,9 @@ impl Tree {
         }
     }
 
-    /// Puts a file at a path, or replaces the file there, as `put_file` does, with a content that is shared and not copied. In
-    /// this order: 25 `Root` at the root, 21 `NotFound` or 22 `NotDir` at the first parent that is missing or a file, 23
-    /// `IsDir` where a directory is there; 27 `Memory`. After a refusal the tree is unchanged.
+    /// Puts a file at a path, or replaces the file there, as `put_file` does, with a content that is shared and not copied. Fails, in
+    /// this order, with 25 `Root` at the root, 21 `NotFound` or 22 `NotDir` at the first parent that is missing or a file, 23
+    /// `IsDir` where a directory is there; else with 27 `Memory`. After a refusal the tree is unchanged.
     pub fn put_content(
         &mut self,
         path: &Path,

@@ -1,4 +1,4 @@
-//! Children that others cover: where each name of them is one of the others', laying the others over them gives the others'
+//! Children that others cover: where each of their names is one of the others', laying the others over them makes children of the others'
 //! names alone, and what differs from the others is written into second owners of those.
 
 ghost use Rattle.std.specs.Prelude.{◌≡◌, ◌<◌, ℕ, List, length, IsTrue, IfOk, IfSome, is_some, true, map};

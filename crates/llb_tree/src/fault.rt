@@ -1,4 +1,4 @@
-//! Why a call on a tree or a path is refused. A fault prints what stands after the word `fault` in a
+//! Why a call on a tree or a path is refused. A fault prints what comes after the word `fault` in a
 //! refusal: its number. Refusals of memory of any kind become `Memory` by `?`.
 
 use std::alloc::{AllocError, AllocFailed};

@@ -21,8 +21,8 @@ use crate::way::Way;
 use std::alloc::{AllocError, Global};
 use std::sync::Arc;
 
-// The node, and all that is below it, in the mode and the owner that the way gives; the contents are shared, and so is the
-// whole node where the way gives nothing.
+// The node, and all that is below it, in the mode and the owner of the way; the contents are shared, and so is the
+// whole node where the way has neither.
 #[cycle(dress)]
 fn dressed(node: &Node, alloc: Global, way: &Way) -> Result<Node, AllocError>
     ensures { IfOk result (λ n. n ≡ dress way.now node.now) }
@@ -54,8 +54,8 @@ fn all_dressed(kids: &[Child], alloc: Global, way: &Way) -> Result<Vec<Child>, A
     Ok(list)
 }
 
-// Lays a node over another, which it changes; a refusal leaves that as it was. Answers whether the upper node has come to
-// stand there as it is.
+// Lays a node over another, which it changes; a refusal leaves that as it was. Returns whether the upper node is
+// there unchanged.
 #[cycle(lay)]
 fn lay_node(lower: &mut Node, alloc: Global, way: &Way, upper: &Node) -> Result<bool, AllocError>
     ensures ok { OnOk result ((q : List (List ℕ)) → finite.get lower.new q ≡ over_at way.now (finite.get lower.old) (finite.get upper.now) q) }
@@ -76,7 +76,7 @@ fn lay_node(lower: &mut Node, alloc: Global, way: &Way, upper: &Node) -> Result<
 }
 
 // Lays children over others. Where the upper ones have every name of the lower ones, none of the lower ones is copied.
-// Answers whether the upper ones have come to stand there as they are.
+// Returns whether the upper ones are there unchanged.
 #[cycle(lay)]
 fn lay_children(
     kids: &mut Arc<Vec<Child>>,
@@ -97,7 +97,7 @@ fn lay_children(
     Ok(false)
 }
 
-// Lays children over others that have no other names. Answers whether the upper ones have come to stand there as they are.
+// Lays children over others that have no other names. Returns whether the upper ones are there unchanged.
 #[cycle(lay)]
 fn lay_all(
     kids: &mut Arc<Vec<Child>>,
@@ -125,7 +125,7 @@ fn lay_all(
     }
 }
 
-// The upper children with what is laid in place of those that do not stand as they are; none where all do.
+// The upper children with what is laid in place of those that are changed; `None` where none is.
 #[cycle(lay)]
 fn laid_all(
     kids: &[Child],
@@ -146,7 +146,7 @@ fn laid_all(
     Ok(made)
 }
 
-// What an upper child is, laid over the one of its name; none where it stands as it is.
+// An upper child, laid over the one of its name; `None` where it is unchanged.
 #[cycle(lay)]
 fn laid_over(
     kids: &[Child],
@@ -236,10 +236,10 @@ fn laid_child(kids: &[Child], alloc: Global, way: &Way, upper: &Child) -> Result
 }
 
 impl Tree {
-    /// The tree with another one laid over it: what the other has at a path stands there, in the mode and the owner that the
-    /// way gives, and of this tree what no file of the other is above. A directory that both have is the other's, or stays as
-    /// it is where the way keeps it. 27 `Memory`. It goes down both trees at once and touches only what both have; what only
-    /// one has is shared, not copied. Only where the way gives a mode or an owner does what is laid get nodes of its own, and
+    /// Lays another tree over this one, and returns the result: at a path it has what the other has there, in the mode and the owner of the
+    /// way, and else what this tree has there, unless a file of the other is above. A directory that both have is the other's, or stays as
+    /// it is where the way keeps it. Fails with 27 `Memory` alone. It goes down both trees at once and touches only what both have; what only
+    /// one has is shared, not copied. Only where the way has a mode or an owner does what is laid get nodes of its own, and
     /// even then its contents are shared.
     pub fn overlaid(self, way: &Way, upper: &Tree) -> Result<Tree, TreeFault>
         ensures paths { IfOk result (λ t. (q : List (List ℕ)) → finite.get t q ≡ over_at way.now (finite.get self) (finite.get upper.now) q) }
@@ -250,7 +250,7 @@ impl Tree {
         Ok(laid)
     }
 
-    /// Lays another tree over this one, as `overlaid` does; 27 `Memory`. After a refusal the tree is unchanged. The children
+    /// Lays another tree over this one, as `overlaid` does. Fails with 27 `Memory` alone; then the tree is unchanged. The children
     /// of the root are put in place, and what both trees have below them is laid on a copy of it, which shares what only one
     /// of them has.
     pub fn overlay(&mut self, way: &Way, upper: &Tree) -> Result<(), TreeFault>

@@ -44,7 +44,7 @@ fn find<T: NameTest>(
     Ok(())
 }
 
-// The same of a child of the node at the path.
+// Does the same for a child of the node at the path.
 #[cycle(find)]
 fn find_in<T: NameTest>(
     kid: &Child,
@@ -70,7 +70,7 @@ fn find_in<T: NameTest>(
 }
 
 impl Tree {
-    /// The paths that pass the tests, in path order; 27 `Memory`. It looks at no path that is longer than there are tests.
+    /// Returns the paths that pass the tests, in path order. Fails with 27 `Memory` alone. It looks at no path that is longer than there are tests.
     pub fn passing<T: NameTest>(&self, tests: &[T]) -> Result<Vec<Path>, TreeFault>
         ensures { Gives (λ v. v.items) result (Ok (filter (passes_all T.passes tests.now) (finite.keys self.now))) }
     {

@@ -16,12 +16,12 @@ use std::sync::Arc;
 pub trait NameTest {
     ghost passes: { Self → List ℕ → Bool };
 
-    /// Whether a name passes. Takes no memory.
+    /// Returns whether a name passes. Does not allocate.
     fn passes(&self, name: &Name) -> bool
         ensures { result ≡ passes self.now name.now };
 }
 
-// What is left of a node, a file or a directory, where all goes that passes the tests; none where all is left.
+// What is left of a node, a file or a directory, without all that passes the tests; `None` where all is left.
 #[cycle(thin)]
 fn thinned<T: NameTest>(
     node: &Node,
@@ -45,7 +45,7 @@ fn thinned<T: NameTest>(
     }
 }
 
-// What is left of children; none where all is left.
+// What is left of children; `None` where all is left.
 #[cycle(thin)]
 fn thinned_children<T: NameTest>(
     kids: &[Child],
@@ -67,7 +67,7 @@ fn thinned_children<T: NameTest>(
     Ok(Some(kept))
 }
 
-// Puts what is left of a child after others, and tells whether any of it goes.
+// Puts what is left of a child after others, and returns whether any of it goes.
 #[cycle(thin)]
 fn keep<T: NameTest>(
     kept: &mut Vec<Child>,
@@ -100,8 +100,8 @@ fn keep<T: NameTest>(
 }
 
 impl Tree {
-    /// The tree without the paths that pass the tests, and what is below them; none where no path passes. 25 `Root` where there
-    /// are no tests, else 27 `Memory`. What stays as it is is shared.
+    /// Returns the tree without the paths that pass the tests, and what is below them; `None` where no path passes. Fails with 25 `Root` where
+    /// there are no tests, else with 27 `Memory`. What is unchanged is shared.
     pub fn without_passing<T: NameTest>(&self, tests: &[T]) -> Result<Option<Tree>, TreeFault>
         ensures { Gives (λ o. o) result (rid_of T.passes tests.now self.now) }
     {

@@ -170,7 +170,7 @@ module _ (t : TreeMap) (tree : IsTree t) (row : Pair) (is : IsRow row) (next : c
   put_err [] (File m c) f named walks = absurd (named refl)
   put_err (n ∷ p) (File m c) f named walks = ap (λ r. r >>= λ _. file_fits (finite.get t (n ∷ p)) >>= λ _. Ok (finite.insert t (n ∷ p) (File m c))) walks
 
-  -- an edit that is granted gives a tree whose text has the row's line at its end
+  -- an edit that is granted results in a tree whose text has the row's line at its end
   pub goes_on : (new : TreeMap) (rest later : List ℕ) → rest ≡ line_of row ++ later → put_row t row ≡ Ok new → GoesOn t new rest later
   goes_on new rest later begins put = by_walk (walk (finite.get t) row.0) refl
     where
@@ -186,7 +186,7 @@ module _ (t : TreeMap) (tree : IsTree t) (row : Pair) (is : IsRow row) (next : c
             shorter = omega (arith, ap length begins, length-append (line_of row) later, length-append (row_text row) (10 ∷ []));
           }
 
--- what is put where the answer says so
+-- what is put where the result says so
 pub put_done : (r : Result (Unit {0}) TreeFault) (new : TreeMap) (rule : Result TreeMap TreeFault) (b : Bool) → base.Gives (λ _. new) r rule
     → b ≡ is_ok r → b ≡ true → rule ≡ Ok new
 put_done (Ok u) new rule b gives is done = gives

@@ -1,4 +1,4 @@
--- What putting the next row in a tree gives. Only this file and the proofs know that a text is read row by row.
+-- The result of putting the next row in a tree. Only this file and the proofs know that a text is read row by row.
 use Rattle.std.specs.Prelude.{◌≡◌, ℕ, ◌+◌, ◌<◌, ◌==◌, Bool, true, false, List, [], ◌∷◌, ◌++◌, length, map, Option, Some, None, Result, Ok, Err, if◌then◌else◌}
 use Rattle.std.specs.FinMap as finite
 use Rattle.std.specs.declared.cmp.Ordering.{Ordering}

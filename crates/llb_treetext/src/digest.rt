@@ -30,7 +30,7 @@ fn hash(alloc: Global, tree: &Tree) -> Result<[u8; 32], Memory>
     Ok(hasher.finalize())
 }
 
-/// `sha256:` and the 64 lower-case hexadecimal digits of SHA-256 of the tree's text; 34 `Memory`.
+/// Returns `sha256:` and the 64 lower-case hexadecimal digits of SHA-256 of the tree's text. Fails with 34 `Memory` alone.
 pub fn tree_digest(alloc: Global, tree: &Tree) -> Result<Text, TextFault>
     ensures { Gives (λ t. t) result (Ok (digest_text (tree_text tree.now))) }
 {

@@ -1,4 +1,4 @@
-//! Why a text of a tree is not read, and why a tree's text is not out. A fault prints what stands after the word
+//! Why a text of a tree is not read, and why a tree's text is not written. A fault prints what comes after the word
 //! `fault` in a refusal: its number, and then its arguments.
 
 ghost use Rattle.std.specs.Prelude.{Some};

@@ -1,4 +1,4 @@
-//! A line is judged without memory. The lines before it are those of a tree, so the last of them tells whether it lies after
+//! A line is judged without memory. The lines before it are those of a tree, so the last of them shows whether it lies after
 //! them, and whether its directory is there.
 
 ghost use Rattle.std.specs.Prelude.{◌≡◌, ◌≢◌, ◌+◌, ◌++◌, ◌∷◌, ℕ, List, IsTrue, true};
@@ -90,7 +90,7 @@ fn holds(place: &Place<'_>, dir: &[u8]) -> bool
     }
 }
 
-// The first line, which is the root's, or its first fault. Takes no memory.
+// The first line, which is the root's, or its first fault. Does not allocate.
 pub(crate) fn first_line(bytes: &[u8]) -> Result<Line<'_>, TextFault>
     ensures { Starts bytes.now result }
 {
@@ -108,7 +108,7 @@ pub(crate) fn first_line(bytes: &[u8]) -> Result<Line<'_>, TextFault>
     })
 }
 
-// The next line, or its first fault. Takes no memory.
+// The next line, or its first fault. Does not allocate.
 pub(crate) fn next_line<'a>(
     last: &Place<'_>,
     rest: &'a [u8],

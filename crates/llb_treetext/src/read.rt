@@ -31,7 +31,7 @@ fn put(tree: &mut Tree, row: Row) -> Result<(), TreeFault>
     }
 }
 
-// Puts the entry of a line's parts in a tree, and tells whether it is there.
+// Puts the entry of a line's parts in a tree, and returns whether it is there.
 fn is_put(alloc: Global, tree: &mut Tree, parts: &Parts<'_>) -> bool
     ensures { IsTrue result → (row : List (List ℕ) × TreeEntry) → IsOf row parts.now → put_row tree.old row ≡ Ok tree.new }
 {
@@ -67,8 +67,8 @@ fn root_alone(alloc: Global, meta: Meta) -> Option<Tree>
     }
 }
 
-/// The tree of a text, as `print_tree` writes it; else the first fault of the first line that has one: 31 `BadLine`, 32
-/// `Order`, 33 `NoParent`. A text of no bytes and a last line with no end are 31. 34 `Memory` only where the text is a
+/// Reads the tree of a text, as `print_tree` writes it; else fails with the first fault of the first line that has one: 31 `BadLine`, 32
+/// `Order`, 33 `NoParent`. A text of no bytes and a last line with no end are 31. Fails with 34 `Memory` only where the text is a
 /// tree's: once memory is refused, the lines that are left are looked through without memory.
 pub fn read_tree(alloc: Global, bytes: &[u8]) -> Result<Tree, TextFault>
     ensures answers { Answers bytes.now result }

@@ -4,7 +4,7 @@ use std::alloc::Global;
 use std::io;
 use std::io::{ErrorKind, Read, Write};
 
-/// What a run answered.
+/// The result of a run.
 #[derive(Drop)]
 pub(crate) struct Ran {
     pub status: u8,
@@ -13,19 +13,19 @@ pub(crate) struct Ran {
 }
 
 impl Ran {
-    /// Whether that is the answer.
+    /// Returns whether that is the result.
     pub(crate) fn is(&self, status: u8, out: &str, err: &str) -> bool {
         let texts = self.out.as_slice() == out.as_bytes() && self.err.as_slice() == err.as_bytes();
         self.status == status && texts
     }
 
-    /// Whether it ended with status 3 and that line, after that many bytes of the text.
+    /// Returns whether it ended with status 3 and that line, after `length` bytes of the text.
     pub(crate) fn is_cut(&self, text: &str, length: usize, line: &str) -> bool {
         let told = self.out.len() == length && self.err.as_slice() == line.as_bytes();
         self.status == 3 && told && text.as_bytes().starts_with(self.out.as_slice())
     }
 
-    /// Whether it ended with status 3 and nothing but that many bytes of the line.
+    /// Returns whether it ended with status 3 and nothing but `length` bytes of the line.
     pub(crate) fn is_cut_line(&self, line: &str, length: usize) -> bool {
         let told = self.out.is_empty() && self.err.len() == length;
         self.status == 3 && told && line.as_bytes().starts_with(self.err.as_slice())
@@ -35,11 +35,11 @@ impl Ran {
 /// How many reads, writes and flushes the devices of a call do before they fail.
 #[derive(Clone, Copy)]
 pub(crate) struct Rooms {
-    /// Of standard input.
+    /// The room of standard input.
     pub input: usize,
-    /// Of the file of a definition.
+    /// The room of the file of a definition.
     pub file: usize,
-    /// Of each file of a local source.
+    /// The room of each file of a local source.
     pub local: usize,
     pub out: usize,
     pub flushes: usize,
@@ -58,7 +58,7 @@ pub(crate) const AMPLE: Rooms = Rooms {
     err: MANY,
 };
 
-/// A reader that gives one byte a read, and fails after that many.
+/// A reader that returns one byte a read, and fails after a number of bytes.
 #[derive(Drop)]
 pub(crate) struct Slow<'a> {
     pub bytes: &'a [u8],
@@ -82,7 +82,7 @@ impl<'a> Read for Slow<'a> {
     }
 }
 
-/// A writer that takes one byte a write, and fails after that many; or after that many flushes.
+/// A writer that takes one byte a write, and fails after a number of bytes, or after a number of flushes.
 #[derive(Drop)]
 pub(crate) struct Narrow {
     pub room: usize,
@@ -99,7 +99,7 @@ impl Narrow {
         }
     }
 
-    /// What was written.
+    /// Returns what was written.
     pub(crate) fn into_held(self) -> Vec<u8> {
         self.held
     }

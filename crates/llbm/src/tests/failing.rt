@@ -170,7 +170,7 @@ fn a_line_that_standard_error_does_not_take_is_a_failed_write(rt: HostRuntime) {
 const SESSION: &str =
     "step FILE < MAKES_A; RESULT_0 | break settle 0; go; back; status; next; tree 0 0; quit";
 
-// The lines of that session, and their answers.
+// The lines of that session, and the replies to them.
 const LINES: &[(&str, &str)] = &[
     ("break settle 0\n", ""),
     (
@@ -184,7 +184,7 @@ const LINES: &[(&str, &str)] = &[
     ("quit\n", ""),
 ];
 
-// How many of them end within that many bytes.
+// How many of them end within so many bytes.
 fn lines_within(bytes: usize) -> usize {
     let mut left = bytes;
     for (at, (line, _)) in LINES.iter().enumerate() {
@@ -196,7 +196,7 @@ fn lines_within(bytes: usize) -> usize {
     LINES.len()
 }
 
-// The answers to the first of them.
+// The replies to the first of them.
 fn answers(rt: &impl Abort, alloc: Global, lines: usize) -> String {
     let mut text = String::new(alloc);
     for (_, answer) in LINES.iter().take(lines) {
@@ -205,7 +205,7 @@ fn answers(rt: &impl Abort, alloc: Global, lines: usize) -> String {
     text
 }
 
-// Whether the session ends with that status and that line, once the first of its lines are answered.
+// Whether the session ends with that status and that line, once the first of its lines have their replies.
 fn ends_after<R: Abort + Threads + Wait + Sync>(
     rt: &R,
     alloc: Global,
@@ -232,7 +232,7 @@ fn commands_that_fail_have_their_whole_lines_answered(rt: HostRuntime) {
     assert!(rt; ends_after(&rt, alloc, rooms, 7, (0, "")));
 }
 
-// Each answer is flushed before the next line is read; `quit` has none.
+// Each reply is flushed before the next line is read; `quit` has none.
 #[test]
 fn answers_that_are_not_flushed_end_a_session(rt: HostRuntime) {
     let (alloc, flush) = (rt.alloc(), Device::Flush("fault 182\n"));

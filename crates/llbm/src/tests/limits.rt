@@ -52,7 +52,7 @@ fn a_definition_that_is_cut_is_refused(rt: HostRuntime) {
     }
 }
 
-// A text, then a part that many times over, then another text.
+// A text, then a part a number of times, then another text.
 fn repeated(
     rt: &impl Abort,
     alloc: Global,

@@ -6,7 +6,7 @@ use llb_commands::llbm_command;
 use std::alloc::Global;
 use std::process::Abort;
 
-// What is told of words that `clap` refuses: the fault, and the text that `clap` renders of its refusal.
+// What is printed for words that `clap` refuses: the fault, and the text that `clap` renders of its refusal.
 fn told_by_clap(rt: &impl Abort, alloc: Global, words: &str) -> String {
     let mut told = String::new(alloc);
     let given: Vec<&str> = words.split(' ').collect(alloc).expect(rt, "memory");

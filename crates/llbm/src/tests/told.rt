@@ -1,8 +1,8 @@
-//! The program as transcripts. A line with `> ` first is a call, and the lines after it are what the call writes, what it tells (`! ` first),
+//! The program as transcripts. A line with `> ` first is a call, and the lines after it are what the call writes, its error lines (`! ` first),
 //! and its status where that is not 0. One with `# ` first says what the next calls show. A call is the program's words; after ` < ` the
 //! entries that it reads as a definition (`written`), or `=` and the bytes in hexadecimal, or `@` and the name of a text, or `$` and a
-//! text in which `|` ends a line; of a session then, after the last ` | `, its commands, each ended by `;`. The file `FILE` is the definition, too,
-//! and the other files are those of `local_trees`. What `asm` writes is told in hexadecimal. All devices do a byte at a time.
+//! text in which `|` ends a line; for a session then, after the last ` | `, its commands, each ended by `;`. The file `FILE` is the definition, too,
+//! and the other files are those of `local_trees`. What `asm` writes is shown in hexadecimal. All devices do a byte at a time.
 
 use super::assembling::TEXTS;
 use super::devices::{AMPLE, Narrow, Ran, Rooms, Slow};
@@ -80,7 +80,7 @@ fn lines_ended(rt: &impl Abort, alloc: Global, text: &str) -> Bytes {
     Bytes::new(lines)
 }
 
-/// The definition of the entries that are written, or the bytes that are spelled.
+/// Returns the definition of the entries that are written, or the bytes that are spelled.
 pub(crate) fn definition_of(rt: &impl Abort, alloc: Global, entries: &str) -> Bytes {
     if let Some(digits) = entries.strip_prefix("=") {
         return read_hex(alloc, digits)
@@ -152,7 +152,7 @@ fn ran<R: Abort + Threads + Wait + Sync>(
     }
 }
 
-/// What comes of these words on no input.
+/// Returns the result of these words on no input.
 pub(crate) fn ran_words<R: Abort + Threads + Wait + Sync>(
     rt: &R,
     alloc: Global,
@@ -161,7 +161,7 @@ pub(crate) fn ran_words<R: Abort + Threads + Wait + Sync>(
     ran(rt, alloc, &call_in(words), AMPLE)
 }
 
-/// What a call answers on devices with these rooms.
+/// Returns the result of a call on devices with these rooms.
 pub(crate) fn tried<R: Abort + Threads + Wait + Sync>(
     rt: &R,
     alloc: Global,
@@ -237,7 +237,7 @@ fn transcript<R: Abort + Threads + Wait + Sync>(rt: &R, alloc: Global, told: &st
     text
 }
 
-/// Ends the test at the first line of a transcript that is told otherwise. A transcript is moved in by four spaces.
+/// Ends the test at the first line of a transcript that differs. A transcript is moved in by four spaces.
 pub(crate) fn is_told<R: Abort + Threads + Wait + Sync>(rt: &R, alloc: Global, told: &str) {
     let text = transcript(rt, alloc, told);
     let mut lines = text.lines();

@@ -1,4 +1,4 @@
--- Each line is a tree's, so there are fewer lines than bytes; and a faulty line stands after a tree's.
+-- Each line is a tree's, so there are fewer lines than bytes; and a faulty line comes after a tree's.
 use Rattle.std.proofs.Common.{[], sym, ap, ◌∙◌, ◌+◌, arith}
 use Rattle.std.specs.FinMap as finite
 use Rattle.llb_tree.specs.Tree.{Dir, empty_tree}

@@ -9,14 +9,14 @@ use Rattle.llb_cache.specs.Numbers.{first_unheld, number_within}
 use Rattle.llb_cache.proofs.caches.Caches.number_for.Goals as goal
 use Rattle.llb_cache.proofs.caches.Caches.number_for.Goals.{After-first_unmarked}
 
--- of a private key the marks are exact
+-- for a private key the marks are exact
 held : (c : After-first_unmarked) (k : ℕ) → is_held c.self.inside.out.items (place c.args.key.now k)
     ≡ marked (keys_of c.self.inside.rows.entries) c.deref.result.now (place c.args.key.now k)
 held c k =
     sym (c.self.invariant.exact (place c.args.key.now k) (subst IsExclusive c.in-Private.ensures tt))
     ∙ ap (λ (marks : List (List Bool)). marked (keys_of c.self.inside.rows.entries) marks (place c.args.key.now k)) (sym c.deref.ensures.value)
 
--- the least number without a mark is the one that the key gives
+-- the least number without a mark is the one that is chosen for the key
 least : (c : After-first_unmarked) → first_free c.self.inside.out.items c.args.key.now 0 (leases c.self.inside.out.items) ≡ c.first_unmarked.result
 least c =
     first_unheld c.self.inside.out.items c.args.key.now c.first_unmarked.result c.self.invariant.caches.apart
