@@ -14,6 +14,7 @@ mod calls;
 mod conversations;
 #[cfg(test)]
 mod crew;
+mod crowds;
 #[cfg(test)]
 mod definitions;
 #[cfg(test)]
