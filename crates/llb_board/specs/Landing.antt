@@ -1,5 +1,6 @@
 -- What a landing returns: the block of the worker's remaining micro-steps and its settle, or the first cause of its refusal.
 use Rattle.std.specs.Prelude.{◌≡◌, ℕ, Bool, true, false, List, [], ◌∷◌, ◌++◌, Option, Some, None, slice_get, is_ok}
+use Rattle.llb_model.specs.Caches.{Place}
 use Rattle.llb_model.specs.State.{Execution, At, Idle, Runs}
 use Rattle.llb_model.specs.Table.{Job, Reply, settle_grant}
 use Rattle.llb_model.specs.Run.{run}
@@ -18,6 +19,12 @@ abbrev pub runs_shared : Option At → Bool
 runs_shared (Some (Runs x)) = has_shared x
 runs_shared (Some Idle) = false
 runs_shared None = false
+
+-- the instances of caches that a worker has
+abbrev pub places_had : Option At → List Place
+places_had (Some (Runs x)) = x.places
+places_had (Some Idle) = []
+places_had None = []
 
 pub record CanLand (b : Seen) (w : ℕ) (job : Job) : Type 0 where
   pub x : Execution

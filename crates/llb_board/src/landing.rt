@@ -3,12 +3,13 @@
 
 ghost use Rattle.std.specs.Prelude.{◌≡◌, slice_get, IfOk, IfErr, OnOk, OnErr};
 ghost use Rattle.llb_board.specs.Begun.{IsKnown};
-ghost use Rattle.llb_board.specs.Landing.{CanLand, StandsInWay, IsRefused, land_fault, runs_shared, IsThrough, Lands};
+ghost use Rattle.llb_board.specs.Landing.{CanLand, StandsInWay, IsRefused, land_fault, places_had, runs_shared, IsThrough, Lands};
 ghost use Rattle.llb_state.specs.Views.{settle_reply};
 
 use crate::board::Board;
 use crate::fault::LandFault;
 use crate::laws::begun_are_plain;
+use llb_cache::Place;
 use llb_events::Settled;
 use llb_state::{Desk, Job, Outcome, desk_at, has_shared, is_run_of, put_left, write_back};
 
@@ -59,6 +60,16 @@ impl Board {
         match desk_at(&self.desks, w) {
             Some(Desk::Runs(_, execution)) => has_shared(&execution.places),
             _ => false,
+        }
+    }
+
+    /// The instances of caches that a worker has; none where it runs nothing, or there is none of that number. No memory.
+    pub fn places(&self, w: u32) -> &[Place]
+        ensures { result.now ≡ places_had (slice_get self.now.state.workers w) }
+    {
+        match desk_at(&self.desks, w) {
+            Some(Desk::Runs(_, execution)) => &execution.places,
+            _ => &[],
         }
     }
 

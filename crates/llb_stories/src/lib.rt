@@ -16,6 +16,7 @@ mod chain;
 mod conversations;
 #[cfg(test)]
 mod crew;
+mod crowds;
 #[cfg(test)]
 mod definitions;
 #[cfg(test)]
