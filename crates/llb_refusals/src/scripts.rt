@@ -263,7 +263,7 @@ const ROWS: &[Row] = &[
         "the script",
     ),
     ("read_script", "true && nosuch", "74", "71 nosuch"),
-    ("Script::copy", SCRIPT, "74", "the script"),
+    ("Script::copy", SCRIPT, "", "the script"),
     ("Command::copy", SCRIPT, "74", "the command"),
     (
         "run_command",
