@@ -49,7 +49,7 @@ module _ (b : Build) (first : List Row) (ss : List Stand) (ds : List Desk) (c : 
       ap (slice_get (map status_of ss)) (sym can.vertex)
       ∙ (consistent (seen_as b first (data_of ss ds c stop_marks) es) kept.replays).working w can.x can.there
 
-  -- the vertex has a stand to be written
+  -- the vertex has a state that can be replaced
   pub low : v < length ss
   low = omega (arith, slice_get_within (map status_of ss) v (Running w) running, length_map status_of ss)
 

@@ -88,7 +88,7 @@ marks_below S T n same before (v ∷ vs) k low =
         let past = ltb-false (length before) n is in
         kept_mark (next_stopped S) before (v ∷ vs) k (omega (arith, past, low)) ∙ sym (kept_mark (next_stopped T) before (v ∷ vs) k (omega (arith, past, low)))
 
--- what is over below a vertex stays so where it stands otherwise
+-- what is over below a vertex stays over if the vertex gets another state
 pub over_below : (b : Build) (S : List Status) (v : ℕ) (new : Status) (n r : ℕ) → r ≤ n → r ≤ v → AreOver b S n → AreOver b (slice_set S v new) r
 over_below b S v new n r fits below over k low =
     let other : (j : ℕ) → j < v → slice_get (slice_set S v new) j ≡ slice_get S j = λ j less. get_set_other S v new j (λ e. absurd (omega (arith, less, e))) in
@@ -121,7 +121,7 @@ store_by : (o : Option Before) (rows : List Row) → store_of (rows_before o row
 store_by (Some c) rows = refl
 store_by None rows = refl
 
--- data that is what an undo leaves is seen as the board that the undo tells
+-- data that is what an undo leaves is seen as the board that `undone` gives
 pub undone_is : (b : Build) (first : List Row) (d d' : Data) (es : List Event) (u : Displaced) → Leaves b d d' u → seen_as b first d' (front es)
     ≡ undone u (seen_as b first d es)
 undone_is b first d d' es u leaves =

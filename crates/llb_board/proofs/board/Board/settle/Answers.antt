@@ -32,7 +32,7 @@ then_done : (e : Ending) → is_failed (Some e) ≡ false → is_done (Some e) �
 then_done (Done trees) is = refl
 then_done (Failed f) is = absurd cc
 
--- ---- what the worker leaves: the vertex, how it stands then, its lease, and the desks
+-- ---- what the worker leaves: the vertex, its state then, its lease, and the desks
 
 is_left : (c : In_ok-v) → left_at c.self.inside.build (slice_get (map at_of c.self.inside.desks.items) c.args.w) ≡ Ok (c.in_ok-v.v, status_of c.in_ok-v.stand)
 is_left c = rw c.deref_mut.ensures.value at c.in_ok-v.ensures.gives
