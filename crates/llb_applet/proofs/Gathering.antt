@@ -1,4 +1,4 @@
--- Gathering the words of calls from a text, part by part: what a part changes of what becomes of the calls.
+-- Gathers the words of calls from a text, part by part: how a part changes the final result.
 use Rattle.std.proofs.Common.{◌≡◌, ℕ, ◌+◌, ◌==◌, Bool, true, false, cond, ◌||◌, List, [], ◌∷◌, ◌++◌, length, map, filter, not, Result, Ok}
 use Rattle.std.proofs.Common.{Err, Option, Some, None, is_some, is_ok, refl, sym, ap, ◌∙◌, append_assoc, ne_eqb, arith}
 use Rattle.std.specs.List.{flat_map}
@@ -210,17 +210,17 @@ or_right : (a b : Bool) → b ≡ true → (a || b) ≡ true
 or_right true b is = refl
 or_right false b is = is
 
--- a refusal of what is wrong is one of the text, and its *out of memory* comes last
+-- a refusal with `Memory` comes only where the rule has no refusal, or one that holds a text
 pub refuses_last : (e : ScriptFault) (rule : Result (Unit {0}) ScriptFault) → Refuses e rule → is_memory e ≡ true → (is_ok rule || names_word rule) ≡ true
 refuses_last e rule refuses m = or_right (is_ok rule) (names_word rule) (refuses.last m)
 
 module _ (number : ℕ) (call : List (List ℕ)) (rule : Result (Unit {0}) ScriptFault) (is : judged number call [] ≡ rule) where
-  -- where no word is left, the answer about the last call is what the rule gives
+  -- where no word is left, the judgement of the last call is what the rule gives
   pub gives_last : (r : Result (Unit {0}) ScriptFault) → JudgesCall r number call → Gives (λ _. tt) r rule
   gives_last (Ok _) judges = sym is ∙ judged_last number call ∙ judges
   gives_last (Err e) judges = λ known. sym is ∙ judged_last number call ∙ judges.known known
 
-  -- and out of memory comes last there too
+  -- and `Memory` comes last there too
   pub memory_last : (r : Result (Unit {0}) ScriptFault) → JudgesCall r number call → MemoryLast r rule
   memory_last (Ok _) judges = tt
   memory_last (Err e) judges = λ m. or_right (is_ok rule) (names_word rule) (ap names_word (sym is ∙ judged_last number call) ∙ judges.last m)

@@ -13,7 +13,7 @@ use Rattle.llb_glob.specs.Class.{none_yet}
 use Rattle.llb_glob.specs.Items.{cut, item_by, class_by, behind, is_whole, ended, items_from, items_of}
 use Rattle.llb_glob.specs.Pattern.{each_cut}
 
--- where nothing is cut yet, the answer is that of what is left
+-- where nothing is cut yet, the result is that of what is left
 pub behind_none : {A : Type 0} (rest : Result (List A) PatternFault) → behind [] rest ≡ rest
 behind_none (Ok more) = refl
 behind_none (Err e) = refl
@@ -103,7 +103,7 @@ module _ (names : List (List ℕ)) (i : ℕ) (name : List ℕ) (inside : i < len
       → each_cut (drop i names) ≡ (r >>= λ part. behind (part ∷ []) (each_cut (drop (i + 1) names)))
   name_says r says = at_name ∙ ap (λ r. r >>= λ part. behind (part ∷ []) (each_cut (drop (i + 1) names))) says
 
-  -- the part that a name is cut into joins the parts before it, and all comes to the same
+  -- the part that a name is cut into joins the parts before it, and the result is the same
   pub part_more :
       (part : List Item)
       → items_of (chars name) ≡ Ok part

@@ -21,7 +21,7 @@ use Rattle.llb_glob.proofs.Cutting.{at_drop}
 
 -- ---- where the text leads
 
--- a path where the walk stands, from where what is left of the text leads where the whole text does
+-- a path that the walk has counted, from which the rest of the text leads where the whole text does
 pub record Leads (parts : List (List ℕ)) (r : Result (List (List ℕ)) TreeFault) (walk : Walk) : Type 0 where
   pub path : List (List ℕ)
   pub stands : Stands path walk

@@ -48,7 +48,7 @@ Left Single class text items = Closing 0 class text items ⊎ ((rest : List ℕ)
 Left Dash class text items = Reaching class text items
 Left Range class text items = Closing 0 class text items
 
--- a `\` that stands for nothing yet is still left
+-- a `\` whose character is still to come is still left
 abbrev slashed : Bool → List ℕ → List ℕ
 slashed true text = 92 ∷ text
 slashed false text = text
