@@ -13,7 +13,7 @@ pub record Word : Type 0 where
   pub place : ℕ
   pub bytes : List ℕ
 
--- what stands between the spaces of a text
+-- the parts of a text that are between its spaces
 abbrev pub parts_of : List ℕ → List (List ℕ)
 parts_of = slice_split (λ b. b == 32)
 

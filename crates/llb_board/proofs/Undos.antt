@@ -74,7 +74,7 @@ module _ (b : Build) (first : List Row) (ss : List Stand) (ds : List Desk) (c : 
   pub ends : (u : Displaced) → CanUndo u board → EndsWith b first (data_of ss ds c stop_marks) es space u
   ends u can = ends_with b first (data_of ss ds c stop_marks) es space u kept can
 
-  -- what the type keeps, from what is left of the data
+  -- the invariant, from what is left of the data
   pub tracked : (d' : Data) (l : Linked) (u : Displaced) (r : ℕ) (old : Space) (can : CanUndo u board)
       → SpaceBefore b (ends u can).replies (event_before u.back) space old → Leaves b (data_of ss ds c stop_marks) d' u
       → AreOver b (map status_of d'.stands) r

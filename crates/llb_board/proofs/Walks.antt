@@ -358,7 +358,7 @@ none_of : {A : Type 0} (xs : List A) → length xs ≡ 0 → xs ≡ []
 none_of [] e = refl
 none_of (x ∷ xs) e = absurd (omega (arith, e))
 
--- a list that is not asked about has nothing
+-- a list that is not asked about is empty
 pub unasked : {A : Type 0} (xs : List A) (n : ℕ) (empty : Bool) → n ≡ length xs → empty ≡ (n == 0) → not empty ≡ false → xs ≡ []
 unasked xs n true len is asked = let zero_is = eqb-true n 0 (sym is) in none_of xs (omega (arith, len, zero_is))
 unasked xs n false len is asked = absurd cc
