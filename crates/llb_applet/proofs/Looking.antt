@@ -19,7 +19,7 @@ spread-onto : (b : ℕ) (parts : List (List ℕ)) (n : ℕ) → spread parts ≡
 spread-onto b [] n e = absurd (omega arith)
 spread-onto b (part ∷ parts) n e = omega arith
 
--- a text and one byte more
+-- the parts of a text, counted so, have one byte more than the text
 pub spread-split : (p : ℕ → Bool) (text : List ℕ) → spread (slice_split p text) ≡ length text + 1
 spread-split p [] = omega arith
 spread-split p (b ∷ text) = first (p b) (slice_split p text) (spread-split p text)
@@ -41,7 +41,7 @@ at_part end called at (b ∷ bs) parts =
     (λ i. bad_place end called (cond (not (some i)) (record { place = at; bytes = b ∷ bs } ∷ rest) rest))
     ∙ ap (λ q. option_or (option_map (λ k. at + k) (bad_in called (b ∷ bs))) (bad_place end (cond q called (not (is_separator (b ∷ bs)))) rest)) (sym some)
 
--- a word that is no separator
+-- the first bad byte of a word that is no separator
 pub bad_in-word : (called : Bool) (word : List ℕ) → is_separator word ≡ false → bad_in called word ≡ position (λ b. not (is_word_byte b)) word
 bad_in-word called word is = ap (λ b. if b then (if called then None else Some 0) else position (λ b. not (is_word_byte b)) word) is
 

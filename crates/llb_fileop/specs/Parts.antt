@@ -13,7 +13,7 @@ abbrev pub put : Entry → TreeMap → List (List ℕ) → Result TreeMap TreeFa
 put (Dir m) t p = put_dir t p m
 put (File m bytes) t p = put_file t p m bytes
 
--- at no path a file of one tree meets a directory of the other
+-- at no path does a file of one tree meet a directory of the other
 abbrev pub AgreeOn : TreeMap → TreeMap → Type 0
 AgreeOn t source = (q : List (List ℕ)) (e : Entry) → finite.get source q ≡ Some e → meets (finite.get t q) e ≡ Ok tt
 
