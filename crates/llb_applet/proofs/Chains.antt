@@ -179,7 +179,7 @@ module _ (t : TreeMap) (p : List (List ℕ)) (n : ℕ) where
           all,
         )
 
--- paths that are short enough can stand below another
+-- paths that are short enough fit below another
 fits_all : (p : List (List ℕ)) (es : List (List (List ℕ) × Entry)) → length p + most (λ (e : List (List ℕ) × Entry). length e.0 + 1) es ≤ 129
     → places_fit p (map (λ x. x.0) es) ≡ Ok tt
 fits_all p [] le = refl

@@ -1,4 +1,4 @@
--- What a worker that has done no micro-step is to do, at a vertex with no cache mount at or before it.
+-- What a worker that has done no micro-step has to do, at a vertex with no cache mount at or before it.
 use Rattle.std.proofs.Common.{◌≡◌, ℕ, true, List, [], map, None, sym, ap, ◌∙◌}
 use Rattle.std.specs.List.{list_any}
 use Rattle.std.specs.Prelude.{option_map}
@@ -63,7 +63,7 @@ known_land b stands w job known =
       own = record { clean = begun.clean; same = inside (sym known.same ∙ begun.job) };
     }
 
--- what a claim hands out
+-- the job that a claim hands out
 abbrev job_in : Job → Reply → Job
 job_in other (Claimed job) = job
 job_in other r = other

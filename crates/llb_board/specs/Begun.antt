@@ -1,4 +1,4 @@
--- What a worker begins with at a vertex with no cache mount at or before it: the build and the vertex alone determine it.
+-- What a worker begins with at a vertex that has no cache mount at or before it: the build and the vertex alone determine it.
 use Rattle.std.specs.Prelude.{◌≡◌, ℕ, true, [], Option, Some, None, option_map, slice_get}
 use Rattle.llb_loader.specs.declared.graph.Vertex.{Vertex}
 use Rattle.llb_model.specs.Program.{Build, Start, start_with, begin}
@@ -9,7 +9,7 @@ use Rattle.llb_state.specs.Board.{Seen}
 use Rattle.llb_state.specs.Jobs.{job_now}
 use Rattle.llb_board.specs.Landing.{CanLand}
 
--- a vertex, with its inputs' plain outcomes, where each has a tree
+-- what a claim of a vertex starts with: the vertex and its inputs' plain outcomes, if each has a tree
 abbrev pub plain_start : Build → Option Vertex → Option Start
 plain_start b None = None
 plain_start b (Some vertex) = option_map (start_with vertex) (inputs_from (λ k. ending_in (outcome b k)) vertex.inputs)
@@ -22,13 +22,13 @@ job_from b w v start = job_on w v start.vertex (begin b start []) []
 abbrev pub plain_job : Build → ℕ → ℕ → Option Job
 plain_job b w v = option_map (job_from b w v) (plain_start b (slice_get b.graph.vertices v))
 
--- a worker has no fault and no instances, and what is left to it is the plain job
+-- a worker's execution has no fault and no instances, and what it has left is the plain job
 pub record IsBegunPlainly (b : Seen) (w : ℕ) (x : Execution) : Type 0 where
   pub clean : x.fault ≡ None
   pub bare : x.places ≡ []
   pub job : plain_job b.build w x.vertex ≡ Some (job_now b.build b.state.store w x)
 
--- so is every worker that has done no micro-step of such a vertex
+-- every worker that has done no micro-step of such a vertex is begun plainly
 abbrev pub BegunArePlain : Seen → Type 0
 BegunArePlain b = (w : ℕ) (x : Execution) → is_plain b.build x.vertex ≡ true → slice_get b.state.workers w ≡ Some (Runs x) → x.done ≡ 0 → IsBegunPlainly b w x
 

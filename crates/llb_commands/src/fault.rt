@@ -47,7 +47,7 @@ impl From<AllocError> for OutputFault {
     }
 }
 
-/// Why the program ends without its answer.
+/// Why the program ends without its result.
 #[derive(Debug, Drop)]
 pub enum ProgramFault {
     /// 81 to 90: the definition is refused.
@@ -60,8 +60,8 @@ pub enum ProgramFault {
     Workers,
     /// 123: memory was refused while the board was opened.
     Opening,
-    /// 151: memory was refused in the run; 153: a thread could not be started. 152 and 154 stand for a gate that stops and a board that is
-    /// another: no run of the program ends so.
+    /// 151: memory was refused in the run; 153: a thread could not be started. 152 and 154 mean a gate that stops and another
+    /// board than the given one: no run of the program ends so.
     Run(RunFault),
     /// 34 and 35: the result's text is not out.
     Print(PrintFault),

@@ -15,7 +15,7 @@ use thiserror::Error;
 #[error("141")]
 pub struct Memory;
 
-/// Why a job comes to no outcome.
+/// Why a job has no outcome.
 #[derive(Clone, Copy, Debug, Error)]
 pub enum WorkFault {
     /// 143: the gate let no work begin.
@@ -26,7 +26,7 @@ pub enum WorkFault {
     Memory,
 }
 
-/// Why a vertex is not claimed: the first cause that stands.
+/// Why a vertex is not claimed: the first cause that applies.
 #[derive(Debug, Drop)]
 pub enum ClaimFault {
     /// 131: there is no worker of that number.
@@ -60,7 +60,7 @@ impl fmt::Display for ClaimFault {
 
 impl error::Error for ClaimFault {}
 
-/// Why a micro-step is not done: the first cause that stands.
+/// Why a micro-step is not done: the first cause that applies.
 #[derive(Clone, Copy, Debug, PartialEq, Eq)]
 pub enum StepFault {
     /// 131: there is no worker of that number.
@@ -88,7 +88,7 @@ impl fmt::Display for StepFault {
 
 impl error::Error for StepFault {}
 
-/// Why a vertex is not settled: the first cause that stands.
+/// Why a vertex is not settled: the first cause that applies.
 #[derive(Clone, Copy, Debug, PartialEq, Eq)]
 pub enum SettleFault {
     /// 131: there is no worker of that number.
@@ -113,7 +113,7 @@ impl fmt::Display for SettleFault {
 
 impl error::Error for SettleFault {}
 
-/// Why what a worker runs is not given up: the first cause that stands.
+/// Why what a worker runs is not given up: the first cause that applies.
 #[derive(Clone, Copy, Debug, PartialEq, Eq)]
 pub enum CancelFault {
     /// 131: there is no worker of that number.
@@ -135,7 +135,7 @@ impl fmt::Display for CancelFault {
 
 impl error::Error for CancelFault {}
 
-/// Why an event of a walk is refused: the fault of the claim, the step, the settle or the cancel, or out of memory, whoever has it.
+/// Why an event of a walk is refused: the fault of the claim, the step, the settle or the cancel, or `Memory`, whichever call ran out.
 #[derive(Debug, Drop)]
 pub enum WalkFault {
     /// 131 to 135.

@@ -22,7 +22,7 @@ pub struct Part {
     items: Vec<Item>,
 }
 
-// Written out, so that what owns one drops it by this one function.
+// It is written out so that whatever owns one drops it by this one function.
 impl Drop for Part {
     fn drop(self) {
         let Part { items: _ } = self;
@@ -39,7 +39,7 @@ impl Model for Part {
 }
 
 impl Part {
-    // The part that a text spells; 41 `BadPattern`, 42 `Memory`.
+    // Reads a text as a part. Fails with 41 `BadPattern` where it spells none, with 42 `Memory`.
     pub(crate) fn read(alloc: Global, text: &str) -> Result<Part, PatternFault>
         requires { length text.now ≤ 255 }
         ensures { Gives (λ p. p) result (items_of (chars text.now)) }
@@ -61,7 +61,7 @@ impl Part {
         })
     }
 
-    // Whether a name matches.
+    // Returns whether a name matches.
     pub(crate) fn matches(&self, name: &str) -> bool
         requires { length name.now ≤ 255 }
         ensures { IsTrue result ↔ MatchesName self.now (chars name.now) }
@@ -82,7 +82,7 @@ impl NameTest for Part {
     }
 }
 
-// A part while it is read: where the reading is, the whole items before it, and the class at hand.
+// A part while it is read: where the reader is, the whole items before it, and the class at hand.
 #[derive(Drop)]
 pub struct Reading {
     cursor: Cursor,
@@ -93,7 +93,7 @@ pub struct Reading {
 impl Reading {
     ghost use Rattle.llb_glob.specs.Reading.{ahead, Reads};
 
-    // Takes the next character; 41 `BadPattern`, 42 `Memory`.
+    // Takes the next character. Fails with 41 `BadPattern` or 42 `Memory`.
     fn take(&mut self, alloc: Global, letter: char) -> Result<(), PatternFault>
         ensures { (rest : List ℕ) → Reads result (ahead self.old (letter ∷ rest)) (ahead self.new rest) }
     {
@@ -114,7 +114,7 @@ impl Reading {
     }
 }
 
-/// Whether a text spells a part.
+/// Returns whether a text spells a part. Does not allocate.
 pub fn is_part(text: &str) -> bool
     requires { length text.now ≤ 255 }
     ensures { result ≡ is_ok (items_of (chars text.now)) }

@@ -6,7 +6,7 @@ use llb_wire::Text;
 use std::alloc::{AllocError, AllocFailed};
 use thiserror::Error;
 
-/// Why a graph is not evaluated: the first cause that stands.
+/// Why a graph is not evaluated: the first cause that applies.
 #[derive(Debug, Drop, Error)]
 pub enum PlainFault {
     /// 101: no tree is given for a local source, the least vertex's of those; its name.

@@ -9,7 +9,7 @@ pub enum SessionFault {
     /// 181: a read failed, in this way.
     #[error("181")]
     Failed(ErrorKind),
-    /// 181: the bound on reads was met, and that many of the reads were interrupted.
+    /// 181: the bound on reads was met; it holds how many reads were interrupted.
     #[error("181")]
     Unending(u64),
     /// 182: the writer failed.

@@ -15,7 +15,7 @@ pub enum TextFault {
     BadLine(u64),
     /// 32 N: the path of line N is not above that of the line before, or line 1 is not that of the root.
     Order(u64),
-    /// 33 N: the directory that the path of line N is in does not stand before it.
+    /// 33 N: the directory that the path of line N is in has no line before it.
     NoParent(u64),
     /// 34: memory was refused.
     Memory,
