@@ -3,4 +3,3 @@ pub mod Gathering
 pub mod Exchanged
 pub mod Again
 pub mod Ands
-pub mod Chains

@@ -1,4 +1,4 @@
-//! The applets, and their names.
+//! The applets by their names.
 
 ghost use Rattle.std.specs.Prelude.{◌≡◌, option_map};
 ghost use Rattle.std.specs.List.{find};
@@ -39,7 +39,7 @@ const APPLETS: [Applet; 13] = [
 ];
 
 impl Applet {
-    /// Returns the name by which a call asks for the applet.
+    /// The name by which a call asks for the applet.
     fn name(self) -> &'static [u8]
         ensures { result.now ≡ name_of self }
     {
@@ -60,7 +60,7 @@ impl Applet {
         }
     }
 
-    /// Returns the applet of this name; `None` if there is none.
+    /// The applet of that name.
     pub fn find(word: &str) -> Option<Applet>
         ensures { result ≡ applet_of word.now }
     {
@@ -73,7 +73,7 @@ impl Applet {
     }
 }
 
-/// Returns whether a word has these bytes.
+/// Whether a word is this one.
 pub fn is_word(word: &str, this: &[u8]) -> bool
     ensures { result ≡ spells this.now word.now }
 {

@@ -7,13 +7,13 @@ use crate::texts::copies;
 use llb_tree::Path;
 use llb_wire::{Many, Same, Text};
 
-/// Where commands run: paths are read from `cwd`, and `envfile` writes `env`.
+/// Where commands run: paths are read from `cwd`, and `env` is what `envfile` writes.
 pub struct Setting {
     pub cwd: Path,
     pub env: Many<Text>,
 }
 
-// It is written out so that whatever owns one drops it by this one function.
+// Written out, so that what owns one drops it by this one function.
 impl Drop for Setting {
     fn drop(self) {
         let Setting { cwd: _, env: _ } = self;
@@ -21,7 +21,7 @@ impl Drop for Setting {
 }
 
 impl Setting {
-    /// Returns an equal second owner. Fails with 75 `Memory` alone.
+    /// An equal second owner; 75 `Memory`.
     pub fn copy(&self) -> Result<Setting, Memory>
         ensures { IfOk result (λ s. s ≡ self.now) }
     {

@@ -1,18 +1,18 @@
-//! Laws of texts and entries, whatever they are.
+//! What holds of texts and entries, whatever they are.
 
 ghost use Rattle.llb_asm.specs.Reading.{HasOneAnswer};
 ghost use Rattle.llb_asm.specs.Plain.{ReadsBack};
 
 use llb_ops::Entries;
 
-/// A law: a text is read as one list of entries at most, or it has one first fault, and never both.
+/// A text stands for one list of entries at most, or it has one first fault, and never both.
 pub fn one_answer(text: &[u8])
     ensures { HasOneAnswer text.now }
 {
     let _ = text;
 }
 
-/// A law: what is written of the entries of a definition is read as these entries.
+/// What is written of the entries of a definition stands for these entries.
 pub fn reads_back(entries: &Entries)
     ensures { ReadsBack entries.now }
 {

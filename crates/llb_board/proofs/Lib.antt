@@ -9,4 +9,3 @@ pub mod Undone
 pub mod Undos
 pub mod Copies
 pub mod Landed
-pub mod Begun

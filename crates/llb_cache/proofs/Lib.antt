@@ -3,5 +3,3 @@ pub mod Kept
 pub mod Granting
 pub mod Copies
 pub mod Differing
-pub mod Marked
-pub mod Holding

@@ -1,4 +1,4 @@
-//! The items of which a part of a pattern is made.
+//! What a part of a pattern is made of.
 
 ghost use Rattle.std.specs.Prelude.{◌↔◌, IsTrue};
 ghost use Rattle.llb_glob.specs.Matching.{Takes};
@@ -8,25 +8,25 @@ use crate::class::Class;
 /// An item of a part.
 #[derive(Drop)]
 pub enum Item {
-    /// `*`: any run of characters, also an empty one.
+    /// `*`: any run of characters, an empty one too.
     Run,
-    /// One character that the letter matches.
+    /// One character of these.
     One(Letter),
 }
 
-/// Which characters an item matches.
+/// Which characters match.
 #[derive(Drop)]
 pub enum Letter {
-    /// `?`: any character.
+    /// `?`: any.
     Any,
-    /// This character.
+    /// This one.
     Only(char),
-    /// The characters that a class matches.
+    /// Those of a class.
     In(Class),
 }
 
 impl Letter {
-    /// Returns whether a character matches.
+    /// Whether a character matches.
     pub fn takes(&self, letter: char) -> bool
         ensures { IsTrue result ↔ Takes self.now letter }
     {

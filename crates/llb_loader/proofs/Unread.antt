@@ -1,4 +1,4 @@
--- Why a definition is refused, for its bytes or for its entries.
+-- What a definition is refused for, where its bytes or its entries are.
 use Rattle.std.proofs.Common.{◌≡◌, true, false, Err, refl, List, ℕ, inl}
 use Rattle.llb_ops.specs.declared.fault.OpFault.{OpFault}
 use Rattle.llb_ops.specs.declared.fault.OpFault.TheVariants as op

@@ -18,22 +18,22 @@ source_rules = rule.LocalName ∷ []
 abbrev pub file_rules : List Rule
 file_rules = rule.NoActions ∷ rule.ActionInput ∷ rule.ActionOutput ∷ []
 
--- the rules on what is run
+-- what is run
 abbrev pub word_rules : List Rule
 word_rules = rule.NoMeta ∷ rule.NoArgs ∷ rule.NoMounts ∷ []
 
--- the rules on where the mounts are
+-- where the mounts are
 abbrev pub path_rules : List Rule
 path_rules = rule.NoRoot ∷ rule.BadPath ∷ rule.SameDest ∷ []
 
--- the rules on what they show, and on their outputs
+-- what they show and give
 abbrev pub mount_rules : List Rule
 mount_rules = rule.MountKind ∷ rule.MountInput ∷ rule.MountOutput ∷ []
 
 abbrev pub cache_rules : List Rule
 cache_rules = rule.NoCacheOpt ∷ rule.Sharing ∷ rule.CacheTwice ∷ []
 
--- the rule on the script that the words are
+-- the script that the words are
 abbrev pub script_rules : Option Meta → List Rule
 script_rules meta = rule.Script (script_fault meta) ∷ []
 

@@ -1,4 +1,4 @@
-//! Laws of the replies of a session.
+//! What holds of the answers of a session.
 
 ghost use Rattle.llb_session.specs.Told.{GoTellsTheRun};
 

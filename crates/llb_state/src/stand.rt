@@ -1,4 +1,4 @@
-//! The state of each vertex, and what each worker runs, with what that needs until its end. A board hands out none of these.
+//! Of each vertex what stands there, and of each worker what it runs, with what it needs until its end. A board hands out none of these.
 
 ghost use Rattle.std.specs.Prelude.{◌≡◌, Some};
 ghost use Rattle.llb_model.specs.State.{ending_of, is_done, is_failed};
@@ -11,7 +11,7 @@ use llb_model::VertexFault;
 use llb_tree::Tree;
 use llb_wire::Many;
 
-/// The state of a vertex.
+/// What stands at a vertex.
 #[derive(Drop)]
 pub enum Stand {
     Waiting,
@@ -21,7 +21,7 @@ pub enum Stand {
 }
 
 impl Stand {
-    /// Returns whether the vertex has failed.
+    /// Whether its vertex has failed.
     pub fn has_failed(&self) -> bool
         ensures { result ≡ is_failed (ending_of (Some (status_of self.now))) }
     {
@@ -31,7 +31,7 @@ impl Stand {
         }
     }
 
-    /// Returns whether the vertex is done.
+    /// Whether its vertex is done.
     pub fn is_done(&self) -> bool
         ensures { result ≡ is_done (ending_of (Some (status_of self.now))) }
     {
@@ -42,20 +42,20 @@ impl Stand {
     }
 }
 
-/// The state of a worker.
+/// What a worker does.
 #[derive(Drop)]
 pub enum Desk {
     Idle,
-    /// The lease of its cache instances, if any, and everything else it holds.
+    /// The lease of its instances of caches, where it has some, and what it has else.
     Runs(Option<Lease>, Execution),
 }
 
-/// What a running worker holds: in `places` the cache instances that it has leased, in `outputs` an empty tree for each
-/// output of its vertex; its commands run in `setting`.
+/// What a running worker has. In `places` are the instances of caches that it has leased, in `outputs` an empty tree for each
+/// output of its vertex, and `setting` is where its commands run.
 #[derive(Drop)]
 pub struct Execution {
     pub vertex: u32,
-    /// How many micro-steps are done; one that faults is counted.
+    /// The micro-steps done; one that faults is counted.
     pub done: u32,
     pub fault: Option<VertexFault>,
     pub view: View,

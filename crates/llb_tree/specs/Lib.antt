@@ -17,4 +17,3 @@ pub mod Overlay
 pub mod Laying
 pub mod Walks
 pub mod Shared
-pub mod Tested

@@ -32,7 +32,7 @@ impl Names {
         Names { names }
     }
 
-    /// Returns the names, one after another.
+    /// The names, one after another.
     pub fn as_slice(&self) -> &[Name]
         ensures { result.now ≡ self.now }
     {

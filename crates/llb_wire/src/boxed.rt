@@ -43,7 +43,7 @@ impl<T> Boxed<T> {
         &self.place
     }
 
-    /// Returns the value.
+    /// Gives the value back.
     pub fn into_inner(self) -> T
         ensures { result ≡ self }
     {

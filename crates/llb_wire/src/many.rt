@@ -56,12 +56,12 @@ impl<T> Many<T> {
         self.items.is_empty()
     }
 
-    /// Returns where the memory of the items comes from. No clause speaks of it: contracts see no allocator, and there is one.
+    /// Where the memory of the items comes from. No clause speaks of it: contracts see no allocator, and there is one.
     pub fn allocator(&self) -> Global {
         *self.items.allocator()
     }
 
-    /// Returns the items as a vector.
+    /// Gives the items back.
     pub fn into_vec(self) -> Vec<T>
         ensures { result.items ≡ self }
     {

@@ -1,16 +1,16 @@
 //! Equality by value: two values are the same where contracts see the same. Here are numbers, flags, options and slices;
-//! the types of this crate have it in their own files. Nothing here allocates.
+//! the types of this crate have it in their own files. Nothing here takes memory.
 
 ghost use Rattle.std.specs.Prelude.{◌≡◌, ◌↔◌, IsTrue};
 
 /// Types whose values can be compared by what contracts see of them.
 pub trait Same {
-    /// Returns whether both are the same by value. Does not allocate.
+    /// Whether both are the same by value. Takes no memory.
     fn same(&self, other: &Self) -> bool
         ensures { IsTrue result ↔ (self.now ≡ other.now) };
 }
 
-/// Returns whether both lists have the same values in the same order. Does not allocate.
+/// Whether both lists have the same values in the same order. Takes no memory.
 pub fn all_same<T: Same>(items: &[T], others: &[T]) -> bool
     ensures { IsTrue result ↔ (items.now ≡ others.now) }
 {

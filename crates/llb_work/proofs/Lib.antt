@@ -9,4 +9,3 @@ pub mod Fractions
 pub mod Keeping
 pub mod Ends
 pub mod Crews
-pub mod Known

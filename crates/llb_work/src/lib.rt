@@ -9,7 +9,6 @@ mod end;
 mod granted;
 mod hand_out;
 mod noted;
-mod plain;
 mod post;
 mod rest;
 mod run;
